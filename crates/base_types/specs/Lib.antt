@@ -1,0 +1,5 @@
+pub mod Choices
+pub mod Placements
+pub mod Reasons
+pub mod Revisions
+pub mod Settlement

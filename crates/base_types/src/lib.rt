@@ -1,0 +1,24 @@
+//! Numbers, keys, attributes, claims and placements: the words that all other crates share.
+#![tactic(auto)]
+
+mod claim;
+mod key;
+mod listed;
+mod memory;
+mod placed;
+mod request;
+mod revision;
+mod text;
+
+pub use claim::{Bound, Bounds, Claim, Claims, Range, Reason};
+pub use key::{Cover, CoverName, ObjectKey};
+pub use listed::Listed;
+pub use memory::OutOfMemory;
+pub use placed::{
+    Outcome, PlacedAnswer, PlacedDecision, PlacedLine, Placement, Places, WriteLine, WriteLines,
+};
+pub use request::{
+    Decision, Level, Pair, Pairs, PolicyLevel, Possible, RequestAttrs, Stage, StageSet, User,
+};
+pub use revision::{Moment, Revision};
+pub use text::{Bytes, Text, Texts};

@@ -1,0 +1,44 @@
+ghost use Rattle.std.specs.Prelude.{◌≡◌, ℕ, IfSome, IsSome, ◌↔◌};
+ghost use Rattle.base_types.specs.Revisions.{IsRevision};
+
+use std::marker::Model;
+use std::str;
+
+/// A number of the cluster's one sequence of writes, from 1 to 2^64 - 2 (Kubernetes API concepts,
+/// "Resource versions").
+#[derive(Clone, Copy, Debug, Drop, PartialEq, Eq, PartialOrd, Ord, Hash)]
+pub struct Revision(u64);
+
+impl Model for Revision {
+    ghost Value = { ℕ };
+
+    ghost view = { λ r. r.0 };
+
+    ghost inverse = { λ n. record { 0 = n } };
+
+    ghost invariant = { λ r. IsRevision r.0 };
+}
+
+impl Revision {
+    /// The revision of this number, where it is one.
+    pub fn new(number: u64) -> Option<Revision>
+        ensures some { IfSome result (λ r. r ≡ number) }
+        ensures exact { IsSome result ↔ IsRevision number }
+    {
+        if number == 0 || number == u64::MAX {
+            return None;
+        }
+        Some(Revision(number))
+    }
+
+    pub fn get(self) -> u64
+        ensures value { result ≡ self }
+        ensures range { IsRevision result }
+    {
+        self.0
+    }
+}
+
+/// A moment of the wall clock, in nanoseconds since 1970-01-01T00:00:00Z.
+#[derive(Clone, Copy, Debug, Drop, PartialEq, Eq, PartialOrd, Ord)]
+pub struct Moment(pub i128);
