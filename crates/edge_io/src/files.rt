@@ -28,7 +28,7 @@ pub struct OpenFile {
 impl Model for OpenFile {
     ghost use Rattle.std.specs.Prelude.{drop, length, ◌≤◌};
     ghost use Rattle.edge_io.specs.Files.{HeldFile};
-ghost use Rattle.edge_io.specs.MemoryDesk.{held_of};
+    ghost use Rattle.edge_io.specs.MemoryDesk.{held_of};
 
     ghost Value = { HeldFile };
 

@@ -3,10 +3,9 @@ ghost use Rattle.std.specs.Prelude.{◌≡◌, ◌≤◌, None, length, IfOk, If
 use crate::edge::{Desk, DeskFailed, Sink, SinkFailed};
 use base_types::{OutOfMemory, Text};
 use std::alloc::Global;
-use std::io;
 use std::io::{Input, Print, Read, Write};
 use std::rt::Files;
-use std::fs;
+use std::{fs, io};
 
 /// The name under which a desk of files has the standard input.
 pub const STANDARD_INPUT: &str = "-";
