@@ -20,5 +20,5 @@ pub use placed::{
 pub use request::{
     Decision, Level, Pair, Pairs, PolicyLevel, Possible, RequestAttrs, Stage, StageSet, User,
 };
-pub use revision::{Moment, Revision};
+pub use revision::{Moment, Revision, read_revision};
 pub use text::{Bytes, Text, Texts};
