@@ -1,4 +1,4 @@
-ghost use Rattle.std.specs.Prelude.{◌≡◌, ℕ, IfSome, IsSome, ◌↔◌};
+ghost use Rattle.std.specs.Prelude.{◌≡◌, ◌≢◌, ℕ, IfSome, IfNone, IsSome, ◌↔◌, decimal};
 ghost use Rattle.base_types.specs.Revisions.{IsRevision};
 
 use std::marker::Model;
@@ -37,6 +37,29 @@ impl Revision {
     {
         self.0
     }
+}
+
+/// Reads a revision in its one spelling: decimal digits without a leading zero.
+pub fn read_revision(text: &[u8]) -> Option<Revision>
+    ensures some { IfSome result (λ revision. text.now ≡ decimal revision) }
+    ensures none { IfNone result ((revision : ℕ) → IsRevision revision → text.now ≢ decimal revision) }
+{
+    if text.is_empty() {
+        return None;
+    }
+    if text[0] < b'1' {
+        return None;
+    }
+    if text[0] > b'9' {
+        return None;
+    }
+    let Ok(digits) = str::from_utf8(text) else {
+        return None;
+    };
+    let Ok(number) = digits.parse::<u64>() else {
+        return None;
+    };
+    Revision::new(number)
 }
 
 /// A moment of the wall clock, in nanoseconds since 1970-01-01T00:00:00Z.

@@ -1,0 +1,3 @@
+pub mod EscapeLemmas
+pub mod KeyLemmas
+pub mod RevisionTexts
