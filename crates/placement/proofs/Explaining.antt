@@ -1,8 +1,7 @@
 -- Claims by the events of an order, and all claims.
-use Rattle.std.proofs.Common.{◌≡◌, ℕ, zero, suc, ◌+◌, ◌<◌, ◌≤◌, ◌↔◌, List, [], ◌∷◌, length, get_or, take, All, None, Some, IfSome, slice_get, arith, subst, sym}
+use Rattle.std.proofs.Common.{◌≡◌, ℕ, zero, suc, ◌<◌, List, [], ◌∷◌, length, get_or, All, None, IfSome, slice_get, arith, subst, sym}
 use Rattle.std.specs.List.{range_with_len}
 use Rattle.std.specs.List.Sorted.{IsPermutation}
-use Rattle.std.proofs.lemmas.List.Elements.{All-take}
 use Rattle.std.proofs.lemmas.List.FromFn.{get_or-range_with_len, length-range_with_len}
 use Rattle.std.proofs.lemmas.List.Sorted.{All-permutation, IsPermutation-sym}
 use Rattle.std.proofs.lemmas.Option.{slice_get-get_or}
@@ -37,13 +36,13 @@ pub ExplainsAll-from_order : (ranges : List Range) (claims : List Claim) (order 
 ExplainsAll-from_order ranges claims order choice same explains = record {
   chosen = explains.meets.chosen;
   sound = All-from_order (λ claim. claim.fails ≡ None) claims order same explains.sound;
-  met = All-from_order (λ claim. MeetsAll choice claim.bounds) claims order same explains.meets.met
+  met = All-from_order (λ claim. MeetsAll choice claim.bounds) claims order same explains.meets.met;
 }
 
 pub Explains-from_all : (ranges : List Range) (claims : List Claim) (events choice : List ℕ) → ExplainsAll ranges claims choice → Explains ranges claims events choice
 Explains-from_all ranges claims events choice explains = record {
   sound = λ k d below. All-at (λ claim. claim.fails ≡ None) claims (get_or events k d) explains.sound;
-  meets = record { chosen = explains.chosen; met = λ k d below. All-at (λ claim. MeetsAll choice claim.bounds) claims (get_or events k d) explains.met }
+  meets = record { chosen = explains.chosen; met = λ k d below. All-at (λ claim. MeetsAll choice claim.bounds) claims (get_or events k d) explains.met };
 }
 
 -- an order of the events names no other number

@@ -1,17 +1,16 @@
 -- What the ranges that are left say of the events that were taken.
-use Rattle.std.proofs.Common.{◌≡◌, ℕ, ◌+◌, ◌<◌, ◌≤◌, ◌⊎◌, ⊎_elim, inl, inr, ◌↔◌, List, [], ◌∷◌, length, get_or, map, take, drop, ◌++◌, Bool, true, false, All, None, Some, IfSome, slice_get, arith, subst, sym, refl}
+use Rattle.std.proofs.Common.{◌≡◌, ℕ, ◌+◌, ◌<◌, ◌≤◌, ⊎_elim, inl, inr, ◌↔◌, List, [], ◌∷◌, length, get_or, map, take, drop, ◌++◌, Bool, true, false, All, None, IfSome, slice_get, arith, subst, sym, refl}
 use Rattle.std.specs.List.{AllZip, range_with_len}
 use Rattle.std.specs.List.Sorted.{IsPermutation}
 use Rattle.std.proofs.lemmas.Grind.{common_steps}
 use Rattle.std.proofs.lemmas.List.{take_all}
 use Rattle.std.proofs.lemmas.List.Elements.{All-more}
 use Rattle.std.proofs.lemmas.Option.{slice_get-get_or}
-use Rattle.base_types.specs.declared.claim.Bound.{Bound}
 use Rattle.base_types.specs.declared.claim.Claim.{Claim}
 use Rattle.base_types.specs.declared.claim.Range.{Range}
 use Rattle.base_types.specs.declared.claim.Reason.{Reason}
 use Rattle.base_types.specs.Choices.{IsChoice, MeetsAll}
-use Rattle.base_types.specs.Settlement.{MeetsBounds, Explains, ExplainsAll, IsLeastChoice, LeavesNoChoice, HasCode, HasLeastCode, BreaksFirst}
+use Rattle.base_types.specs.Settlement.{MeetsBounds, ExplainsAll, IsLeastChoice, LeavesNoChoice, HasLeastCode, BreaksFirst}
 use Rattle.placement.specs.Room.{Narrows}
 use Rattle.placement.proofs.Explaining.{IfSome-at, at-IfSome, ExplainsAll-from_order, Explains-from_all}
 use Rattle.placement.proofs.Narrowing.{All-fewer, All-last}
@@ -27,7 +26,7 @@ pub LeavesExactly-none : (ranges : List Range) (claims : List Claim) → LeavesE
 LeavesExactly-none ranges claims = record {
   long = refl;
   sound = λ k d below. absurd (omega arith);
-  exact = λ choice. (λ chosen. record { chosen = chosen; met = λ k d below. absurd (omega arith) }, λ meets. meets.chosen)
+  exact = λ choice. (λ chosen. record { chosen = chosen; met = λ k d below. absurd (omega arith) }, λ meets. meets.chosen);
 }
 
 -- the least places are a choice, and no choice is below them
@@ -64,15 +63,16 @@ MeetsBounds-more ranges left claims order i claim choice next chosen met =
     let before = (next.leaves.exact choice).0 chosen in
     record {
       chosen = before.chosen;
-      met = All-more (λ event. IfSome (slice_get claims event) (λ c. MeetsAll choice c.bounds)) order i 0 next.within before.met (holds_of_event ranges left claims order i claim (λ c. MeetsAll choice c.bounds) next met)
+      met = All-more (λ event. IfSome (slice_get claims event) (λ c. MeetsAll choice c.bounds)) order i 0 next.within before.met (holds_of_event ranges left claims order i claim (λ c. MeetsAll choice c.bounds) next met);
     }
 
 pub MeetsBounds-parts : (ranges left : List Range) (claims : List Claim) (order : List ℕ) (i : ℕ) (claim : Claim) (choice : List ℕ) → IsNext ranges left claims order i claim
     → MeetsBounds ranges claims (take (i + 1) order) choice → IsChoice left choice × MeetsAll choice claim.bounds
 MeetsBounds-parts ranges left claims order i claim choice next meets =
-    let P : ℕ → Type 0 = λ event. IfSome (slice_get claims event) (λ c. MeetsAll choice c.bounds) in
-    ((next.leaves.exact choice).1 (record { chosen = meets.chosen; met = All-fewer P order i next.within meets.met }),
-     holds_of_claim ranges left claims order i claim (λ c. MeetsAll choice c.bounds) next (All-last P order i 0 next.within meets.met))
+    let P : ℕ → Type 0 = λ event. IfSome (slice_get claims event) (λ c. MeetsAll choice c.bounds) in (
+      (next.leaves.exact choice).1 (record { chosen = meets.chosen; met = All-fewer P order i next.within meets.met }),
+      holds_of_claim ranges left claims order i claim (λ c. MeetsAll choice c.bounds) next (All-last P order i 0 next.within meets.met),
+    )
 
 -- one event more
 pub LeavesExactly-more : (ranges left new : List Range) (claims : List Claim) (order : List ℕ) (i : ℕ) (claim : Claim) → IsNext ranges left claims order i claim
@@ -80,16 +80,17 @@ pub LeavesExactly-more : (ranges left new : List Range) (claims : List Claim) (o
 LeavesExactly-more ranges left new claims order i claim next long sound narrows = record {
   long = (let before = next.leaves.long in omega arith);
   sound = All-more (λ event. IfSome (slice_get claims event) (λ c. c.fails ≡ None)) order i 0 next.within next.leaves.sound (holds_of_event ranges left claims order i claim (λ c. c.fails ≡ None) next sound);
-  exact = λ choice.
-    (λ chosen. let parts = (narrows choice).0 chosen in MeetsBounds-more ranges left claims order i claim choice next parts.0 parts.1,
-     λ meets. (narrows choice).1 (MeetsBounds-parts ranges left claims order i claim choice next meets))
+  exact = λ choice. (
+    λ chosen. let parts = (narrows choice).0 chosen in MeetsBounds-more ranges left claims order i claim choice next parts.0 parts.1,
+    λ meets. (narrows choice).1 (MeetsBounds-parts ranges left claims order i claim choice next meets),
+  );
 }
 
 -- a code goes along with what shows that no choice is left
 pub HasLeastCode-along : (claim : Claim) (A B : Type 0) (code : Reason) → (A → B) → (B → A) → HasLeastCode claim A code → HasLeastCode claim B code
 HasLeastCode-along claim A B code to from least = record {
   has = ⊎_elim (λ own. inl own) (λ left. inr (left.0, to left.1)) least.has;
-  least = λ other has. least.least other (⊎_elim (λ own. inl own) (λ left. inr (left.0, from left.1)) has)
+  least = λ other has. least.least other (⊎_elim (λ own. inl own) (λ left. inr (left.0, from left.1)) has);
 }
 
 -- whether the event's bounds left a place in each range
@@ -111,20 +112,20 @@ pub BreaksFirst-here : (ranges left new : List Range) (claims : List Claim) (ord
 BreaksFirst-here ranges left new claims order i claim fits reason next told least =
     let lows = map (λ (range : Range). range.low) left in
     let none = λ (lost : fits ≡ false) (choice : List ℕ) (meets : MeetsBounds ranges claims (take (i + 1) order) choice).
-      let parts = MeetsBounds-parts ranges left claims order i claim choice next meets in told.emptied lost choice parts.0 parts.1 in
+    let parts = MeetsBounds-parts ranges left claims order i claim choice next meets in told.emptied lost choice parts.0 parts.1 in
     record {
       before = i;
       found = slice_get-get_or order i 0 next.within;
       earlier = (lows, record { sound = next.leaves.sound; meets = (next.leaves.exact lows).0 (lows-IsChoice left) });
       breaks = λ choice explains. ⊎_elim
-        (λ own.
+          (λ own.
           let sound = All-last (λ event. IfSome (slice_get claims event) (λ c. c.fails ≡ None)) order i 0 next.within explains.sound in
           let is_none = holds_of_claim ranges left claims order i claim (λ c. c.fails ≡ None) next sound in
           cc)
-        (λ lost. none lost.1 choice explains.meets)
-        least.has;
+          (λ lost. none lost.1 choice explains.meets)
+          least.has;
       code = holds_of_event ranges left claims order i claim (λ c. HasLeastCode c (LeavesNoChoice ranges claims (take (i + 1) order)) reason) next
-        (HasLeastCode-along claim (fits ≡ false) (LeavesNoChoice ranges claims (take (i + 1) order)) reason none (fits_from_choice ranges left new claims order i claim fits next told) least)
+          (HasLeastCode-along claim (fits ≡ false) (LeavesNoChoice ranges claims (take (i + 1) order)) reason none (fits_from_choice ranges left new claims order i claim fits next told) least);
     }
 
 -- once no event is left, the least places are the least choice
@@ -135,7 +136,7 @@ IsLeastChoice-at_end ranges left claims order i same ended leaves =
     let all = rw (take_all i order ended) at leaves in
     record {
       explains = ExplainsAll-from_order ranges claims order lows same (record { sound = all.sound; meets = (all.exact lows).0 (lows-IsChoice left) });
-      least = λ other explains. lows-least left other ((all.exact other).1 (Explains-from_all ranges claims order other explains).meets)
+      least = λ other explains. lows-least left other ((all.exact other).1 (Explains-from_all ranges claims order other explains).meets);
     }
 
 -- no choice explains all where the events break

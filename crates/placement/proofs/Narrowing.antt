@@ -1,6 +1,5 @@
 -- What one bound leaves of one range, and of all choices.
-use Rattle.std.proofs.Common.{◌≡◌, ℕ, zero, suc, ◌+◌, ◌<◌, ◌≤◌, ◌↔◌, List, [], ◌∷◌, length, get_or, set, take, All, min, max, arith, subst, sym, ◌∙◌}
-use Rattle.std.specs.List.{AllZip}
+use Rattle.std.proofs.Common.{◌≡◌, ℕ, zero, suc, ◌+◌, ◌<◌, ◌≤◌, List, [], ◌∷◌, length, get_or, set, take, All, min, max, arith, subst, sym, ◌∙◌}
 use Rattle.std.proofs.lemmas.List.{get_or-take, length-take}
 use Rattle.std.proofs.lemmas.List.Elements.{All-more, All-take}
 use Rattle.base_types.specs.declared.claim.Bound.{Bound}
@@ -57,15 +56,16 @@ IsChoice-at (r ∷ rs) (x ∷ xs) (suc k) d within chosen = IsChoice-at rs xs k 
 -- the next bound narrows what the earlier ones left
 pub Narrows-more : (ranges left : List Range) (bounds : List Bound) (i : ℕ) (b : Bound) (d new : Range) → i < length bounds → b ≡ get_or bounds i b → b.range < length left
     → IsCut (get_or left b.range d) new b.low b.high → Narrows ranges left (take i bounds) → Narrows ranges (set left b.range new) (take (i + 1) bounds)
-Narrows-more ranges left bounds i b d new within is inside cut narrows = λ choice.
-    (λ chosen.
+Narrows-more ranges left bounds i b d new within is inside cut narrows = λ choice. (
+  λ chosen.
       let apart = IsChoice-cut left choice b.range d new b.low b.high inside cut chosen in
       let before = (narrows choice).0 apart.0 in
       (before.0, All-more (Meets choice) bounds i b within before.1 (subst (Meets choice) is apart.1)),
-    λ both.
+  λ both.
       let before = All-fewer (Meets choice) bounds i within both.1 in
       let last : Meets choice b = subst (Meets choice) (sym is) (All-last (Meets choice) bounds i b within both.1) in
-      IsChoice-uncut left choice b.range d new b.low b.high inside cut ((narrows choice).1 (both.0, before)) last)
+      IsChoice-uncut left choice b.range d new b.low b.high inside cut ((narrows choice).1 (both.0, before)) last,
+)
 
 -- where the cuts cross, no choice meets the bounds
 pub none_from_crossed : (ranges left : List Range) (bounds : List Bound) (i : ℕ) (b : Bound) (d : Range) → i < length bounds → b ≡ get_or bounds i b → b.range < length left

@@ -1,7 +1,6 @@
-use Rattle.std.proofs.Common.{◌≡◌, ◌<◌, length, get_or, take, arith, sym}
+use Rattle.std.proofs.Common.{◌<◌, length, get_or, arith}
 use Rattle.std.proofs.lemmas.List.{get_or_default, take_all}
 use Rattle.base_types.specs.declared.claim.Bound.{Bound}
-use Rattle.placement.specs.Room.{Narrows}
 use Rattle.placement.proofs.Narrowing.{Narrows-more, none_from_crossed}
 use Rattle.placement.proofs.room.narrow.Goals as goal
 
