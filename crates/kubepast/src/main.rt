@@ -1,6 +1,9 @@
 #![tactic(auto)]
 
+mod ending;
 mod event;
 mod judging;
+mod setup;
+mod words;
 
 fn main() {}
