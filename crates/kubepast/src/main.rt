@@ -1,0 +1,6 @@
+#![tactic(auto)]
+
+mod event;
+mod judging;
+
+fn main() {}
