@@ -1,6 +1,7 @@
 -- The log: its lines are admitted one by one, or refused at the first that isn't admitted.
 use Rattle.std.specs.Prelude.{◌≡◌, ℕ, ◌^◌, ◌<◌, ◌≤◌, ◌⊎◌, List, [], ◌∷◌, ◌++◌, length, take, Option, Some, refl}
 use Rattle.line_reader.specs.Lines.{NumberedLine, longest_line, whole_lines, rest_of, lines_from, numbered, number_after, count_behind}
+use Rattle.line_reader.specs.Reading.{Reading, Continues, HoldsRest}
 use Rattle.kubepast.specs.declared.event.Event.{Event}
 use Rattle.kubepast.specs.FirstForm.{IsInFirstForm}
 
@@ -58,3 +59,17 @@ pub record HoldsNoRefusal (bytes : List ℕ) : Type 0 where
 abbrev pub TakesLog : Option (List ℕ) → Option (List ℕ) → Type 0 → Type 0
 TakesLog old new failed = (bytes : List ℕ) → old ≡ Some bytes
     → (front piece behind : List ℕ) × (new ≡ Some behind) × (bytes ≡ front ++ piece ++ behind) × HoldsNoRefusal front × (length piece ≤ 65536) × (failed → piece ≡ [])
+
+-- the lines that wait are given and admitted, and only a rest is left
+pub record TakesLines (events : List Event) (reader : Reading) (events' : List Event) (reader' : Reading) : Type 0 where
+  pub given : List NumberedLine
+  pub continues : Continues reader given reader'
+  pub rest : HoldsRest reader'
+  pub admits : Reads events given (Admitted events')
+
+-- the lines that wait are refused at this one, whatever comes, and also if the log is cut here
+pub record Refuses (events : List Event) (reader : Reading) (line : ℕ) : Type 0 where
+  pub lines : (more : List ℕ) → Reads events (lines_from reader.number (reader.pending ++ more)) (Refused line)
+  pub found : LogRead
+  pub whole : Reads events (numbered reader.number (whole_lines reader.pending)) found
+  pub cut : refused_behind found (number_after (count_behind reader.number (whole_lines reader.pending))) ≡ Refused line

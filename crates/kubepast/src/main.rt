@@ -2,8 +2,11 @@
 
 mod ending;
 mod event;
+mod form;
 mod judging;
+mod log;
 mod setup;
+mod stop;
 mod words;
 
 fn main() {}
