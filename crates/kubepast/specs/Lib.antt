@@ -5,3 +5,4 @@ pub mod Judgement
 pub mod Log
 pub mod Setup
 pub mod Windows
+pub mod Program

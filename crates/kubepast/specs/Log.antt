@@ -67,9 +67,8 @@ pub record TakesLines (events : List Event) (reader : Reading) (events' : List E
   pub rest : HoldsRest reader'
   pub admits : Reads events given (Admitted events')
 
--- the lines that wait are refused at this one, whatever comes, and also if the log is cut here
+-- the lines that wait are refused at this one, whatever comes, and also if the log is cut behind it
 pub record Refuses (events : List Event) (reader : Reading) (line : ℕ) : Type 0 where
   pub lines : (more : List ℕ) → Reads events (lines_from reader.number (reader.pending ++ more)) (Refused line)
-  pub found : LogRead
-  pub whole : Reads events (numbered reader.number (whole_lines reader.pending)) found
-  pub cut : refused_behind found (number_after (count_behind reader.number (whole_lines reader.pending))) ≡ Refused line
+  pub cut : (more : List ℕ) → (found : LogRead) × Reads events (numbered reader.number (whole_lines (reader.pending ++ more))) found
+      × (Refused line ≡ refused_behind found (number_after (count_behind reader.number (whole_lines (reader.pending ++ more)))))

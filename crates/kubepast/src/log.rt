@@ -8,6 +8,7 @@ ghost use Rattle.kubepast.specs.Log.{Admitted, Refused, IsAdmitted, IsLogRead, T
 use crate::event::Event;
 use crate::form::read_event;
 use crate::stop::Stop;
+use base_types::OutOfMemory;
 use edge_io::Desk;
 use line_reader::{Line, LineFault, LineReader};
 use std::alloc::Global;
@@ -41,12 +42,18 @@ pub fn read_log<D: Desk>(
         let count = desk.read(name, buffer)?;
         if count == 0 {
             reader.end();
-            take_lines(alloc, &mut reader, &mut events)?;
+            if let Err(stop) = take_lines(alloc, &mut reader, &mut events) {
+                return Err(stop);
+            }
             return Ok(events);
         }
         let within = count.min(MOST_INPUT - taken);
-        reader.feed(&buffer[..within])?;
-        take_lines(alloc, &mut reader, &mut events)?;
+        if let Err(OutOfMemory) = reader.feed(&buffer[..within]) {
+            return Err(Stop::OutOfMemory);
+        }
+        if let Err(stop) = take_lines(alloc, &mut reader, &mut events) {
+            return Err(stop);
+        }
         if within < count {
             return Err(Stop::Unbuilt {
                 line: reader.next_number(),
@@ -65,7 +72,11 @@ fn take_lines(alloc: Global, reader: &mut LineReader, events: &mut Vec<Event>) -
 {
     'lines: loop {
         match reader.next_line() {
-            Ok(Some(line)) => admit_line(alloc, events, &line)?,
+            Ok(Some(line)) => {
+                if let Err(stop) = admit_line(alloc, events, &line) {
+                    return Err(stop);
+                }
+            }
             Ok(None) => return Ok(()),
             Err(LineFault::TooLong { number }) => return Err(Stop::Unbuilt { line: number }),
             Err(LineFault::OutOfMemory) => return Err(Stop::OutOfMemory),
