@@ -2,5 +2,6 @@
 
 mod event;
 mod judging;
+mod windows;
 
 fn main() {}

@@ -1,0 +1,6 @@
+pub mod JudgingOrder
+pub mod JudgingPlacement
+pub mod JudgingPlaces
+pub mod JudgingPrefixes
+pub mod JudgingWindows
+pub mod JudgingWrites
