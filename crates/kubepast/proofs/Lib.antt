@@ -1,6 +1,9 @@
+pub mod EndingFacts
 pub mod JudgingOrder
 pub mod JudgingPlacement
 pub mod JudgingPlaces
 pub mod JudgingPrefixes
 pub mod JudgingWindows
 pub mod JudgingWrites
+pub mod SetupFacts
+pub mod StreamFacts
