@@ -7,6 +7,7 @@ mod judging;
 mod log;
 mod setup;
 mod stop;
+mod windows;
 mod words;
 
 fn main() {}
