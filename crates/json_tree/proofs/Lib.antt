@@ -2,6 +2,7 @@ pub mod Escapes
 pub mod Indices
 pub mod Lists
 pub mod Ordered
+pub mod Placing
 pub mod Printing
 pub mod Reading
 pub mod Removing

@@ -1,4 +1,5 @@
 pub mod Code
+pub mod Edits
 pub mod Meaning
 pub mod Names
 pub mod Node

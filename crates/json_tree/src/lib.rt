@@ -2,6 +2,7 @@
 #![tactic(auto)]
 
 mod copying;
+mod edits;
 mod equality;
 mod parts;
 mod pointers;
