@@ -1,9 +1,8 @@
 -- Array indices.
-use Rattle.std.proofs.Common.{◌≡◌, ℕ, zero, suc, ◌<◌, ◌≤◌, ◌^◌, ◌==◌, Bool, true, false, List, [], ◌∷◌, length, Option, Some, None, IfSome, IfNone, option_map, option_and_then, Result, Ok, Err, refl, sym, ap, subst, ◌∙◌, ◌⊎◌, inl, inr, Bor, arith, rules}
-use Rattle.std.specs.Option.{MatchOption}
+use Rattle.std.proofs.Common.{◌≡◌, ℕ, zero, suc, ◌<◌, ◌≤◌, ◌^◌, ◌==◌, Bool, true, false, List, [], ◌∷◌, length, get_or, get_or, Option, Some, None, IfSome, IfNone, option_map, option_and_then, Result, Ok, Err, refl, sym, ap, subst, ◌∙◌, ◌⊎◌, inl, inr, arith, rules}
 use Rattle.std.specs.Result.{result_ok, OkIff}
 use Rattle.std.specs.Str.Parse.{ParsesUnsigned, digits_value}
-use Rattle.std.specs.List.{slice_get, list_all, HoldsAt}
+use Rattle.std.specs.List.{slice_get, list_all}
 use Rattle.std.specs.Char.{is_ascii_digit}
 use Rattle.std.specs.Prelude.{if◌then◌else◌}
 use Rattle.std.proofs.lemmas.Bool.{false≢true, eqb-true, cases_lt}
@@ -57,7 +56,9 @@ pub kid_past : (ts : List Meaning) (o : Option ℕ) → ((n : ℕ) → o ≡ Som
 kid_past ts None past = refl
 kid_past ts (Some n) past = kid_at-kids_of ts n ∙ slice_get_past ts n (past n refl)
 
-pub item_read : (ts : List Meaning) (n : ℕ) (o : Option (Bor Meaning)) → MatchOption o (length ts ≤ n) (λ x. (n < length ts) × HoldsAt (λ y. x.now ≡ y) ts n)
-    → option_map (λ x. x.now) o ≡ kid_at n (kids_of ts)
-item_read ts n None h = sym (kid_at-kids_of ts n ∙ slice_get_past ts n h)
-item_read ts n (Some x) h = sym (kid_at-kids_of ts n ∙ slice_get-get_or ts n x.now h.0 ∙ ap Some (sym (h.1 x.now)))
+pub item_past : (ts : List Meaning) (n : ℕ) (o : Option ℕ) → o ≡ Some n → length ts ≤ n → option_and_then (λ n. kid_at n (kids_of ts)) o ≡ None
+item_past ts n o is past = ap (option_and_then (λ n. kid_at n (kids_of ts))) is ∙ kid_at-kids_of ts n ∙ slice_get_past ts n past
+
+pub item_read : (ts : List Meaning) (n : ℕ) (o : Option ℕ) (t : Meaning) → o ≡ Some n → n < length ts → t ≡ get_or ts n t → Some t ≡ option_and_then (λ n. kid_at n (kids_of ts)) o
+item_read ts n o t is within read =
+    sym (ap (option_and_then (λ n. kid_at n (kids_of ts))) is ∙ kid_at-kids_of ts n ∙ slice_get-get_or ts n t within ∙ ap Some (sym read))

@@ -1,4 +1,4 @@
-ghost use Rattle.std.specs.Prelude.{◌≡◌, ◌≤◌, ◌^◌, ℕ, Some, None, Err, IfOk, IfErr, IfSome, IfNone, OnErr, List, option_map, option_and_then};
+ghost use Rattle.std.specs.Prelude.{◌≡◌, ◌<◌, ◌≤◌, ◌^◌, length, ℕ, Some, None, Err, IfOk, IfErr, IfSome, IfNone, OnErr, List, option_map, option_and_then};
 ghost use Rattle.std.specs.List.{slice_split, list_all};
 ghost use Rattle.std.specs.Char.{is_ascii_digit};
 ghost use Rattle.std.specs.Str.Iter.{chars_rest};
@@ -179,12 +179,24 @@ impl Tree {
 }
 
 impl Trees {
+    /// The index that a token is, where it is that of an item.
+    pub fn find(&self, token: &str) -> Option<usize>
+        ensures some { IfSome result (λ n. (index_of token.now ≡ Some n) × (n < length self.now)) }
+        ensures none { IfNone result (option_and_then (λ n. kid_at n (kids_of self.now)) (index_of token.now) ≡ None) }
+    {
+        match read_index(token) {
+            Some(index) if index < self.all.len() => Some(index),
+            Some(_) => None,
+            None => None,
+        }
+    }
+
     /// The item at an index, where the token is one.
     pub fn item(&self, token: &str) -> Option<&Tree>
         ensures { option_map (λ t. t.now) result ≡ option_and_then (λ n. kid_at n (kids_of self.now)) (index_of token.now) }
     {
-        match read_index(token) {
-            Some(index) => self.all.get(index),
+        match self.find(token) {
+            Some(index) => Some(&self.all[index]),
             None => None,
         }
     }
