@@ -1,6 +1,7 @@
 ghost use Rattle.std.specs.Prelude.{◌≡◌, IfOk, OnOk, OnErr};
 ghost use Rattle.json_tree.specs.Edits.{put};
 ghost use Rattle.json_tree.specs.Meaning.{fields_of};
+ghost use Rattle.json_tree.specs.Names.{AreSorted};
 ghost use Rattle.json_tree.specs.Parts.{lookup};
 ghost use Rattle.json_tree.specs.Stored.{fields_without};
 
@@ -15,6 +16,7 @@ impl MemberList {
         ensures put { OnOk result (fields_of self.new ≡ put name value (fields_of self.old)) }
         ensures old { IfOk result (λ old. old ≡ lookup name (fields_of self.old)) }
         ensures err { OnErr result (self.new ≡ self.old) }
+        ensures sorted { AreSorted self.old }
     {
         match self.find(name.as_str()) {
             Ok(at) => {
@@ -32,6 +34,7 @@ impl MemberList {
     pub fn take(&mut self, name: &str) -> Option<Tree>
         ensures left { fields_of self.new ≡ fields_without name.now (fields_of self.old) }
         ensures taken { result ≡ lookup name.now (fields_of self.old) }
+        ensures sorted { AreSorted self.old }
     {
         match self.find(name) {
             Ok(at) => {
