@@ -1,8 +1,11 @@
 pub mod Code
+pub mod Edits
 pub mod Meaning
 pub mod Names
 pub mod Node
 pub mod Parts
+pub mod Pointers
+pub mod Same
 pub mod Search
 pub mod Size
 pub mod Stored

@@ -2,8 +2,10 @@
 #![tactic(auto)]
 
 mod copying;
+mod edits;
 mod equality;
 mod parts;
+mod pointers;
 mod search;
 mod stored;
 mod tree;
@@ -11,6 +13,7 @@ mod values;
 
 pub use copying::copy;
 pub use equality::equal;
+pub use pointers::{Pointer, PointerFault, get, read_index, read_pointer};
 pub use stored::stored_form;
 pub use tree::{Member, MemberList, Node, Tree, TreeFault, Trees};
-pub use values::from_value;
+pub use values::{from_value, to_value};
