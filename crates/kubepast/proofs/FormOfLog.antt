@@ -42,17 +42,17 @@ numbers_rise above number (line ∷ lines) low few = go (is_dropped line) refl
 -- one event more
 form_more : (events : List Event) (line : NumberedLine) (event : Event) (above : ℕ) → AreFirstForm events → All (λ e. e.line ≤ above) events → above < line.number → IsAdmitted events line event → AreFirstForm (events ++ event ∷ [])
 form_more events line event above form low rise admitted =
-    let at = admitted.form.line in record {
+    let at = admitted.form.stands.line in record {
       lines = all_pairs_push (λ a b. a.line < b.line) events event form.lines (λ k d within. let l = low k d within in omega (arith, l, rise, at));
       apart = all_pairs_push (λ a b. a.verb ≡ Create → b.verb ≡ Create → (a.name ≡ b.name → ⊥) × (a.revision ≡ b.revision → ⊥)) events event form.apart
-          (λ k d within made made'. let new = admitted.form.new_create made' in (new.names k d within made, new.revisions k d within made));
-      after_start = All-push (λ e. e.verb ≡ Create → 10 < e.revision) events event form.after_start (λ made. (admitted.form.new_create made).after_start);
+          (λ k d within made made'. let new = admitted.form.stands.new.create made' in ((λ same. new.names k d within made (same ∙ admitted.form.stands.name)), new.revisions k d within made));
+      after_start = All-push (λ e. e.verb ≡ Create → 10 < e.revision) events event form.after_start (λ made. (admitted.form.stands.new.create made).after_start);
     }
 
 form_of : (events final : List Event) (lines : List NumberedLine) (above : ℕ) → AreFirstForm events → All (λ e. e.line ≤ above) events → Rises above lines → Reads events lines (Admitted final) → AreFirstForm final
 form_of events final [] above form low rises reads = let same : events ≡ final = cc in subst (λ e. AreFirstForm e) same form
 form_of events final (line ∷ lines) above form low rises (inl (event, admitted, rest)) =
-    let at = admitted.form.line in
+    let at = admitted.form.stands.line in
     let rise = rises.0 in
     form_of (events ++ event ∷ []) final lines line.number (form_more events line event above form low rise admitted)
       (All-push (λ e. e.line ≤ line.number) events event (λ k d within. let l = low k d within in omega (arith, l, rise)) (omega (arith, at))) rises.1 rest

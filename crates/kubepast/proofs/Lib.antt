@@ -1,4 +1,6 @@
+pub mod BuildFacts
 pub mod EndingFacts
+pub mod FormFacts
 pub mod FormOfLog
 pub mod LogFacts
 pub mod LogStates
@@ -8,5 +10,6 @@ pub mod JudgingPlaces
 pub mod JudgingPrefixes
 pub mod JudgingWindows
 pub mod JudgingWrites
+pub mod RunFacts
 pub mod SetupFacts
 pub mod StreamFacts

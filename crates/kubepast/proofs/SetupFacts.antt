@@ -126,3 +126,14 @@ not_built old middle now bytes taken piece within h consumed told differs built 
     go : (behind : List ℕ) → bytes ≡ (take taken SETUP_LINE.now ++ piece) ++ behind → IsBuilt bytes → ⊥
     go behind is (inl whole) = differs (line_front SETUP_LINE.now piece behind taken within (sym is ∙ whole))
     go behind is (inr whole) = differs (line_front SETUP_LINE.now piece (behind ++ newline ∷ []) taken within (sym (append_assoc (take taken SETUP_LINE.now ++ piece) behind (newline ∷ [])) ∙ ap (λ b. b ++ newline ∷ []) (sym is) ∙ whole))
+
+-- the last read gave nothing
+pub takes_none : (old middle now : Option (List ℕ)) (taken : ℕ) (piece : List ℕ) (failed : Type 0) → HasTaken old middle (take taken SETUP_LINE.now) → Consumes middle now piece → length piece ≡ 0 → TakesSetup old now failed
+takes_none old middle now taken piece failed h consumed none = λ bytes told.
+    let all = taken_more old middle now (take taken SETUP_LINE.now) piece h consumed bytes told in
+    (take taken SETUP_LINE.now, [], all.0, all.1, all.2 ∙ ap (λ p. (take taken SETUP_LINE.now ++ p) ++ all.0) (nothing_is piece none), front_is taken, (omega arith), λ _. refl)
+
+-- what fails less often holds no less
+pub takes_setup_weaker : (old now : Option (List ℕ)) (failed other : Type 0) → (other → failed) → TakesSetup old now failed → TakesSetup old now other
+takes_setup_weaker old now failed other from takes = λ bytes told.
+    let t = takes bytes told in (t.0, t.1, t.2, t.3, t.4, t.5, t.6, λ is. t.7 (from is))

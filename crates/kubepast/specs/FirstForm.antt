@@ -80,35 +80,45 @@ abbrev pub IsNameByte : ℕ → Type 0
 IsNameByte byte = ((97 ≤ byte) × (byte ≤ 122)) ⊎ ((48 ≤ byte) × (byte ≤ 57))
 
 -- the texts meet what is asked of each by itself
-pub record AreParts (p : Parts) (event : Event) : Type 0 where
+pub record AreParts (p : Parts) (received staged : ℤ) (revision : ℕ) : Type 0 where
   pub audit_id : p.audit_id ≢ []
-  pub received : result_ok (parse_timestamp p.received) ≡ Some event.received.0
-  pub staged : result_ok (parse_timestamp p.staged) ≡ Some event.staged.0
-  pub begins : log_begins ≤ℤ event.received.0
-  pub rising : event.received.0 ≤ℤ event.staged.0
-  pub ends : event.staged.0 ≤ℤ log_ends
+  pub receipt : result_ok (parse_timestamp p.received) ≡ Some received
+  pub stage : result_ok (parse_timestamp p.staged) ≡ Some staged
+  pub begins : log_begins ≤ℤ received
+  pub rising : received ≤ℤ staged
+  pub ends : staged ≤ℤ log_ends
   pub name : p.name ≢ []
   pub letters : All IsNameByte p.name
   pub uid : p.uid ≢ []
-  pub revision : p.revision ≡ decimal event.revision
-  pub in_range : IsRevision event.revision
+  pub number : p.revision ≡ decimal revision
+  pub in_range : IsRevision revision
 
 -- a create differs from all earlier ones
-pub record IsNewCreate (earlier : List Event) (event : Event) : Type 0 where
-  pub after_start : 10 < event.revision
-  pub names : All (λ other. other.verb ≡ Create → other.name ≢ event.name) earlier
-  pub uids : All (λ other. other.verb ≡ Create → other.uid ≢ event.uid) earlier
-  pub revisions : All (λ other. other.verb ≡ Create → other.revision ≢ event.revision) earlier
+pub record IsNewCreate (earlier : List Event) (name uid : List ℕ) (revision : ℕ) : Type 0 where
+  pub after_start : 10 < revision
+  pub names : All (λ other. other.verb ≡ Create → other.name ≢ name) earlier
+  pub uids : All (λ other. other.verb ≡ Create → other.uid ≢ uid) earlier
+  pub revisions : All (λ other. other.verb ≡ Create → other.revision ≢ revision) earlier
 
--- the event that a line of the first form stands for, behind earlier ones
-pub record IsInFirstForm (earlier : List Event) (from : NumberedLine) (event : Event) : Type 0 where
+-- an event differs from all earlier ones
+pub record IsNew (earlier : List Event) (verb : Verb) (p : Parts) (revision : ℕ) : Type 0 where
+  pub audit_id : All (λ other. other.audit_id ≢ p.audit_id) earlier
+  pub create : verb ≡ Create → IsNewCreate earlier p.name p.uid revision
+
+-- the event that a tree of the first form stands for, behind earlier ones
+pub record IsEventOf (earlier : List Event) (number : ℕ) (tree : Meaning) (event : Event) : Type 0 where
   pub parts : Parts
-  pub tree : IsTreeOf from.bytes (event_tree event.verb parts)
-  pub good : AreParts parts event
-  pub new_id : All (λ other. other.audit_id ≢ parts.audit_id) earlier
-  pub new_create : event.verb ≡ Create → IsNewCreate earlier event
-  pub line : event.line ≡ from.number
+  pub is : tree ≡ event_tree event.verb parts
+  pub good : AreParts parts event.received.0 event.staged.0 event.revision
+  pub new : IsNew earlier event.verb parts event.revision
+  pub line : event.line ≡ number
   pub audit_id : event.audit_id ≡ parts.audit_id
   pub name : event.name ≡ parts.name
   pub uid : event.uid ≡ parts.uid
   pub object : event.tree ≡ stored (answered_tree parts)
+
+-- the event that a line of the first form stands for
+pub record IsInFirstForm (earlier : List Event) (line : NumberedLine) (event : Event) : Type 0 where
+  pub tree : Meaning
+  pub read : IsTreeOf line.bytes tree
+  pub stands : IsEventOf earlier line.number tree event

@@ -6,3 +6,5 @@ pub mod Log
 pub mod Setup
 pub mod Windows
 pub mod Program
+pub mod Reading
+pub mod Statuses

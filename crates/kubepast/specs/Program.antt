@@ -9,29 +9,32 @@ use Rattle.kubepast.specs.Judgement.{IsOutcome}
 use Rattle.kubepast.specs.Log.{LogRead, Admitted, Refused, IsLogRead}
 use Rattle.kubepast.specs.Setup.{IsBuilt}
 
-abbrev pub usage : Answer
-usage = record { status = 2; text = line_of (codes "usage") }
+abbrev pub usage_answer : Answer
+usage_answer = record { status = 2; text = line_of (codes "usage") }
 
-abbrev pub unbuilt_setup : Answer
-unbuilt_setup = record { status = 9; text = line_of (codes "unbuilt setup") }
+abbrev pub unbuilt_setup_answer : Answer
+unbuilt_setup_answer = record { status = 9; text = line_of (codes "unbuilt setup") }
 
-abbrev pub unbuilt : ℕ → Answer
-unbuilt line = record { status = 9; text = line_of (codes "unbuilt " ++ decimal line) }
+abbrev pub unbuilt_answer : ℕ → Answer
+unbuilt_answer line = record { status = 9; text = line_of (codes "unbuilt " ++ decimal line) }
 
-abbrev pub verdict : Outcome → Answer
-verdict (Explained lines) = record { status = 0; text = outcome_text (Explained lines) }
-verdict (Unexplained line audit_id reason low high writes) = record { status = 1; text = outcome_text (Unexplained line audit_id reason low high writes) }
+abbrev pub outcome_status : Outcome → ℕ
+outcome_status (Explained lines) = 0
+outcome_status (Unexplained line audit_id reason low high writes) = 1
+
+abbrev pub verdict_answer : Outcome → Answer
+verdict_answer outcome = record { status = outcome_status outcome; text = outcome_text outcome }
 
 -- the verdict of the events, or the line that was refused
 abbrev pub IsVerdict : LogRead → Answer → Type 0
-IsVerdict (Admitted events) answer = (outcome : Outcome) × IsOutcome events outcome × (answer ≡ verdict outcome)
-IsVerdict (Refused line) answer = answer ≡ unbuilt line
+IsVerdict (Admitted events) answer = (outcome : Outcome) × IsOutcome events outcome × (answer ≡ verdict_answer outcome)
+IsVerdict (Refused line) answer = answer ≡ unbuilt_answer line
 
 abbrev pub IsJudged : List ℕ → List ℕ → Answer → Type 0
 IsJudged setup log answer =
-    ((IsBuilt setup → ⊥) × (answer ≡ unbuilt_setup))
+    ((IsBuilt setup → ⊥) × (answer ≡ unbuilt_setup_answer))
     ⊎ (IsBuilt setup × ((read : LogRead) × IsLogRead log read × IsVerdict read answer))
 
 abbrev pub IsAnswer : Asked → (List ℕ → List ℕ) → Answer → Type 0
-IsAnswer Usage files answer = answer ≡ usage
+IsAnswer Usage files answer = answer ≡ usage_answer
 IsAnswer (Judge setup log) files answer = IsJudged (files setup) (files log) answer

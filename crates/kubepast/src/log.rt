@@ -33,6 +33,7 @@ pub fn read_log<D: Desk>(
     ensures unbuilt { IfErr result (λ stop. (line : ℕ) → stop ≡ Stop.Unbuilt line → (bytes : List ℕ) → D.left desk.old name.now ≡ Some bytes → IsLogRead bytes (Refused line)) }
     ensures fault { IsErrOf result Stop.ReadFault → Rose (D.faults desk.old) (D.faults desk.new) }
     ensures counted { D.faults desk.old ≤ D.faults desk.new }
+    ensures others { (other : List ℕ) → other ≢ name.now → D.left desk.new other ≡ D.left desk.old other }
     ensures taken { TakesLog (D.left desk.old name.now) (D.left desk.new name.now) (IsErrOf result Stop.ReadFault) }
 {
     let mut reader = LineReader::new(alloc)?;

@@ -1,4 +1,4 @@
-ghost use Rattle.std.specs.Prelude.{◌≡◌, ◌≢◌, ◌↔◌, ℕ, ◌<◌, ◌≤◌, ◌++◌, List, Some, length, take, drop, IfOk, IsTrue, IsErr, OnErr};
+ghost use Rattle.std.specs.Prelude.{◌≡◌, ◌≢◌, ◌↔◌, ℕ, ◌<◌, ◌≤◌, ◌++◌, List, Some, Ok, false, length, take, drop, IfOk, IsTrue};
 ghost use Rattle.edge_io.specs.Faults.{HasCause};
 ghost use Rattle.kubepast.specs.Setup.{IsBuilt, TakesSetup};
 
@@ -18,7 +18,7 @@ pub fn read_setup<D: Desk>(
     ensures built { IfOk result (λ is. (bytes : List ℕ) → D.left desk.old name.now ≡ Some bytes → IsTrue is ↔ IsBuilt bytes) }
     ensures others { (other : List ℕ) → other ≢ name.now → D.left desk.new other ≡ D.left desk.old other }
     ensures cause { HasCause (D.faults desk.old) (D.faults desk.new) result }
-    ensures taken { TakesSetup (D.left desk.old name.now) (D.left desk.new name.now) (IsErr result) }
+    ensures taken { TakesSetup (D.left desk.old name.now) (D.left desk.new name.now) (result ≢ Ok false) }
 {
     let mut taken = 0;
     'pieces: loop {

@@ -1,5 +1,5 @@
-use Rattle.std.proofs.Common.{◌≡◌, ℕ, ◌≤◌, length, take, drop, arith, sym, ◌∙◌, true, false}
-use Rattle.kubepast.proofs.SetupFacts.{HasRead, has_read_more, takes_kept, takes_piece, built_at_end, not_built}
+use Rattle.std.proofs.Common.{◌≡◌, refl, ℕ, ◌≤◌, length, take, drop, arith, sym, ◌∙◌, true, false}
+use Rattle.kubepast.proofs.SetupFacts.{HasRead, has_read_more, takes_kept, takes_piece, takes_none, built_at_end, not_built}
 use Rattle.kubepast.proofs.setup.read_setup.Goals as goal
 
 pub returns-in_err-count-clause-taken : goal.returns-in_err-count-clause-taken
@@ -16,7 +16,10 @@ returns-then-not-goes_on-clause-taken g c =
     let a = c.read.auto.into in
     let b = c.pieces.auto.buffer in
     let small = c.requires.piece in
-    takes_piece _ _ _ c.pieces.taken (take c.in_ok-count.count c.read.new.into) _ c.pieces.invariant.told c.in_ok-count.ensures.bytes.0 (omega (arith, read, count, a, b, small)) (λ no. cc)
+    takes_piece _ _ _ c.pieces.taken (take c.in_ok-count.count c.read.new.into) _ c.pieces.invariant.told c.in_ok-count.ensures.bytes.0 (omega (arith, read, count, a, b, small)) (λ no. no refl)
 
 pub pieces-preserved : goal.pieces-preserved
 pieces-preserved g c = has_read_more _ _ _ _ _ _ c.args.name.now (take c.in_ok-count.count c.read.new.into) c.pieces.taken c.in_ok-count.count c.pieces.invariant c.in_ok-count.ensures.bytes.0 c.in_ok-count.ensures.others c.in_ok-count.ensures.cause.counted (c.goes_on.ensures.0 c.if-not-goes_on.false) (sym c.in_ok-count.ensures.bound.1)
+
+pub returns-then-count-eq0-clause-taken : goal.returns-then-count-eq0-clause-taken
+returns-then-count-eq0-clause-taken g c = takes_none _ _ _ c.pieces.taken (take c.in_ok-count.count c.read.new.into) _ c.pieces.invariant.told c.in_ok-count.ensures.bytes.0 (sym c.in_ok-count.ensures.bound.1 ∙ c.if-count-eq0.true)
