@@ -2,14 +2,17 @@ use crate::run::run;
 use base_types::{Bytes, Text};
 use edge_io::{InputFile, InputFiles, MemoryDesk, MemorySink};
 use std::alloc::Global;
+use std::marker::Sync;
 use std::process::Abort;
 use std::test::Fail;
+use std::thread::Threads;
 
 const SETUP: &str = "{\"kind\":\"PastSetup\",\"version\":1,\"start\":{\"revision\":\"10\",\"time\":\"2024-05-01T10:00:00.000000Z\"},\"until\":\"2024-05-01T11:00:00.000000Z\",\"policy\":{\"apiVersion\":\"audit.k8s.io/v1\",\"kind\":\"Policy\",\"rules\":[{\"level\":\"RequestResponse\"}]},\"resources\":[{\"group\":\"\",\"version\":\"v1\",\"resource\":\"configmaps\",\"kind\":\"ConfigMap\",\"listKind\":\"ConfigMapList\",\"namespaced\":true}],\"snapshot\":[]}";
 
 const NAMES: [&str; 3] = ["judge", "s", "l"];
 
 // One call of the program over files in memory.
+#[derive(Clone, Copy)]
 struct Call<'a> {
     words: &'a [&'a str],
     setup: &'a str,
@@ -40,8 +43,13 @@ fn file(alloc: Global, name: &str, text: &str) -> Result<InputFile, Fail> {
 }
 
 // Makes a call and compares what it wrote and its status.
-fn expect(rt: &HostRuntime, call: &Call<'_>, status: u8, text: &str) -> Result<(), Fail> {
-    let alloc = rt.alloc();
+fn expect<R: Threads + Sync + Abort>(
+    rt: &R,
+    alloc: Global,
+    call: &Call<'_>,
+    status: u8,
+    text: &str,
+) -> Result<(), Fail> {
     let mut words = Vec::new(alloc);
     for word in call.words {
         words.push(String::from_str(alloc, word)?)?;
@@ -88,56 +96,57 @@ fn verdicts(rt: HostRuntime) -> Result<(), Fail> {
     let mut log = made.clone()?;
     log.push_str(&seen)?;
     let explained = "explained 2\n1 made 11 none\n2 at 11 none\n";
-    expect(&rt, &judging(&log), 0, explained)?;
+    expect(&rt, alloc, &judging(&log), 0, explained)?;
     // However the bytes arrive.
     let mut pieces = judging(&log);
     pieces.cut = 7;
-    expect(&rt, &pieces, 0, explained)?;
+    expect(&rt, alloc, &pieces, 0, explained)?;
     // Blank lines are counted.
     let mut blank = String::from_str(alloc, " \t\n")?;
     blank.push_str(&log)?;
-    expect(&rt, &judging(&blank), 0, "explained 2\n2 made 11 none\n3 at 11 none\n")?;
+    expect(&rt, alloc, &judging(&blank), 0, "explained 2\n2 made 11 none\n3 at 11 none\n")?;
     // The order of lines doesn't matter, the order in time does.
     let mut exchanged = seen.clone()?;
     exchanged.push_str(&made)?;
-    expect(&rt, &judging(&exchanged), 0, "explained 2\n1 at 11 none\n2 made 11 none\n")?;
+    expect(&rt, alloc, &judging(&exchanged), 0, "explained 2\n1 at 11 none\n2 made 11 none\n")?;
     let mut early = get_line(alloc, "a1", "11", 1)?;
     early.push_str(&create_line(alloc, "a2", "11", 3)?)?;
-    expect(&rt, &judging(&early), 1, "unexplained 1 a1 U10 10 10\n")
+    expect(&rt, alloc, &judging(&early), 1, "unexplained 1 a1 U10 10 10\n")
 }
 
 #[test]
 fn refusals(rt: HostRuntime) -> Result<(), Fail> {
     let alloc = rt.alloc();
-    expect(&rt, &judging(""), 0, "explained 0\n")?;
+    expect(&rt, alloc, &judging(""), 0, "explained 0\n")?;
     let mut line = create_line(alloc, "a1", "11", 1)?;
     line.push_str("\nx\n")?;
-    expect(&rt, &judging(&line), 9, "unbuilt 3\n")?;
+    expect(&rt, alloc, &judging(&line), 9, "unbuilt 3\n")?;
     let mut words = judging("");
     words.words = &[];
-    expect(&rt, &words, 2, "usage\n")?;
+    expect(&rt, alloc, &words, 2, "usage\n")?;
     let mut setup = judging("");
     setup.setup = "{\"kind\":\"PastSetup\",\"version\":3}";
-    expect(&rt, &setup, 9, "unbuilt setup\n")
+    expect(&rt, alloc, &setup, 9, "unbuilt setup\n")
 }
 
 #[test]
 fn failing_edges(rt: HostRuntime) -> Result<(), Fail> {
+    let alloc = rt.alloc();
     // The setup takes two reads and the empty log one.
     for call in [1u64, 2, 3] {
         let mut failing = judging("");
         let numbers = [call];
         failing.failing_reads = &numbers;
-        expect(&rt, &failing, 5, "read fault\n")?;
+        expect(&rt, alloc, &failing, 5, "read fault\n")?;
     }
     let mut late = judging("");
     late.failing_reads = &[4];
-    expect(&rt, &late, 0, "explained 0\n")?;
+    expect(&rt, alloc, &late, 0, "explained 0\n")?;
     let mut cut = judging("");
     cut.write_cut = 5;
     cut.failing_writes = &[2];
-    expect(&rt, &cut, 6, "expla")?;
+    expect(&rt, alloc, &cut, 6, "expla")?;
     let mut first = judging("");
     first.failing_writes = &[1];
-    expect(&rt, &first, 6, "")
+    expect(&rt, alloc, &first, 6, "")
 }
