@@ -1,4 +1,5 @@
 pub mod Choices
+pub mod Covers
 pub mod Placements
 pub mod Reasons
 pub mod Revisions

@@ -1,0 +1,17 @@
+pub mod Keys
+pub mod Events
+pub mod Histories
+pub mod Judging
+pub mod Windows
+pub mod Groups
+pub mod Clouds
+pub mod Incarnations
+pub mod States
+pub mod Making
+pub mod Makers
+pub mod Readable
+pub mod Words
+pub mod Right
+pub mod Decisions
+pub mod Machine
+pub mod Runs
