@@ -1,0 +1,9 @@
+pub mod Members
+pub mod KeyLemmas
+pub mod Latest
+pub mod WindowLemmas
+pub mod JudgingLemmas
+pub mod CutLemmas
+pub mod Fits
+pub mod Steps
+pub mod StateLaw
