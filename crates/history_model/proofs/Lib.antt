@@ -7,3 +7,8 @@ pub mod CutLemmas
 pub mod Fits
 pub mod Steps
 pub mod StateLaw
+pub mod WordLemmas
+pub mod MakingsLaw
+pub mod RemovalsLaw
+pub mod Splits
+pub mod Locality

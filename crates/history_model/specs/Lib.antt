@@ -15,3 +15,4 @@ pub mod Right
 pub mod Decisions
 pub mod Machine
 pub mod Runs
+pub mod Local
