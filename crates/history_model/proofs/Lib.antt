@@ -12,3 +12,5 @@ pub mod MakingsLaw
 pub mod RemovalsLaw
 pub mod Splits
 pub mod Locality
+pub mod Sorting
+pub mod StepsOf
