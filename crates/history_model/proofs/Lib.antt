@@ -14,3 +14,5 @@ pub mod Splits
 pub mod Locality
 pub mod Sorting
 pub mod StepsOf
+pub mod Chosen
+pub mod Global

@@ -112,6 +112,35 @@ module _ (h : History) (choice : List ℕ) (r : IsReadable h) (chosen : IsChoice
           at : (place : ℕ) × Contains (cuts h.removals choice) (cut_of a.removal place) → ⊥
           at (place, c) = omega (arith, stay (cut_of a.removal place) c a.removed.of_last, (cut_chosen h.removals choice (cut_of a.removal place) chosen c).1, a.removed.high)
 
+-- there is an entry before a write that a maker made
+pub entry_exists : (h : History) (choice : List ℕ) (m : Making) (v : Version) → IsReadable h → IsChoice (ranges h) choice → IsMadeBy h m v
+    → (before : Option Version) × IsEntryBefore h m before
+entry_exists h choice m v r chosen b = go (state h choice (m.item.revision - 1) m.item.key) (state_stands h choice (m.item.revision - 1) m.item.key)
+  where
+    latest_at : (o : Option Version) → IsLatest h.versions m.item.key (m.item.revision - 1) o → latest h.versions m.item.key (m.item.revision - 1) ≡ o
+    latest_at o l = latest_same h.versions m.item.key (m.item.revision - 1) (latest h.versions m.item.key (m.item.revision - 1)) o r.versions.rising
+        (latest_is h.versions m.item.key (m.item.revision - 1)) l
+    entry : (o before : Option Version) → IsLatest h.versions m.item.key (m.item.revision - 1) o → IsEntryAfter h m o before → IsEntryBefore h m before
+    entry o before l e = subst (λ z. IsEntryAfter h m z before) (sym (latest_at o l)) e
+    go : (s : Option Version) → Stands h (cuts h.removals choice) m.item.key (m.item.revision - 1) s → (before : Option Version) × IsEntryBefore h m before
+    go s (never l) = (None, entry None None l refl)
+    go s (removed w cut l c q p) = by m.created refl
+      where
+        i : IsRemoval h cut.removal
+        i = r.removals.sound cut.removal (cut_removal h.removals choice cut c)
+        same : i.version ≡ w
+        same = apart (λ z. z.revision) h.versions i.version w r.versions.rising i.known l.0 (sym i.behind.of_last ∙ q)
+        facts : (w.uid ≢ m.item.uid) × IsRemovalBehind h w (Some m.item.revision) cut.removal
+        facts = next_is h choice r chosen m v b w i.next cut.removal l (subst (λ z. EndsBefore h.versions z i.next) same i.ends) (subst (λ z. IsRemovalBehind h z i.next cut.removal) same i.behind)
+        by : (t : Bool) → m.created ≡ t → (before : Option Version) × IsEntryBefore h m before
+        by true t = (None, entry (Some w) None l (inl (record { created = t; other_uid = facts.0; removal = cut.removal; removed = facts.1 }, refl)))
+        by false t = (Some w, entry (Some w) (Some w) l (inr (λ a. true≢false (sym a.created ∙ t), refl)))
+    go s (stays w l stay) = (Some w, entry (Some w) (Some w) l (inr (λ a. not_anew a (entries h choice r chosen m v b (Some w) None (stays w l stay) (entry (Some w) None l (inl (a, refl)))), refl)))
+      where
+        not_anew : IsAnew h m w → (Some w ≡ None) ⊎ ((m.created ≡ false) × IsOtherObject m (Some w) × IsOtherObject m None) → ⊥
+        not_anew a (inl e) = cc e
+        not_anew a (inr f) = true≢false (sym a.created ∙ f.0)
+
 pub makings_are : (h : History) (choice : List ℕ) (number : ℕ) (event : Event) (m : Making) (before : Option Version) (found : Option Reason)
     → IsReadable h → IsChoice (ranges h) choice → IsEvent h number event → word h number event ≡ Makes m → IsEntryBefore h m before
     → IsLeastFault h m (state h choice (m.item.revision - 1) m.item.key) found ↔ IsLeastFault h m before found
