@@ -16,3 +16,7 @@ pub mod Decisions
 pub mod Machine
 pub mod Runs
 pub mod Local
+pub mod Placed
+pub mod Codes
+pub mod Outcomes
+pub mod Exact
