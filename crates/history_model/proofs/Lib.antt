@@ -16,3 +16,5 @@ pub mod Sorting
 pub mod StepsOf
 pub mod Chosen
 pub mod Global
+pub mod CodeLemmas
+pub mod OutcomeLaw
