@@ -18,3 +18,6 @@ pub mod Chosen
 pub mod Global
 pub mod CodeLemmas
 pub mod OutcomeLaw
+pub mod SameSorted
+pub mod Printed
+pub mod OneOutcome
