@@ -21,3 +21,4 @@ pub mod OutcomeLaw
 pub mod SameSorted
 pub mod Printed
 pub mod OneOutcome
+pub mod OneList

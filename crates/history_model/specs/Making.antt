@@ -70,8 +70,8 @@ IsEntryBefore h m before = IsEntryAfter h m (latest h.versions m.item.key (m.ite
 -- Why a write could not have found its answer there and left it as it was (an update or patch that changes nothing).
 pub data HasFoundFault (h : History) (m : Making) (code : Reason) : Type 0 where
   creates : code ≡ U4 → m.created ≡ true → HasFoundFault h m code
-  unmet : code ≡ U7 → (AreMet m.event.conditions m.item.revision m.item.uid → ⊥) → HasFoundFault h m code
-  unasked : code ≡ U8 → h.body m.number (Some m.item.tree) ≡ false → HasFoundFault h m code
+  excludes : code ≡ U7 → (AreMet m.event.conditions m.item.revision m.item.uid → ⊥) → HasFoundFault h m code
+  changes : code ≡ U8 → h.body m.number (Some m.item.tree) ≡ false → HasFoundFault h m code
 
 abbrev pub CouldHaveFound : History → Making → Type 0
 CouldHaveFound h m = (code : Reason) → HasFoundFault h m code → ⊥

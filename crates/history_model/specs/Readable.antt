@@ -16,3 +16,10 @@ pub record IsReadable (h : History) : Type 0 where
   pub spans : AreSpans h
   pub versions : AreVersions h
   pub removals : AreRemovals h
+
+-- two histories of one setup and log, whose answers' bodies are judged alike
+pub record HaveOneLog (g h : History) : Type 0 where
+  pub start : g.start ≡ h.start
+  pub snapshot : g.snapshot ≡ h.snapshot
+  pub events : g.events ≡ h.events
+  pub body : g.body ≡ h.body
