@@ -22,3 +22,4 @@ pub mod SameSorted
 pub mod Printed
 pub mod OneOutcome
 pub mod OneList
+pub mod LocalBounds

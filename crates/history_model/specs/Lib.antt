@@ -20,3 +20,4 @@ pub mod Placed
 pub mod Codes
 pub mod Outcomes
 pub mod Exact
+pub mod Bounding

@@ -1,5 +1,5 @@
 -- When an answer is right at a place, `map` having the objects that are there.
-use Rattle.std.specs.Prelude.{◌≡◌, ◌≢◌, ℕ, ◌⊎◌, true, false, List, [], ◌∷◌, Option, Some, None, IsSome, IsNone, AllPairs, Contains}
+use Rattle.std.specs.Prelude.{◌≡◌, ◌≢◌, ℕ, ◌⊎◌, true, false, List, [], ◌∷◌, Option, Some, None, IsSome, IsNone, IsSomeAnd, AllPairs, Contains}
 use Rattle.base_types.specs.declared.claim.Reason.{Reason}
 use Rattle.base_types.specs.declared.claim.Reason.TheVariants.{U9, U10, U11, U12, U13}
 use Rattle.base_types.specs.declared.key.ObjectKey.{ObjectKey}
@@ -11,8 +11,7 @@ use Rattle.history_model.specs.States.{Map}
 
 -- the object is the item: of that revision, uid and tree
 abbrev pub IsShown : Item → Option Version → Type 0
-IsShown item None = ⊥
-IsShown item (Some v) = (v.revision ≡ item.revision) × (v.uid ≡ item.uid) × (v.tree ≡ item.tree)
+IsShown item found = IsSomeAnd found (λ v. (v.revision ≡ item.revision) × (v.uid ≡ item.uid) × (v.tree ≡ item.tree))
 
 -- a Conflict: the object doesn't meet the conditions, or is absent where a uid was given
 abbrev pub IsRefused : Conditions → Option Version → Type 0
