@@ -23,3 +23,5 @@ pub mod Printed
 pub mod OneOutcome
 pub mod OneList
 pub mod LocalBounds
+pub mod Classes
+pub mod Lists

@@ -29,7 +29,7 @@ module _ (h : History) (choice : List ℕ) (r : IsReadable h) (chosen : IsChoice
   state_of place o s = stands_same h (cuts h.removals choice) key place (state h choice place key) o fit (state_stands h choice place key) s
 
   -- absent whatever is chosen
-  anyway_none : (place : ℕ) → IsAbsentAnyway h key place → state h choice place key ≡ None
+  pub anyway_none : (place : ℕ) → IsAbsentAnyway h key place → state h choice place key ≡ None
   anyway_none place (inl e) = state_of place None (never (is_latest place None e))
   anyway_none place (inr (v, removal, e, c, q, l)) = go (removal_cut h.removals choice removal chosen c)
     where
@@ -82,7 +82,7 @@ module _ (h : History) (choice : List ℕ) (r : IsReadable h) (chosen : IsChoice
           at (inr (inl a)) = inr (state_of high None (removed w cut k c (q ∙ a) (omega (arith, p, m))))
           at (inr (inr a)) = absurd (omega (arith, k.3 v n.0 n.1 (omega (arith, n.2, m)), a))
 
-  absent_is : (low high : ℕ) → low ≤ high → SomewhereIn low high (λ x. state h choice x key ≡ None) ↔ (SomewhereIn low high (IsAbsentAnyway h key) ⊎ (state h choice high key ≡ None))
+  pub absent_is : (low high : ℕ) → low ≤ high → SomewhereIn low high (λ x. state h choice x key ≡ None) ↔ (SomewhereIn low high (IsAbsentAnyway h key) ⊎ (state h choice high key ≡ None))
   absent_is low high w = ((λ (x, l, m, e). absent_place low high x l m (state h choice x key) (state_stands h choice x key) e), back)
     where
       back : SomewhereIn low high (IsAbsentAnyway h key) ⊎ (state h choice high key ≡ None) → SomewhereIn low high (λ x. state h choice x key ≡ None)
@@ -90,7 +90,7 @@ module _ (h : History) (choice : List ℕ) (r : IsReadable h) (chosen : IsChoice
       back (inr e) = (high, w, omega arith, e)
 
   -- a version is present at its own revision
-  own_place : (v : Version) → Contains h.versions v → v.key ≡ key → state h choice v.revision key ≡ Some v
+  pub own_place : (v : Version) → Contains h.versions v → v.key ≡ key → state h choice v.revision key ≡ Some v
   own_place v c k = state_of v.revision (Some v) (stays v (c, k, omega arith, λ w d e b. b) behind)
     where
       behind : (cut : Cut) → Contains (cuts h.removals choice) cut → cut.removal.last ≡ v.revision → v.revision < cut.place
@@ -111,7 +111,7 @@ module _ (h : History) (choice : List ℕ) (r : IsReadable h) (chosen : IsChoice
       go (inr a) = inr (subst (λ z. IsSomeAnd z Fact) (sym (state_of low (Some v) (stays v (n.0, n.1, omega (arith, a), λ w d e b. n.3 w d e (omega (arith, b, l)))
           (λ cut d e. omega (arith, s cut d e, l))))) f)
 
-  present_is : (Fact : Version → Type 0) (low high : ℕ) → low ≤ high
+  pub present_is : (Fact : Version → Type 0) (low high : ℕ) → low ≤ high
       → SomewhereIn low high (λ x. IsSomeAnd (state h choice x key) Fact) ↔ (ComesIn h key low high Fact ⊎ IsSomeAnd (state h choice low key) Fact)
   present_is Fact low high w = ((λ (x, l, m, e). present_place Fact low high x l m (state h choice x key) (state_stands h choice x key) e), back)
     where
@@ -136,7 +136,7 @@ module _ (h : History) (choice : List ℕ) (r : IsReadable h) (chosen : IsChoice
       → (removal.range.low ≤ slice_index choice position) × (slice_index choice position ≤ removal.range.high)
   place_chosen position removal a = cut_chosen h.removals choice (cut_of removal (slice_index choice position)) chosen (cut_at h.removals choice position removal chosen a)
 
-  absence_is : (place position : ℕ) (v : Version) (removal : Removal) → latest h.versions key place ≡ Some v → IsRemovalAt h position v removal
+  pub absence_is : (place position : ℕ) (v : Version) (removal : Removal) → latest h.versions key place ≡ Some v → IsRemovalAt h position v removal
       → (state h choice place key ≡ None) ↔ Meets choice (absence_bound position removal place)
   absence_is place position v removal e a = go (by_cut place position v removal e a) (place_chosen position removal a.0)
     where
@@ -146,7 +146,7 @@ module _ (h : History) (choice : List ℕ) (r : IsReadable h) (chosen : IsChoice
       go (inl (l, s)) (b, c) = (λ x. (b, omega (arith, l, c)), λ x. s)
       go (inr (l, s)) (b, c) = (λ x. absurd (cc (x, s)), λ x. absurd (omega (arith, x.1, l)))
 
-  presence_is : (place position : ℕ) (v : Version) (removal : Removal) → latest h.versions key place ≡ Some v → IsRemovalAt h position v removal
+  pub presence_is : (place position : ℕ) (v : Version) (removal : Removal) → latest h.versions key place ≡ Some v → IsRemovalAt h position v removal
       → (state h choice place key ≡ Some v) ↔ Meets choice (presence_bound position removal place)
   presence_is place position v removal e a = go (by_cut place position v removal e a) (place_chosen position removal a.0)
     where
@@ -157,14 +157,14 @@ module _ (h : History) (choice : List ℕ) (r : IsReadable h) (chosen : IsChoice
       go (inr (l, s)) (b, c) = (λ x. (omega (arith, l, b), c), λ x. s)
 
   -- without a removal the version stays
-  kept : (place : ℕ) (v : Version) → latest h.versions key place ≡ Some v → ((removal : Removal) → Contains h.removals removal → removal.last ≡ v.revision → ⊥) → state h choice place key ≡ Some v
+  pub kept : (place : ℕ) (v : Version) → latest h.versions key place ≡ Some v → ((removal : Removal) → Contains h.removals removal → removal.last ≡ v.revision → ⊥) → state h choice place key ≡ Some v
   kept place v e none = state_of place (Some v) (stays v (is_latest place (Some v) e) (λ cut c q. absurd (none cut.removal (cut_removal h.removals choice cut c) q)))
 
-  nothing_yet : (place : ℕ) → latest h.versions key place ≡ None → state h choice place key ≡ None
+  pub nothing_yet : (place : ℕ) → latest h.versions key place ≡ None → state h choice place key ≡ None
   nothing_yet place e = state_of place None (never (is_latest place None e))
 
   -- a state is none, or the latest version
-  none_or_latest : (place : ℕ) (v : Version) → latest h.versions key place ≡ Some v → (state h choice place key ≡ None) ⊎ (state h choice place key ≡ Some v)
+  pub none_or_latest : (place : ℕ) (v : Version) → latest h.versions key place ≡ Some v → (state h choice place key ≡ None) ⊎ (state h choice place key ≡ Some v)
   none_or_latest place v e = go (state h choice place key) refl (state_stands h choice place key)
     where
       go : (o : Option Version) → state h choice place key ≡ o → Stands h (cuts h.removals choice) key place o → (state h choice place key ≡ None) ⊎ (state h choice place key ≡ Some v)
