@@ -25,3 +25,4 @@ pub mod OneList
 pub mod LocalBounds
 pub mod Classes
 pub mod Lists
+pub mod CheckLaw

@@ -21,3 +21,4 @@ pub mod Codes
 pub mod Outcomes
 pub mod Exact
 pub mod Bounding
+pub mod Checking
