@@ -26,3 +26,4 @@ pub mod LocalBounds
 pub mod Classes
 pub mod Lists
 pub mod CheckLaw
+pub mod Spelling
