@@ -171,7 +171,7 @@ module _ (h : History) (claims : List Claim) (r : IsReadable h) (exact : AreExac
           at (event, known) = meets_by choice i event k chosen (exact.each i event k known e) (right i event (judged i event known) known).answer
 
   -- the least choice that settles the claims is the least of the runs
-  fits_is : (choice : List ℕ) → IsLeastChoice (ranges h) claims choice → IsLeastOfRuns h choice
+  pub fits_is : (choice : List ℕ) → IsLeastChoice (ranges h) claims choice → IsLeastOfRuns h choice
   fits_is choice l = go (right_has_run h (length h.order) choice r l.explains.chosen (all_explains_right choice l.explains))
     where
       go : (p : Placement) × IsRunUpTo h (length h.order) p × (p.choice ≡ choice) → IsLeastOfRuns h choice
@@ -248,7 +248,7 @@ module _ (h : History) (claims : List Claim) (r : IsReadable h) (exact : AreExac
             by (inr (never, b)) = failure_code claim.fails refl other (answer e (never_at h number event earlier.0 earlier.1.meets.chosen never) never)
 
   -- the event at which the claims break is the earliest that isn't explained
-  breaks_is : (number : ℕ) (event : Event) (reason : Reason) → IsEvent h number event → BreaksFirst (ranges h) claims h.order number reason → IsEarliest h number event reason
+  pub breaks_is : (number : ℕ) (event : Event) (reason : Reason) → IsEvent h number event → BreaksFirst (ranges h) claims h.order number reason → IsEarliest h number event reason
   breaks_is number event reason known b = go (claim_of number event known)
     where
       go : (claim : Claim) × (slice_get claims number ≡ Some claim) → IsEarliest h number event reason
