@@ -22,3 +22,4 @@ pub mod Outcomes
 pub mod Exact
 pub mod Bounding
 pub mod Checking
+pub mod Examples
