@@ -27,3 +27,4 @@ pub mod Classes
 pub mod Lists
 pub mod CheckLaw
 pub mod Spelling
+pub mod Worked

@@ -1,0 +1,2 @@
+-- The example histories, worked on the definitions.
+pub mod Kit
