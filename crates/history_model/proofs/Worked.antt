@@ -1,2 +1,3 @@
 -- The example histories, worked on the definitions.
 pub mod Kit
+pub mod CreateAndGet
