@@ -1,3 +1,4 @@
 -- The example histories, worked on the definitions.
 pub mod Kit
 pub mod CreateAndGet
+pub mod SeenBeforeMade
