@@ -2,3 +2,4 @@
 pub mod Kit
 pub mod CreateAndGet
 pub mod SeenBeforeMade
+pub mod UnchangedUpdate

@@ -18,6 +18,7 @@ use Rattle.history_model.proofs.JudgingLemmas.{judged_once}
 use Rattle.history_model.proofs.KeyLemmas.{key_decides}
 use Rattle.history_model.proofs.Members.{not_in_none, here, there, in_cons, all_at, all_from, pairs_cons, at_in}
 use Rattle.history_model.proofs.OutcomeLaw.{take_next, take_whole}
+use Rattle.history_model.proofs.StateLaw.{Stands, never, removed, stays, state_stands}
 use Rattle.history_model.proofs.WordLemmas.{eq_test}
 use Rattle.history_model.specs.Clouds.{IsClouded, IsCloudedWithin, MayBeUnrecorded}
 use Rattle.history_model.specs.Codes.{HasCode, level, stage, stray, making, removal, found, answer, decision, IsCandidate, IsLeastCandidate}
@@ -29,11 +30,12 @@ use Rattle.history_model.specs.Judging.{IsJudgedBefore, PrecedesByKind, IsJudged
 use Rattle.history_model.specs.Keys.{same_key}
 use Rattle.history_model.specs.Local.{IsFixedRight, IsRightUnder, AreRightUpTo, AnswerHolds}
 use Rattle.history_model.specs.Makers.{CouldHaveMade, MustHaveMade, NoMaking, IsMakerOf, sole, able, unrecorded, faulty, IsShowing, IsMadeVersion}
-use Rattle.history_model.specs.Making.{HasFault, outside, present, used, replaced, unmet, unasked, HasNoFault, HasFoundFault, creates, excludes, changes, IsUsedUid, IsOtherObject, IsEntryBefore, MeetsConditions, tree_of}
-use Rattle.history_model.specs.Outcomes.{IsLeastOfRuns, IsEarliest, IsExplanation, Write, write_place, AreWrites}
+use Rattle.history_model.specs.Making.{HasFault, outside, present, used, replaced, unmet, unasked, HasNoFault, HasFoundFault, creates, excludes, changes, IsUsedUid, IsOtherObject, IsEntryBefore, AreMet, MeetsConditions, tree_of}
+use Rattle.history_model.specs.Outcomes.{IsLeastOfRuns, IsEarliest, IsExplanation, Write, MadeAt, IsMadeAt, IsWriteIn, AreWrites}
 use Rattle.history_model.specs.Placed.{IsPlacedLine, ArePlacedLines}
 use Rattle.history_model.specs.Readable.{IsReadable}
-use Rattle.history_model.specs.Right.{answer_code}
+use Rattle.history_model.specs.Right.{IsShown, answer_code}
+use Rattle.history_model.specs.States.{cuts, state}
 use Rattle.history_model.specs.Runs.{Placement, IsRun, IsRunUpTo, IsExplainedUpTo}
 use Rattle.history_model.specs.Windows.{lowest, highest}
 use Rattle.history_model.specs.Words.{Word, Makes, Removes, At, Strays, Nothing, word}
@@ -409,3 +411,46 @@ one_place range (x ∷ y ∷ ys) c = absurd c.1
 pub no_place : (choice : List ℕ) → IsChoice [] choice → choice ≡ []
 no_place [] c = refl
 no_place (x ∷ xs) c = absurd c
+
+-- a shown version isn't above its place
+pub shown_above : (h : History) (choice : List ℕ) (place : ℕ) (item : Item) (key : ObjectKey) → IsShown item (state h choice place key) → item.revision ≤ place
+shown_above h choice place item key s = go (state h choice place key) (state_stands h choice place key) s
+  where
+    go : (o : Option Version) → Stands h (cuts h.removals choice) key place o → IsShown item o → item.revision ≤ place
+    go o (never l) x = absurd x
+    go o (removed v cut l c e b) x = absurd x
+    go o (stays v l k) x = omega (arith, l.2, x.0)
+
+-- without unrecorded writes there are no clouds
+pub never_clouded : (h : History) → EachAt (λ n e. (key : ObjectKey) → Hides key e → ⊥) h.events → (key : ObjectKey) (place : ℕ) → IsClouded h key place → ⊥
+never_clouded h f key place (n, e, k, x) = each_event (λ n e. (key : ObjectKey) → Hides key e → ⊥) h.events f n e k key x.hides
+
+pub right_for : (h : History) (choice : List ℕ) (number : ℕ) (e : Event) → IsEvent h number e → IsRightUnder h choice number e → (event : Event) → IsEvent h number event → IsRightUnder h choice number event
+right_for h choice number e k x event l = subst (λ z. IsRightUnder h choice number z) (same_event h number e event k l) x
+
+-- a revision among the writes of a window
+pub made_in : (h : History) (low high : ℕ) (v : Version) (m : Making) → Contains h.versions v → h.start < v.revision → low ≤ v.revision → v.revision ≤ high → IsShowing h v.key v.revision v.maker m
+    → IsWriteIn h low high (MadeAt v.revision m.event.line v.key)
+made_in h low high v m c s l u x = record { version = v; known = c; above = s; inside = (l, u); of_revision = refl; of_key = refl; m = m; shown = x; of_line = refl }
+
+pub made_line : (h : History) (low high revision line : ℕ) (key : ObjectKey) (v : Version) (number : ℕ) (e : Event) → v.maker ≡ ByEvent number → IsEvent h number e
+    → (w : IsMadeAt h low high revision line key) → w.version ≡ v → MadeAt v.revision e.line v.key ≡ MadeAt revision line key
+made_line h low high revision line key v number e maker k w same = λ i. MadeAt (revisions i) (lines i) (keys i)
+  where
+    revisions : v.revision ≡ revision
+    revisions = ap (λ (z : Version). z.revision) (sym same) ∙ sym w.of_revision
+    keys : v.key ≡ key
+    keys = ap (λ (z : Version). z.key) (sym same) ∙ sym w.of_key
+    shown : IsShowing h w.version.key w.version.revision (ByEvent number) w.m
+    shown = subst (λ z. IsShowing h w.version.key w.version.revision z w.m) (ap (λ (z : Version). z.maker) same ∙ maker) w.shown
+    lines : e.line ≡ line
+    lines = ap (λ (z : Event). z.line) (same_event h number e w.m.event k (subst (λ z. IsEvent h z w.m.event) shown.1 shown.0.making.known)) ∙ sym w.of_line
+
+pub listed_at : (x y : Write) (xs : List Write) → x ≡ y → Contains (x ∷ xs) y
+listed_at x y xs e = subst (λ z. Contains (x ∷ xs) z) e (here x xs)
+
+-- no fault of finding: not created, the conditions met, the body right
+pub could_find : (h : History) (m : Making) → m.created ≡ false → AreMet m.event.conditions m.item.revision m.item.uid → h.body m.number (Some m.item.tree) ≡ true → (code : Reason) → HasFoundFault h m code → ⊥
+could_find h m f c b code (creates e t) = true≢false (sym t ∙ f)
+could_find h m f c b code (excludes e n) = n c
+could_find h m f c b code (changes e n) = true≢false (sym b ∙ n)
