@@ -3,3 +3,6 @@ pub mod Kit
 pub mod CreateAndGet
 pub mod SeenBeforeMade
 pub mod UnchangedUpdate
+pub mod Conflicts
+pub mod RemovalSeenEarly
+pub mod OneRemoval

@@ -1,8 +1,9 @@
 -- What small closed histories need.
-use Rattle.std.proofs.Common.{◌≡◌, ◌≢◌, ℕ, ℤ, pos, zero, suc, ◌<◌, ◌≤◌, ◌≤ℤ◌, ◌<ℤ◌, ◌+◌, ◌-◌, ◌⊎◌, Bool, true, false, not, ◌&&◌, nat_lt, int_lt, ◌==◌, List, [], ◌∷◌, length, map, take, slice_get, Option, Some, None, IsSome, All, AllPairs, Contains, inl, inr, refl, sym, ap, ap₂, ◌∙◌, subst, arith, true≢false}
+use Rattle.std.proofs.Common.{◌≡◌, ◌≢◌, ℕ, ℤ, pos, zero, suc, ◌<◌, ◌≤◌, ◌≤ℤ◌, ◌<ℤ◌, ◌+◌, ◌-◌, min, max, bytes_eq, ◌⊎◌, Bool, true, false, not, ◌&&◌, nat_lt, int_lt, ◌==◌, List, [], ◌∷◌, length, map, take, slice_get, Option, Some, None, IsSome, All, AllPairs, Contains, inl, inr, refl, sym, ap, ap₂, ◌∙◌, subst, arith, true≢false}
 use Rattle.std.specs.List.{AllZip, list_all, list_any}
 use mathlib.Core.HLevel.{is_prop→PathP}
 use Rattle.std.proofs.Math.Bridge.{le_prop}
+use Rattle.std.specs.Cmp.Lexicographic.{bytes_decides}
 use Rattle.std.proofs.lemmas.Int.{ints}
 use Rattle.std.proofs.lemmas.Bool.Decides.{leb_tells}
 use Rattle.std.proofs.lemmas.Option.{same_Some, slice_get_within}
@@ -25,7 +26,7 @@ use Rattle.history_model.specs.Codes.{HasCode, level, stage, stray, making, remo
 use Rattle.history_model.specs.Events.{Text, Item, Event, Answer, Made, Removed, Opaque, Saw, SawNone, SawSome, SawOther, Listed, Free, Aside, Checkpoint, Reading, MostRecent, AnyVersion, NotOlderThan, Exactly, is_checkpoint, is_checkpoint_reading}
 use Rattle.history_model.specs.Groups.{Making, IsMaking, IsFirstMaking, IsAnsweredWith, IsKeyOf, IsMember, Hides, MadeSurely, IsSure, IsEnd, IsBeginning, IsLeastMoment, IsSpan, AreSpans}
 use Rattle.history_model.specs.Histories.{History, Span, Version, Removal, Maker, Snapshot, ByEvent, Unknown, IsEvent, ranges}
-use Rattle.history_model.specs.Incarnations.{IsRemoval, IsRemovalOf, AreRemovals}
+use Rattle.history_model.specs.Incarnations.{IsRemoval, IsRemovalOf, AreRemovals, EndsBefore, place_before}
 use Rattle.history_model.specs.Judging.{IsJudgedBefore, PrecedesByKind, IsJudged, IsOrder}
 use Rattle.history_model.specs.Keys.{same_key}
 use Rattle.history_model.specs.Local.{IsFixedRight, IsRightUnder, AreRightUpTo, AnswerHolds}
@@ -37,7 +38,7 @@ use Rattle.history_model.specs.Readable.{IsReadable}
 use Rattle.history_model.specs.Right.{IsShown, answer_code}
 use Rattle.history_model.specs.States.{cuts, state}
 use Rattle.history_model.specs.Runs.{Placement, IsRun, IsRunUpTo, IsExplainedUpTo}
-use Rattle.history_model.specs.Windows.{lowest, highest}
+use Rattle.history_model.specs.Windows.{lowest, highest, last_place}
 use Rattle.history_model.specs.Words.{Word, Makes, Removes, At, Strays, Nothing, word}
 
 -- a fact of each item, as a tuple
@@ -454,3 +455,80 @@ pub could_find : (h : History) (m : Making) → m.created ≡ false → AreMet m
 could_find h m f c b code (creates e t) = true≢false (sym t ∙ f)
 could_find h m f c b code (excludes e n) = n c
 could_find h m f c b code (changes e n) = true≢false (sym b ∙ n)
+
+-- an object that is there is one of the key's versions
+pub state_in : (h : History) (choice : List ℕ) (place : ℕ) (key : ObjectKey) → (state h choice place key ≡ None)
+    ⊎ ((v : Version) × (state h choice place key ≡ Some v) × Contains h.versions v × (v.key ≡ key) × (v.revision ≤ place))
+state_in h choice place key = go (state h choice place key) (state_stands h choice place key)
+  where
+    go : (o : Option Version) → Stands h (cuts h.removals choice) key place o → (o ≡ None) ⊎ ((v : Version) × (o ≡ Some v) × Contains h.versions v × (v.key ≡ key) × (v.revision ≤ place))
+    go o (never l) = inl refl
+    go o (removed v cut l c e b) = inl refl
+    go o (stays v l k) = inr (v, refl, l.0, l.1, l.2)
+
+-- texts that the test tells apart
+pub other_text : (x y : Text) → bytes_eq x y ≡ false → x ≡ y → ⊥
+other_text x y e q = true≢false (sym ((bytes_decides x y).1 q) ∙ e)
+
+-- a history with one removal, of a key with one version
+pub one_removal_is : (h : History) (r0 : Removal) (v : Version) (event : Event) → h.removals ≡ r0 ∷ [] → Contains h.versions v → Each (λ w. w.key ≡ v.key → w ≡ v) h.versions
+    → IsEvent h r0.range.event event → event.answer ≡ Removed v.key v.uid
+    → EachAt (λ n e. (key : ObjectKey) (uid : Text) → e.answer ≡ Removed key uid → (n ≡ r0.range.event) × (key ≡ v.key) × (uid ≡ v.uid)) h.events
+    → r0.key ≡ v.key → r0.uid ≡ v.uid → r0.last ≡ v.revision
+    → r0.range.low ≡ max (lowest h event.lo) v.revision + 1 → r0.range.high ≡ min (highest h event.hi) last_place → AreRemovals h
+one_removal_is h r0 v event listed known alone is holds others k u l low high = record {
+  rising = subst (λ xs. AllPairs (λ x y. x.range.event < y.range.event) xs) (sym listed) (λ i j d a b. absurd (omega (arith, a, b)));
+  sound = λ r c. subst (λ z. IsRemoval h z) (at r (in_cons r0 [] r (subst (λ xs. Contains xs r) listed c))) sound;
+  full = λ r i. subst (λ xs. Contains xs r) (sym listed) (subst (λ z. Contains (r0 ∷ []) z) (same r i) (here r0 []))
+}
+  where
+    at : (r : Removal) → (r0 ≡ r) ⊎ Contains [] r → r0 ≡ r
+    at r (inl e) = e
+    at r (inr c) = absurd (not_in_none c)
+    lone : (w : Version) → Contains h.versions w → w.key ≡ v.key → w ≡ v
+    lone = each_of (λ w. w.key ≡ v.key → w ≡ v) h.versions alone
+    sound : IsRemoval h r0
+    sound = record {
+      version = v;
+      next = None;
+      known = known;
+      ends = λ w c e. omega (arith, ap (λ (z : Version). z.revision) (lone w c e));
+      behind = record {
+        only = λ w between c e f d g x y. ap (λ (z : Version). z.uid) (lone between d g);
+        event = event;
+        first = record { known = is; holds = holds; none_before = λ n o x y z. judged_once o o (subst (λ w. IsJudgedBefore o w) (sym (first n o x y)) z) (subst (λ w. IsJudgedBefore o w) (sym (first n o x y)) z) };
+        of_key = k;
+        of_uid = u;
+        of_last = l;
+        low = low;
+        high = high
+      }
+    }
+      where
+        first : (n : ℕ) (o : Event) → IsEvent h n o → IsRemovalOf v.key v.uid o → o ≡ event
+        first n o x y = same_event h r0.range.event o event (subst (λ z. IsEvent h z o) (each_event (λ n e. (key : ObjectKey) (uid : Text) → e.answer ≡ Removed key uid → (n ≡ r0.range.event) × (key ≡ v.key) × (uid ≡ v.uid)) h.events others n o x v.key v.uid y).0 x) is
+    same : (r : Removal) → IsRemoval h r → r0 ≡ r
+    same r i = same_removal r0 r (k ∙ ap (λ (z : Version). z.key) (sym version) ∙ sym i.behind.of_key) (u ∙ ap (λ (z : Version). z.uid) (sym version) ∙ sym i.behind.of_uid)
+        (l ∙ ap (λ (z : Version). z.revision) (sym version) ∙ sym i.behind.of_last) (sym facts.0)
+        (low ∙ ap₂ (λ (x : Event) (z : Version). max (lowest h x.lo) z.revision + 1) (sym events) (sym version) ∙ sym i.behind.low)
+        (high ∙ ap₂ (λ (x : Event) z. min (highest h x.hi) (place_before z)) (sym events) (sym next) ∙ sym i.behind.high)
+      where
+        facts : (r.range.event ≡ r0.range.event) × (i.version.key ≡ v.key) × (i.version.uid ≡ v.uid)
+        facts = each_event (λ n e. (key : ObjectKey) (uid : Text) → e.answer ≡ Removed key uid → (n ≡ r0.range.event) × (key ≡ v.key) × (uid ≡ v.uid)) h.events others r.range.event i.behind.event i.behind.first.known i.version.key i.version.uid i.behind.first.holds
+        version : i.version ≡ v
+        version = lone i.version i.known facts.1
+        events : i.behind.event ≡ event
+        events = same_event h r0.range.event i.behind.event event (subst (λ z. IsEvent h z i.behind.event) facts.0 i.behind.first.known) is
+        next : i.next ≡ None
+        next = go i.next i.ends
+          where
+            go : (n : Option ℕ) → EndsBefore h.versions i.version n → n ≡ None
+            go None e = refl
+            go (Some n) e = absurd (by e.1)
+              where
+                by : (w : Version) × Contains h.versions w × (w.revision ≡ n) × (w.key ≡ i.version.key) × (w.uid ≢ i.version.uid) → ⊥
+                by (w, c, q, key, uid) = uid (ap (λ (z : Version). z.uid) (lone w c (key ∙ facts.1)) ∙ sym facts.2)
+
+-- rights of the events that are judged
+pub judged_right : (h : History) (n : ℕ) (choice : List ℕ) → Each (λ number. (event : Event) → IsEvent h number event → IsRightUnder h choice number event) (take n h.order) → AreRightUpTo h n choice
+judged_right h n choice f number event j k = each_of (λ number. (event : Event) → IsEvent h number event → IsRightUnder h choice number event) (take n h.order) f number j event k
