@@ -1,39 +1,34 @@
 -- The check finds a fault exactly where the placement isn't a run of the log's lines, and it finds one.
-use Rattle.std.proofs.Common.{◌≡◌, ◌≢◌, ℕ, zero, suc, ◌<◌, ◌≤◌, ◌⊎◌, ◌↔◌, Bool, true, false, List, [], ◌∷◌, ◌++◌, length, map, take, slice_get, slice_index, Option, Some, None, All, AllPairs, Contains, inl, inr, refl, sym, ap, ap₂, ◌∙◌, subst, arith, true≢false}
-use Rattle.std.specs.List.{AllZip}
-use Rattle.std.proofs.lemmas.Option.{same_Some, slice_get_within}
-use Rattle.std.proofs.lemmas.List.Elements.{Contains-append_left, Contains-append_right}
+use Rattle.std.proofs.Common.{◌≡◌, ℕ, ◌<◌, ◌≤◌, ◌⊎◌, Bool, true, false, List, [], ◌∷◌, ◌++◌, length, map, slice_get, Some, AllPairs, Contains, inl, inr, refl, sym, ap, ap₂, ◌∙◌, subst, arith, true≢false}
+use Rattle.std.proofs.lemmas.Option.{slice_get_within}
+use Rattle.std.proofs.lemmas.List.Elements.{Contains-append_right}
 use Rattle.base_types.specs.Choices.{IsChoice, IsPlaceOf}
-use Rattle.base_types.specs.Placements.{RisesByLine}
-use Rattle.base_types.specs.Reasons.{code_number}
-use Rattle.base_types.specs.declared.claim.Range.{Range}
 use Rattle.base_types.specs.declared.claim.Reason.{Reason}
 use Rattle.base_types.specs.declared.placed.PlacedLine.{PlacedLine}
 use Rattle.base_types.specs.declared.placed.Places.{Places}
 use Rattle.base_types.specs.declared.request.Decision.{Decision}
 use Rattle.history_model.proofs.CodeLemmas.{same_code}
-use Rattle.history_model.proofs.Fits.{same_event}
-use Rattle.history_model.proofs.Members.{not_in_none, here, there, in_cons, all_at, all_from, at_in, in_at, pairs_cons}
-use Rattle.history_model.proofs.OutcomeLaw.{get_within, take_whole}
+use Rattle.history_model.proofs.Members.{here, there, pairs_cons}
+use Rattle.history_model.proofs.OutcomeLaw.{take_whole}
 use Rattle.history_model.proofs.SameSorted.{same_sorted}
 use Rattle.history_model.proofs.Sorting.{precedes_trans}
 use Rattle.history_model.proofs.Steps.{precedes_self}
-use Rattle.history_model.proofs.Splits.{SplitsAt, split_at, runs_each, before_split}
+use Rattle.history_model.proofs.Splits.{runs_each}
 use Rattle.history_model.proofs.WordLemmas.{removal_word_is}
-use Rattle.history_model.specs.Checking.{CheckCode, V1, V2, Judged, DiffersAt, HasStandingCode, by_level, by_stage, by_stray, HasCodeAt, HasSomeCodeAt, IsOutside, IsMisplacedAt, HasStepCode, at_put, at_remove, at_found, at_reply, EachStep, IsStepFault, AreAllowed, IsUndecidedAt, IsLeastLine, NoLine, IsFitting, IsFirstFault, of_lines, of_policy, of_places, of_steps, of_decisions, IsFaultless, IsVerified}
-use Rattle.history_model.specs.Decisions.{IsCachePlace, AreCachePlaces, IsDecidedAt}
+use Rattle.history_model.specs.Checking.{CheckCode, Judged, DiffersAt, HasStandingCode, by_level, by_stage, by_stray, HasCodeAt, HasSomeCodeAt, IsOutside, IsMisplacedAt, HasStepCode, at_put, at_remove, at_found, at_reply, EachStep, IsStepFault, AreAllowed, IsUndecidedAt, IsLeastLine, IsFirstFault, of_lines, of_policy, of_places, of_steps, of_decisions, IsFaultless, IsVerified}
+use Rattle.history_model.specs.Decisions.{IsCachePlace, AreCachePlaces}
 use Rattle.history_model.specs.Events.{Event, Made}
-use Rattle.history_model.specs.Histories.{History, Removal, Version, ByEvent, IsEvent, ranges}
+use Rattle.history_model.specs.Histories.{History, Removal, IsEvent, ranges}
 use Rattle.history_model.specs.Incarnations.{IsRemoval}
 use Rattle.history_model.specs.Judging.{IsJudged}
-use Rattle.history_model.specs.Machine.{Step, Put, Remove, Reply, Precedes, InOrder, IsAllowed, Runs, after, after_all, snapshot_map, step_line}
+use Rattle.history_model.specs.Machine.{Step, Precedes, InOrder, IsAllowed, Runs, after, after_all, snapshot_map, step_line}
 use Rattle.history_model.specs.Placed.{placement_of, line_place, line_places}
 use Rattle.history_model.specs.Readable.{IsReadable}
 use Rattle.history_model.specs.Right.{IsRightAnswer}
-use Rattle.history_model.specs.Runs.{Placement, IsStep, AreSteps, IsOfFirst, IsSound, IsPlacedUpTo, IsRunUpTo, IsRun}
+use Rattle.history_model.specs.Runs.{Placement, IsStep, AreSteps, IsOfFirst, IsSound, IsPlacedUpTo}
 use Rattle.history_model.specs.States.{Map}
-use Rattle.history_model.specs.Windows.{InWindow, low_end, high_end, decision_low, decision_high}
-use Rattle.history_model.specs.Words.{Word, Makes, Removes, At, Strays, Nothing, word}
+use Rattle.history_model.specs.Windows.{low_end, high_end, decision_low, decision_high}
+use Rattle.history_model.specs.Words.{Word, Removes, At, word}
 
 runs_weaker : (h : History) (J K : Step → Type 0) (map : Map) (steps : List Step) → ((s : Step) → Contains steps s → K s → J s) → Runs h J map steps → Runs h K map steps
 runs_weaker h J K map [] f r = tt

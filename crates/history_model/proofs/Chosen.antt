@@ -1,5 +1,5 @@
 -- Values for the members of a list make a function.
-use Rattle.std.proofs.Common.{◌≡◌, ◌≢◌, ℕ, ◌⊎◌, Bool, true, false, ◌==◌, if◌then◌else◌, List, [], ◌∷◌, Contains, inl, inr, refl, sym, ap, ◌∙◌, subst}
+use Rattle.std.proofs.Common.{◌≡◌, ◌≢◌, ℕ, ◌⊎◌, true, false, ◌==◌, if◌then◌else◌, List, [], ◌∷◌, Contains, inl, inr, sym, subst}
 use Rattle.std.proofs.lemmas.Bool.Decides.{eqb_tells}
 use Rattle.history_model.proofs.Members.{not_in_none, here, there, in_cons}
 

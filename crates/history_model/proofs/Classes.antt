@@ -1,18 +1,16 @@
 -- Each class of answers turns on one place of its window.
-use Rattle.std.proofs.Common.{◌≡◌, ◌≢◌, ℕ, ◌<◌, ◌≤◌, ◌+◌, max, min, ◌⊎◌, ◌↔◌, Bool, true, false, List, Option, Some, None, IsSome, IsNone, IsSomeAnd, is_some, AllPairs, Contains, slice_get, slice_index, inl, inr, refl, sym, ap, ◌∙◌, subst, arith, true≢false}
-use Rattle.base_types.specs.Choices.{IsChoice, Meets, MeetsAll}
-use Rattle.base_types.specs.declared.claim.Bound.{Bound}
+use Rattle.std.proofs.Common.{◌≡◌, ℕ, ◌≤◌, ◌⊎◌, ◌↔◌, Bool, List, Option, Some, None, IsSome, IsNone, IsSomeAnd, is_some, inl, inr, refl, sym, ap, ◌∙◌, subst, true≢false}
+use Rattle.base_types.specs.Choices.{IsChoice}
 use Rattle.base_types.specs.declared.key.ObjectKey.{ObjectKey}
-use Rattle.history_model.proofs.LocalBounds.{anyway_none, absent_is, present_is, absence_is, presence_is, kept, nothing_yet, none_or_latest}
-use Rattle.history_model.proofs.Members.{apart, at_in, at_apart, all_at, all_from, in_at}
-use Rattle.history_model.specs.Bounding.{SomewhereIn, IsAbsentAnyway, ComesIn, IsRemovalAt, absence_bound, presence_bound, Demand, Shows, Lacks, demand_key, IsAsked, IsWanted, IsFree, clouded, none_there, unlisted, stays, IsBounded, goes, remains, IsNever, is_there, not_there, another, AreListBounds}
+use Rattle.history_model.proofs.LocalBounds.{absent_is, present_is, nothing_yet, none_or_latest}
+use Rattle.history_model.specs.Bounding.{SomewhereIn, IsAbsentAnyway, ComesIn}
 use Rattle.history_model.specs.Clouds.{IsClouded, IsCloudedWithin}
 use Rattle.history_model.specs.Events.{Text, Item, Event, Listing, Conditions, Answer, Made, Removed, Saw, SawNone, SawSome, SawOther, Listed}
-use Rattle.history_model.specs.Histories.{History, Version, Removal, ranges}
+use Rattle.history_model.specs.Histories.{History, Version, ranges}
 use Rattle.history_model.specs.Local.{AnswerHolds}
 use Rattle.history_model.specs.Making.{MeetsConditions, CouldHaveFound}
 use Rattle.history_model.specs.Readable.{IsReadable}
-use Rattle.history_model.specs.Right.{IsShown, IsRefused, IsListed, IsUnlistable, IsLacked, IsListRight, IsRight, IsRightAnswer, InScope, IsAmong}
+use Rattle.history_model.specs.Right.{IsShown, IsRefused, IsListRight, IsRight, IsRightAnswer}
 use Rattle.history_model.specs.States.{latest, state}
 use Rattle.history_model.specs.Windows.{InWindow, low_end, high_end}
 use Rattle.history_model.specs.Words.{At, word, answer_word}

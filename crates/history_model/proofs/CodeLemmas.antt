@@ -1,21 +1,19 @@
 -- An event that is right has no code, and codes are told apart by their numbers.
-use Rattle.std.proofs.Common.{◌≡◌, ◌≢◌, ℕ, zero, suc, ◌≤◌, ◌⊎◌, Bool, true, false, List, Option, Some, None, Contains, inl, inr, refl, sym, ap, ◌∙◌, subst, arith, true≢false}
+use Rattle.std.proofs.Common.{◌≡◌, ℕ, zero, suc, ◌≤◌, List, inl, inr, refl, sym, ap, ◌∙◌, subst, arith, true≢false}
 use Rattle.base_types.specs.Choices.{IsChoice}
 use Rattle.base_types.specs.Reasons.{code_number}
 use Rattle.base_types.specs.declared.claim.Reason.{Reason}
 use Rattle.base_types.specs.declared.claim.Reason.TheVariants.{U1, U2, U3, U4, U5, U6, U7, U8, U9, U10, U11, U12, U13, U14}
 use Rattle.base_types.specs.declared.placed.Places.{Places}
-use Rattle.history_model.specs.Clouds.{IsCloudedWithin, IsClouded}
-use Rattle.history_model.specs.Codes.{HasCode, level, stage, stray, making, removal, found, answer, decision, NeverHolds}
+use Rattle.history_model.specs.Codes.{HasCode, level, stage, stray, making, removal, found, answer, decision}
 use Rattle.history_model.specs.Decisions.{IsDecidedAt}
-use Rattle.history_model.specs.Events.{Item, Event, Answer, Made}
+use Rattle.history_model.specs.Events.{Event, Made}
 use Rattle.history_model.specs.Histories.{History, ranges}
-use Rattle.history_model.specs.Local.{IsFixedBy, IsRightUnder, AnswerHolds}
-use Rattle.history_model.specs.Making.{HasFoundFault, CouldHaveFound}
-use Rattle.history_model.specs.Right.{IsRight, IsRightAnswer, IsShown}
-use Rattle.history_model.specs.States.{Map, state}
-use Rattle.history_model.specs.Windows.{InWindow, low_end, high_end}
-use Rattle.history_model.specs.Words.{Word, Makes, Removes, At, Strays, Nothing, word}
+use Rattle.history_model.specs.Local.{IsFixedBy, IsRightUnder}
+use Rattle.history_model.specs.Right.{IsRight, IsRightAnswer}
+use Rattle.history_model.specs.States.{state}
+use Rattle.history_model.specs.Windows.{InWindow}
+use Rattle.history_model.specs.Words.{Word, Makes, Removes, Strays, word}
 
 abbrev code_of : ℕ → Reason
 code_of zero = U1

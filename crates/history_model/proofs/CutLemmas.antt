@@ -1,10 +1,9 @@
 -- Removals with the places that a choice gives them.
-use Rattle.std.proofs.Common.{◌≡◌, ℕ, zero, suc, ◌<◌, ◌≤◌, ◌⊎◌, Bool, true, false, ◌&&◌, ◌||◌, nat_le, ◌==◌, List, [], ◌∷◌, length, map, Option, Some, None, AllPairs, Contains, slice_get, slice_index, inl, inr, refl, sym, ap, ◌∙◌, subst, arith}
-use Rattle.std.specs.List.{AllZip}
+use Rattle.std.proofs.Common.{◌≡◌, ℕ, zero, suc, ◌<◌, ◌≤◌, ◌⊎◌, true, false, nat_le, ◌==◌, List, [], ◌∷◌, map, Some, AllPairs, Contains, slice_get, slice_index, inl, inr, refl, sym, ap, ◌∙◌, subst, arith}
 use Rattle.std.proofs.lemmas.Bool.Decides.{leb_tells, eqb_tells}
 use Rattle.std.proofs.lemmas.Option.{same_Some}
 use Rattle.base_types.specs.Choices.{IsChoice, IsPlaceOf}
-use Rattle.history_model.proofs.Members.{not_in_none, here, there, in_cons, pairs_head, pairs_tail, all_at, apart}
+use Rattle.history_model.proofs.Members.{not_in_none, here, there, in_cons, pairs_head, pairs_tail, all_at}
 use Rattle.history_model.specs.Histories.{Removal}
 use Rattle.history_model.specs.States.{Cut, cuts, is_gone}
 

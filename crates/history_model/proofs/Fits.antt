@@ -1,15 +1,14 @@
 -- What a choice's cuts are in a readable history.
-use Rattle.std.proofs.Common.{◌≡◌, ℕ, ◌<◌, ◌≤◌, ◌+◌, ◌-◌, max, min, ◌⊎◌, List, Option, Some, None, AllPairs, Contains, inl, inr, refl, sym, ap, ◌∙◌, subst, arith}
+use Rattle.std.proofs.Common.{◌≡◌, ℕ, ◌<◌, ◌≤◌, ◌⊎◌, List, Option, Some, None, AllPairs, Contains, inl, inr, sym, ◌∙◌, subst, arith}
 use Rattle.std.proofs.lemmas.Option.{same_Some}
 use Rattle.base_types.specs.Choices.{IsChoice}
-use Rattle.base_types.specs.declared.key.ObjectKey.{ObjectKey}
 use Rattle.history_model.proofs.CutLemmas.{cut_removal, cut_chosen, cuts_apart}
 use Rattle.history_model.proofs.JudgingLemmas.{first_same}
 use Rattle.history_model.proofs.Members.{apart}
-use Rattle.history_model.proofs.WindowLemmas.{start_lowest, highest_last}
+use Rattle.history_model.proofs.WindowLemmas.{start_lowest}
 use Rattle.history_model.specs.Events.{Text}
-use Rattle.history_model.specs.Histories.{History, Version, Removal, IsEvent, ranges}
-use Rattle.history_model.specs.Incarnations.{EndsBefore, IsRemoval, IsRemovalOf, IsRemovalBehind, place_before}
+use Rattle.history_model.specs.Histories.{History, Version, IsEvent, ranges}
+use Rattle.history_model.specs.Incarnations.{EndsBefore, IsRemoval, IsRemovalOf, place_before}
 use Rattle.history_model.specs.Judging.{IsFirst}
 use Rattle.history_model.specs.Readable.{IsReadable}
 use Rattle.history_model.specs.States.{Cut, cuts}

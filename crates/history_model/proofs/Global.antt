@@ -1,5 +1,5 @@
 -- A log is explained exactly where one choice makes each event right.
-use Rattle.std.proofs.Common.{◌≡◌, ◌≢◌, ℕ, ◌<◌, ◌≤◌, ◌-◌, ◌⊎◌, ◌↔◌, Bool, true, false, List, [], ◌∷◌, length, take, slice_get, Option, Some, None, Contains, inl, inr, refl, sym, ap, ◌∙◌, subst, arith}
+use Rattle.std.proofs.Common.{◌≡◌, ℕ, ◌-◌, ◌⊎◌, ◌↔◌, List, take, slice_get, Option, Some, None, Contains, inl, inr, refl, ap, ◌∙◌, subst}
 use Rattle.base_types.specs.Choices.{IsChoice}
 use Rattle.base_types.specs.declared.placed.Places.{Places}
 use Rattle.base_types.specs.declared.request.Decision.{Decision}
@@ -14,15 +14,15 @@ use Rattle.history_model.proofs.WordLemmas.{IsMadeBy, word_makes, word_removes}
 use Rattle.history_model.specs.Decisions.{IsDecidedAt}
 use Rattle.history_model.specs.Events.{Event}
 use Rattle.history_model.specs.Groups.{Making}
-use Rattle.history_model.specs.Histories.{History, Version, Removal, IsEvent, ranges}
+use Rattle.history_model.specs.Histories.{History, Version, IsEvent, ranges}
 use Rattle.history_model.specs.Judging.{IsJudged}
-use Rattle.history_model.specs.Local.{IsLocallyRight, IsFixedBy, IsFixedRight, AnswerHolds, IsRightUnder, AreRightUpTo}
-use Rattle.history_model.specs.Machine.{Step, MayRemove}
+use Rattle.history_model.specs.Local.{IsLocallyRight, IsFixedBy, IsFixedRight, AnswerHolds, AreRightUpTo}
+use Rattle.history_model.specs.Machine.{Step}
 use Rattle.history_model.specs.Making.{HasNoFault, IsEntryBefore}
 use Rattle.history_model.specs.Readable.{IsReadable}
 use Rattle.history_model.specs.Right.{IsRight}
-use Rattle.history_model.specs.Runs.{Placement, AreSteps, IsPlacedUpTo, IsRunUpTo, IsSound, IsExplainedUpTo}
-use Rattle.history_model.specs.States.{Cut, cuts, state}
+use Rattle.history_model.specs.Runs.{Placement, AreSteps, IsPlacedUpTo, IsRunUpTo, IsExplainedUpTo}
+use Rattle.history_model.specs.States.{cuts, state}
 use Rattle.history_model.specs.Windows.{InWindow}
 use Rattle.history_model.specs.Words.{Word, Makes, Removes, At, Strays, Nothing, word}
 

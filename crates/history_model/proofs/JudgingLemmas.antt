@@ -1,10 +1,9 @@
 -- The order of judgement is a strict total order of events of different lines.
-use Rattle.std.proofs.Common.{◌≡◌, ℕ, ℤ, ◌<◌, ◌≤◌, ◌<ℤ◌, ◌⊎◌, Bool, true, false, List, Option, Some, AllPairs, inl, inr, refl, sym, ap, ◌∙◌, subst, arith}
+use Rattle.std.proofs.Common.{◌≡◌, ℕ, ℤ, ◌<◌, ◌<ℤ◌, ◌⊎◌, Bool, true, false, AllPairs, inl, inr, sym, arith}
 use Rattle.std.proofs.lemmas.Int.{ints}
-use Rattle.std.proofs.lemmas.Option.{same_Some}
 use Rattle.history_model.proofs.Members.{at_apart}
 use Rattle.history_model.specs.Events.{Event, is_checkpoint}
-use Rattle.history_model.specs.Histories.{History, IsEvent}
+use Rattle.history_model.specs.Histories.{History}
 use Rattle.history_model.specs.Judging.{PrecedesByKind, IsJudgedBefore, IsFirst}
 
 moments : (a b : ℤ) → (a <ℤ b) ⊎ (b <ℤ a) ⊎ (a ≡ b)

@@ -1,18 +1,18 @@
 -- At a list's one place each key that it asks for has a range of its own.
-use Rattle.std.proofs.Common.{◌≡◌, ◌≢◌, ℕ, ◌<◌, ◌≤◌, ◌+◌, max, min, ◌⊎◌, ◌↔◌, Bool, true, false, List, Option, Some, None, IsSomeAnd, AllPairs, Contains, slice_get, slice_index, inl, inr, refl, sym, ap, ◌∙◌, subst, arith, true≢false}
+use Rattle.std.proofs.Common.{◌≡◌, ℕ, ◌⊎◌, ◌↔◌, List, Option, Some, None, Contains, slice_get, inl, inr, sym, ap, ◌∙◌, subst}
 use Rattle.base_types.specs.Choices.{IsChoice, Meets, MeetsAll}
 use Rattle.base_types.specs.declared.claim.Bound.{Bound}
 use Rattle.base_types.specs.declared.key.ObjectKey.{ObjectKey}
 use Rattle.history_model.proofs.LocalBounds.{absence_is, presence_is, kept, nothing_yet, none_or_latest}
 use Rattle.history_model.proofs.Latest.{latest_is}
 use Rattle.history_model.proofs.Members.{apart, at_in, all_at, all_from}
-use Rattle.history_model.specs.Bounding.{IsRemovalAt, absence_bound, presence_bound, Demand, Shows, Lacks, demand_key, IsAsked, IsWanted, IsFree, clouded, none_there, unlisted, stays, IsBounded, goes, remains, IsNever, is_there, not_there, another, AreListBounds}
+use Rattle.history_model.specs.Bounding.{IsRemovalAt, absence_bound, presence_bound, Demand, Shows, Lacks, demand_key, IsAsked, IsFree, clouded, none_there, unlisted, stays, IsBounded, goes, remains, IsNever, is_there, not_there, another, AreListBounds}
 use Rattle.history_model.specs.Clouds.{IsClouded}
-use Rattle.history_model.specs.Events.{Item, Listing}
+use Rattle.history_model.specs.Events.{Listing}
 use Rattle.history_model.specs.Histories.{History, Version, Removal, ranges}
 use Rattle.history_model.specs.Incarnations.{IsRemoval}
 use Rattle.history_model.specs.Readable.{IsReadable}
-use Rattle.history_model.specs.Right.{IsShown, IsListed, IsUnlistable, IsLacked, IsListRight, InScope, IsAmong}
+use Rattle.history_model.specs.Right.{IsShown, IsListed, IsUnlistable, IsLacked, IsListRight}
 use Rattle.history_model.specs.States.{latest, IsLatest, state}
 
 -- what a demand asks of the object that is there

@@ -1,12 +1,11 @@
 -- At which one place of a window an answer turns on the choice, and which bound that is.
-use Rattle.std.proofs.Common.{◌≡◌, ◌≢◌, ℕ, zero, suc, ◌<◌, ◌≤◌, ◌+◌, ◌-◌, max, min, ◌⊎◌, ◌↔◌, Bool, true, false, List, Option, Some, None, IsSome, IsNone, IsSomeAnd, is_some, AllPairs, Contains, slice_get, slice_index, inl, inr, refl, sym, ap, ◌∙◌, subst, arith, true≢false}
-use Rattle.base_types.specs.Choices.{IsChoice, Meets, MeetsAll}
-use Rattle.base_types.specs.declared.claim.Bound.{Bound}
+use Rattle.std.proofs.Common.{◌≡◌, ◌≢◌, ℕ, ◌<◌, ◌≤◌, ◌-◌, ◌⊎◌, ◌↔◌, List, Option, Some, None, IsSomeAnd, Contains, slice_get, slice_index, inl, inr, refl, sym, ap, ◌∙◌, subst, arith}
+use Rattle.base_types.specs.Choices.{IsChoice, Meets}
 use Rattle.base_types.specs.declared.key.ObjectKey.{ObjectKey}
 use Rattle.history_model.proofs.CutLemmas.{cut_of, cut_removal, cut_chosen, removal_cut, cut_at}
 use Rattle.history_model.proofs.Fits.{CutEnds, CutsFit, cuts_fit}
 use Rattle.history_model.proofs.Latest.{latest_is, latest_same}
-use Rattle.history_model.proofs.Members.{apart, at_in, all_at, all_from}
+use Rattle.history_model.proofs.Members.{apart}
 use Rattle.history_model.proofs.RemovalsLaw.{stands_same}
 use Rattle.history_model.proofs.StateLaw.{Stands, never, removed, stays, state_stands}
 use Rattle.history_model.specs.Bounding.{SomewhereIn, IsAbsentAnyway, ComesIn, IsRemovalAt, absence_bound, presence_bound}

@@ -1,20 +1,19 @@
 -- Steps are allowed exactly where each making, removal and placed answer is right by itself.
-use Rattle.std.proofs.Common.{◌≡◌, ℕ, suc, ◌<◌, ◌≤◌, ◌-◌, ◌⊎◌, ◌↔◌, List, [], ◌∷◌, ◌++◌, Option, Some, None, Contains, inl, inr, refl, sym, ap, ◌∙◌, subst, arith}
+use Rattle.std.proofs.Common.{◌≡◌, ℕ, ◌<◌, ◌≤◌, ◌-◌, ◌⊎◌, List, ◌∷◌, ◌++◌, Option, Some, None, Contains, inl, inr, refl, sym, ap, ◌∙◌, subst, arith}
 use mathlib.Core.Path.{fun_ext}
 use Rattle.std.proofs.lemmas.List.Elements.{Contains-append_left, Contains-append_right}
-use Rattle.base_types.specs.Choices.{IsChoice}
 use Rattle.base_types.specs.declared.key.ObjectKey.{ObjectKey}
 use Rattle.history_model.proofs.CutLemmas.{cut_removal}
-use Rattle.history_model.proofs.Fits.{CutEnds, CutsFit, cuts_fit, same_event}
+use Rattle.history_model.proofs.Fits.{CutEnds, CutsFit, cuts_fit}
 use Rattle.history_model.proofs.Members.{here, apart}
 use Rattle.history_model.proofs.Splits.{SplitsAt, split_at, runs_each, each_runs, order_front, before_split, behind_split, of_split}
-use Rattle.history_model.proofs.StateLaw.{IsWriteOf, HoldsWrites, state_at}
+use Rattle.history_model.proofs.StateLaw.{IsWriteOf, state_at}
 use Rattle.history_model.proofs.Steps.{Writes, precedes_place, precedes_self}
 use Rattle.history_model.proofs.WindowLemmas.{in_window_start}
 use Rattle.history_model.proofs.WordLemmas.{IsMadeBy, made_version, word_makes, maker_word, word_removes, removal_word_is, same_making}
 use Rattle.history_model.specs.Events.{Event}
 use Rattle.history_model.specs.Groups.{Making, IsMaking}
-use Rattle.history_model.specs.Histories.{History, Version, Removal, ByEvent, IsEvent, ranges}
+use Rattle.history_model.specs.Histories.{History, Version, ByEvent, IsEvent}
 use Rattle.history_model.specs.Judging.{IsJudged}
 use Rattle.history_model.specs.Local.{IsLocallyRight}
 use Rattle.history_model.specs.Machine.{Step, Put, Remove, Reply, after_all, snapshot_map, step_place, step_rank, Precedes, InOrder, Runs, IsAllowed, MayRemove}
@@ -22,8 +21,8 @@ use Rattle.history_model.specs.Making.{HasNoFault}
 use Rattle.history_model.specs.Readable.{IsReadable}
 use Rattle.history_model.specs.Right.{IsRight}
 use Rattle.history_model.specs.Runs.{Placement, IsStep, AreSteps, IsOfFirst, IsPlacedUpTo}
-use Rattle.history_model.specs.States.{Map, Cut, cuts, state}
-use Rattle.history_model.specs.Words.{Word, Makes, Removes, At, Strays, Nothing, word}
+use Rattle.history_model.specs.States.{Cut, cuts, state}
+use Rattle.history_model.specs.Words.{Makes, Removes, At, word}
 
 -- a key has one write at a place
 one_write : (h : History) (cs : List Cut) → CutsFit h.start h.versions cs → (key : ObjectKey) (a b : Step) (left other : Option Version)

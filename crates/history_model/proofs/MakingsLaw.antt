@@ -1,8 +1,8 @@
 -- A maker's least fault doesn't depend on the choice.
-use Rattle.std.proofs.Common.{◌≡◌, ◌≢◌, ℕ, ◌<◌, ◌≤◌, ◌+◌, ◌-◌, min, max, ◌⊎◌, ◌↔◌, Bool, true, false, List, Option, Some, None, Contains, inl, inr, refl, sym, ap, ◌∙◌, subst, arith, true≢false}
+use Rattle.std.proofs.Common.{◌≡◌, ◌≢◌, ℕ, ◌<◌, ◌≤◌, ◌-◌, ◌⊎◌, ◌↔◌, Bool, true, false, List, Option, Some, None, Contains, inl, inr, refl, sym, ap, ◌∙◌, subst, arith, true≢false}
 use Rattle.base_types.specs.Choices.{IsChoice}
 use Rattle.base_types.specs.declared.claim.Reason.{Reason}
-use Rattle.base_types.specs.declared.claim.Reason.TheVariants.{U3, U4, U5, U6, U7, U8}
+use Rattle.base_types.specs.declared.claim.Reason.TheVariants.{U6, U7, U8}
 use Rattle.base_types.specs.Reasons.{code_number}
 use Rattle.history_model.proofs.CutLemmas.{cut_of, cut_removal, cut_chosen, removal_cut}
 use Rattle.history_model.proofs.Latest.{latest_is, latest_same}
@@ -12,10 +12,10 @@ use Rattle.history_model.proofs.WordLemmas.{IsMadeBy, word_makes}
 use Rattle.history_model.specs.Events.{Event}
 use Rattle.history_model.specs.Groups.{Making}
 use Rattle.history_model.specs.Histories.{History, Version, Removal, IsEvent, ranges}
-use Rattle.history_model.specs.Incarnations.{EndsBefore, IsRemoval, IsRemovalBehind, place_before}
-use Rattle.history_model.specs.Making.{HasFault, outside, present, used, replaced, unmet, unasked, IsLeastFault, HasNoFault, IsOtherObject, IsClear, IsAnew, IsEntryAfter, IsEntryBefore}
+use Rattle.history_model.specs.Incarnations.{EndsBefore, IsRemoval, IsRemovalBehind}
+use Rattle.history_model.specs.Making.{HasFault, outside, present, used, replaced, unmet, unasked, IsLeastFault, IsOtherObject, IsAnew, IsEntryAfter, IsEntryBefore}
 use Rattle.history_model.specs.Readable.{IsReadable}
-use Rattle.history_model.specs.States.{Cut, cuts, latest, IsLatest, state}
+use Rattle.history_model.specs.States.{cuts, latest, IsLatest, state}
 use Rattle.history_model.specs.Words.{Makes, word}
 
 number_of : (a b : Reason) → a ≡ b → code_number a ≡ code_number b

@@ -4,19 +4,18 @@ use Rattle.std.proofs.lemmas.Int.{ints}
 use Rattle.base_types.specs.declared.claim.Reason.{Reason}
 use Rattle.base_types.specs.declared.key.ObjectKey.{ObjectKey}
 use Rattle.history_model.proofs.JudgingLemmas.{judged_cases, judged_once}
-use Rattle.history_model.proofs.Fits.{same_event}
 use Rattle.history_model.proofs.Latest.{latest_is, latest_same}
-use Rattle.history_model.proofs.Members.{apart, at_apart}
+use Rattle.history_model.proofs.Members.{at_apart}
 use Rattle.history_model.proofs.OutcomeLaw.{get_within}
 use Rattle.history_model.proofs.SameSorted.{same_sorted}
 use Rattle.history_model.proofs.WordLemmas.{same_making}
-use Rattle.history_model.specs.Clouds.{IsHiddenBy, IsClouded, MayBeUnrecorded}
+use Rattle.history_model.specs.Clouds.{IsClouded, MayBeUnrecorded}
 use Rattle.history_model.specs.Events.{Item, Event, Reading, MostRecent, AnyVersion, NotOlderThan, Exactly, Checkpoint}
-use Rattle.history_model.specs.Groups.{Making, IsMaking, IsFirstMaking, IsAnsweredWith, IsKeyOf, IsMember, Hides, IsSure, IsEnd, IsBeginning, IsLeastMoment, IsSpan, AreSpans}
+use Rattle.history_model.specs.Groups.{Making, IsMaking, IsFirstMaking, IsAnsweredWith, IsKeyOf, IsMember, IsSure, IsEnd, IsBeginning, IsLeastMoment, IsSpan}
 use Rattle.history_model.specs.Histories.{History, Span, Version, Removal, Maker, Snapshot, ByEvent, Unknown, IsEvent}
-use Rattle.history_model.specs.Incarnations.{EndsBefore, IsFirstWithUid, IsRemovalOf, IsRemovalBehind, IsRemoval, AreRemovals, place_before}
-use Rattle.history_model.specs.Judging.{IsJudgedBefore, IsFirst, IsOrder}
-use Rattle.history_model.specs.Makers.{CouldHaveMade, MustHaveMade, NoMaking, IsMakerOf, sole, able, unrecorded, faulty, IsShowing, IsMadeVersion, IsSnapshotVersion, AreVersions, item_of}
+use Rattle.history_model.specs.Incarnations.{EndsBefore, IsFirstWithUid, IsRemovalOf, IsRemovalBehind, IsRemoval, place_before}
+use Rattle.history_model.specs.Judging.{IsJudgedBefore, IsFirst}
+use Rattle.history_model.specs.Makers.{CouldHaveMade, MustHaveMade, IsMakerOf, sole, able, unrecorded, faulty, IsShowing, IsMadeVersion, IsSnapshotVersion, item_of}
 use Rattle.history_model.specs.Making.{HasFault, outside, present, used, replaced, unmet, unasked, HasNoFault, HasFoundFault, creates, excludes, changes, IsClear, IsUsedUid, IsAnew, IsEntryAfter, IsEntryBefore}
 use Rattle.history_model.specs.Readable.{IsReadable, HaveOneLog}
 use Rattle.history_model.specs.States.{latest, IsLatest}

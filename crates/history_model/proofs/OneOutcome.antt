@@ -1,10 +1,9 @@
 -- A history has one outcome.
-use Rattle.std.proofs.Common.{◌≡◌, ℕ, zero, suc, ◌<◌, ◌≤◌, ◌+◌, ◌⊎◌, List, [], ◌∷◌, length, slice_get, Option, Some, None, AllPairs, Contains, inl, inr, refl, sym, ap, ap₂, ◌∙◌, subst, arith, add-one}
+use Rattle.std.proofs.Common.{◌≡◌, ℕ, ◌<◌, ◌≤◌, ◌+◌, ◌⊎◌, List, [], ◌∷◌, length, slice_get, Option, Some, None, inl, inr, refl, sym, ap, ap₂, ◌∙◌, subst, arith}
 use Rattle.std.specs.List.{AllZip}
 use Rattle.std.proofs.lemmas.Option.{same_Some, slice_get_within}
 use Rattle.base_types.specs.Choices.{IsChoice}
 use Rattle.base_types.specs.declared.claim.Reason.{Reason}
-use Rattle.base_types.specs.declared.key.ObjectKey.{ObjectKey}
 use Rattle.base_types.specs.declared.placed.PlacedAnswer.{PlacedAnswer}
 use Rattle.base_types.specs.declared.placed.PlacedAnswer.TheVariants as placed
 use Rattle.base_types.specs.declared.placed.PlacedDecision.{PlacedDecision}
@@ -14,18 +13,18 @@ use Rattle.base_types.specs.declared.request.Decision.{Decision}
 use Rattle.history_model.proofs.CodeLemmas.{same_code}
 use Rattle.history_model.proofs.CutLemmas.{cut_of, cuts_apart}
 use Rattle.history_model.proofs.Fits.{same_event}
-use Rattle.history_model.proofs.Global.{global_is, run_is_right}
+use Rattle.history_model.proofs.Global.{global_is}
 use Rattle.history_model.proofs.OutcomeLaw.{get_within, take_more_in}
 use Rattle.history_model.proofs.SameSorted.{same_sorted, same_by_get}
-use Rattle.history_model.specs.Decisions.{IsUpTo, AreLeastPlaces}
+use Rattle.history_model.specs.Decisions.{IsUpTo}
 use Rattle.history_model.specs.Events.{Event}
-use Rattle.history_model.specs.Histories.{History, Removal, IsEvent, ranges}
+use Rattle.history_model.specs.Histories.{History, IsEvent, ranges}
 use Rattle.history_model.specs.Local.{AreRightUpTo}
-use Rattle.history_model.specs.Outcomes.{IsLeastOfRuns, IsEarliest, Write, MadeAt, RemovedIn, write_place, write_rank, write_line, IsListedBefore, AreWrites, shown_low, shown_high, Outcome, Explained, Unexplained, IsExplanation, IsFinding, IsOutcome}
-use Rattle.history_model.specs.Placed.{IsLeastPlace, IsPlacedAnswer, IsPlacedDecision, IsPlacedLine, ArePlacedLines}
+use Rattle.history_model.specs.Outcomes.{IsLeastOfRuns, IsEarliest, Write, write_place, write_rank, write_line, IsListedBefore, AreWrites, shown_low, shown_high, Outcome, Explained, Unexplained, IsFinding, IsOutcome}
+use Rattle.history_model.specs.Placed.{IsPlacedAnswer, IsPlacedDecision, IsPlacedLine, ArePlacedLines}
 use Rattle.history_model.specs.Readable.{IsReadable}
-use Rattle.history_model.specs.Runs.{Placement, IsRun, IsRunUpTo, IsExplainedUpTo}
-use Rattle.history_model.specs.States.{Cut, cuts}
+use Rattle.history_model.specs.Runs.{Placement, IsRun, IsExplainedUpTo}
+use Rattle.history_model.specs.States.{Cut}
 use Rattle.history_model.specs.Words.{Word, Makes, Removes, At, Strays, Nothing, word}
 
 -- a longer prefix is never easier

@@ -1,16 +1,13 @@
 -- Exact claims and what settles them give the outcome.
-use Rattle.std.proofs.Common.{◌≡◌, ◌≢◌, ℕ, zero, suc, ◌<◌, ◌≤◌, ◌+◌, ◌⊎◌, ◌↔◌, List, [], ◌∷◌, length, take, slice_get, Option, Some, None, IfSome, All, Contains, inl, inr, refl, sym, ap, ◌∙◌, subst, arith, add-one}
-use Rattle.std.specs.List.{AllZip}
+use Rattle.std.proofs.Common.{◌≡◌, ℕ, zero, suc, ◌<◌, ◌≤◌, ◌+◌, ◌⊎◌, ◌↔◌, List, [], ◌∷◌, length, take, slice_get, Option, Some, None, IfSome, Contains, inl, inr, refl, sym, ◌∙◌, subst, arith, add-one}
 use Rattle.std.proofs.lemmas.Option.{same_Some, MatchOption-at_some, slice_get_within}
-use Rattle.base_types.specs.Choices.{IsChoice, Meets, MeetsAll}
+use Rattle.base_types.specs.Choices.{IsChoice, MeetsAll}
 use Rattle.base_types.specs.Reasons.{code_number}
 use Rattle.base_types.specs.Settlement.{MeetsBounds, Explains, ExplainsAll, IsLeastChoice, LeavesNoChoice, HasCode as HasClaimCode, HasLeastCode, BreaksFirst}
-use Rattle.base_types.specs.declared.claim.Bound.{Bound}
 use Rattle.base_types.specs.declared.claim.Claim.{Claim}
 use Rattle.base_types.specs.declared.claim.Reason.{Reason}
 use Rattle.history_model.proofs.CodeLemmas.{right_no_code}
 use Rattle.history_model.proofs.Global.{run_is_right, right_has_run, global_is}
-use Rattle.history_model.proofs.Fits.{same_event}
 use Rattle.history_model.proofs.Members.{not_in_none, here, there, in_cons, all_at, all_from, at_in, in_take}
 use Rattle.history_model.specs.Codes.{HasCode, answer, NeverHolds, IsChoiceUpTo, IsCandidate, IsLeastCandidate}
 use Rattle.history_model.specs.Events.{Event}
@@ -20,8 +17,7 @@ use Rattle.history_model.specs.Judging.{IsJudged}
 use Rattle.history_model.specs.Local.{IsFixedRight, AnswerHolds, IsRightUnder, AreRightUpTo}
 use Rattle.history_model.specs.Outcomes.{IsLeastOfRuns, IsEarliest}
 use Rattle.history_model.specs.Readable.{IsReadable}
-use Rattle.history_model.specs.Right.{answer_code}
-use Rattle.history_model.specs.Runs.{Placement, IsRunUpTo, IsRun, IsExplainedUpTo}
+use Rattle.history_model.specs.Runs.{Placement, IsRunUpTo}
 use Rattle.history_model.specs.Words.{Word, Makes, Removes, At, Strays, Nothing, word}
 
 pub get_within : {X : Type 0} (xs : List X) (n : ℕ) → n < length xs → (x : X) × (slice_get xs n ≡ Some x)

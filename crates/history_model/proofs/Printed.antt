@@ -1,32 +1,29 @@
 -- A printed placement is a run.
-use Rattle.std.proofs.Common.{◌≡◌, ℕ, zero, suc, ◌<◌, ◌≤◌, ◌⊎◌, List, [], ◌∷◌, length, map, slice_get, Option, Some, None, Contains, inl, inr, refl, sym, ap, ap₂, ◌∙◌, subst, arith}
-use Rattle.std.proofs.lemmas.Option.{same_Some, slice_get_within}
+use Rattle.std.proofs.Common.{◌≡◌, ℕ, List, [], ◌∷◌, length, map, slice_get, Some, Contains, refl, sym, ap, ap₂, ◌∙◌, subst, arith}
+use Rattle.std.proofs.lemmas.Option.{slice_get_within}
 use Rattle.base_types.specs.Choices.{IsChoice}
-use Rattle.base_types.specs.declared.placed.PlacedAnswer.{PlacedAnswer}
 use Rattle.base_types.specs.declared.placed.PlacedAnswer.TheVariants as placed
-use Rattle.base_types.specs.declared.placed.PlacedDecision.{PlacedDecision}
 use Rattle.base_types.specs.declared.placed.PlacedLine.{PlacedLine}
 use Rattle.base_types.specs.declared.placed.Places.{Places}
 use Rattle.base_types.specs.declared.request.Decision.{Decision}
 use Rattle.history_model.proofs.CutLemmas.{AreChosen, cut_of, cut_removal, cuts_apart}
 use Rattle.history_model.proofs.Global.{IsRightAs, right_is_run, run_is_right}
-use Rattle.history_model.proofs.Members.{not_in_none, here, there, in_cons}
+use Rattle.history_model.proofs.Members.{here, there}
 use Rattle.history_model.proofs.OutcomeLaw.{get_within}
 use Rattle.history_model.proofs.WordLemmas.{removal_word_is}
 use Rattle.history_model.specs.Decisions.{IsDecidedAt, AreLeastPlaces}
 use Rattle.history_model.specs.Events.{Event}
 use Rattle.history_model.specs.Histories.{History, Removal, IsEvent, ranges}
 use Rattle.history_model.specs.Incarnations.{IsRemoval}
-use Rattle.history_model.specs.Judging.{IsJudged}
 use Rattle.history_model.specs.Local.{IsRightUnder, AreRightUpTo}
 use Rattle.history_model.specs.Outcomes.{IsLeastOfRuns}
 use Rattle.history_model.specs.Placed.{IsLeastPlace, IsPlacedAnswer, IsPlacedDecision, IsPlacedLine, ArePlacedLines, answer_place, decision_places, line_place, line_places, placement_of}
 use Rattle.history_model.specs.Readable.{IsReadable}
 use Rattle.history_model.specs.Right.{IsRight}
-use Rattle.history_model.specs.Runs.{Placement, IsRun, IsRunUpTo}
+use Rattle.history_model.specs.Runs.{IsRun}
 use Rattle.history_model.specs.States.{Cut, cuts, state}
 use Rattle.history_model.specs.Windows.{InWindow}
-use Rattle.history_model.specs.Words.{Word, Makes, Removes, At, word}
+use Rattle.history_model.specs.Words.{At, word}
 
 -- the places of a list's cuts are its choice
 places_are : (removals : List Removal) (choice : List ℕ) (f : Removal → ℕ) → AreChosen removals choice

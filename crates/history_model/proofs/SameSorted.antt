@@ -1,6 +1,5 @@
 -- Lists that agree are one.
-use Rattle.std.proofs.Common.{◌≡◌, ℕ, zero, suc, ◌<◌, ◌≤◌, ◌⊎◌, List, [], ◌∷◌, length, slice_get, Option, Some, None, AllPairs, Contains, inl, inr, refl, sym, ap, ap₂, ◌∙◌, subst, arith}
-use Rattle.std.proofs.lemmas.Option.{same_Some}
+use Rattle.std.proofs.Common.{◌≡◌, ℕ, suc, ◌⊎◌, List, [], ◌∷◌, length, slice_get, Some, AllPairs, Contains, inl, inr, refl, sym, ap₂, ◌∙◌, subst, arith}
 use Rattle.history_model.proofs.Members.{not_in_none, here, there, in_cons, pairs_head, pairs_tail, all_at}
 
 -- two lists that rise strictly and have the same members

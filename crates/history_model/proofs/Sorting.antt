@@ -1,5 +1,5 @@
 -- Steps can be put in order, where two that tie are one.
-use Rattle.std.proofs.Common.{◌≡◌, ℕ, ◌<◌, ◌≤◌, ◌⊎◌, List, [], ◌∷◌, All, Contains, inl, inr, refl, sym, ap, ◌∙◌, subst, arith}
+use Rattle.std.proofs.Common.{◌≡◌, ℕ, ◌<◌, ◌⊎◌, List, [], ◌∷◌, Contains, inl, inr, sym, subst, arith}
 use Rattle.history_model.proofs.Members.{not_in_none, here, there, in_cons, all_at, all_from}
 use Rattle.history_model.specs.Histories.{History}
 use Rattle.history_model.specs.Machine.{Step, step_place, step_rank, step_line, Precedes, InOrder}

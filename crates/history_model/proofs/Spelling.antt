@@ -1,5 +1,5 @@
 -- Lines without a difference stand at the numbers of their events; printed lines are verified.
-use Rattle.std.proofs.Common.{◌≡◌, ◌≢◌, ℕ, zero, suc, ◌<◌, ◌≤◌, ◌⊎◌, Bool, true, false, ◌==◌, List, [], ◌∷◌, length, map, find, slice_get, Option, Some, None, option_map, All, AllPairs, Contains, inl, inr, refl, sym, ap, ap₂, ◌∙◌, subst, arith, true≢false}
+use Rattle.std.proofs.Common.{◌≡◌, ℕ, ◌<◌, ◌≤◌, ◌⊎◌, true, ◌==◌, List, [], ◌∷◌, map, find, slice_get, Option, Some, None, option_map, AllPairs, Contains, inl, inr, refl, sym, ap, ◌∙◌, subst, arith}
 use Rattle.std.proofs.lemmas.Option.{same_Some, slice_get_within, slice_get-map}
 use Rattle.base_types.specs.Choices.{IsChoice}
 use Rattle.base_types.specs.Placements.{RisesByLine}
@@ -7,7 +7,6 @@ use Rattle.base_types.specs.declared.placed.PlacedAnswer.{PlacedAnswer}
 use Rattle.base_types.specs.declared.placed.PlacedAnswer.TheVariants as placed
 use Rattle.base_types.specs.declared.placed.PlacedDecision.{PlacedDecision}
 use Rattle.base_types.specs.declared.placed.PlacedLine.{PlacedLine}
-use Rattle.base_types.specs.declared.placed.Places.{Places}
 use Rattle.base_types.specs.declared.request.Decision.{Decision}
 use Rattle.base_types.specs.declared.request.Decision.TheVariants.{Allow, Forbid}
 use Rattle.history_model.proofs.CheckLaw.{judged_all}
@@ -18,14 +17,13 @@ use Rattle.history_model.proofs.Printed.{printed_is}
 use Rattle.history_model.proofs.SameSorted.{same_sorted}
 use Rattle.history_model.proofs.WordLemmas.{found_in, not_found, eq_test, test_eq}
 use Rattle.history_model.specs.Checking.{HasAnswerWord, HasDecisionWord, HasWords, DiffersAt, lacking, unknown, differing, IsOutside, IsMisplacedAt, NoLine, IsVerified}
-use Rattle.history_model.specs.Decisions.{AreCachePlaces, AreLeastPlaces}
+use Rattle.history_model.specs.Decisions.{AreCachePlaces}
 use Rattle.history_model.specs.Events.{Event}
-use Rattle.history_model.specs.Histories.{History, Removal, IsEvent, ranges}
+use Rattle.history_model.specs.Histories.{History, IsEvent, ranges}
 use Rattle.history_model.specs.Outcomes.{IsLeastOfRuns}
-use Rattle.history_model.specs.Placed.{IsLeastPlace, IsPlacedAnswer, IsPlacedDecision, IsPlacedLine, ArePlacedLines, answer_place, decision_places, line_place, line_places, placement_of}
+use Rattle.history_model.specs.Placed.{IsPlacedAnswer, IsPlacedDecision, IsPlacedLine, ArePlacedLines, answer_place, line_place, line_places, placement_of}
 use Rattle.history_model.specs.Readable.{IsReadable}
-use Rattle.history_model.specs.Runs.{Placement, IsRun}
-use Rattle.history_model.specs.States.{Cut, cuts}
+use Rattle.history_model.specs.Runs.{IsRun}
 use Rattle.history_model.specs.Windows.{InWindow}
 use Rattle.history_model.specs.Words.{Word, Makes, Removes, At, Strays, Nothing, word}
 

@@ -1,7 +1,7 @@
 -- A run is allowed at each cut of its steps.
-use Rattle.std.proofs.Common.{◌≡◌, ℕ, suc, ◌<◌, ◌≤◌, ◌⊎◌, List, [], ◌∷◌, ◌++◌, All, Contains, inl, inr, refl, sym, ap, ◌∙◌, subst, arith}
+use Rattle.std.proofs.Common.{◌≡◌, ◌⊎◌, List, [], ◌∷◌, ◌++◌, Contains, inl, inr, refl, ap, subst}
 use Rattle.std.proofs.lemmas.List.Elements.{Contains-append_left, Contains-append_right, Contains-append_cases}
-use Rattle.history_model.proofs.Members.{not_in_none, here, there, in_cons, all_at, all_from}
+use Rattle.history_model.proofs.Members.{not_in_none, here, in_cons, all_at, all_from}
 use Rattle.history_model.specs.Histories.{History}
 use Rattle.history_model.specs.Machine.{Step, after, after_all, Precedes, InOrder, IsAllowed, Runs}
 use Rattle.history_model.specs.States.{Map}

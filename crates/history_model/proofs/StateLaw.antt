@@ -1,19 +1,19 @@
 -- The machine's map after all writes up to a place is the state there.
-use Rattle.std.proofs.Common.{◌≡◌, ◌≢◌, ℕ, ◌<◌, ◌≤◌, ◌⊎◌, Bool, true, false, List, [], ◌∷◌, Option, Some, None, Contains, nat_le, inl, inr, refl, sym, ap, ◌∙◌, subst, arith}
+use Rattle.std.proofs.Common.{◌≡◌, ℕ, ◌<◌, ◌≤◌, ◌⊎◌, true, false, List, Option, Some, None, Contains, nat_le, inl, inr, refl, sym, ap, ◌∙◌, arith}
 use mathlib.Core.Path.{fun_ext}
 use Rattle.std.proofs.lemmas.Bool.Decides.{leb_tells}
 use Rattle.base_types.specs.Choices.{IsChoice}
 use Rattle.base_types.specs.declared.key.ObjectKey.{ObjectKey}
-use Rattle.history_model.proofs.CutLemmas.{cut_removal, gone_tells}
+use Rattle.history_model.proofs.CutLemmas.{gone_tells}
 use Rattle.history_model.proofs.Fits.{CutEnds, CutsFit, cuts_fit}
 use Rattle.history_model.proofs.Latest.{latest_is, latest_same}
 use Rattle.history_model.proofs.Members.{apart}
 use Rattle.history_model.proofs.Steps.{Writes, Spares, no_write, last_write, up_to, in_filter, filter_in, filter_order}
-use Rattle.history_model.specs.Histories.{History, Version, Removal, ranges}
+use Rattle.history_model.specs.Histories.{History, Version, ranges}
 use Rattle.history_model.specs.Machine.{Step, Put, Remove, Reply, after_all, snapshot_map, step_place, InOrder}
 use Rattle.history_model.specs.Readable.{IsReadable}
 use Rattle.history_model.specs.Runs.{Placement, AreSteps, IsStep}
-use Rattle.history_model.specs.States.{Map, Cut, cuts, latest, IsLatest, is_gone, unless_gone, state}
+use Rattle.history_model.specs.States.{Cut, cuts, latest, IsLatest, is_gone, unless_gone, state}
 
 -- the writes of a history, with these cuts
 abbrev pub IsWriteOf : History → List Cut → Step → Type 0

@@ -1,12 +1,11 @@
 -- What steps in order do to one key.
-use Rattle.std.proofs.Common.{◌≡◌, ◌≢◌, ℕ, suc, ◌<◌, ◌≤◌, ◌⊎◌, Bool, true, false, List, [], ◌∷◌, ◌++◌, filter, nat_le, Option, Some, None, All, Contains, inl, inr, refl, sym, ap, ◌∙◌, subst, arith, true≢false}
+use Rattle.std.proofs.Common.{◌≡◌, ℕ, ◌<◌, ◌≤◌, ◌⊎◌, Bool, true, false, List, [], ◌∷◌, filter, nat_le, Option, Some, None, Contains, inl, inr, refl, sym, ap, ◌∙◌, subst, arith, true≢false}
 use Rattle.base_types.specs.declared.key.ObjectKey.{ObjectKey}
-use Rattle.history_model.proofs.KeyLemmas.{key_is, key_differs, key_tells}
+use Rattle.history_model.proofs.KeyLemmas.{key_is, key_differs}
 use Rattle.history_model.proofs.Members.{not_in_none, here, there, in_cons, all_at, all_from}
 use Rattle.history_model.specs.Histories.{History, Version}
-use Rattle.history_model.specs.Keys.{same_key}
-use Rattle.history_model.specs.Machine.{Step, Put, Remove, Reply, put_at, after, after_all, step_place, step_rank, step_line, Precedes, InOrder}
-use Rattle.history_model.specs.States.{Map, Cut}
+use Rattle.history_model.specs.Machine.{Step, Put, Remove, Reply, put_at, after, after_all, step_place, Precedes, InOrder}
+use Rattle.history_model.specs.States.{Map}
 
 -- the step leaves this entry at the key
 abbrev pub Writes : Step → ObjectKey → Option Version → Type 0

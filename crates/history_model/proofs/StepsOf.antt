@@ -1,9 +1,6 @@
 -- Every placement has its steps in order.
-use Rattle.std.proofs.Common.{◌≡◌, ℕ, suc, ◌<◌, ◌≤◌, ◌⊎◌, Bool, true, false, List, [], ◌∷◌, ◌++◌, length, take, slice_get, All, Option, Some, None, Contains, inl, inr, refl, sym, ap, ◌∙◌, subst, arith}
-use Rattle.std.proofs.lemmas.Bool.Decides.{leb_tells}
-use Rattle.std.proofs.lemmas.Option.{same_Some}
+use Rattle.std.proofs.Common.{◌≡◌, ℕ, ◌<◌, ◌≤◌, ◌⊎◌, List, [], ◌∷◌, ◌++◌, take, slice_get, Option, Some, None, Contains, inl, inr, refl, sym, ap, ◌∙◌, subst, arith}
 use Rattle.std.proofs.lemmas.List.Elements.{Contains-append_left, Contains-append_right, Contains-append_cases}
-use Rattle.base_types.specs.Choices.{IsChoice}
 use Rattle.history_model.proofs.CutLemmas.{cut_removal, cuts_apart}
 use Rattle.history_model.proofs.Fits.{same_event}
 use Rattle.history_model.proofs.Members.{not_in_none, here, there, in_cons, all_at, apart, at_apart, at_in}
@@ -12,10 +9,9 @@ use Rattle.history_model.proofs.WordLemmas.{IsMadeBy, made_version}
 use Rattle.base_types.specs.declared.key.ObjectKey.{ObjectKey}
 use Rattle.history_model.specs.Events.{Text, Event, Removed}
 use Rattle.history_model.specs.Groups.{Making}
-use Rattle.history_model.specs.Histories.{History, Version, Removal, Maker, Snapshot, ByEvent, Unknown, IsEvent, ranges}
+use Rattle.history_model.specs.Histories.{History, Version, Removal, Maker, Snapshot, ByEvent, Unknown, IsEvent}
 use Rattle.history_model.specs.Incarnations.{IsRemoval}
-use Rattle.history_model.specs.Judging.{IsJudged}
-use Rattle.history_model.specs.Machine.{Step, Put, Remove, Reply, event_line, maker_line, step_place, step_rank, step_line}
+use Rattle.history_model.specs.Machine.{Step, Put, Remove, Reply, event_line, maker_line}
 use Rattle.history_model.specs.Readable.{IsReadable}
 use Rattle.history_model.specs.Runs.{Placement, IsStep, AreSteps}
 use Rattle.history_model.specs.States.{Cut, cuts}

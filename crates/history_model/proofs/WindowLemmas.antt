@@ -1,5 +1,5 @@
 -- The lower end of a window isn't below the start.
-use Rattle.std.proofs.Common.{◌≡◌, ℕ, ℤ, ◌<◌, ◌≤◌, ◌+◌, ◌-◌, max, min, Bool, true, false, ◌&&◌, ◌⊎◌, inl, inr, if◌then◌else◌, int_lt, nat_le, List, [], ◌∷◌, refl, sym, ◌∙◌, arith, true≢false}
+use Rattle.std.proofs.Common.{◌≡◌, ℕ, ℤ, ◌<◌, ◌≤◌, Bool, true, false, ◌⊎◌, inl, inr, nat_le, List, [], ◌∷◌, refl, sym, arith, true≢false}
 use Rattle.std.proofs.lemmas.Bool.Decides.{leb_tells}
 use Rattle.history_model.specs.Events.{Event, Reading, MostRecent, AnyVersion, NotOlderThan, Exactly, Checkpoint}
 use Rattle.history_model.specs.Histories.{History, Span, IsEvent}

@@ -1,5 +1,5 @@
 -- What the word of an event says.
-use Rattle.std.proofs.Common.{◌≡◌, ◌≢◌, ℕ, ◌<◌, ◌≤◌, ◌⊎◌, Bool, true, false, if◌then◌else◌, nat_le, ◌==◌, List, [], ◌∷◌, Option, Some, None, find, AllPairs, Contains, inl, inr, refl, sym, ap, ◌∙◌, subst, arith, true≢false}
+use Rattle.std.proofs.Common.{◌≡◌, ◌≢◌, ℕ, ◌<◌, ◌≤◌, ◌⊎◌, Bool, true, false, nat_le, ◌==◌, List, [], ◌∷◌, Option, Some, None, find, Contains, inl, inr, refl, sym, ap, ◌∙◌, subst, arith, true≢false}
 use Rattle.std.proofs.lemmas.Bool.Decides.{leb_tells, eqb_tells}
 use Rattle.std.proofs.lemmas.Option.{same_Some}
 use Rattle.base_types.specs.declared.key.ObjectKey.{ObjectKey}
@@ -7,7 +7,7 @@ use Rattle.history_model.proofs.Fits.{same_event}
 use Rattle.history_model.proofs.KeyLemmas.{key_tells, key_is}
 use Rattle.history_model.proofs.Members.{not_in_none, here, there, in_cons, apart}
 use Rattle.history_model.specs.Events.{Text, Item, Event, Answer, Made, Removed, Opaque, Saw, SawNone, SawSome, SawOther, Listed, Free, Aside}
-use Rattle.history_model.specs.Groups.{Making, IsMaking, IsMember, IsFirstMaking}
+use Rattle.history_model.specs.Groups.{Making, IsMaking, IsMember}
 use Rattle.history_model.specs.Histories.{History, Version, Removal, Maker, Snapshot, ByEvent, Unknown, IsEvent}
 use Rattle.history_model.specs.Keys.{same_key}
 use Rattle.history_model.specs.Makers.{IsMadeVersion, IsSnapshotVersion, IsShowing}

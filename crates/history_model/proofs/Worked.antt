@@ -6,3 +6,6 @@ pub mod UnchangedUpdate
 pub mod Conflicts
 pub mod RemovalSeenEarly
 pub mod OneRemoval
+pub mod RemovalWithoutPlace
+pub mod OutOfTurn
+pub mod HiddenWrite

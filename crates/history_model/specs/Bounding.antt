@@ -1,5 +1,5 @@
 -- What an answer asks of the removals' places: at most one bound for each range.
-use Rattle.std.specs.Prelude.{◌≡◌, ◌≢◌, ◌<◌, ◌≤◌, ◌+◌, ℕ, max, min, ◌⊎◌, true, false, List, Option, Some, None, AllPairs, Contains, slice_get}
+use Rattle.std.specs.Prelude.{◌≡◌, ◌≢◌, ◌≤◌, ◌+◌, ℕ, max, min, ◌⊎◌, true, false, List, Some, None, AllPairs, Contains, slice_get}
 use Rattle.base_types.specs.declared.claim.Bound.{Bound}
 use Rattle.base_types.specs.declared.key.ObjectKey.{ObjectKey}
 use Rattle.history_model.specs.Clouds.{IsClouded}

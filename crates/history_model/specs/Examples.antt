@@ -1,6 +1,5 @@
 -- Small histories, whose moments are seconds, with the outcomes that they must have.
-use Rattle.std.specs.Prelude.{ℕ, ℤ, pos, true, false, Bool, List, [], ◌∷◌, Option, Some, None, codes}
-use Rattle.base_types.specs.declared.claim.Range.{Range}
+use Rattle.std.specs.Prelude.{ℕ, pos, true, false, List, [], ◌∷◌, Some, None, codes}
 use Rattle.base_types.specs.declared.claim.Reason.TheVariants.{U3, U7, U9, U10, U12}
 use Rattle.base_types.specs.declared.key.Cover.{Cover}
 use Rattle.base_types.specs.declared.key.CoverName.TheVariants.{Exact}
@@ -11,7 +10,7 @@ use Rattle.base_types.specs.declared.placed.PlacedLine.{PlacedLine}
 use Rattle.std.proofs.Common.{lit≤}
 use Rattle.history_model.specs.Events.{Text, Item, Conditions, Answer, Made, Removed, Opaque, Saw, SawNone, SawOther, Free, MostRecent, Event}
 use Rattle.history_model.specs.Histories.{History, Span, Version, Maker, Snapshot, ByEvent, Removal}
-use Rattle.history_model.specs.Outcomes.{Outcome, Explained, Unexplained, Write, MadeAt, RemovedIn}
+use Rattle.history_model.specs.Outcomes.{Outcome, Explained, Unexplained, MadeAt, RemovedIn}
 use Rattle.history_model.specs.Windows.{last_place}
 
 abbrev pub a : ObjectKey

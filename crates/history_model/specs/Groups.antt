@@ -3,7 +3,7 @@ use Rattle.std.specs.Prelude.{◌≡◌, ◌≢◌, ◌<◌, ℕ, ℤ, ◌≤ℤ
 use Rattle.base_types.specs.declared.key.Cover.{Cover}
 use Rattle.base_types.specs.declared.key.ObjectKey.{ObjectKey}
 use Rattle.base_types.specs.Covers.{Covers}
-use Rattle.history_model.specs.Events.{Item, Event, Answer, Made, Opaque}
+use Rattle.history_model.specs.Events.{Item, Event, Made, Opaque}
 use Rattle.history_model.specs.Histories.{History, Span, IsEvent}
 use Rattle.history_model.specs.Judging.{IsJudgedBefore}
 

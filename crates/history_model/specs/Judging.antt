@@ -1,5 +1,5 @@
 -- The order of judgement.
-use Rattle.std.specs.Prelude.{◌≡◌, ◌<◌, ℕ, ◌<ℤ◌, ◌⊎◌, Bool, true, false, List, length, take, AllPairs, Contains}
+use Rattle.std.specs.Prelude.{◌≡◌, ◌<◌, ℕ, ◌<ℤ◌, ◌⊎◌, Bool, true, false, length, take, AllPairs, Contains}
 use Rattle.history_model.specs.Events.{Event, is_checkpoint}
 use Rattle.history_model.specs.Histories.{History, IsEvent}
 

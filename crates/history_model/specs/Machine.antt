@@ -1,8 +1,8 @@
 -- The serial API machine: it holds one object for each key, and takes one step after the other.
-use Rattle.std.specs.Prelude.{◌≡◌, ◌<◌, ℕ, ◌⊎◌, Bool, if◌then◌else◌, List, [], ◌∷◌, Option, Some, None, IfSome, All, Contains, slice_get, filter, nat_le}
+use Rattle.std.specs.Prelude.{◌≡◌, ◌<◌, ℕ, ◌⊎◌, if◌then◌else◌, List, [], ◌∷◌, Option, Some, None, IfSome, All, slice_get}
 use Rattle.base_types.specs.declared.key.ObjectKey.{ObjectKey}
 use Rattle.history_model.specs.Clouds.{IsCloudedWithin}
-use Rattle.history_model.specs.Events.{Text, Conditions, Event}
+use Rattle.history_model.specs.Events.{Event}
 use Rattle.history_model.specs.Groups.{Making, IsMaking}
 use Rattle.history_model.specs.Histories.{History, Version, Removal, Maker, Snapshot, ByEvent, Unknown, IsEvent}
 use Rattle.history_model.specs.Keys.{same_key}

@@ -11,7 +11,7 @@ use Rattle.history_model.specs.Events.{Event}
 use Rattle.history_model.specs.Histories.{History, Removal, IsEvent}
 use Rattle.history_model.specs.Right.{IsRight}
 use Rattle.history_model.specs.Runs.{Placement}
-use Rattle.history_model.specs.States.{Cut, cuts, state}
+use Rattle.history_model.specs.States.{cuts, state}
 use Rattle.history_model.specs.Windows.{InWindow}
 use Rattle.history_model.specs.Words.{Word, Makes, Removes, At, Strays, Nothing, word}
 

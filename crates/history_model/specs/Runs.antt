@@ -5,10 +5,10 @@ use Rattle.base_types.specs.declared.request.Decision.{Decision}
 use Rattle.base_types.specs.Choices.{IsChoice}
 use Rattle.history_model.specs.Decisions.{IsDecidedAt}
 use Rattle.history_model.specs.Events.{Event}
-use Rattle.history_model.specs.Histories.{History, Version, ByEvent, IsEvent, ranges}
+use Rattle.history_model.specs.Histories.{History, ByEvent, IsEvent, ranges}
 use Rattle.history_model.specs.Judging.{IsJudged}
 use Rattle.history_model.specs.Machine.{Step, Put, Remove, Reply, InOrder, Runs, snapshot_map}
-use Rattle.history_model.specs.States.{Cut, cuts}
+use Rattle.history_model.specs.States.{cuts}
 use Rattle.history_model.specs.Windows.{InWindow}
 use Rattle.history_model.specs.Words.{At, Strays, word}
 

@@ -1,5 +1,5 @@
 -- Which revisions an event may stand at, by the moments of the log.
-use Rattle.std.specs.Prelude.{ℕ, ℤ, pos, ◌≤◌, ◌+◌, ◌-◌, ◌^◌, ◌-ℤ◌, Bool, if◌then◌else◌, ◌&&◌, nat_le, int_lt, max, min, List, [], ◌∷◌}
+use Rattle.std.specs.Prelude.{ℕ, ℤ, pos, ◌≤◌, ◌-◌, ◌^◌, ◌-ℤ◌, Bool, if◌then◌else◌, ◌&&◌, nat_le, int_lt, max, min, List, [], ◌∷◌}
 use Rattle.history_model.specs.Events.{Event, Reading, MostRecent, AnyVersion, NotOlderThan, Exactly, Checkpoint}
 use Rattle.history_model.specs.Histories.{History, Span}
 

@@ -1,6 +1,6 @@
 -- What an event is in a placement: a write that made its revision, a removal, an answer at a place, or nothing.
 use Rattle.std.specs.Prelude.{ℕ, Bool, false, if◌then◌else◌, nat_le, ◌==◌, Option, Some, None, find}
-use Rattle.history_model.specs.Events.{Item, Event, Answer, Made, Removed, Opaque, Saw, SawNone, SawSome, SawOther, Listed, Free, Aside}
+use Rattle.history_model.specs.Events.{Event, Answer, Made, Removed, Opaque, Saw, SawNone, SawSome, SawOther, Listed, Free, Aside}
 use Rattle.history_model.specs.Groups.{Making}
 use Rattle.history_model.specs.Histories.{History, Version, Removal, Maker, Snapshot, ByEvent, Unknown}
 use Rattle.history_model.specs.Keys.{same_key}

@@ -1,18 +1,18 @@
-use Rattle.std.proofs.Common.{◌≡◌, ℕ, ℤ, ◌<◌, ◌≤◌, ◌≤ℤ◌, ◌⊎◌, true, false, [], ◌∷◌, List, Option, Some, None, Contains, inl, inr, refl, sym, ap, subst, arith, true≢false}
+use Rattle.std.proofs.Common.{◌≡◌, ℕ, ◌<◌, ◌≤◌, ◌⊎◌, true, [], ◌∷◌, List, None, Contains, inl, inr, refl, sym, subst, arith}
 use Rattle.std.specs.List.{AllZip}
 use Rattle.std.proofs.lemmas.Int.{ints}
 use Rattle.base_types.specs.Choices.{IsChoice}
 use Rattle.base_types.specs.declared.claim.Reason.TheVariants.{U4}
 use Rattle.base_types.specs.declared.placed.PlacedAnswer.TheVariants as placed
-use Rattle.history_model.proofs.Members.{not_in_none, here, there, all_from}
-use Rattle.history_model.proofs.Worked.Kit.{Each, each_of, EachAt, each_event, EachMaking, each_making, rising_is, order_is, not_before, Follows, IsGroup, span_is, made_sole, no_fault, no_removals, no_checkpoints, explanation, EachLine, lines_are, no_place}
-use Rattle.history_model.specs.Events.{Event, Item, Made, Saw, Answer}
+use Rattle.history_model.proofs.Members.{not_in_none, here, all_from}
+use Rattle.history_model.proofs.Worked.Kit.{each_of, EachAt, each_making, rising_is, order_is, not_before, Follows, IsGroup, span_is, made_sole, no_fault, no_removals, no_checkpoints, explanation, EachLine, lines_are}
+use Rattle.history_model.specs.Events.{Event, Made}
 use Rattle.history_model.specs.Examples.{a, A, object, request, written, version, line, create_and_get, create_and_get_outcome}
-use Rattle.history_model.specs.Groups.{Making, IsMaking, IsSpan, MadeSurely, IsMember, IsSure}
-use Rattle.history_model.specs.Histories.{Version, Span, ByEvent, IsEvent, ranges}
+use Rattle.history_model.specs.Groups.{Making, IsMaking, IsSpan}
+use Rattle.history_model.specs.Histories.{Version, Span, ByEvent}
 use Rattle.history_model.specs.Local.{IsRightUnder}
 use Rattle.history_model.specs.Makers.{IsSnapshotVersion, IsMadeVersion}
-use Rattle.history_model.specs.Making.{HasNoFault, creates, IsEntryBefore}
+use Rattle.history_model.specs.Making.{HasNoFault, creates}
 use Rattle.history_model.specs.Outcomes.{IsOutcome}
 use Rattle.history_model.specs.Placed.{IsPlacedLine}
 use Rattle.history_model.specs.Readable.{IsReadable}

@@ -1,12 +1,12 @@
 -- What small closed histories need.
 use Rattle.std.proofs.Common.{◌≡◌, ◌≢◌, ℕ, ℤ, pos, zero, suc, ◌<◌, ◌≤◌, ◌≤ℤ◌, ◌<ℤ◌, ◌+◌, ◌-◌, min, max, bytes_eq, ◌⊎◌, Bool, true, false, not, ◌&&◌, nat_lt, int_lt, ◌==◌, List, [], ◌∷◌, length, map, take, slice_get, Option, Some, None, IsSome, All, AllPairs, Contains, inl, inr, refl, sym, ap, ap₂, ◌∙◌, subst, arith, true≢false}
-use Rattle.std.specs.List.{AllZip, list_all, list_any}
+use Rattle.std.specs.List.{AllZip, list_any}
 use mathlib.Core.HLevel.{is_prop→PathP}
 use Rattle.std.proofs.Math.Bridge.{le_prop}
 use Rattle.std.specs.Cmp.Lexicographic.{bytes_decides}
 use Rattle.std.proofs.lemmas.Int.{ints}
 use Rattle.std.proofs.lemmas.Bool.Decides.{leb_tells}
-use Rattle.std.proofs.lemmas.Option.{same_Some, slice_get_within}
+use Rattle.std.proofs.lemmas.Option.{same_Some}
 use Rattle.base_types.specs.Choices.{IsChoice}
 use Rattle.base_types.specs.Reasons.{code_number}
 use Rattle.base_types.specs.declared.claim.Range.{Range}
@@ -14,32 +14,32 @@ use Rattle.base_types.specs.declared.claim.Reason.{Reason}
 use Rattle.base_types.specs.declared.key.ObjectKey.{ObjectKey}
 use Rattle.base_types.specs.declared.placed.PlacedLine.{PlacedLine}
 use Rattle.history_model.proofs.Fits.{same_event}
-use Rattle.history_model.proofs.Global.{global_is, right_has_run, run_is_right}
+use Rattle.history_model.proofs.Global.{global_is, right_has_run}
 use Rattle.history_model.proofs.JudgingLemmas.{judged_once}
 use Rattle.history_model.proofs.KeyLemmas.{key_decides}
-use Rattle.history_model.proofs.Members.{not_in_none, here, there, in_cons, all_at, all_from, pairs_cons, at_in}
+use Rattle.history_model.proofs.Members.{not_in_none, here, there, in_cons, all_from, pairs_cons}
 use Rattle.history_model.proofs.OutcomeLaw.{take_next, take_whole}
 use Rattle.history_model.proofs.StateLaw.{Stands, never, removed, stays, state_stands}
 use Rattle.history_model.proofs.WordLemmas.{eq_test}
-use Rattle.history_model.specs.Clouds.{IsClouded, IsCloudedWithin, MayBeUnrecorded}
+use Rattle.history_model.specs.Clouds.{IsClouded, MayBeUnrecorded}
 use Rattle.history_model.specs.Codes.{HasCode, level, stage, stray, making, removal, found, answer, decision, IsCandidate, IsLeastCandidate}
-use Rattle.history_model.specs.Events.{Text, Item, Event, Answer, Made, Removed, Opaque, Saw, SawNone, SawSome, SawOther, Listed, Free, Aside, Checkpoint, Reading, MostRecent, AnyVersion, NotOlderThan, Exactly, is_checkpoint, is_checkpoint_reading}
-use Rattle.history_model.specs.Groups.{Making, IsMaking, IsFirstMaking, IsAnsweredWith, IsKeyOf, IsMember, Hides, MadeSurely, IsSure, IsEnd, IsBeginning, IsLeastMoment, IsSpan, AreSpans}
-use Rattle.history_model.specs.Histories.{History, Span, Version, Removal, Maker, Snapshot, ByEvent, Unknown, IsEvent, ranges}
+use Rattle.history_model.specs.Events.{Text, Item, Event, Answer, Made, Removed, Opaque, Saw, SawNone, SawSome, SawOther, Listed, Free, Aside, Checkpoint, is_checkpoint, is_checkpoint_reading}
+use Rattle.history_model.specs.Groups.{Making, IsMaking, IsFirstMaking, IsKeyOf, IsMember, Hides, IsSure, IsEnd, IsBeginning, IsSpan}
+use Rattle.history_model.specs.Histories.{History, Span, Version, Removal, ByEvent, IsEvent, ranges}
 use Rattle.history_model.specs.Incarnations.{IsRemoval, IsRemovalOf, AreRemovals, EndsBefore, place_before}
-use Rattle.history_model.specs.Judging.{IsJudgedBefore, PrecedesByKind, IsJudged, IsOrder}
+use Rattle.history_model.specs.Judging.{IsJudgedBefore, PrecedesByKind, IsOrder}
 use Rattle.history_model.specs.Keys.{same_key}
-use Rattle.history_model.specs.Local.{IsFixedRight, IsRightUnder, AreRightUpTo, AnswerHolds}
-use Rattle.history_model.specs.Makers.{CouldHaveMade, MustHaveMade, NoMaking, IsMakerOf, sole, able, unrecorded, faulty, IsShowing, IsMadeVersion}
-use Rattle.history_model.specs.Making.{HasFault, outside, present, used, replaced, unmet, unasked, HasNoFault, HasFoundFault, creates, excludes, changes, IsUsedUid, IsOtherObject, IsEntryBefore, AreMet, MeetsConditions, tree_of}
-use Rattle.history_model.specs.Outcomes.{IsLeastOfRuns, IsEarliest, IsExplanation, Write, MadeAt, IsMadeAt, IsWriteIn, AreWrites}
+use Rattle.history_model.specs.Local.{IsRightUnder, AreRightUpTo}
+use Rattle.history_model.specs.Makers.{CouldHaveMade, MustHaveMade, IsMakerOf, sole, able, faulty, IsShowing, IsMadeVersion}
+use Rattle.history_model.specs.Making.{outside, present, used, replaced, unmet, unasked, HasNoFault, HasFoundFault, creates, excludes, changes, IsUsedUid, IsOtherObject, IsEntryBefore, AreMet, MeetsConditions, tree_of}
+use Rattle.history_model.specs.Outcomes.{IsEarliest, IsExplanation, Write, MadeAt, IsMadeAt, IsWriteIn}
 use Rattle.history_model.specs.Placed.{IsPlacedLine, ArePlacedLines}
 use Rattle.history_model.specs.Readable.{IsReadable}
 use Rattle.history_model.specs.Right.{IsShown, answer_code}
 use Rattle.history_model.specs.States.{cuts, state}
-use Rattle.history_model.specs.Runs.{Placement, IsRun, IsRunUpTo, IsExplainedUpTo}
+use Rattle.history_model.specs.Runs.{Placement, IsRunUpTo}
 use Rattle.history_model.specs.Windows.{lowest, highest, last_place}
-use Rattle.history_model.specs.Words.{Word, Makes, Removes, At, Strays, Nothing, word}
+use Rattle.history_model.specs.Words.{At, word}
 
 -- a fact of each item, as a tuple
 abbrev pub Each : {X : Type 0} → (X → Type 0) → List X → Type 0

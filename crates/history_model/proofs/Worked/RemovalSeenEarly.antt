@@ -1,41 +1,25 @@
-use Rattle.std.proofs.Common.{◌≡◌, ◌≢◌, ℕ, ℤ, zero, suc, ◌<◌, ◌≤◌, ◌+◌, ◌-◌, min, max, ◌≤ℤ◌, ◌⊎◌, ◌↔◌, Bool, true, false, [], ◌∷◌, List, Option, Some, None, IsSome, IsNone, IsSomeAnd, AllPairs, Contains, slice_get, inl, inr, refl, sym, ap, ◌∙◌, subst, arith, true≢false}
+use Rattle.std.proofs.Common.{◌≡◌, ℕ, ◌<◌, ◌≤◌, ◌⊎◌, true, [], ◌∷◌, List, None, IsNone, Contains, inl, inr, refl, sym, subst, arith, true≢false}
 use Rattle.std.specs.List.{AllZip}
 use Rattle.std.proofs.lemmas.Int.{ints}
-use Rattle.base_types.specs.Choices.{IsChoice, Meets}
-use Rattle.base_types.specs.Covers.{Covers}
-use Rattle.base_types.specs.Reasons.{code_number}
-use Rattle.base_types.specs.declared.claim.Reason.{Reason}
-use Rattle.base_types.specs.declared.claim.Reason.TheVariants.{U3, U4, U5, U6, U7, U8, U9, U10, U12}
-use Rattle.base_types.specs.declared.key.Cover.{Cover}
+use Rattle.base_types.specs.Choices.{IsChoice}
+use Rattle.base_types.specs.declared.claim.Reason.TheVariants.{U4}
 use Rattle.base_types.specs.declared.key.ObjectKey.{ObjectKey}
 use Rattle.base_types.specs.declared.placed.PlacedAnswer.TheVariants as placed
-use Rattle.base_types.specs.declared.placed.PlacedLine.{PlacedLine}
-use Rattle.history_model.proofs.Classes.{saw_none_is}
-use Rattle.history_model.proofs.Global.{run_is_right, right_has_run}
-use Rattle.history_model.proofs.Latest.{latest_is, latest_same}
-use Rattle.history_model.proofs.LocalBounds.{absence_is, presence_is, none_or_latest, kept}
-use Rattle.history_model.proofs.Members.{not_in_none, here, there, in_cons, all_from, pairs_cons}
-use Rattle.history_model.proofs.Worked.Kit.{Each, each_of, EachAt, each_event, EachMaking, each_making, rising_is, order_is, not_before, Follows, IsGroup, span_is, made_sole, made_able, made_faulty, no_fault, no_fault_clouded, no_removals, no_checkpoints, same_removal, other_key, explanation, EachLine, lines_are, earliest, reader_code, reader_least, one_place, no_place, shown_above, never_clouded, right_for, made_in, made_line, listed_at, could_find, state_in, other_text, one_removal_is, judged_right}
-use Rattle.history_model.specs.Bounding.{SomewhereIn, IsAbsentAnyway}
-use Rattle.history_model.specs.Clouds.{IsClouded, IsCloudedWithin, IsHiddenBy, MayBeUnrecorded}
-use Rattle.history_model.specs.Codes.{HasCode, level, stage, stray, making, removal, found, answer, decision, NeverHolds, IsCandidate, IsLeastCandidate, IsChoiceUpTo}
-use Rattle.history_model.specs.Events.{Text, Conditions, Event, Item, Made, Saw, SawNone, SawOther, Removed, Opaque, Free, Answer}
-use Rattle.history_model.specs.Examples.{a, b, p, A, B, E, P, object, no_conditions, asked, request, written, version, line}
-use Rattle.history_model.specs.Groups.{Making, IsMaking, IsSpan, MadeSurely, IsMember, IsSure, Hides}
-use Rattle.history_model.specs.Histories.{History, Version, Removal, Span, Maker, Snapshot, ByEvent, IsEvent, ranges}
-use Rattle.history_model.specs.Incarnations.{IsRemoval, IsRemovalOf, IsRemovalBehind, EndsBefore, IsFirstWithUid, AreRemovals}
-use Rattle.history_model.specs.Judging.{IsJudgedBefore, IsFirst, IsJudged}
-use Rattle.history_model.specs.Keys.{same_key}
-use Rattle.history_model.specs.Local.{IsRightUnder, AreRightUpTo, AnswerHolds, IsFixedRight}
-use Rattle.history_model.specs.Makers.{IsSnapshotVersion, IsMadeVersion, CouldHaveMade, item_of}
-use Rattle.history_model.specs.Making.{HasFault, outside, present, used, replaced, unmet, unasked, HasNoFault, HasFoundFault, creates, excludes, changes, IsEntryBefore, IsUsedUid, CouldHaveFound, IsAnew, MeetsConditions}
-use Rattle.history_model.specs.Outcomes.{IsOutcome, Write, MadeAt, RemovedIn, IsWriteIn, IsListedBefore, AreWrites, IsMadeAt, IsRemovedIn}
+use Rattle.history_model.proofs.Members.{all_from}
+use Rattle.history_model.proofs.Worked.Kit.{each_of, EachAt, each_making, rising_is, order_is, not_before, Follows, IsGroup, span_is, made_sole, no_fault, no_checkpoints, explanation, EachLine, lines_are, never_clouded, one_removal_is}
+use Rattle.history_model.specs.Clouds.{IsClouded}
+use Rattle.history_model.specs.Events.{Event, Made, Saw, SawNone, Removed}
+use Rattle.history_model.specs.Examples.{a, A, object, request, written, version, line}
+use Rattle.history_model.specs.Groups.{Making, IsMaking, IsSpan}
+use Rattle.history_model.specs.Histories.{Version, Span, ByEvent, ranges}
+use Rattle.history_model.specs.Local.{IsRightUnder}
+use Rattle.history_model.specs.Makers.{IsSnapshotVersion, IsMadeVersion, item_of}
+use Rattle.history_model.specs.Making.{HasNoFault, creates}
+use Rattle.history_model.specs.Outcomes.{IsOutcome}
 use Rattle.history_model.specs.Placed.{IsPlacedLine, IsLeastPlace}
 use Rattle.history_model.specs.Readable.{IsReadable}
-use Rattle.history_model.specs.Right.{IsShown}
-use Rattle.history_model.specs.States.{latest, IsLatest, state}
-use Rattle.history_model.specs.Windows.{last_place, InWindow}
-use Rattle.history_model.specs.Words.{Word, Makes, Removes, At, word}
+use Rattle.history_model.specs.States.{state}
+use Rattle.history_model.specs.Windows.{InWindow}
 use Rattle.history_model.specs.Examples.{removal_of_a, removal_seen_early, removal_seen_early_outcome}
 
 abbrev e0 : Event
