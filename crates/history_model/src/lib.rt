@@ -5,6 +5,7 @@
 
 mod bounding;
 mod checking;
+mod examples;
 mod explaining;
 mod running;
 
@@ -13,5 +14,6 @@ pub use bounding::{
     unplaced_law,
 };
 pub use checking::{fault_law, spelling_law, verified_law};
+pub use examples::{explained_examples, unexplained_examples};
 pub use explaining::{explained_law, one_list_law, one_outcome_law, outcome_law, printed_law};
 pub use running::{locality_law, makings_law, removals_law, state_law};
