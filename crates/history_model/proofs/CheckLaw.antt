@@ -71,7 +71,7 @@ module _ (h : History) (r : IsReadable h) where
       → AreSteps h (length h.order) (placement_of h lines) steps → Runs h K (snapshot_map h) steps → IsStepFault h lines at code → ⊥
   fault_no_run lines at code K weak steps are runs f = allowed_no_code h (after_all (snapshot_map h) f.done) f.step code
       (runs_each h K (snapshot_map h) f.done f.step f.rest (subst (λ zs. Runs h K (snapshot_map h) zs) (steps_same h (length h.order) (placement_of h lines) steps f.steps are f.are ∙ f.whole) runs)
-          (weak f.step (coded_is_judged h (length h.order) (placement_of h lines) (after_all (snapshot_map h) f.done) f.step code judged_all is f.has))) f.has
+      (weak f.step (coded_is_judged h (length h.order) (placement_of h lines) (after_all (snapshot_map h) f.done) f.step code judged_all is f.has))) f.has
     where
       is : IsStep h (length h.order) (placement_of h lines) f.step
       is = f.are.sound f.step (subst (λ zs. Contains zs f.step) (sym f.whole) (Contains-append_right f.done (f.step ∷ f.rest) f.step (here f.step f.rest)))
@@ -92,7 +92,6 @@ module _ (h : History) (r : IsReadable h) where
     where
       u : IsUndecidedAt h lines at
       u = l.0
-
 
 -- where two splits of a list lie
 compare_splits : {X : Type 0} (a : List X) (x : X) (b c : List X) (y : X) (d : List X) → a ++ x ∷ b ≡ c ++ y ∷ d
@@ -115,11 +114,13 @@ module _ (h : History) (r : IsReadable h) (lines : List PlacedLine) where
       earlier : (a b : ℕ) (x y : Reason) → (u : IsStepFault h lines a x) → (v : IsStepFault h lines b y) → (e : List Step) → v.done ≡ u.done ++ u.step ∷ e → ⊥
       earlier a b x y u v e q = allowed_no_code h (after_all (snapshot_map h) u.done) u.step x
           (runs_each h EachStep (snapshot_map h) u.done u.step e (subst (λ zs. Runs h EachStep (snapshot_map h) zs) q v.before) tt) u.has
+
       go : ((f.done ≡ g.done) × (f.step ≡ g.step)) ⊎ ((e : List Step) × (g.done ≡ f.done ++ f.step ∷ e)) ⊎ ((e : List Step) × (f.done ≡ g.done ++ g.step ∷ e)) → (at ≡ other) × (c ≡ d)
       go (inl (p, q)) = (sym f.of_line ∙ ap (step_line h) q ∙ g.of_line, same_code c d (f.least d there) (g.least c back))
         where
           there : HasStepCode h (after_all (snapshot_map h) f.done) f.step d
           there = subst (λ z. HasStepCode h (after_all (snapshot_map h) z) f.step d) (sym p) (subst (λ z. HasStepCode h (after_all (snapshot_map h) g.done) z d) (sym q) g.has)
+
           back : HasStepCode h (after_all (snapshot_map h) g.done) g.step c
           back = subst (λ z. HasStepCode h (after_all (snapshot_map h) z) g.step c) p (subst (λ z. HasStepCode h (after_all (snapshot_map h) f.done) z c) q f.has)
       go (inr (inl (e, q))) = absurd (earlier at other c d f g e q)
@@ -194,7 +195,12 @@ chosen_from (x ∷ xs) f each = (each x (here x xs), chosen_from xs f (λ y c. e
 module _ (h : History) (r : IsReadable h) (lines : List PlacedLine) (f : IsFaultless h lines) where
   not_outside : (number : ℕ) (event : Event) → IsEvent h number event → (w : Word) → word h number event ≡ w → IsOutside h event w (line_place (slice_get lines number)) → ⊥
   not_outside number event known w e o = f.fitting.inside event.line (record {
-    number = number; event = event; known = known; of_line = refl; outside = inl (subst (λ z. IsOutside h event z (line_place (slice_get lines number))) (sym e) o) })
+    number = number;
+    event = event;
+    known = known;
+    of_line = refl;
+    outside = inl (subst (λ z. IsOutside h event z (line_place (slice_get lines number))) (sym e) o);
+  })
 
   chosen : IsChoice (ranges h) (placement_of h lines).choice
   chosen = chosen_from h.removals (λ removal. line_place (slice_get lines removal.range.event)) each
@@ -207,13 +213,19 @@ module _ (h : History) (r : IsReadable h) (lines : List PlacedLine) (f : IsFault
               (λ n. not_outside removal.range.event i.behind.event i.behind.first.known (Removes removal) (removal_word_is h removal i.behind.event r c i.behind.first.known) n)
 
   cached : (number : ℕ) (event : Event) (decided : Decision) → IsEvent h number event → event.decision ≡ Some decided → AreCachePlaces h event (line_places (slice_get lines number))
-  cached number event decided known e = record { of_roles = at places.roles (λ n c. n c.of_roles); of_cluster_roles = at places.cluster_roles (λ n c. n c.of_cluster_roles);
-      of_bindings = at places.bindings (λ n c. n c.of_bindings); of_cluster_bindings = at places.cluster_bindings (λ n c. n c.of_cluster_bindings) }
+  cached number event decided known e = record {
+    of_roles = at places.roles (λ n c. n c.of_roles);
+    of_cluster_roles = at places.cluster_roles (λ n c. n c.of_cluster_roles);
+    of_bindings = at places.bindings (λ n c. n c.of_bindings);
+    of_cluster_bindings = at places.cluster_bindings (λ n c. n c.of_cluster_bindings);
+  }
     where
       places : Places
       places = line_places (slice_get lines number)
+
       not_so : (AreCachePlaces h event (line_places (slice_get lines number)) → ⊥) → ⊥
       not_so n = f.fitting.inside event.line (record { number = number; event = event; known = known; of_line = refl; outside = inr (decided, e, n) })
+
       at : (place : ℕ) → ((IsCachePlace h event place → ⊥) → AreCachePlaces h event (line_places (slice_get lines number)) → ⊥) → IsCachePlace h event place
       at place g = inside (decision_low h event) place (decision_high h event) (λ n. not_so (g n))
 
@@ -223,14 +235,14 @@ module _ (h : History) (r : IsReadable h) (lines : List PlacedLine) (f : IsFault
     sound = λ number event j known. record {
       level = not_true event.other_level (λ e. standing number event known (by_level refl e));
       stage = not_true event.omitted_stage (λ e. standing number event known (by_stage refl e));
-      no_stray = λ e. standing number event known (by_stray refl e)
+      no_stray = λ e. standing number event known (by_stray refl e);
     };
     windows = λ number event j known w. inside (low_end h event) (line_place (slice_get lines number)) (high_end h event) (λ n. not_outside number event known At w n);
     decisions = λ number event decided j known e. record {
       inside = cached number event decided known e;
       right = not_false (h.decides number (line_places (slice_get lines number)))
-          (λ n. f.decided event.line (record { number = number; event = event; decided = decided; known = known; of_line = refl; judged = e; wrong = n }))
-    }
+          (λ n. f.decided event.line (record { number = number; event = event; decided = decided; known = known; of_line = refl; judged = e; wrong = n }));
+    };
   }
     where
       standing : (number : ℕ) (event : Event) → IsEvent h number event → {code : Reason} → HasStandingCode h number event code → ⊥
@@ -244,6 +256,6 @@ module _ (h : History) (r : IsReadable h) (lines : List PlacedLine) (f : IsFault
       placed = placed';
       steps = f.allowed.steps;
       are = f.allowed.are;
-      runs = runs_weaker h EachStep (IsOfFirst h (length h.order)) (snapshot_map h) f.allowed.steps (λ s c k. tt) f.allowed.runs
-    }
+      runs = runs_weaker h EachStep (IsOfFirst h (length h.order)) (snapshot_map h) f.allowed.steps (λ s c k. tt) f.allowed.runs;
+    };
   }

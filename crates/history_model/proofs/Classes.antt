@@ -46,8 +46,10 @@ module _ (h : History) (choice : List ℕ) (r : IsReadable h) (chosen : IsChoice
           at : IsClouded h key place ⊎ Q place → IsCloudedWithin h key (low_end h event) (high_end h event) ⊎ SomewhereIn (low_end h event) (high_end h event) Q
           at (inl c) = inl (place, inside.0, inside.1, c)
           at (inr q) = inr (place, inside.0, inside.1, q)
+
       right_at : (place : ℕ) → IsClouded h key place ⊎ Q place → IsRight h number event place (state h choice place)
       right_at place s = subst (λ z. IsRightAnswer h number event place (state h choice place) z) (sym e) (from place s)
+
       back : IsCloudedWithin h key (low_end h event) (high_end h event) ⊎ SomewhereIn (low_end h event) (high_end h event) Q
           → (place : ℕ) × InWindow h event place × IsRight h number event place (state h choice place)
       back (inl (place, l, m, c)) = (place, (l, m), right_at place (inl c))
@@ -59,13 +61,14 @@ module _ (h : History) (choice : List ℕ) (r : IsReadable h) (chosen : IsChoice
       to : B ⊎ C → B ⊎ D
       to (inl b) = inl b
       to (inr c) = inr (g.0 c)
+
       from : B ⊎ D → B ⊎ C
       from (inl b) = inl b
       from (inr d) = inr (g.1 d)
 
   pub saw_none_is : (key : ObjectKey) → event.answer ≡ SawNone key → low_end h event ≤ high_end h event
       → AnswerHolds h choice number event ↔ (IsCloudedWithin h key (low_end h event) (high_end h event)
-          ⊎ (SomewhereIn (low_end h event) (high_end h event) (IsAbsentAnyway h key) ⊎ (state h choice (high_end h event) key ≡ None)))
+      ⊎ (SomewhereIn (low_end h event) (high_end h event) (IsAbsentAnyway h key) ⊎ (state h choice (high_end h event) key ≡ None)))
   saw_none_is key e w = either (AnswerHolds h choice number event) (IsCloudedWithin h key (low_end h event) (high_end h event))
       (SomewhereIn (low_end h event) (high_end h event) (λ x. state h choice x key ≡ None))
       (SomewhereIn (low_end h event) (high_end h event) (IsAbsentAnyway h key) ⊎ (state h choice (high_end h event) key ≡ None))
@@ -74,13 +77,14 @@ module _ (h : History) (choice : List ℕ) (r : IsReadable h) (chosen : IsChoice
       to : (place : ℕ) → IsClouded h key place ⊎ IsNone (state h choice place key) → IsClouded h key place ⊎ (state h choice place key ≡ None)
       to place (inl c) = inl c
       to place (inr n) = inr (none_is (state h choice place key) n)
+
       from : (place : ℕ) → IsClouded h key place ⊎ (state h choice place key ≡ None) → IsClouded h key place ⊎ IsNone (state h choice place key)
       from place (inl c) = inl c
       from place (inr n) = inr (is_none (state h choice place key) n)
 
   pub saw_some_is : (key : ObjectKey) → event.answer ≡ SawSome key → low_end h event ≤ high_end h event
       → AnswerHolds h choice number event ↔ (IsCloudedWithin h key (low_end h event) (high_end h event)
-          ⊎ (ComesIn h key (low_end h event) (high_end h event) (λ v. Unit {0}) ⊎ IsSomeAnd (state h choice (low_end h event) key) (λ v. Unit {0})))
+      ⊎ (ComesIn h key (low_end h event) (high_end h event) (λ v. Unit {0}) ⊎ IsSomeAnd (state h choice (low_end h event) key) (λ v. Unit {0})))
   saw_some_is key e w = either (AnswerHolds h choice number event) (IsCloudedWithin h key (low_end h event) (high_end h event))
       (SomewhereIn (low_end h event) (high_end h event) (λ x. IsSomeAnd (state h choice x key) (λ v. Unit {0})))
       (ComesIn h key (low_end h event) (high_end h event) (λ v. Unit {0}) ⊎ IsSomeAnd (state h choice (low_end h event) key) (λ v. Unit {0}))
@@ -90,13 +94,14 @@ module _ (h : History) (choice : List ℕ) (r : IsReadable h) (chosen : IsChoice
       to : (place : ℕ) → IsClouded h key place ⊎ IsSome (state h choice place key) → IsClouded h key place ⊎ IsSomeAnd (state h choice place key) (λ v. Unit {0})
       to place (inl c) = inl c
       to place (inr n) = inr (some_and (state h choice place key) n)
+
       from : (place : ℕ) → IsClouded h key place ⊎ IsSomeAnd (state h choice place key) (λ v. Unit {0}) → IsClouded h key place ⊎ IsSome (state h choice place key)
       from place (inl c) = inl c
       from place (inr n) = inr (and_some (state h choice place key) n)
 
   pub saw_is : (item : Item) → event.answer ≡ Saw item → low_end h event ≤ high_end h event
       → AnswerHolds h choice number event ↔ (IsCloudedWithin h item.key (low_end h event) (high_end h event)
-          ⊎ (ComesIn h item.key (low_end h event) (high_end h event) (λ v. IsShown item (Some v)) ⊎ IsShown item (state h choice (low_end h event) item.key)))
+      ⊎ (ComesIn h item.key (low_end h event) (high_end h event) (λ v. IsShown item (Some v)) ⊎ IsShown item (state h choice (low_end h event) item.key)))
   saw_is item e w = either (AnswerHolds h choice number event) (IsCloudedWithin h item.key (low_end h event) (high_end h event))
       (SomewhereIn (low_end h event) (high_end h event) (λ x. IsShown item (state h choice x item.key)))
       (ComesIn h item.key (low_end h event) (high_end h event) (λ v. IsShown item (Some v)) ⊎ IsShown item (state h choice (low_end h event) item.key))
@@ -105,12 +110,12 @@ module _ (h : History) (choice : List ℕ) (r : IsReadable h) (chosen : IsChoice
 
   pub found_is : (item : Item) (created : Bool) → event.answer ≡ Made item created → word h number event ≡ At → low_end h event ≤ high_end h event
       → AnswerHolds h choice number event ↔ (IsCloudedWithin h item.key (low_end h event) (high_end h event)
-          ⊎ (CouldHaveFound h (record { number = number; event = event; item = item; created = created })
-            × (ComesIn h item.key (low_end h event) (high_end h event) (λ v. IsShown item (Some v)) ⊎ IsShown item (state h choice (low_end h event) item.key))))
+      ⊎ (CouldHaveFound h (record { number = number; event = event; item = item; created = created })
+      × (ComesIn h item.key (low_end h event) (high_end h event) (λ v. IsShown item (Some v)) ⊎ IsShown item (state h choice (low_end h event) item.key))))
   found_is item created e at w = either (AnswerHolds h choice number event) (IsCloudedWithin h item.key (low_end h event) (high_end h event))
       (SomewhereIn (low_end h event) (high_end h event) (λ x. IsShown item (state h choice x item.key) × CouldHaveFound h (record { number = number; event = event; item = item; created = created })))
       (CouldHaveFound h (record { number = number; event = event; item = item; created = created })
-        × (ComesIn h item.key (low_end h event) (high_end h event) (λ v. IsShown item (Some v)) ⊎ IsShown item (state h choice (low_end h event) item.key)))
+      × (ComesIn h item.key (low_end h event) (high_end h event) (λ v. IsShown item (Some v)) ⊎ IsShown item (state h choice (low_end h event) item.key)))
       (holds_is (Made item created) item.key (λ x. IsShown item (state h choice x item.key) × CouldHaveFound h (record { number = number; event = event; item = item; created = created })) e at (λ place s. s) (λ place s. s))
       ((λ (x, l, m, p). (p.1, (present_is h choice r chosen item.key (λ v. IsShown item (Some v)) (low_end h event) (high_end h event) w).0 (x, l, m, p.0))), λ (c, s). back c ((present_is h choice r chosen item.key (λ v. IsShown item (Some v)) (low_end h event) (high_end h event) w).1 s))
     where
@@ -129,6 +134,7 @@ module _ (h : History) (choice : List ℕ) (r : IsReadable h) (chosen : IsChoice
           back : (place : ℕ) → IsClouded h key place ⊎ ⊥ → IsClouded h key place
           back place (inl c) = c
           back place (inr n) = absurd n
+
       to : IsCloudedWithin h key (low_end h event) (high_end h event) ⊎ SomewhereIn (low_end h event) (high_end h event) (λ x. ⊥) → IsCloudedWithin h key (low_end h event) (high_end h event)
       to (inl c) = c
       to (inr s) = absurd s.3
@@ -144,12 +150,12 @@ module _ (h : History) (choice : List ℕ) (r : IsReadable h) (chosen : IsChoice
 
   pub refused_without_is : (key : ObjectKey) → event.answer ≡ SawOther key → event.conditions.uid ≡ None → low_end h event ≤ high_end h event
       → AnswerHolds h choice number event ↔ (IsCloudedWithin h key (low_end h event) (high_end h event)
-          ⊎ (ComesIn h key (low_end h event) (high_end h event) (λ v. MeetsConditions event.conditions (Some v) → ⊥)
-            ⊎ IsSomeAnd (state h choice (low_end h event) key) (λ v. MeetsConditions event.conditions (Some v) → ⊥)))
+      ⊎ (ComesIn h key (low_end h event) (high_end h event) (λ v. MeetsConditions event.conditions (Some v) → ⊥)
+      ⊎ IsSomeAnd (state h choice (low_end h event) key) (λ v. MeetsConditions event.conditions (Some v) → ⊥)))
   refused_without_is key e n w = either (AnswerHolds h choice number event) (IsCloudedWithin h key (low_end h event) (high_end h event))
       (SomewhereIn (low_end h event) (high_end h event) (λ x. IsSomeAnd (state h choice x key) (λ v. MeetsConditions event.conditions (Some v) → ⊥)))
       (ComesIn h key (low_end h event) (high_end h event) (λ v. MeetsConditions event.conditions (Some v) → ⊥)
-            ⊎ IsSomeAnd (state h choice (low_end h event) key) (λ v. MeetsConditions event.conditions (Some v) → ⊥))
+      ⊎ IsSomeAnd (state h choice (low_end h event) key) (λ v. MeetsConditions event.conditions (Some v) → ⊥))
       (holds_is (SawOther key) key (λ x. IsSomeAnd (state h choice x key) (λ v. MeetsConditions event.conditions (Some v) → ⊥)) e (ap (answer_word h number event) e) to from)
       (present_is h choice r chosen key (λ v. MeetsConditions event.conditions (Some v) → ⊥) (low_end h event) (high_end h event) w)
     where
@@ -157,6 +163,7 @@ module _ (h : History) (choice : List ℕ) (r : IsReadable h) (chosen : IsChoice
           → IsClouded h key place ⊎ IsSomeAnd (state h choice place key) (λ v. MeetsConditions event.conditions (Some v) → ⊥)
       to place (inl c) = inl c
       to place (inr s) = inr (refused_and event.conditions (state h choice place key) n s)
+
       from : (place : ℕ) → IsClouded h key place ⊎ IsSomeAnd (state h choice place key) (λ v. MeetsConditions event.conditions (Some v) → ⊥)
           → IsClouded h key place ⊎ IsRefused event.conditions (state h choice place key)
       from place (inl c) = inl c
@@ -165,35 +172,37 @@ module _ (h : History) (choice : List ℕ) (r : IsReadable h) (chosen : IsChoice
   -- with a uid: right also where the object is absent, so that only the last place turns on the choice
   pub refused_with_is : (key : ObjectKey) → event.answer ≡ SawOther key → IsSome event.conditions.uid → low_end h event ≤ high_end h event
       → AnswerHolds h choice number event ↔ (IsCloudedWithin h key (low_end h event) (high_end h event)
-          ⊎ (SomewhereIn (low_end h event) (high_end h event) (λ x. IsRefused event.conditions (latest h.versions key x))
-            ⊎ SomewhereIn (low_end h event) (high_end h event) (IsAbsentAnyway h key) ⊎ (state h choice (high_end h event) key ≡ None)))
+      ⊎ (SomewhereIn (low_end h event) (high_end h event) (λ x. IsRefused event.conditions (latest h.versions key x))
+      ⊎ SomewhereIn (low_end h event) (high_end h event) (IsAbsentAnyway h key) ⊎ (state h choice (high_end h event) key ≡ None)))
   refused_with_is key e n w = either (AnswerHolds h choice number event) (IsCloudedWithin h key (low_end h event) (high_end h event))
       (SomewhereIn (low_end h event) (high_end h event) (λ x. IsRefused event.conditions (state h choice x key)))
       (SomewhereIn (low_end h event) (high_end h event) (λ x. IsRefused event.conditions (latest h.versions key x))
-            ⊎ SomewhereIn (low_end h event) (high_end h event) (IsAbsentAnyway h key) ⊎ (state h choice (high_end h event) key ≡ None))
+      ⊎ SomewhereIn (low_end h event) (high_end h event) (IsAbsentAnyway h key) ⊎ (state h choice (high_end h event) key ≡ None))
       (holds_is (SawOther key) key (λ x. IsRefused event.conditions (state h choice x key)) e (ap (answer_word h number event) e) (λ place s. s) (λ place s. s)) (to, from)
     where
       gone : (low_end h event ≤ high_end h event) → SomewhereIn (low_end h event) (high_end h event) (λ x. state h choice x key ≡ None)
           ↔ (SomewhereIn (low_end h event) (high_end h event) (IsAbsentAnyway h key) ⊎ (state h choice (high_end h event) key ≡ None))
       gone w = absent_is h choice r chosen key (low_end h event) (high_end h event) w
+
       to : SomewhereIn (low_end h event) (high_end h event) (λ x. IsRefused event.conditions (state h choice x key))
           → SomewhereIn (low_end h event) (high_end h event) (λ x. IsRefused event.conditions (latest h.versions key x))
-            ⊎ SomewhereIn (low_end h event) (high_end h event) (IsAbsentAnyway h key) ⊎ (state h choice (high_end h event) key ≡ None)
+          ⊎ SomewhereIn (low_end h event) (high_end h event) (IsAbsentAnyway h key) ⊎ (state h choice (high_end h event) key ≡ None)
       to (x, l, m, s) = at (latest h.versions key x) refl
         where
           at : (o : Option Version) → latest h.versions key x ≡ o
               → SomewhereIn (low_end h event) (high_end h event) (λ x. IsRefused event.conditions (latest h.versions key x))
-                ⊎ SomewhereIn (low_end h event) (high_end h event) (IsAbsentAnyway h key) ⊎ (state h choice (high_end h event) key ≡ None)
+              ⊎ SomewhereIn (low_end h event) (high_end h event) (IsAbsentAnyway h key) ⊎ (state h choice (high_end h event) key ≡ None)
           at None q = inr ((gone w).0 (x, l, m, nothing_yet h choice r chosen key x q))
           at (Some v) q = by (none_or_latest h choice r chosen key x v q)
             where
               by : (state h choice x key ≡ None) ⊎ (state h choice x key ≡ Some v)
                   → SomewhereIn (low_end h event) (high_end h event) (λ x. IsRefused event.conditions (latest h.versions key x))
-                    ⊎ SomewhereIn (low_end h event) (high_end h event) (IsAbsentAnyway h key) ⊎ (state h choice (high_end h event) key ≡ None)
+                  ⊎ SomewhereIn (low_end h event) (high_end h event) (IsAbsentAnyway h key) ⊎ (state h choice (high_end h event) key ≡ None)
               by (inl z) = inr ((gone w).0 (x, l, m, z))
               by (inr z) = inl (x, l, m, subst (λ y. IsRefused event.conditions y) (z ∙ sym q) s)
+
       from : SomewhereIn (low_end h event) (high_end h event) (λ x. IsRefused event.conditions (latest h.versions key x))
-            ⊎ SomewhereIn (low_end h event) (high_end h event) (IsAbsentAnyway h key) ⊎ (state h choice (high_end h event) key ≡ None)
+          ⊎ SomewhereIn (low_end h event) (high_end h event) (IsAbsentAnyway h key) ⊎ (state h choice (high_end h event) key ≡ None)
           → SomewhereIn (low_end h event) (high_end h event) (λ x. IsRefused event.conditions (state h choice x key))
       from (inr s) = at ((gone w).1 s)
         where

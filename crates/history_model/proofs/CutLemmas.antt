@@ -1,4 +1,7 @@
 -- Removals with the places that a choice gives them.
+use Rattle.std.proofs.Math.Bridge.{le_prop}
+use mathlib.Core.HLevel.{is_prop→PathP}
+use Rattle.base_types.specs.declared.claim.Range.{Range}
 use Rattle.std.proofs.Common.{◌≡◌, ℕ, zero, suc, ◌<◌, ◌≤◌, ◌⊎◌, true, false, nat_le, ◌==◌, List, [], ◌∷◌, map, Some, AllPairs, Contains, slice_get, slice_index, inl, inr, refl, sym, ap, ◌∙◌, subst, arith}
 use Rattle.std.proofs.lemmas.Bool.Decides.{leb_tells, eqb_tells}
 use Rattle.std.proofs.lemmas.Option.{same_Some}
@@ -61,10 +64,11 @@ cuts_apart [] choice a b rising c d e = absurd (not_in_none c)
 cuts_apart (r ∷ rs) [] a b rising c d e = absurd (not_in_none c)
 cuts_apart (r ∷ rs) (x ∷ xs) a b rising c d e =
     go (λ m n. cuts_apart rs xs a b (pairs_tail (λ p q. p.range.event < q.range.event) r rs rising) m n e)
-        (in_cons (cut_of r x) (cuts rs xs) a c) (in_cons (cut_of r x) (cuts rs xs) b d)
+    (in_cons (cut_of r x) (cuts rs xs) a c) (in_cons (cut_of r x) (cuts rs xs) b d)
   where
     above : (z : Cut) → Contains (cuts rs xs) z → r.range.event < z.removal.range.event
     above z m = all_at (λ q. r.range.event < q.range.event) rs z.removal (pairs_head (λ p q. p.range.event < q.range.event) r rs rising) (cut_removal rs xs z m)
+
     go : (Contains (cuts rs xs) a → Contains (cuts rs xs) b → a ≡ b) → (cut_of r x ≡ a) ⊎ Contains (cuts rs xs) a → (cut_of r x ≡ b) ⊎ Contains (cuts rs xs) b → a ≡ b
     go rest (inl p) (inl q) = sym p ∙ q
     go rest (inl p) (inr n) = absurd (omega (arith, above b n, ap (λ (z : Cut). z.removal.range.event) p))
@@ -79,11 +83,11 @@ gone_tells [] last place = inr (refl, λ cut c. absurd (not_in_none c))
 gone_tells (z ∷ zs) last place = go (gone_tells zs last place) (eqb_tells z.removal.last last) (leb_tells z.place place)
   where
     go : ((is_gone zs last place ≡ true) × ((cut : Cut) × Contains zs cut × (cut.removal.last ≡ last) × (cut.place ≤ place)))
-            ⊎ ((is_gone zs last place ≡ false) × ((cut : Cut) → Contains zs cut → cut.removal.last ≡ last → place < cut.place))
+        ⊎ ((is_gone zs last place ≡ false) × ((cut : Cut) → Contains zs cut → cut.removal.last ≡ last → place < cut.place))
         → (((z.removal.last == last) ≡ true) × (z.removal.last ≡ last)) ⊎ (((z.removal.last == last) ≡ false) × (z.removal.last ≡ last → ⊥))
         → ((nat_le z.place place ≡ true) × (z.place ≤ place)) ⊎ ((nat_le z.place place ≡ false) × (place < z.place))
         → ((is_gone (z ∷ zs) last place ≡ true) × ((cut : Cut) × Contains (z ∷ zs) cut × (cut.removal.last ≡ last) × (cut.place ≤ place)))
-            ⊎ ((is_gone (z ∷ zs) last place ≡ false) × ((cut : Cut) → Contains (z ∷ zs) cut → cut.removal.last ≡ last → place < cut.place))
+        ⊎ ((is_gone (z ∷ zs) last place ≡ false) × ((cut : Cut) → Contains (z ∷ zs) cut → cut.removal.last ≡ last → place < cut.place))
     go rest (inl e) (inl l) = inl (rw (e.0, l.0) refl, (z, here z zs, e.1, l.1))
     go (inl r) (inl e) (inr l) = inl (rw (e.0, l.0) r.0, (r.1.0, there z r.1.0 zs r.1.1, r.1.2, r.1.3))
     go (inl r) (inr e) l = inl (rw e.0 r.0, (r.1.0, there z r.1.0 zs r.1.1, r.1.2, r.1.3))
@@ -97,3 +101,10 @@ gone_tells (z ∷ zs) last place = go (gone_tells zs last place) (eqb_tells z.re
         at : (cut : Cut) → cut.removal.last ≡ last → (z ≡ cut) ⊎ Contains zs cut → place < cut.place
         at cut q (inl p) = absurd (e.1 (ap (λ (y : Cut). y.removal.last) p ∙ q))
         at cut q (inr m) = r.1 cut m q
+
+-- removals are told apart by their numbers and texts
+pub same_removal : (x y : Removal) → x.key ≡ y.key → x.uid ≡ y.uid → x.last ≡ y.last → x.range.event ≡ y.range.event → x.range.low ≡ y.range.low → x.range.high ≡ y.range.high → x ≡ y
+same_removal x y k u l e f g = λ i. record { key = k i; uid = u i; last = l i; range = ranges_same x.range y.range e f g i }
+  where
+    ranges_same : (a b : Range) → a.event ≡ b.event → a.low ≡ b.low → a.high ≡ b.high → a ≡ b
+    ranges_same a b e f g = λ i. record { event = e i; low = f i; high = g i; ordered = is_prop→PathP (λ j. f j ≤ g j) (λ j. le_prop) a.ordered b.ordered i }

@@ -58,15 +58,16 @@ cuts_fit h choice r chosen = record { rising = r.versions.rising; ends = ends; o
           of_last = sym i.behind.of_last;
           behind = omega (arith, i.behind.low, p.0);
           above = omega (arith, i.behind.low, p.0, start_lowest h.start h.spans i.behind.event.lo);
-          before = ends_before h.versions i.version i.next cut.place i.ends (omega (arith, i.behind.high, p.1))
+          before = ends_before h.versions i.version i.next cut.place i.ends (omega (arith, i.behind.high, p.1));
         }
+
     one : (a b : Cut) → Contains (cuts h.removals choice) a → Contains (cuts h.removals choice) b → a.removal.last ≡ b.removal.last → a ≡ b
     one a b c d e = of (r.removals.sound a.removal (cut_removal h.removals choice a c)) (r.removals.sound b.removal (cut_removal h.removals choice b d))
       where
         of : IsRemoval h a.removal → IsRemoval h b.removal → a ≡ b
         of i j = cuts_apart h.removals choice a b r.removals.rising c d
             (first_same h (IsRemovalOf i.version.key i.version.uid) a.removal.range.event b.removal.range.event i.behind.event j.behind.event r.lines i.behind.first
-                (subst (λ (v : Version). IsFirst h (IsRemovalOf v.key v.uid) b.removal.range.event j.behind.event) same j.behind.first))
+            (subst (λ (v : Version). IsFirst h (IsRemovalOf v.key v.uid) b.removal.range.event j.behind.event) same j.behind.first))
           where
             same : j.version ≡ i.version
             same = apart (λ z. z.revision) h.versions j.version i.version r.versions.rising j.known i.known (sym j.behind.of_last ∙ sym e ∙ i.behind.of_last)

@@ -32,8 +32,10 @@ run_is_right h n p r run = λ number event j known. record { fixed = fixed numbe
   where
     local : IsLocallyRight h n p
     local = run_is_local h n p run.steps r run.placed run.are run.runs
+
     answer : (number : ℕ) (event : Event) → IsJudged h n number → IsEvent h number event → AnswerHolds h p.choice number event
     answer number event j known w = (p.at_place number, run.placed.windows number event j known w, local.answers number event j known w)
+
     by_word : (number : ℕ) (event : Event) → IsJudged h n number → IsEvent h number event → (w : Word) → word h number event ≡ w → IsFixedBy h event w
     by_word number event j known (Makes m) w = λ before e. (makings_are h p.choice number event m before None r run.placed.chosen known w e).0 (local.makings number event m j known w)
     by_word number event j known (Removes removal) w = go (removal_cut h.removals p.choice removal run.placed.chosen (word_removes h number event removal w).0)
@@ -43,12 +45,13 @@ run_is_right h n p r run = λ number event j known. record { fixed = fixed numbe
     by_word number event j known At w = tt
     by_word number event j known Strays w = absurd ((run.placed.sound number event j known).no_stray w)
     by_word number event j known Nothing w = tt
+
     fixed : (number : ℕ) (event : Event) → IsJudged h n number → IsEvent h number event → IsFixedRight h number event
     fixed number event j known = record {
       level = (run.placed.sound number event j known).level;
       stage = (run.placed.sound number event j known).stage;
       by_word = by_word number event j known (word h number event) refl;
-      decision = λ d e. (p.decided number, run.placed.decisions number event d j known e)
+      decision = λ d e. (p.decided number, run.placed.decisions number event d j known e);
     }
 
 -- an event that is right at what a placement gives it
@@ -64,22 +67,24 @@ right_is_run h n p r chosen right = go (steps_of h n p r)
   where
     fixed_by : (number : ℕ) (event : Event) (w : Word) → IsJudged h n number → IsEvent h number event → word h number event ≡ w → IsFixedBy h event w
     fixed_by number event w j known e = subst (λ z. IsFixedBy h event z) e (right number event j known).fixed.by_word
+
     placed : IsPlacedUpTo h n p
     placed = record {
       chosen = chosen;
       sound = λ number event j known. record {
         level = (right number event j known).fixed.level;
         stage = (right number event j known).fixed.stage;
-        no_stray = λ e. fixed_by number event Strays j known e
+        no_stray = λ e. fixed_by number event Strays j known e;
       };
       windows = λ number event j known w. ((right number event j known).answer w).0;
-      decisions = λ number event d j known e. (right number event j known).decision d e
+      decisions = λ number event d j known e. (right number event j known).decision d e;
     }
+
     local : IsLocallyRight h n p
     local = record {
       makings = λ number event m j known w. making number event m j known w (word_makes h number event m r known w);
       removals = λ number event cut j known w c. (removals_are h p.choice event cut r chosen c).1 (fixed_by number event (Removes cut.removal) j known w);
-      answers = λ number event j known w. ((right number event j known).answer w).1
+      answers = λ number event j known w. ((right number event j known).answer w).1;
     }
       where
         making : (number : ℕ) (event : Event) (m : Making) → IsJudged h n number → IsEvent h number event → word h number event ≡ Makes m
@@ -88,6 +93,7 @@ right_is_run h n p r chosen right = go (steps_of h n p r)
           where
             at : (before : Option Version) × IsEntryBefore h m before → HasNoFault h m (state h p.choice (m.item.revision - 1) m.item.key)
             at (before, e) = (makings_are h p.choice number event m before None r chosen known w e).1 (fixed_by number event (Makes m) j known w before e)
+
     go : (steps : List Step) × AreSteps h n p steps → IsRunUpTo h n p
     go (steps, are) = record { placed = placed; steps = steps; are = are; runs = local_is_run h n p steps r placed are local }
 
@@ -108,8 +114,10 @@ right_has_run h n choice r chosen right = go (chosen_for 0 Place (take n h.order
   where
     Place : ℕ → ℕ → Type 0
     Place number place = (event : Event) → IsEvent h number event → word h number event ≡ At → InWindow h event place × IsRight h number event place (state h choice place)
+
     Caches : ℕ → Places → Type 0
     Caches number places = (event : Event) (d : Decision) → IsEvent h number event → event.decision ≡ Some d → IsDecidedAt h number event places
+
     place : (number : ℕ) → IsJudged h n number → (place : ℕ) × ((event : Event) → IsEvent h number event → word h number event ≡ At → InWindow h event place × IsRight h number event place (state h choice place))
     place number j = at (slice_get h.events number) refl
       where
@@ -123,6 +131,7 @@ right_has_run h n choice r chosen right = go (chosen_for 0 Place (take n h.order
             by (inl w) = let a : (place : ℕ) × InWindow h event place × IsRight h number event place (state h choice place) = (right number event j e).answer w in
                 (a.0, λ other known q. subst (λ z. InWindow h z a.0 × IsRight h number z a.0 (state h choice a.0)) (same_event h number event other e known) (a.1, a.2))
             by (inr w) = (0, λ other known q. absurd (w (ap (word h number) (same_event h number event other e known) ∙ q)))
+
     caches : (number : ℕ) → IsJudged h n number → (places : Places) × ((event : Event) (d : Decision) → IsEvent h number event → event.decision ≡ Some d → IsDecidedAt h number event places)
     caches number j = at (slice_get h.events number) refl
       where
@@ -139,12 +148,16 @@ right_has_run h n choice r chosen right = go (chosen_for 0 Place (take n h.order
                 none-is other d known q = let g : event.decision ≡ Some d = ap (λ (z : Event). z.decision) (same_event h number event other e known) ∙ q in cc (f, g)
             by (Some d) f = let a : (places : Places) × IsDecidedAt h number event places = (right number event j e).fixed.decision d f in
                 (a.0, λ other x known q. subst (λ z. IsDecidedAt h number z a.0) (same_event h number event other e known) a.1)
+
     go : (at : ℕ → ℕ) × ((number : ℕ) → IsJudged h n number → (event : Event) → IsEvent h number event → word h number event ≡ At → InWindow h event (at number) × IsRight h number event (at number) (state h choice (at number)))
         → (caches : ℕ → Places) × ((number : ℕ) → IsJudged h n number → (event : Event) (d : Decision) → IsEvent h number event → event.decision ≡ Some d → IsDecidedAt h number event (caches number))
         → (p : Placement) × IsRunUpTo h n p × (p.choice ≡ choice)
-    go (at, ats) (caches', cs) = (record { choice = choice; at_place = at; decided = caches' },
-        right_is_run h n (record { choice = choice; at_place = at; decided = caches' }) r chosen
-            (λ number event j known. record { fixed = (right number event j known).fixed; answer = ats number j event known; decision = λ d e. cs number j event d known e }), refl)
+    go (at, ats) (caches', cs) = (
+      record { choice = choice; at_place = at; decided = caches' },
+      right_is_run h n (record { choice = choice; at_place = at; decided = caches' }) r chosen
+          (λ number event j known. record { fixed = (right number event j known).fixed; answer = ats number j event known; decision = λ d e. cs number j event d known e }),
+      refl,
+    )
 
 pub global_is : (h : History) (n : ℕ) → IsReadable h → IsExplainedUpTo h n ↔ ((choice : List ℕ) × IsChoice (ranges h) choice × AreRightUpTo h n choice)
 global_is h n r = (λ e. (e.0.choice, e.1.placed.chosen, run_is_right h n e.0 r e.1), λ (choice, chosen, right). at choice (right_has_run h n choice r chosen right))

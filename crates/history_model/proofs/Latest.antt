@@ -40,6 +40,7 @@ in_front v vs key place None h = go (own_tells v key place)
         at : (v ≡ w) ⊎ Contains vs w → w.revision ≤ v.revision
         at (inl p) = omega (arith, ap (λ z. z.revision) p)
         at (inr m) = absurd (omega (arith, h w m e))
+
     go : ((own v key place ≡ Some v) × (v.key ≡ key) × (v.revision ≤ place)) ⊎ ((own v key place ≡ None) × (v.key ≡ key → place < v.revision))
         → IsLatest (v ∷ vs) key place (newer (own v key place) None)
     go (inl o) = rw o.0 (here v vs, o.1, o.2, only o.1 o.2)
@@ -62,8 +63,10 @@ in_front v vs key place (Some u) h = go (own_tells v key place)
         at : (w : Version) → w.key ≡ key → w.revision ≤ place → (v ≡ w) ⊎ Contains vs w → w.revision ≤ v.revision
         at w e l (inl p) = omega (arith, ap (λ z. z.revision) p)
         at w e l (inr m) = omega (arith, h.3 w m e l, t.1)
+
     tells : ((nat_lt v.revision u.revision ≡ true) × (v.revision < u.revision)) ⊎ ((nat_lt v.revision u.revision ≡ false) × (u.revision ≤ v.revision))
     tells = lt_tells v.revision u.revision
+
     go : ((own v key place ≡ Some v) × (v.key ≡ key) × (v.revision ≤ place)) ⊎ ((own v key place ≡ None) × (v.key ≡ key → place < v.revision))
         → IsLatest (v ∷ vs) key place (newer (own v key place) (Some u))
     go (inl o) = rw o.0 (pick o.1 o.2 tells)

@@ -27,4 +27,5 @@ pub mod Classes
 pub mod Lists
 pub mod CheckLaw
 pub mod Spelling
+pub mod OpenBounds
 pub mod Worked

@@ -44,12 +44,15 @@ module _ (h : History) (choice : List ℕ) (r : IsReadable h) (chosen : IsChoice
     where
       law : (state h choice place key ≡ None) ↔ Meets choice (absence_bound position removal place)
       law = absence_is h choice r chosen key place position v removal l a
+
       by : (state h choice place key ≡ None) ⊎ (state h choice place key ≡ Some v) → IsUnlistable h number (state h choice place key) → state h choice place key ≡ None
       by (inl q) x = q
       by (inr q) x = absurd (u (subst (λ o. IsUnlistable h number o) q x))
+
       to : Holds h number place (Lacks key) (state h choice place key) → Meets choice (absence_bound position removal place)
       to (inl c) = absurd (n c)
       to (inr x) = law.0 (by (none_or_latest h choice r chosen key place v l) x)
+
       from : Meets choice (absence_bound position removal place) → Holds h number place (Lacks key) (state h choice place key)
       from m = inr (subst (λ o. IsUnlistable h number o) (sym (law.1 m)) tt)
   bounded_holds d bound (remains item v position removal e n l w a b) =
@@ -58,12 +61,15 @@ module _ (h : History) (choice : List ℕ) (r : IsReadable h) (chosen : IsChoice
     where
       law : (state h choice place item.key ≡ Some v) ↔ Meets choice (presence_bound position removal place)
       law = presence_is h choice r chosen item.key place position v removal l a
+
       by : (state h choice place item.key ≡ None) ⊎ (state h choice place item.key ≡ Some v) → IsShown item (state h choice place item.key) → state h choice place item.key ≡ Some v
       by (inr q) x = q
       by (inl q) x = absurd (subst (λ o. IsShown item o) q x)
+
       to : Holds h number place (Shows item) (state h choice place item.key) → Meets choice (presence_bound position removal place)
       to (inl c) = absurd (n c)
       to (inr x) = law.0 (by (none_or_latest h choice r chosen item.key place v l) x.0)
+
       from : Meets choice (presence_bound position removal place) → Holds h number place (Shows item) (state h choice place item.key)
       from m = inr (subst (λ o. IsShown item o) (sym (law.1 m)) w.0, w.1)
 
@@ -83,6 +89,7 @@ module _ (h : History) (choice : List ℕ) (r : IsReadable h) (chosen : IsChoice
       by : (state h choice place item.key ≡ None) ⊎ (state h choice place item.key ≡ Some v) → IsShown item (state h choice place item.key) → IsShown item (Some v)
       by (inl q) y = absurd (subst (λ o. IsShown item o) q y)
       by (inr q) y = subst (λ o. IsShown item o) q y
+
       go : Holds h number place (Shows item) (state h choice place item.key) → ⊥
       go (inl c) = n c
       go (inr y) = w (by (none_or_latest h choice r chosen item.key place v l) y.0, y.1)
@@ -100,12 +107,13 @@ module _ (h : History) (choice : List ℕ) (r : IsReadable h) (chosen : IsChoice
         where
           at : (bound : Bound) → (d : Demand) × IsAsked listing d × IsBounded h number place d bound → Meets choice bound
           at bound (d, a, x) = (bounded_holds d bound x).0 (list_asks listing d l a)
+
       from : MeetsAll choice bounds → IsListRight h number listing place (state h choice place)
       from m = record {
         at_revision = b.at_revision;
         distinct = b.distinct;
         shows = λ item c. holds (Shows item) (b.full (Shows item) c);
-        lacks = λ w key s n. holds (Lacks key) (b.full (Lacks key) (w, s, n))
+        lacks = λ w key s n. holds (Lacks key) (b.full (Lacks key) (w, s, n));
       }
         where
           holds : (d : Demand) → IsFree h number place d ⊎ ((bound : Bound) × Contains bounds bound × IsBounded h number place d bound) → Holds h number place d (state h choice place (demand_key d))
@@ -125,6 +133,7 @@ own_range h number place d bound r x = go x
       where
         at : IsRemoval h removal → IsLatest h.versions key place (Some v) → removal.key ≡ key
         at i k = i.behind.of_key ∙ ap (λ (z : Version). z.key) (apart (λ z. z.revision) h.versions i.version v r.versions.rising i.known k.0 (sym i.behind.of_last ∙ a.1)) ∙ k.1
+
     go : IsBounded h number place d bound → (removal : Removal) × (slice_get h.removals bound.range ≡ Some removal) × (removal.key ≡ demand_key d)
     go (goes key v position removal e n l u a b) = (removal, ap (λ (z : Bound). slice_get h.removals z.range) b ∙ a.0, key_is key v position removal l a ∙ sym (ap demand_key e))
     go (remains item v position removal e n l w a b) = (removal, ap (λ (z : Bound). slice_get h.removals z.range) b ∙ a.0, key_is item.key v position removal l a ∙ sym (ap demand_key e))
@@ -139,5 +148,6 @@ one_range h number place a b x y r p q e = go (own_range h number place a x r p)
       where
         found : slice_get h.removals x.range ≡ Some v
         found = ap (slice_get h.removals) e ∙ ve
+
         same : u ≡ v
         same = cc (ue, found)

@@ -44,12 +44,16 @@ module _ (h : History) (choice : List ℕ) (r : IsReadable h) (chosen : IsChoice
     where
       i : IsRemoval h cut.removal
       i = r.removals.sound cut.removal (cut_removal h.removals choice cut c)
+
       same : i.version ≡ v
       same = apart (λ z. z.revision) h.versions i.version v r.versions.rising i.known n.0 (sym i.behind.of_last ∙ q)
+
       ends : EndsBefore h.versions v i.next
       ends = subst (λ z. EndsBefore h.versions z i.next) same i.ends
+
       high_is : cut.removal.range.high ≤ Rattle.history_model.specs.Incarnations.place_before i.next
       high_is = omega (arith, i.behind.high)
+
       later : (w : Version) → Contains h.versions w → w.key ≡ key → w.revision ≤ high → v.revision < w.revision → (next : Option ℕ) → EndsBefore h.versions v next
           → cut.removal.range.high ≤ Rattle.history_model.specs.Incarnations.place_before next → SomewhereIn low high (IsAbsentAnyway h key)
       later w d k b a None f u = absurd (omega (arith, f w d (k ∙ sym n.1), a))
@@ -66,12 +70,14 @@ module _ (h : History) (choice : List ℕ) (r : IsReadable h) (chosen : IsChoice
                   by : (x < next) ⊎ (next ≤ x) → x < next
                   by (inl g) = g
                   by (inr g) = absurd (omega (arith, n.3 y yc (yk ∙ n.1) (omega (arith, yr, g)), yr, f.0))
+
               last : IsLatest h.versions key (next - 1) (Some v)
               last = (n.0, n.1, omega (arith, f.0), λ t tc tk tb. by t tb (f.2 t tc (tk ∙ sym n.1)))
                 where
                   by : (t : Version) → t.revision ≤ next - 1 → (t.revision ≤ v.revision) ⊎ (next ≤ t.revision) → t.revision ≤ v.revision
                   by t tb (inl g) = g
                   by t tb (inr g) = absurd (omega (arith, tb, g, f.0))
+
       go : (z : Option Version) → IsLatest h.versions key high z → SomewhereIn low high (IsAbsentAnyway h key) ⊎ (state h choice high key ≡ None)
       go None k = absurd (omega (arith, k v n.0 n.1, n.2, m))
       go (Some w) k = at (grind arith)
@@ -125,11 +131,15 @@ module _ (h : History) (choice : List ℕ) (r : IsReadable h) (chosen : IsChoice
     where
       cut : Contains (cuts h.removals choice) (cut_of removal (slice_index choice position))
       cut = cut_at h.removals choice position removal chosen a
+
       go : (slice_index choice position ≤ place) ⊎ (place < slice_index choice position)
           → ((slice_index choice position ≤ place) × (state h choice place key ≡ None)) ⊎ ((place < slice_index choice position) × (state h choice place key ≡ Some v))
       go (inl l) = inl (l, state_of place None (removed v (cut_of removal (slice_index choice position)) (is_latest place (Some v) e) cut q l))
-      go (inr l) = inr (l, state_of place (Some v) (stays v (is_latest place (Some v) e)
-          (λ other d f. omega (arith, l, ap (λ (z : Cut). z.place) (fit.one other (cut_of removal (slice_index choice position)) d cut (f ∙ sym q))))))
+      go (inr l) = inr (
+        l,
+        state_of place (Some v) (stays v (is_latest place (Some v) e)
+            (λ other d f. omega (arith, l, ap (λ (z : Cut). z.place) (fit.one other (cut_of removal (slice_index choice position)) d cut (f ∙ sym q))))),
+      )
 
   place_chosen : (position : ℕ) (removal : Removal) → slice_get h.removals position ≡ Some removal
       → (removal.range.low ≤ slice_index choice position) × (slice_index choice position ≤ removal.range.high)

@@ -96,12 +96,15 @@ module _ (h : History) (n : ℕ) (p : Placement) (r : IsReadable h) (placed : Is
         where
           of : IsWriteOf h (cuts h.removals p.choice) u
           of = write_is u key left (are.sound u (front u c)) x
+
           before : Precedes h u s
           before = before_split h done s rest u order c
+
           at : (step_place u ≡ step_place s) ⊎ (step_place u < step_place s) ⊎ (step_place s < step_place u) → step_place u ≤ step_place s - 1
           at (inl e) = absurd (precedes_self h s (subst (λ z. Precedes h z s) (one_write h (cuts h.removals p.choice) fit key u s left entry of k x w e) before))
           at (inr (inl l)) = omega (arith, l)
           at (inr (inr l)) = absurd (omega (arith, l, precedes_place h u s before))
+
       full : (u : Step) (left : Option Version) → IsWriteOf h (cuts h.removals p.choice) u → Writes u key left → step_place u ≤ step_place s - 1 → Contains done u
       full u left k' x b = at (of_split done s rest u (subst (λ zs. Contains zs u) whole (are.full u (is_step u k'))))
         where
@@ -117,19 +120,23 @@ module _ (h : History) (n : ℕ) (p : Placement) (r : IsReadable h) (placed : Is
     where
       sound : (key : ObjectKey) (u : Step) (left : Option Version) → Contains done u → Writes u key left → IsWriteOf h (cuts h.removals p.choice) u × (step_place u ≤ step_place s)
       sound key u left c x = (write_is u key left (are.sound u (front u c)) x, precedes_place h u s (before_split h done s rest u order c))
+
       low_rank : (key : ObjectKey) (u : Step) (left : Option Version) → Writes u key left → step_rank u ≡ 0
       low_rank key (Put v) left x = refl
       low_rank key (Remove d) left x = refl
       low_rank key (Reply m e at) left x = absurd x
+
       full : (key : ObjectKey) (u : Step) (left : Option Version) → IsWriteOf h (cuts h.removals p.choice) u → Writes u key left → step_place u ≤ step_place s → Contains done u
       full key u left k' x b = at (of_split done s rest u (subst (λ zs. Contains zs u) whole (are.full u (is_step u k'))))
         where
           rank' : step_rank u ≡ 0
           rank' = low_rank key u left x
+
           behind : Precedes h s u → ⊥
           behind (inl l) = omega (arith, l, b)
           behind (inr (inl l)) = omega (arith, l.1, rank, rank')
           behind (inr (inr l)) = omega (arith, l.1, rank, rank')
+
           at : Contains done u ⊎ (s ≡ u) ⊎ Contains rest u → Contains done u
           at (inl c) = c
           at (inr (inl e)) = absurd (omega (arith, ap step_rank e, rank, rank'))
@@ -146,6 +153,7 @@ run_is_local h n p steps r placed are runs = record { makings = makings; removal
         go : (done : List Step) × (rest : List Step) × SplitsAt steps done s rest
             → (done : List Step) × (rest : List Step) × (steps ≡ done ++ s ∷ rest) × IsAllowed h (after_all (snapshot_map h) done) s
         go (done, rest, w) = (done, rest, w.whole, runs_each h (IsOfFirst h n) (snapshot_map h) done s rest (subst (λ zs. Runs h (IsOfFirst h n) (snapshot_map h) zs) w.whole runs) j)
+
     makings : (number : ℕ) (event : Event) (m : Making) → IsJudged h n number → IsEvent h number event → word h number event ≡ Makes m
         → HasNoFault h m (state h p.choice (m.item.revision - 1) m.item.key)
     makings number event m j known e = go (word_makes h number event m r known e)
@@ -160,6 +168,7 @@ run_is_local h n p steps r placed are runs = record { makings = makings; removal
                 same : after_all (snapshot_map h) done v.key ≡ state h p.choice (m.item.revision - 1) m.item.key
                 same = before_write h n p r placed steps are done (Put v) rest w v.key (Some v) (refl, refl) (b.known, b.above) b.above
                     ∙ ap (λ z. state h p.choice (z - 1) v.key) b.at_revision ∙ ap (state h p.choice (m.item.revision - 1)) b.of_key
+
     removals : (number : ℕ) (event : Event) (cut : Cut) → IsJudged h n number → IsEvent h number event → word h number event ≡ Removes cut.removal
         → Contains (cuts h.removals p.choice) cut → MayRemove h event cut.removal (state h p.choice (cut.place - 1) cut.removal.key)
     removals number event cut j known e c = go (word_removes h number event cut.removal e)
@@ -174,12 +183,13 @@ run_is_local h n p steps r placed are runs = record { makings = makings; removal
                 same : after_all (snapshot_map h) done cut.removal.key ≡ state h p.choice (cut.place - 1) cut.removal.key
                 same = before_write h n p r placed steps are done (Remove cut) rest w cut.removal.key None (refl, refl) c
                     ((cuts_fit h p.choice r placed.chosen).ends cut c).above
+
     answers : (number : ℕ) (event : Event) → IsJudged h n number → IsEvent h number event → word h number event ≡ At
         → IsRight h number event (p.at_place number) (state h p.choice (p.at_place number))
     answers number event j known e = at (allowed (Reply number event (p.at_place number)) (are.full (Reply number event (p.at_place number)) (j, known, e, refl)) j)
       where
         at : (done : List Step) × (rest : List Step) × (steps ≡ done ++ Reply number event (p.at_place number) ∷ rest)
-              × IsAllowed h (after_all (snapshot_map h) done) (Reply number event (p.at_place number))
+            × IsAllowed h (after_all (snapshot_map h) done) (Reply number event (p.at_place number))
             → IsRight h number event (p.at_place number) (state h p.choice (p.at_place number))
         at (done, rest, w, a) = subst (λ z. IsRight h number event (p.at_place number) z)
             (before_reply h n p r placed steps are done (Reply number event (p.at_place number)) rest w refl (in_window_start h number event (p.at_place number) r known (placed.windows number event j known e))) a
@@ -201,10 +211,13 @@ local_is_run h n p steps r placed are right = each_runs h (IsOfFirst h n) (snaps
               where
                 parts : (x.event ≡ m.event) × (x.item ≡ m.item) × (x.created ≡ m.created)
                 parts = same_making h x m b.making making q
+
                 same : x ≡ m
                 same = λ i. record { number = q i; event = parts.0 i; item = parts.1 i; created = parts.2 i }
+
                 judged : IsJudged h n x.number
                 judged = subst (λ z. IsJudged h n z) (cc (j.1, b.maker)) j.2
+
                 entry : after_all (snapshot_map h) done v.key ≡ state h p.choice (x.item.revision - 1) x.item.key
                 entry = before_write h n p r placed steps are done (Put v) rest w v.key (Some v) (refl, refl) (c, low) low
                     ∙ ap (λ z. state h p.choice (z - 1) v.key) b.at_revision ∙ ap (state h p.choice (x.item.revision - 1)) b.of_key
@@ -213,6 +226,7 @@ local_is_run h n p steps r placed are right = each_runs h (IsOfFirst h n) (snaps
       where
         listed : Contains (cuts h.removals p.choice) cut
         listed = are.sound (Remove cut) (subst (λ zs. Contains zs (Remove cut)) (sym w) (Contains-append_right done (Remove cut ∷ rest) (Remove cut) (here (Remove cut) rest)))
+
         entry : after_all (snapshot_map h) done cut.removal.key ≡ state h p.choice (cut.place - 1) cut.removal.key
         entry = before_write h n p r placed steps are done (Remove cut) rest w cut.removal.key None (refl, refl) listed
             ((cuts_fit h p.choice r placed.chosen).ends cut listed).above

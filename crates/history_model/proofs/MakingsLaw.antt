@@ -47,12 +47,12 @@ least_along h m a b f x y (Some code) l = (has (along h m a b f x y code l.0), �
         at : HasFault h m a U6 ⊎ (HasFault h m a U6 × (6 < code_number U6)) → ⊥
         at (inl w) = omega (arith, l.1 U6 w, v.1)
         at (inr w) = omega (arith, w.1)
+
     less : (other : Reason) → HasFault h m a other ⊎ (HasFault h m a U6 × (6 < code_number other)) → code_number code ≤ code_number other
     less other (inl v) = l.1 other v
     less other (inr v) = omega (arith, l.1 U6 v.0, v.1)
 
 module _ (h : History) (choice : List ℕ) (r : IsReadable h) (chosen : IsChoice (ranges h) choice) (m : Making) (v : Version) (b : IsMadeBy h m v) where
-
   -- the key's latest version before the write, as both sides have it
   entry_at : (o : Option Version) (before : Option Version) → IsLatest h.versions m.item.key (m.item.revision - 1) o → IsEntryBefore h m before → IsEntryAfter h m o before
   entry_at o before l e = subst (λ z. IsEntryAfter h m z before)
@@ -84,10 +84,13 @@ module _ (h : History) (choice : List ℕ) (r : IsReadable h) (chosen : IsChoice
     where
       i : IsRemoval h cut.removal
       i = r.removals.sound cut.removal (cut_removal h.removals choice cut c)
+
       same : i.version ≡ w
       same = apart (λ z. z.revision) h.versions i.version w r.versions.rising i.known l.0 (sym i.behind.of_last ∙ q)
+
       facts : (w.uid ≢ m.item.uid) × IsRemovalBehind h w (Some m.item.revision) cut.removal
       facts = next_is w i.next cut.removal l (subst (λ z. EndsBefore h.versions z i.next) same i.ends) (subst (λ z. IsRemovalBehind h z i.next cut.removal) same i.behind)
+
       go : (IsAnew h m w × (before ≡ None)) ⊎ ((IsAnew h m w → ⊥) × (before ≡ Some w)) → (None ≡ before) ⊎ ((m.created ≡ false) × IsOtherObject m None × IsOtherObject m before)
       go (inl a) = inl (sym a.1)
       go (inr a) = by m.created refl
@@ -102,13 +105,18 @@ module _ (h : History) (choice : List ℕ) (r : IsReadable h) (chosen : IsChoice
       go (inl (a, n)) = absurd (at (removal_cut h.removals choice a.removal chosen listed))
         where
           ends : EndsBefore h.versions w (Some m.item.revision)
-          ends = (omega (arith, l.2, b.above, b.at_revision), (v, b.known, b.at_revision, b.of_key ∙ sym l.1, λ p. a.other_uid (sym p ∙ b.of_uid)),
-            λ u c k. split u (λ d. l.3 u c (k ∙ l.1) d))
+          ends = (
+            omega (arith, l.2, b.above, b.at_revision),
+            (v, b.known, b.at_revision, b.of_key ∙ sym l.1, λ p. a.other_uid (sym p ∙ b.of_uid)),
+            λ u c k. split u (λ d. l.3 u c (k ∙ l.1) d),
+          )
             where
               split : (u : Version) → (u.revision ≤ m.item.revision - 1 → u.revision ≤ w.revision) → (u.revision ≤ w.revision) ⊎ (m.item.revision ≤ u.revision)
               split u f = grind arith
+
           listed : Contains h.removals a.removal
           listed = r.removals.full a.removal (record { version = w; next = Some m.item.revision; known = l.0; ends = ends; behind = a.removed })
+
           at : (place : ℕ) × Contains (cuts h.removals choice) (cut_of a.removal place) → ⊥
           at (place, c) = omega (arith, stay (cut_of a.removal place) c a.removed.of_last, (cut_chosen h.removals choice (cut_of a.removal place) chosen c).1, a.removed.high)
 
@@ -120,18 +128,23 @@ entry_exists h choice m v r chosen b = go (state h choice (m.item.revision - 1) 
     latest_at : (o : Option Version) → IsLatest h.versions m.item.key (m.item.revision - 1) o → latest h.versions m.item.key (m.item.revision - 1) ≡ o
     latest_at o l = latest_same h.versions m.item.key (m.item.revision - 1) (latest h.versions m.item.key (m.item.revision - 1)) o r.versions.rising
         (latest_is h.versions m.item.key (m.item.revision - 1)) l
+
     entry : (o before : Option Version) → IsLatest h.versions m.item.key (m.item.revision - 1) o → IsEntryAfter h m o before → IsEntryBefore h m before
     entry o before l e = subst (λ z. IsEntryAfter h m z before) (sym (latest_at o l)) e
+
     go : (s : Option Version) → Stands h (cuts h.removals choice) m.item.key (m.item.revision - 1) s → (before : Option Version) × IsEntryBefore h m before
     go s (never l) = (None, entry None None l refl)
     go s (removed w cut l c q p) = by m.created refl
       where
         i : IsRemoval h cut.removal
         i = r.removals.sound cut.removal (cut_removal h.removals choice cut c)
+
         same : i.version ≡ w
         same = apart (λ z. z.revision) h.versions i.version w r.versions.rising i.known l.0 (sym i.behind.of_last ∙ q)
+
         facts : (w.uid ≢ m.item.uid) × IsRemovalBehind h w (Some m.item.revision) cut.removal
         facts = next_is h choice r chosen m v b w i.next cut.removal l (subst (λ z. EndsBefore h.versions z i.next) same i.ends) (subst (λ z. IsRemovalBehind h z i.next cut.removal) same i.behind)
+
         by : (t : Bool) → m.created ≡ t → (before : Option Version) × IsEntryBefore h m before
         by true t = (None, entry (Some w) None l (inl (record { created = t; other_uid = facts.0; removal = cut.removal; removed = facts.1 }, refl)))
         by false t = (Some w, entry (Some w) (Some w) l (inr (λ a. true≢false (sym a.created ∙ t), refl)))
@@ -148,13 +161,16 @@ makings_are h choice number event m before found r chosen known w e = go (word_m
   where
     here' : Option Version
     here' = state h choice (m.item.revision - 1) m.item.key
+
     go : (v : Version) × IsMadeBy h m v × (m.number ≡ number) × (m.event ≡ event)
         → IsLeastFault h m (state h choice (m.item.revision - 1) m.item.key) found ↔ IsLeastFault h m before found
     go (v, b, n, x) = at (entries h choice r chosen m v b (state h choice (m.item.revision - 1) m.item.key) before (state_stands h choice (m.item.revision - 1) m.item.key) e)
       where
         at : (state h choice (m.item.revision - 1) m.item.key ≡ before)
-              ⊎ ((m.created ≡ false) × IsOtherObject m (state h choice (m.item.revision - 1) m.item.key) × IsOtherObject m before)
+            ⊎ ((m.created ≡ false) × IsOtherObject m (state h choice (m.item.revision - 1) m.item.key) × IsOtherObject m before)
             → IsLeastFault h m (state h choice (m.item.revision - 1) m.item.key) found ↔ IsLeastFault h m before found
         at (inl q) = (λ l. subst (λ z. IsLeastFault h m z found) q l, λ l. subst (λ z. IsLeastFault h m z found) (sym q) l)
-        at (inr (f, y, z)) = (λ l. least_along h m (state h choice (m.item.revision - 1) m.item.key) before f y z found l,
-            λ l. least_along h m before (state h choice (m.item.revision - 1) m.item.key) f z y found l)
+        at (inr (f, y, z)) = (
+          λ l. least_along h m (state h choice (m.item.revision - 1) m.item.key) before f y z found l,
+          λ l. least_along h m before (state h choice (m.item.revision - 1) m.item.key) f z y found l,
+        )

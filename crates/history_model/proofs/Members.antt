@@ -49,6 +49,7 @@ apart {X} f (z ∷ zs) x y h c e p = go (λ a b. apart f zs x y (pairs_tail (λ 
   where
     above : (w : X) → Contains zs w → f z < f w
     above w m = all_at (λ v. f z < f v) zs w (pairs_head (λ a b. f a < f b) z zs h) m
+
     go : (Contains zs x → Contains zs y → x ≡ y) → (z ≡ x) ⊎ Contains zs x → (z ≡ y) ⊎ Contains zs y → x ≡ y
     go rest (inl a) (inl b) = sym a ∙ b
     go rest (inl a) (inr b) = absurd (omega (arith, above y b, ap f a))

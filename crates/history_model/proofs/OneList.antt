@@ -16,7 +16,7 @@ use Rattle.history_model.specs.Histories.{History, Span, Version, Removal, Maker
 use Rattle.history_model.specs.Incarnations.{EndsBefore, IsFirstWithUid, IsRemovalOf, IsRemovalBehind, IsRemoval, place_before}
 use Rattle.history_model.specs.Judging.{IsJudgedBefore, IsFirst}
 use Rattle.history_model.specs.Makers.{CouldHaveMade, MustHaveMade, IsMakerOf, sole, able, unrecorded, faulty, IsShowing, IsMadeVersion, IsSnapshotVersion, item_of}
-use Rattle.history_model.specs.Making.{HasFault, outside, present, used, replaced, unmet, unasked, HasNoFault, HasFoundFault, creates, excludes, changes, IsClear, IsUsedUid, IsAnew, IsEntryAfter, IsEntryBefore}
+use Rattle.history_model.specs.Making.{IsOutOfReach, HasFault, outside, present, used, replaced, unmet, unasked, HasNoFault, HasFoundFault, creates, excludes, changes, IsClear, IsUsedUid, IsAnew, IsEntryAfter, IsEntryBefore}
 use Rattle.history_model.specs.Readable.{IsReadable, HaveOneLog}
 use Rattle.history_model.specs.States.{latest, IsLatest}
 use Rattle.history_model.specs.Windows.{lowest, highest, lowest_of, highest_of, low_end, high_end, low_end_of, high_end_of}
@@ -41,7 +41,7 @@ key_moves : (g h : History) → HaveOneLog g h → (revision : ℕ) (key : Objec
 key_moves g h s revision key k = record {
   m = k.m;
   first = first_moves (IsAnsweredWith g revision) (IsAnsweredWith h revision) (answered_moves g h s revision) (answered_moves h g (log_back g h s) revision) k.m k.first;
-  of_key = k.of_key
+  of_key = k.of_key;
 }
 
 member_moves : (g h : History) → HaveOneLog g h → (key : ObjectKey) (revision : ℕ) (m : Making) → IsMember g key revision m → IsMember h key revision m
@@ -69,12 +69,16 @@ order_same g h s r q = same_sorted R g.order h.order once r.order.sorted sorted 
   where
     R : ℕ → ℕ → Type 0
     R a b = (x y : Event) → IsEvent g a x → IsEvent g b y → IsJudgedBefore x y
+
     sorted : AllPairs (λ a b. (x y : Event) → IsEvent g a x → IsEvent g b y → IsJudgedBefore x y) h.order
     sorted = λ i j d l m x y u v. q.order.sorted i j d l m x y (event_moves g h s _ x u) (event_moves g h s _ y v)
+
     to : (x : ℕ) → x < length g.events → x < length h.events
     to x l = subst (λ (xs : List Event). x < length xs) s.events l
+
     back : (x : ℕ) → x < length h.events → x < length g.events
     back x l = subst (λ (xs : List Event). x < length xs) (sym s.events) l
+
     once : (a b : ℕ) → Contains g.order a → Contains g.order b → ((x y : Event) → IsEvent g a x → IsEvent g b y → IsJudgedBefore x y)
         → ((x y : Event) → IsEvent g b x → IsEvent g a y → IsJudgedBefore x y) → ⊥
     once a b c d f k = go (get_within g.events a (r.order.known a c)) (get_within g.events b (r.order.known b d))
@@ -107,22 +111,27 @@ spans_in g h s r q span c = go (r.spans.sound span c)
       where
         k : IsKeyOf h span.revision x.key
         k = key_moves g h s span.revision x.key x.belongs
+
         at : (other : Span) × Contains h.spans other × (other.revision ≡ k.m.item.revision) → Contains h.spans span
         at (other, d, e) = by (q.spans.sound other d)
           where
             revision : other.revision ≡ span.revision
             revision = e ∙ k.first.holds.at_revision
+
             by : IsSpan h other → Contains h.spans span
             by y = subst (λ z. Contains h.spans z) same d
               where
                 key : y.key ≡ x.key
                 key = key_same h span.revision y.key x.key q (subst (λ z. IsKeyOf h z y.key) revision y.belongs) k
+
                 end : other.hi ≡ span.hi
                 end = sym (least_moment_same (IsEnd g x.key span.revision) (IsEnd h x.key span.revision) span.hi other.hi (end_moves g h s x.key span.revision) (end_moves h g (log_back g h s) x.key span.revision) x.end
                     (subst (λ z. IsLeastMoment (IsEnd h z span.revision) other.hi) key (subst (λ z. IsLeastMoment (IsEnd h y.key z) other.hi) revision y.end)))
+
                 beginning : other.lo ≡ span.lo
                 beginning = sym (least_moment_same (IsBeginning g x.key span.revision) (IsBeginning h x.key span.revision) span.lo other.lo (beginning_moves g h s x.key span.revision) (beginning_moves h g (log_back g h s) x.key span.revision) x.beginning
                     (subst (λ z. IsLeastMoment (IsBeginning h z span.revision) other.lo) key (subst (λ z. IsLeastMoment (IsBeginning h y.key z) other.lo) revision y.beginning)))
+
                 same : other ≡ span
                 same = λ i. record { revision = revision i; lo = beginning i; hi = end i }
 
@@ -170,19 +179,30 @@ high_is g h m a event = high_of g h m a event event.reading
 
 -- below m, clouds are the same
 cloud_moves : (g h : History) (m : ℕ) → Agree g h m → (key : ObjectKey) (place : ℕ) → place < m → IsClouded g key place → IsClouded h key place
-cloud_moves g h m a key place l (number, event, k, x) = (number, event, event_moves g h a.log number event k, record {
-  hides = x.hides;
-  begun = subst (λ z. z < place) (low_is g h m a event) x.begun;
-  unseen = λ v c e b. unseen v c e b (grind arith)
-})
+cloud_moves g h m a key place l (number, event, k, x) = (
+  number,
+  event,
+  event_moves g h a.log number event k,
+  record {
+    hides = x.hides;
+    begun = subst (λ z. z < place) (low_is g h m a event) x.begun;
+    unseen = λ v c e b. unseen v c e b (grind arith);
+  },
+)
   where
     unseen : (v : Version) → Contains h.versions v → v.key ≡ key → high_end h event < v.revision → (v.revision < m) ⊎ (m ≤ v.revision) → place < v.revision
     unseen v c e b (inl y) = x.unseen v (a.back v y c) e (subst (λ z. z < v.revision) (sym (high_is g h m a event)) b)
     unseen v c e b (inr y) = omega (arith, y, l)
 
 unrecorded_moves : (g h : History) (m : ℕ) → Agree g h m → (key : ObjectKey) (revision : ℕ) → MayBeUnrecorded g key revision → MayBeUnrecorded h key revision
-unrecorded_moves g h m a key revision (number, event, k, x, l, u) = (number, event, event_moves g h a.log number event k, x,
-    subst (λ z. z < revision) (low_is g h m a event) l, subst (λ z. revision ≤ z) (high_is g h m a event) u)
+unrecorded_moves g h m a key revision (number, event, k, x, l, u) = (
+  number,
+  event,
+  event_moves g h a.log number event k,
+  x,
+  subst (λ z. z < revision) (low_is g h m a event) l,
+  subst (λ z. revision ≤ z) (high_is g h m a event) u,
+)
 
 latest_moves : (g h : History) (m : ℕ) → Agree g h m → (key : ObjectKey) (place : ℕ) → place < m → (o : Option Version) → IsLatest g.versions key place o → IsLatest h.versions key place o
 latest_moves g h m a key place l None x = λ w c e. go w c e (grind arith)
@@ -203,7 +223,7 @@ first_event_moves : (g h : History) → HaveOneLog g h → (key : ObjectKey) (ui
 first_event_moves g h s key uid number event f = record {
   known = event_moves g h s number event f.known;
   holds = f.holds;
-  none_before = λ n other k x. f.none_before n other (event_moves h g (log_back g h s) n other k) x
+  none_before = λ n other k x. f.none_before n other (event_moves h g (log_back g h s) n other k) x;
 }
 
 behind_moves : (g h : History) (m : ℕ) → Agree g h m → (v : Version) (next : Option ℕ) (removal : Removal) → v.revision < m → IsRemovalBehind g v next removal → IsRemovalBehind h v next removal
@@ -215,7 +235,7 @@ behind_moves g h m a v next removal l x = record {
   of_uid = x.of_uid;
   of_last = x.of_last;
   low = x.low ∙ ap (λ z. max z v.revision + 1) (lowest_is g h m a x.event.lo);
-  high = x.high ∙ ap (λ z. min z (place_before next)) (highest_is g h m a x.event.hi)
+  high = x.high ∙ ap (λ z. min z (place_before next)) (highest_is g h m a x.event.hi);
 }
 
 -- a write of the revision m, and what was there before it
@@ -228,12 +248,15 @@ before_moves g h m a w is_m above before e = go (latest g.versions w.item.key (w
   where
     less : w.item.revision - 1 < m
     less = omega (arith, is_m, above)
+
     same : latest g.versions w.item.key (w.item.revision - 1) ≡ latest h.versions w.item.key (w.item.revision - 1)
     same = latest_is_same g h m a w.item.key (w.item.revision - 1) less
+
     by : (o : Option Version) → IsLatest g.versions w.item.key (w.item.revision - 1) o → IsEntryAfter g w o before → IsEntryAfter h w o before
     by None l x = x
     by (Some v) l (inl (x, y)) = inl (anew_moves g h m a w is_m above v (omega (arith, l.2, less)) x, y)
     by (Some v) l (inr (x, y)) = inr (λ z. x (anew_moves h g m (agree_back g h m a) w is_m above v (omega (arith, l.2, less)) z), y)
+
     go : (o : Option Version) → IsLatest g.versions w.item.key (w.item.revision - 1) (latest g.versions w.item.key (w.item.revision - 1)) → IsEntryBefore g w before → IsEntryBefore h w before
     go o l x = subst (λ z. IsEntryAfter h w z before) same (by (latest g.versions w.item.key (w.item.revision - 1)) l x)
 
@@ -241,11 +264,9 @@ clear_moves : (g h : History) (m : ℕ) (a : Agree g h m) (w : Making) (is_m : w
 clear_moves g h m a w is_m above c = λ x. c (cloud_moves h g m (agree_back g h m a) w.item.key (w.item.revision - 1) (omega (arith, is_m, above)) x)
 
 fault_moves : (g h : History) (m : ℕ) (a : Agree g h m) (w : Making) (is_m : w.item.revision ≡ m) (above : 0 < m) (before : Option Version) (code : Reason) → HasFault g w before code → HasFault h w before code
-fault_moves g h m a w is_m above before code (outside c o) = outside c (at o)
-  where
-    at : (w.item.revision ≤ lowest g w.event.lo) ⊎ (highest g w.event.hi < w.item.revision) → (w.item.revision ≤ lowest h w.event.lo) ⊎ (highest h w.event.hi < w.item.revision)
-    at (inl l) = inl (subst (λ z. w.item.revision ≤ z) (lowest_is g h m a w.event.lo) l)
-    at (inr l) = inr (subst (λ z. z < w.item.revision) (highest_is g h m a w.event.hi) l)
+fault_moves g h m a w is_m above before code (outside c o) = outside c
+    (subst (λ z. IsOutOfReach z (highest h w.event.hi) w.item.revision) (lowest_is g h m a w.event.lo)
+    (subst (λ z. IsOutOfReach (lowest g w.event.lo) z w.item.revision) (highest_is g h m a w.event.hi) o))
 fault_moves g h m a w is_m above before code (present c k t s) = present c (clear_moves g h m a w is_m above k) t s
 fault_moves g h m a w is_m above before code (used c t (v, k, l, e)) = used c t (v, a.to v (omega (arith, l, is_m)) k, l, e)
 fault_moves g h m a w is_m above before code (replaced c k t o) = replaced c (clear_moves g h m a w is_m above k) t o
@@ -264,7 +285,7 @@ module _ (g h : History) (m : ℕ) (a : Agree g h m) (above : 0 < m) (key : Obje
     member = member_moves g h a.log key m w x.member;
     before = x.before;
     entry = before_moves g h m a w x.member.at_revision above x.before x.entry;
-    faultless = λ code f. x.faultless code (fault_moves h g m (agree_back g h m a) w x.member.at_revision above x.before code f)
+    faultless = λ code f. x.faultless code (fault_moves h g m (agree_back g h m a) w x.member.at_revision above x.before code f);
   }
 
   must_moves : (w : Making) → MustHaveMade g key m w → MustHaveMade h key m w
@@ -322,30 +343,38 @@ version_in g h v r q a c = go (r.versions.sound v c)
         by : IsSnapshotVersion h w ⊎ IsMadeVersion h w → Contains h.versions v
         by (inl y) = subst (λ z. Contains h.versions z) (same_version w v (ap (λ (i : Item). i.key) e) (ap (λ (i : Item). i.revision) e) (ap (λ (i : Item). i.uid) e) (ap (λ (i : Item). i.tree) e) (y.maker ∙ sym x.maker)) d
         by (inr y) = absurd (omega (arith, y.above, x.below, ap (λ (i : Item). i.revision) e, a.log.start))
+
     made : IsMadeVersion g v → Contains h.versions v
     made x = at (q.versions.full_log k.m k.first.holds.making (subst (λ z. h.start < z) (sym k.first.holds.at_revision) (subst (λ z. z < v.revision) a.log.start x.above)))
       where
         k : IsKeyOf h v.revision v.key
         k = key_moves g h a.log v.revision v.key x.belongs
+
         at : (w : Version) × Contains h.versions w × (w.revision ≡ k.m.item.revision) → Contains h.versions v
         at (w, d, e) = by (q.versions.sound w d)
           where
             revision : w.revision ≡ v.revision
             revision = e ∙ k.first.holds.at_revision
+
             by : IsSnapshotVersion h w ⊎ IsMadeVersion h w → Contains h.versions v
             by (inl y) = absurd (omega (arith, y.below, revision, x.above, a.log.start))
             by (inr y) = subst (λ z. Contains h.versions z) (same_version w v key revision (y.uid ∙ ap (λ (i : Item). i.uid) items ∙ sym x.uid) (y.tree ∙ ap (λ (i : Item). i.tree) items ∙ sym x.tree) maker) d
               where
                 key : w.key ≡ v.key
                 key = key_same h v.revision w.key v.key q (subst (λ z. IsKeyOf h z w.key) revision y.belongs) k
+
                 maker_at : IsMakerOf h v.key v.revision w.maker
                 maker_at = subst (λ z. IsMakerOf h z v.revision w.maker) key (subst (λ z. IsMakerOf h w.key z w.maker) revision y.maker)
+
                 maker : w.maker ≡ v.maker
                 maker = maker_same h v.key v.revision w.maker v.maker q maker_at (maker_moves g h v.revision a (omega (arith, x.above)) v.key v.maker x.maker)
+
                 shown_at : IsShowing h v.key v.revision v.maker y.m
                 shown_at = subst (λ z. IsShowing h v.key v.revision z y.m) maker (subst (λ z. IsShowing h z v.revision w.maker y.m) key (subst (λ z. IsShowing h w.key z w.maker y.m) revision y.shown))
+
                 items : y.m.item ≡ x.m.item
                 items = shown_same h v.key v.revision v.maker y.m x.m q shown_at (showing_moves g h a.log v.key v.revision v.maker x.m x.shown)
+
     go : IsSnapshotVersion g v ⊎ IsMadeVersion g v → Contains h.versions v
     go (inl x) = old (q.versions.full_snapshot (item_of v) (subst (λ z. Contains z (item_of v)) a.log.snapshot x.listed)) x
     go (inr x) = made x
@@ -360,6 +389,7 @@ agree_below g h s r q (suc m) = go (agree_below g h s r q m)
         to : (v : Version) → Contains g.versions v → (v.revision < m) ⊎ (m ≡ v.revision) → Contains h.versions v
         to v c (inl l) = a.to v l c
         to v c (inr e) = version_in g h v r q (subst (λ z. Agree g h z) e a) c
+
         back : (v : Version) → Contains h.versions v → (v.revision < m) ⊎ (m ≡ v.revision) → Contains g.versions v
         back v c (inl l) = a.back v l c
         back v c (inr e) = version_in h g v q r (subst (λ z. Agree h g z) e (agree_back g h m a)) c
@@ -377,11 +407,15 @@ removal_in g h s r q removal c = go (r.removals.sound removal c)
       next = x.next;
       known = subst (λ z. Contains z x.version) (versions_same g h s r q) x.known;
       ends = subst (λ z. EndsBefore z x.version x.next) (versions_same g h s r q) x.ends;
-      behind = behind_moves g h (suc x.version.revision) (agree_below g h s r q (suc x.version.revision)) x.version x.next removal (omega arith) x.behind
+      behind = behind_moves g h (suc x.version.revision) (agree_below g h s r q (suc x.version.revision)) x.version x.next removal (omega arith) x.behind;
     })
 
 pub one_list_is : (g h : History) → HaveOneLog g h → IsReadable g → IsReadable h
     → (g.order ≡ h.order) × (g.spans ≡ h.spans) × (g.versions ≡ h.versions) × (g.removals ≡ h.removals)
-one_list_is g h s r q = (order_same g h s r q, spans_same g h s r q, versions_same g h s r q,
-    same_sorted (λ a b. a.range.event < b.range.event) g.removals h.removals (λ a b c d x y. omega (arith, x, y)) r.removals.rising q.removals.rising
-        (removal_in g h s r q) (removal_in h g (log_back g h s) q r))
+one_list_is g h s r q = (
+  order_same g h s r q,
+  spans_same g h s r q,
+  versions_same g h s r q,
+  same_sorted (λ a b. a.range.event < b.range.event) g.removals h.removals (λ a b c d x y. omega (arith, x, y)) r.removals.rising q.removals.rising
+      (removal_in g h s r q) (removal_in h g (log_back g h s) q r),
+)

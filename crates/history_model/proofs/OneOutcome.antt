@@ -67,8 +67,10 @@ module _ (h : History) (choice : List ℕ) (r : IsReadable h) (number : ℕ) (ev
     where
       lines : a.line ≡ b.line
       lines = x.of_event ∙ sym y.of_event
+
       answers : a.answer ≡ b.answer
       answers = answer_same (word h number event) a.answer b.answer x.answer y.answer
+
       decisions : a.decision ≡ b.decision
       decisions = decision_same event.decision a.decision b.decision x.decision y.decision
 
@@ -108,10 +110,13 @@ module _ (h : History) (r : IsReadable h) where
     where
       befores : x.earliest.before ≡ y.earliest.before
       befores = before_same m n x.event y.event c d x.earliest y.earliest
+
       numbers : m ≡ n
       numbers = same_Some m n (sym x.earliest.found ∙ ap (slice_get h.order) befores ∙ y.earliest.found)
+
       events : x.event ≡ y.event
       events = same_event h n x.event y.event (subst (λ z. IsEvent h z x.event) numbers x.earliest.known) y.earliest.known
+
       codes : c ≡ d
       codes = same_code c d (x.earliest.least.least d there) (y.earliest.least.least c back)
         where
@@ -119,14 +124,18 @@ module _ (h : History) (r : IsReadable h) where
           there = subst (λ z. Rattle.history_model.specs.Codes.IsCandidate h z m x.event d) (sym befores)
               (subst (λ z. Rattle.history_model.specs.Codes.IsCandidate h y.earliest.before z x.event d) (sym numbers)
               (subst (λ z. Rattle.history_model.specs.Codes.IsCandidate h y.earliest.before n z d) (sym events) y.earliest.least.candidate))
+
           back : Rattle.history_model.specs.Codes.IsCandidate h y.earliest.before n y.event c
           back = subst (λ z. Rattle.history_model.specs.Codes.IsCandidate h z n y.event c) befores
               (subst (λ z. Rattle.history_model.specs.Codes.IsCandidate h x.earliest.before z y.event c) numbers
               (subst (λ z. Rattle.history_model.specs.Codes.IsCandidate h x.earliest.before m z c) events x.earliest.least.candidate))
+
       lows : l ≡ k
       lows = x.from ∙ ap₂ (shown_low h) events codes ∙ sym y.from
+
       highs : u ≡ v
       highs = x.to ∙ ap₂ (shown_high h) events codes ∙ sym y.to
+
       written : ws ≡ xs
       written = writes_same h k v ws xs (subst (λ z. AreWrites h k z ws) highs (subst (λ z. AreWrites h z u ws) lows x.written)) y.written
 

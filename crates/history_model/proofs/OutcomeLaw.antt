@@ -130,12 +130,13 @@ module _ (h : History) (claims : List Claim) (r : IsReadable h) (exact : AreExac
     sound = all_from (λ y. IfSome (slice_get claims y) (λ c. c.fails ≡ None)) (take n h.order) (λ y c. if_some (slice_get claims y) (λ k. k.fails ≡ None) (λ k e. sound y c k e (event_at y k e)));
     meets = record {
       chosen = chosen;
-      met = all_from (λ y. IfSome (slice_get claims y) (λ c. MeetsAll choice c.bounds)) (take n h.order) (λ y c. if_some (slice_get claims y) (λ k. MeetsAll choice k.bounds) (λ k e. met y c k e (event_at y k e)))
-    }
+      met = all_from (λ y. IfSome (slice_get claims y) (λ c. MeetsAll choice c.bounds)) (take n h.order) (λ y c. if_some (slice_get claims y) (λ k. MeetsAll choice k.bounds) (λ k e. met y c k e (event_at y k e)));
+    };
   }
     where
       sound : (y : ℕ) → IsJudged h n y → (k : Claim) → slice_get claims y ≡ Some k → (event : Event) × IsEvent h y event → k.fails ≡ None
       sound y c k e (event, known) = unfailing choice y event k.fails chosen (exact.each y event k known e).failure (right y event c known)
+
       met : (y : ℕ) → IsJudged h n y → (k : Claim) → slice_get claims y ≡ Some k → (event : Event) × IsEvent h y event → MeetsAll choice k.bounds
       met y c k e (event, known) = meets_by choice y event k chosen (exact.each y event k known e) (right y event c known).answer
 
@@ -150,16 +151,18 @@ module _ (h : History) (claims : List Claim) (r : IsReadable h) (exact : AreExac
   right_all_explains choice chosen right = record {
     chosen = chosen;
     sound = all_from (λ c. c.fails ≡ None) claims (λ k c. sound k (Rattle.history_model.proofs.Members.in_at claims k c));
-    met = all_from (λ c. MeetsAll choice c.bounds) claims (λ k c. met k (Rattle.history_model.proofs.Members.in_at claims k c))
+    met = all_from (λ c. MeetsAll choice c.bounds) claims (λ k c. met k (Rattle.history_model.proofs.Members.in_at claims k c));
   }
     where
       judged : (number : ℕ) (event : Event) → IsEvent h number event → IsJudged h (length h.order) number
       judged number event known = take_whole h.order number (r.order.full number (slice_get_within h.events number event known))
+
       sound : (k : Claim) → (i : ℕ) × (slice_get claims i ≡ Some k) → k.fails ≡ None
       sound k (i, e) = at (event_at i k e)
         where
           at : (event : Event) × IsEvent h i event → k.fails ≡ None
           at (event, known) = unfailing choice i event k.fails chosen (exact.each i event k known e).failure (right i event (judged i event known) known)
+
       met : (k : Claim) → (i : ℕ) × (slice_get claims i ≡ Some k) → MeetsAll choice k.bounds
       met k (i, e) = at (event_at i k e)
         where
@@ -175,7 +178,7 @@ module _ (h : History) (claims : List Claim) (r : IsReadable h) (exact : AreExac
         p = p;
         run = run;
         chosen = e;
-        least = λ other o. l.least other.choice (right_all_explains other.choice o.placed.chosen (run_is_right h (length h.order) other r o))
+        least = λ other o. l.least other.choice (right_all_explains other.choice o.placed.chosen (run_is_right h (length h.order) other r o));
       }
 
   module _ (before number : ℕ) (event : Event) (reason : Reason) (known : IsEvent h number event) (at : slice_get h.order before ≡ Some number)
@@ -190,10 +193,13 @@ module _ (h : History) (claims : List Claim) (r : IsReadable h) (exact : AreExac
       where
         P : ℕ → Type 0
         P y = IfSome (slice_get claims y) (λ c. MeetsAll choice c.bounds)
+
         chosen : IsChoice (ranges h) choice
         chosen = subst (λ z. IsChoice (ranges h) z) e run.placed.chosen
+
         right : AreRightUpTo h before choice
         right = subst (λ z. AreRightUpTo h before z) e (run_is_right h before p r run)
+
         each : (y : ℕ) → Contains (take before h.order) y ⊎ (y ≡ number) → IfSome (slice_get claims y) (λ c. MeetsAll choice c.bounds)
         each y (inl c) = all_at (λ z. IfSome (slice_get claims z) (λ k. MeetsAll choice k.bounds)) (take before h.order) y (right_explains before choice chosen right).meets.met c
         each y (inr q) = subst (λ z. IfSome (slice_get claims z) (λ c. MeetsAll choice c.bounds)) (sym q)
@@ -202,9 +208,12 @@ module _ (h : History) (claims : List Claim) (r : IsReadable h) (exact : AreExac
     -- and back
     next_holds : (choice : List ℕ) → SometimesHolds h number event → ((other : List ℕ) → IsChoice (ranges h) other → AnswerHolds h other number event ↔ MeetsAll other claim.bounds)
         → MeetsBounds (ranges h) claims (take (before + 1) h.order) choice → IsChoiceUpTo h before choice × AnswerHolds h choice number event
-    next_holds choice s iff m = (right_has_run h before choice r m.chosen (explains_right before choice x), (iff choice m.chosen).1
-        (MatchOption-at_some (Unit {0}) (λ c. MeetsAll choice c.bounds) claim claimed
-            (all_at (λ y. IfSome (slice_get claims y) (λ c. MeetsAll choice c.bounds)) (take (before + 1) h.order) number m.met (rw add-one (next_in h.order before number at)))))
+    next_holds choice s iff m = (
+      right_has_run h before choice r m.chosen (explains_right before choice x),
+      (iff choice m.chosen).1
+          (MatchOption-at_some (Unit {0}) (λ c. MeetsAll choice c.bounds) claim claimed
+          (all_at (λ y. IfSome (slice_get claims y) (λ c. MeetsAll choice c.bounds)) (take (before + 1) h.order) number m.met (rw add-one (next_in h.order before number at)))),
+    )
       where
         x : Explains (ranges h) claims (take before h.order) choice
         x = record {
@@ -212,8 +221,8 @@ module _ (h : History) (claims : List Claim) (r : IsReadable h) (exact : AreExac
           meets = record {
             chosen = m.chosen;
             met = all_from (λ y. IfSome (slice_get claims y) (λ c. MeetsAll choice c.bounds)) (take before h.order)
-                (λ y c. all_at (λ z. IfSome (slice_get claims z) (λ k. MeetsAll choice k.bounds)) (take (before + 1) h.order) y m.met (take_more_in h.order before (before + 1) y (omega arith) c))
-          }
+                (λ y c. all_at (λ z. IfSome (slice_get claims z) (λ k. MeetsAll choice k.bounds)) (take (before + 1) h.order) y m.met (take_more_in h.order before (before + 1) y (omega arith) c));
+          };
         }
 
     failure_code : (o : Option Reason) → claim.fails ≡ o → (other : Reason) → HasCode h number event other → code_number reason ≤ code_number other
@@ -232,6 +241,7 @@ module _ (h : History) (claims : List Claim) (r : IsReadable h) (exact : AreExac
         of : HasClaimCode claim (LeavesNoChoice (ranges h) claims (take (before + 1) h.order)) reason → IsCandidate h before number event reason
         of (inl f) = inl (subst (λ z. IsFailure h number event z) f is_exact.failure).0
         of (inr (e, none)) = inr (e ∙ is_exact.of_answer, λ choice up a. none choice (meets_next choice up a))
+
         least : (other : Reason) → IsCandidate h before number event other → code_number reason ≤ code_number other
         least other (inl c) = failure_code claim.fails refl other c
         least other (inr (e, none)) = by is_exact.exact
@@ -255,7 +265,7 @@ module _ (h : History) (claims : List Claim) (r : IsReadable h) (exact : AreExac
         explained = (global_is h b.before r).1 (b.earlier.0, b.earlier.1.meets.chosen, explains_right b.before b.earlier.0 b.earlier.1);
         unexplained = λ x. at ((global_is h (b.before + 1) r).0 x);
         least = candidate_is b.before number event reason known b.found claim e b.earlier
-            (MatchOption-at_some (Unit {0}) (λ c. HasLeastCode c (LeavesNoChoice (ranges h) claims (take (b.before + 1) h.order)) reason) claim e b.code)
+            (MatchOption-at_some (Unit {0}) (λ c. HasLeastCode c (LeavesNoChoice (ranges h) claims (take (b.before + 1) h.order)) reason) claim e b.code);
       }
         where
           at : (choice : List ℕ) × IsChoice (ranges h) choice × AreRightUpTo h (b.before + 1) choice → ⊥

@@ -47,6 +47,7 @@ module _ (h : History) (choice : List ℕ) (lines : List PlacedLine) (r : IsRead
     where
       listed : Contains h.removals cut.removal
       listed = cut_removal h.removals choice cut c
+
       go : IsRemoval h cut.removal → line_place (slice_get lines cut.removal.range.event) ≡ cut.place
       go i = at (line_of cut.removal.range.event i.behind.event i.behind.first.known)
         where
@@ -74,11 +75,14 @@ module _ (h : History) (choice : List ℕ) (lines : List PlacedLine) (r : IsRead
             where
               by : (place : ℕ) × IsLeastPlace h choice number event place × (line.answer ≡ placed.At place)
                   → InWindow h event (line_place (slice_get lines number)) × IsRight h number event (line_place (slice_get lines number)) (state h (placement_of h lines).choice (line_place (slice_get lines number)))
-              by (place, l, a) = (subst (λ x. InWindow h event x) (sym is) l.inside,
-                  subst (λ x. IsRight h number event x (state h (placement_of h lines).choice x)) (sym is) (subst (λ z. IsRight h number event place (state h z place)) (sym choice_is) l.right))
+              by (place, l, a) = (
+                subst (λ x. InWindow h event x) (sym is) l.inside,
+                subst (λ x. IsRight h number event x (state h (placement_of h lines).choice x)) (sym is) (subst (λ z. IsRight h number event place (state h z place)) (sym choice_is) l.right),
+              )
                 where
                   is : line_place (slice_get lines number) ≡ place
                   is = ap line_place e ∙ ap answer_place a
+
           decision : (d : Decision) → event.decision ≡ Some d → IsDecidedAt h number event (line_places (slice_get lines number))
           decision d q = by (subst (λ z. IsPlacedDecision h number event z line.decision) q p.decision)
             where
@@ -95,5 +99,6 @@ printed_is h choice lines r l p = (run_of_lines h choice lines r chosen p right,
   where
     chosen : IsChoice (ranges h) choice
     chosen = subst (λ z. IsChoice (ranges h) z) l.chosen l.run.placed.chosen
+
     right : AreRightUpTo h (length h.order) choice
     right = subst (λ z. AreRightUpTo h (length h.order) z) l.chosen (run_is_right h (length h.order) l.p r l.run)

@@ -39,8 +39,13 @@ before_cut h choice cut r chosen c = go (cuts_fit h choice r chosen)
     go fit = at (fit.ends cut c)
       where
         at : CutEnds h.start h.versions cut → (v : Version) × (state h choice (cut.place - 1) cut.removal.key ≡ Some v) × (v.uid ≡ cut.removal.uid) × (v.revision ≡ cut.removal.last)
-        at z = (z.version, stands_same h (cuts h.removals choice) cut.removal.key (cut.place - 1) (state h choice (cut.place - 1) cut.removal.key) (Some z.version) fit
-            (state_stands h choice (cut.place - 1) cut.removal.key) (stays z.version last stay), z.of_uid, z.of_last)
+        at z = (
+          z.version,
+          stands_same h (cuts h.removals choice) cut.removal.key (cut.place - 1) (state h choice (cut.place - 1) cut.removal.key) (Some z.version) fit
+              (state_stands h choice (cut.place - 1) cut.removal.key) (stays z.version last stay),
+          z.of_uid,
+          z.of_last,
+        )
           where
             last : IsLatest h.versions cut.removal.key (cut.place - 1) (Some z.version)
             last = (z.known, z.of_key, omega (arith, z.behind), λ w d k l. below w l (z.before w d (k ∙ sym z.of_key)))
@@ -48,6 +53,7 @@ before_cut h choice cut r chosen c = go (cuts_fit h choice r chosen)
                 below : (w : Version) → w.revision ≤ cut.place - 1 → (w.revision ≤ z.version.revision) ⊎ (cut.place < w.revision) → w.revision ≤ z.version.revision
                 below w l (inl a) = a
                 below w l (inr a) = omega (arith, a, l)
+
             stay : (other : Cut) → Contains (cuts h.removals choice) other → other.removal.last ≡ z.version.revision → cut.place - 1 < other.place
             stay other d e = omega (arith, ap (λ (y : Cut). y.place) (fit.one other cut d c (e ∙ z.of_last)), z.above)
 

@@ -15,8 +15,10 @@ same_sorted {X} R (x ∷ xs) (y ∷ ys) once f g to back =
     heads (inl e) m = sym e
     heads (inr c) (inl e) = e
     heads (inr c) (inr d) = absurd (once x y (here x xs) (there x y xs d) (all_at (R x) xs y (pairs_head R x xs f) d) (all_at (R y) ys x (pairs_head R y ys g) c))
+
     head : x ≡ y
     head = heads (in_cons y ys x (to x (here x xs))) (in_cons x xs y (back y (here y ys)))
+
     go : (((z : X) → Contains xs z → Contains ys z) → ((z : X) → Contains ys z → Contains xs z) → xs ≡ ys) → x ∷ xs ≡ y ∷ ys
     go rest = ap₂ (λ a b. a ∷ b) head (rest (λ z c. on z c (in_cons y ys z (to z (there x z xs c)))) (λ z c. off z c (in_cons x xs z (back z (there y z ys c)))))
       where
@@ -26,6 +28,7 @@ same_sorted {X} R (x ∷ xs) (y ∷ ys) once f g to back =
           where
             above : R x z
             above = all_at (R x) xs z (pairs_head R x xs f) c
+
         off : (z : X) → Contains ys z → (x ≡ z) ⊎ Contains xs z → Contains xs z
         off z c (inr d) = d
         off z c (inl e) = absurd (once x x (here x xs) (here x xs) self self)

@@ -30,35 +30,45 @@ record IsWith (h : History) (s : Step) (xs ys : List Step) : Type 0 where
   old : (u : Step) → Contains xs u → Contains ys u
 
 with_step : (h : History) (s : Step) (xs : List Step) → InOrder h xs → ((u : Step) → Contains xs u → Ties h s u → s ≡ u) → (ys : List Step) × IsWith h s xs ys
-with_step h s [] order one = (s ∷ [], record {
-  order = (λ k d l. absurd (omega arith), tt);
-  sound = λ u c. in_cons s [] u c;
-  new = here s [];
-  old = λ u c. absurd (not_in_none c)
-})
+with_step h s [] order one = (
+  s ∷ [],
+  record {
+    order = (λ k d l. absurd (omega arith), tt);
+    sound = λ u c. in_cons s [] u c;
+    new = here s [];
+    old = λ u c. absurd (not_in_none c);
+  },
+)
 with_step h s (x ∷ xs) order one = go (with_step h s xs order.1 (λ u c. one u (there x u xs c))) (precedes_cases h s x)
   where
     go : (ys : List Step) × IsWith h s xs ys → Precedes h s x ⊎ Precedes h x s ⊎ Ties h s x → (ys : List Step) × IsWith h s (x ∷ xs) ys
-    go more (inl l) = (s ∷ x ∷ xs, record {
-      order = (all_from (Precedes h s) (x ∷ xs) (λ u c. at u (in_cons x xs u c)), order);
-      sound = λ u c. in_cons s (x ∷ xs) u c;
-      new = here s (x ∷ xs);
-      old = λ u c. there s u (x ∷ xs) c
-    })
+    go more (inl l) = (
+      s ∷ x ∷ xs,
+      record {
+        order = (all_from (Precedes h s) (x ∷ xs) (λ u c. at u (in_cons x xs u c)), order);
+        sound = λ u c. in_cons s (x ∷ xs) u c;
+        new = here s (x ∷ xs);
+        old = λ u c. there s u (x ∷ xs) c;
+      },
+    )
       where
         at : (u : Step) → (x ≡ u) ⊎ Contains xs u → Precedes h s u
         at u (inl e) = subst (λ z. Precedes h s z) e l
         at u (inr c) = precedes_trans h s x u l (all_at (Precedes h x) xs u order.0 c)
-    go (ys, w) (inr (inl l)) = (x ∷ ys, record {
-      order = (all_from (Precedes h x) ys (λ u c. at u (w.sound u c)), w.order);
-      sound = λ u c. from u (in_cons x ys u c);
-      new = there x s ys w.new;
-      old = λ u c. to u (in_cons x xs u c)
-    })
+    go (ys, w) (inr (inl l)) = (
+      x ∷ ys,
+      record {
+        order = (all_from (Precedes h x) ys (λ u c. at u (w.sound u c)), w.order);
+        sound = λ u c. from u (in_cons x ys u c);
+        new = there x s ys w.new;
+        old = λ u c. to u (in_cons x xs u c);
+      },
+    )
       where
         at : (u : Step) → (s ≡ u) ⊎ Contains xs u → Precedes h x u
         at u (inl e) = subst (λ z. Precedes h x z) e l
         at u (inr c) = all_at (Precedes h x) xs u order.0 c
+
         from : (u : Step) → (x ≡ u) ⊎ Contains ys u → (s ≡ u) ⊎ Contains (x ∷ xs) u
         from u (inl e) = inr (subst (λ z. Contains (x ∷ xs) z) e (here x xs))
         from u (inr c) = by (w.sound u c)
@@ -66,15 +76,19 @@ with_step h s (x ∷ xs) order one = go (with_step h s xs order.1 (λ u c. one u
             by : (s ≡ u) ⊎ Contains xs u → (s ≡ u) ⊎ Contains (x ∷ xs) u
             by (inl e) = inl e
             by (inr d) = inr (there x u xs d)
+
         to : (u : Step) → (x ≡ u) ⊎ Contains xs u → Contains (x ∷ ys) u
         to u (inl e) = subst (λ z. Contains (x ∷ ys) z) e (here x ys)
         to u (inr c) = there x u ys (w.old u c)
-    go more (inr (inr t)) = (x ∷ xs, record {
-      order = order;
-      sound = λ u c. inr c;
-      new = subst (λ z. Contains (x ∷ xs) z) (sym (one x (here x xs) t)) (here x xs);
-      old = λ u c. c
-    })
+    go more (inr (inr t)) = (
+      x ∷ xs,
+      record {
+        order = order;
+        sound = λ u c. inr c;
+        new = subst (λ z. Contains (x ∷ xs) z) (sym (one x (here x xs) t)) (here x xs);
+        old = λ u c. c;
+      },
+    )
 
 pub record IsSortedOf (h : History) (xs ys : List Step) : Type 0 where
   pub order : InOrder h ys
@@ -94,6 +108,7 @@ sorted_of h (x ∷ xs) one = go (sorted_of h xs (λ a b c d. one a b (there x a 
             from : (u : Step) → (x ≡ u) ⊎ Contains ys u → Contains (x ∷ xs) u
             from u (inl e) = subst (λ z. Contains (x ∷ xs) z) e (here x xs)
             from u (inr c) = there x u xs (s.sound u c)
+
             to : (u : Step) → (x ≡ u) ⊎ Contains xs u → Contains zs u
             to u (inl e) = subst (λ z. Contains zs z) e w.new
             to u (inr c) = w.old u (s.full u c)

@@ -111,6 +111,7 @@ module _ (h : History) (r : IsReadable h) (lines : List PlacedLine) (rising : Ri
           go x (Some e) q = let f : Contains h.events e × ((e.line == n) ≡ true) = found_in (λ (e : Event). e.line == n) h.events e q in
               subst (λ z. Contains (map (λ (e : Event). e.line) h.events) z) (eq_test e.line n f.1) (in_numbers (λ (e : Event). e.line) h.events e f.0)
           go (l, d, e) None q = absurd (alike n (unknown l d e (λ number event known p. not_found (λ (x : Event). x.line == n) h.events q event (at_in h.events number event known) (test_eq event.line n p))))
+
       back : (n : ℕ) → Contains (map (λ (e : Event). e.line) h.events) n → Contains (map (λ (l : PlacedLine). l.line) lines) n
       back n c = go (numbers_of (λ (e : Event). e.line) h.events n c) (find (λ (l : PlacedLine). l.line == n) lines) refl
         where
@@ -127,12 +128,14 @@ module _ (h : History) (r : IsReadable h) (lines : List PlacedLine) (rising : Ri
     where
       numbers : option_map (λ (l : PlacedLine). l.line) (slice_get lines number) ≡ Some event.line
       numbers = sym (slice_get-map (λ (l : PlacedLine). l.line) lines number) ∙ ap (λ xs. slice_get xs number) line_numbers ∙ slice_get-map (λ (e : Event). e.line) h.events number ∙ ap (option_map (λ (e : Event). e.line)) known
+
       go : (o : Option PlacedLine) → slice_get lines number ≡ o → (line : PlacedLine) × (slice_get lines number ≡ Some line) × (line.line ≡ event.line) × HasWords h number event line
       go None q = let f : option_map (λ (l : PlacedLine). l.line) None ≡ Some event.line = subst (λ z. option_map (λ (l : PlacedLine). l.line) z ≡ Some event.line) q numbers in absurd (cc f)
       go (Some line) q = (line, q, same, by (words_decide h number event line))
         where
           same : line.line ≡ event.line
           same = same_Some line.line event.line (subst (λ z. option_map (λ (l : PlacedLine). l.line) z ≡ Some event.line) q numbers)
+
           by : HasWords h number event line ⊎ (HasWords h number event line → ⊥) → HasWords h number event line
           by (inl w) = w
           by (inr n) = absurd (alike event.line (differing number event line known refl (at_in lines number line q) same n))
@@ -184,6 +187,7 @@ module _ (h : History) (choice : List ℕ) (lines : List PlacedLine) (r : IsRead
         where
           same : n ≡ number
           same = at_apart (λ (z : Event). z.line) h.events n number ev event r.lines k known (sym x.of_event ∙ f ∙ sym e)
+
           events : ev ≡ event
           events = same_event h number ev event (subst (λ z. IsEvent h z ev) same k) known
 
@@ -192,9 +196,10 @@ module _ (h : History) (choice : List ℕ) (lines : List PlacedLine) (r : IsRead
     where
       run : IsRun h (placement_of h lines)
       run = (printed_is h choice lines r least p).0
+
       go : (line : PlacedLine) × (slice_get lines m.number ≡ Some line) × IsPlacedLine h choice m.number m.event line
           → IsOutside h m.event (word h m.number m.event) (line_place (slice_get lines m.number))
-              ⊎ ((decided : Decision) × (m.event.decision ≡ Some decided) × (AreCachePlaces h m.event (line_places (slice_get lines m.number)) → ⊥)) → ⊥
+          ⊎ ((decided : Decision) × (m.event.decision ≡ Some decided) × (AreCachePlaces h m.event (line_places (slice_get lines m.number)) → ⊥)) → ⊥
       go (line, q, x) (inr (decided, e, n)) = n (run.placed.decisions m.number m.event decided (judged_all h r m.number m.event m.known) m.known e).inside
       go (line, q, x) (inl o) = by (word h m.number m.event) refl x.answer o
         where

@@ -40,7 +40,7 @@ stands_at h cs key place None l = never l
 stands_at h cs key place (Some v) l = go (gone_tells cs v.revision place)
   where
     go : ((is_gone cs v.revision place ≡ true) × ((cut : Cut) × Contains cs cut × (cut.removal.last ≡ v.revision) × (cut.place ≤ place)))
-            ⊎ ((is_gone cs v.revision place ≡ false) × ((cut : Cut) → Contains cs cut → cut.removal.last ≡ v.revision → place < cut.place))
+        ⊎ ((is_gone cs v.revision place ≡ false) × ((cut : Cut) → Contains cs cut → cut.removal.last ≡ v.revision → place < cut.place))
         → Stands h cs key place (unless_gone cs place (Some v))
     go (inl g) = rw g.0 (removed v g.1.0 l g.1.1 g.1.2 g.1.3)
     go (inr g) = rw g.0 (stays v l g.1)
@@ -50,7 +50,6 @@ state_stands h choice place key = stands_at h (cuts h.removals choice) key place
 
 module _ (h : History) (cs : List Cut) (fit : CutsFit h.start h.versions cs) (key : ObjectKey) (place : ℕ) (steps : List Step)
     (order : InOrder h steps) (holds : HoldsWrites h cs key place steps) (low : h.start ≤ place) where
-
   -- where nothing of the key is written, the snapshot stays
   unwritten : (o : Option Version) → ((step : Step) → Contains steps step → Spares step key) → IsLatest h.versions key h.start o
       → after_all (snapshot_map h) steps key ≡ o
@@ -74,6 +73,7 @@ module _ (h : History) (cs : List Cut) (fit : CutsFit h.start h.versions cs) (ke
         where
           low' : e.version.revision ≤ v.revision
           low' = l.3 e.version e.known (e.of_key ∙ x.0) (omega (arith, e.behind, b))
+
           at : (v.revision ≤ e.version.revision) ⊎ (d.place < v.revision)
               → (Remove d ≡ Put v) ⊎ ((cut : Cut) × (Remove d ≡ Remove cut) × Contains cs cut × (cut.removal.last ≡ v.revision)) ⊎ (d.place < v.revision)
           at (inl a) = inr (inl (d, refl, k, sym e.of_last ∙ omega (arith, a, low')))
@@ -105,8 +105,10 @@ module _ (h : History) (cs : List Cut) (fit : CutsFit h.start h.versions cs) (ke
         where
           same : z.version ≡ v
           same = apart (λ y. y.revision) h.versions z.version v fit.rising z.known l.0 (z.of_last ∙ e)
+
           written : Writes (Remove cut) key None
           written = (sym z.of_key ∙ ap (λ (y : Version). y.key) same ∙ l.1, refl)
+
           others : (u : Step) (left : Option Version) → Contains steps u → Writes u key left → (u ≡ Remove cut) ⊎ (step_place u < cut.place)
           others u left d x = at (against v l u left (holds.sound u left d x).0 x (holds.sound u left d x).1)
             where
@@ -135,6 +137,7 @@ module _ (h : History) (cs : List Cut) (fit : CutsFit h.start h.versions cs) (ke
             where
               start' : h.start < step_place u
               start' = above_start u left (holds.sound u left d x).0 x
+
               at : (u ≡ Put v) ⊎ ((other : Cut) × (u ≡ Remove other) × Contains cs other × (other.removal.last ≡ v.revision)) ⊎ (step_place u < v.revision) → ⊥
               at (inl p) = omega (arith, ap step_place p, start', a)
               at (inr (inl p)) = omega (arith, stay p.0 p.2 p.3, ap step_place p.1, (holds.sound u left d x).1)
@@ -167,17 +170,20 @@ holds_up_to h n p steps key place are = record { sound = sound; full = full }
         go : ((nat_le (step_place u) place ≡ true) × (step_place u ≤ place)) ⊎ ((nat_le (step_place u) place ≡ false) × (place < step_place u)) → step_place u ≤ place
         go (inl w) = w.1
         go (inr w) = absurd (cc (w.0, e))
+
     passes : (u : Step) → step_place u ≤ place → nat_le (step_place u) place ≡ true
     passes u b = go (leb_tells (step_place u) place)
       where
         go : ((nat_le (step_place u) place ≡ true) × (step_place u ≤ place)) ⊎ ((nat_le (step_place u) place ≡ false) × (place < step_place u)) → nat_le (step_place u) place ≡ true
         go (inl w) = w.0
         go (inr w) = absurd (omega (arith, w.1, b))
+
     sound : (u : Step) (left : Option Version) → Contains (up_to place steps) u → Writes u key left → IsWriteOf h (cuts h.removals p.choice) u × (step_place u ≤ place)
     sound u left c x = go (in_filter (λ s. nat_le (step_place s) place) steps u c)
       where
         go : Contains steps u × (nat_le (step_place u) place ≡ true) → IsWriteOf h (cuts h.removals p.choice) u × (step_place u ≤ place)
         go w = (write_of h n p u key left (are.sound u w.0) x, within u w.1)
+
     full : (u : Step) (left : Option Version) → IsWriteOf h (cuts h.removals p.choice) u → Writes u key left → step_place u ≤ place → Contains (up_to place steps) u
     full u left k x b = filter_in (λ s. nat_le (step_place s) place) steps u (are.full u (step_of h n p u k)) (passes u b)
 

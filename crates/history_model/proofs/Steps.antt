@@ -65,6 +65,7 @@ last_write h (s ∷ ss) map key last entry order c w others =
           where
             before : Precedes h s t
             before = all_at (Precedes h s) ss t order.0 d
+
             at : (t ≡ last) ⊎ (step_place t < step_place last) → ⊥
             at (inl p) = precedes_self h s (subst (λ z. Precedes h s z) (p ∙ sym e) before)
             at (inr l) = omega (arith, precedes_place h s t before, l, ap step_place e)

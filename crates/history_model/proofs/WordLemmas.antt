@@ -74,6 +74,7 @@ same_making h m w a b e = (event, parts.0, parts.1)
   where
     event : m.event ≡ w.event
     event = same_event h w.number m.event w.event (subst (λ n. IsEvent h n m.event) e a.known) b.known
+
     parts : (m.item ≡ w.item) × (m.created ≡ w.created)
     parts = same_answer m.item w.item m.created w.created (sym a.made ∙ ap (λ (x : Event). x.answer) event ∙ b.made)
 
@@ -93,16 +94,20 @@ made_version h v number r c e = go (r.versions.sound v c)
     go (inr s) = at (showing_maker h v.key v.revision number v.maker s.m e s.shown)
       where
         at : IsMember h v.key v.revision s.m × (s.m.number ≡ number) → (m : Making) × (m.number ≡ number) × IsMadeBy h m v
-        at w = (s.m, w.1, record {
-          making = w.0.making;
-          above = s.above;
-          known = c;
-          maker = e ∙ ap ByEvent (sym w.1);
-          of_key = sym w.0.of_key;
-          at_revision = sym w.0.at_revision;
-          of_uid = s.uid;
-          of_tree = s.tree
-        })
+        at w = (
+          s.m,
+          w.1,
+          record {
+            making = w.0.making;
+            above = s.above;
+            known = c;
+            maker = e ∙ ap ByEvent (sym w.1);
+            of_key = sym w.0.of_key;
+            at_revision = sym w.0.at_revision;
+            of_uid = s.uid;
+            of_tree = s.tree;
+          },
+        )
 
 abbrev pub write_of : ℕ → Event → Item → Bool → Making
 write_of number event item created = record { number = number; event = event; item = item; created = created }
@@ -141,6 +146,7 @@ module _ (h : History) (number : ℕ) (event : Event) where
     where
       test : Version → Bool
       test v = v.revision == item.revision
+
       rest : h.start < item.revision → (o : Option Version) → find (λ v. v.revision == item.revision) h.versions ≡ o → WordIs h number event (write_word (write_of number event item created) o)
       rest s None e = missing item created refl a s (λ v c q. not_found (λ v. v.revision == item.revision) h.versions e v c (test_eq v.revision item.revision q))
       rest s (Some v) e = at (found_in (λ v. v.revision == item.revision) h.versions v e)
@@ -154,6 +160,7 @@ module _ (h : History) (number : ℕ) (event : Event) where
               by (inl k) (inl b) = makes item created v (rw (k.0, b.0) refl) a s f.0 (eq_test v.revision item.revision f.1) k.1 b.1
               by (inl k) (inr b) = found item created v (rw (k.0, b.0) refl) a s f.0 (eq_test v.revision item.revision f.1) k.1 b.1
               by (inr k) b = strays item created v (rw k.0 refl) a s f.0 (eq_test v.revision item.revision f.1) k.1
+
       go : ((nat_le item.revision h.start ≡ true) × (item.revision ≤ h.start)) ⊎ ((nat_le item.revision h.start ≡ false) × (h.start < item.revision))
           → WordIs h number event (answer_word h number event (Made item created))
       go (inl l) = rw l.0 (old item created refl a l.1)
@@ -194,13 +201,16 @@ word_makes h number event m r known e = go (word_is h number event)
       where
         is : write_of number event item created ≡ m
         is = cc (w, e)
+
         making : IsMaking h (write_of number event item created)
         making = record { known = known; made = a }
+
         at : (x : Making) × (x.number ≡ number) × IsMadeBy h x v → (v : Version) × IsMadeBy h m v × (m.number ≡ number) × (m.event ≡ event)
         at (x, n, b) = (v, subst (λ y. IsMadeBy h y v) (same ∙ is) b, ap (λ (y : Making). y.number) (sym is), ap (λ (y : Making). y.event) (sym is))
           where
             parts : (x.event ≡ event) × (x.item ≡ item) × (x.created ≡ created)
             parts = same_making h x (write_of number event item created) b.making making n
+
             same : x ≡ write_of number event item created
             same = λ i. record { number = n i; event = parts.0 i; item = parts.1 i; created = parts.2 i }
     go (old item created w a s) = absurd (cc (w, e))
@@ -234,8 +244,10 @@ maker_word h m v r b = ap (answer_word h m.number m.event) b.making.made ∙ at 
   where
     one : (w : Version) → Contains h.versions w → (w.revision == m.item.revision) ≡ true → w ≡ v
     one w c t = apart (λ z. z.revision) h.versions w v r.versions.rising c b.known (eq_test w.revision m.item.revision t ∙ sym b.at_revision)
+
     by_self : is_by m.number (ByEvent m.number) ≡ true
     by_self = test_eq m.number m.number refl
+
     at : ((nat_le m.item.revision h.start ≡ true) × (m.item.revision ≤ h.start)) ⊎ ((nat_le m.item.revision h.start ≡ false) × (h.start < m.item.revision))
         → answer_word h m.number m.event (Made m.item m.created) ≡ Makes m
     at (inl l) = absurd (omega (arith, l.1, b.above, b.at_revision))
@@ -247,6 +259,7 @@ removal_word_is h removal event r c known = go (r.removals.sound removal c)
   where
     one : (w : Removal) → Contains h.removals w → (w.range.event == removal.range.event) ≡ true → w ≡ removal
     one w d t = apart (λ (z : Removal). z.range.event) h.removals w removal r.removals.rising d c (eq_test w.range.event removal.range.event t)
+
     go : Rattle.history_model.specs.Incarnations.IsRemoval h removal → word h removal.range.event event ≡ Removes removal
     go i = ap (answer_word h removal.range.event event) answer ∙ ap removal_word (find_is (λ w. w.range.event == removal.range.event) h.removals removal c (test_eq removal.range.event removal.range.event refl) one)
       where

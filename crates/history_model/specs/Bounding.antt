@@ -1,6 +1,7 @@
 -- What an answer asks of the removals' places: at most one bound for each range.
 use Rattle.std.specs.Prelude.{◌≡◌, ◌≢◌, ◌≤◌, ◌+◌, ℕ, max, min, ◌⊎◌, true, false, List, Some, None, AllPairs, Contains, slice_get}
 use Rattle.base_types.specs.declared.claim.Bound.{Bound}
+use Rattle.base_types.specs.declared.claim.Range.{Range}
 use Rattle.base_types.specs.declared.key.ObjectKey.{ObjectKey}
 use Rattle.history_model.specs.Clouds.{IsClouded}
 use Rattle.history_model.specs.Events.{Item, Listing}
@@ -80,3 +81,11 @@ pub record AreListBounds (h : History) (number : ℕ) (listing : Listing) (place
   pub distinct : AllPairs (λ a b. a.key ≢ b.key) listing.items
   pub sound : (bound : Bound) → Contains bounds bound → (d : Demand) × IsAsked listing d × IsBounded h number place d bound
   pub full : (d : Demand) → IsAsked listing d → IsFree h number place d ⊎ ((bound : Bound) × Contains bounds bound × IsBounded h number place d bound)
+
+-- a bound that some place of its range meets
+pub record IsOpen (ranges : List Range) (bound : Bound) : Type 0 where
+  pub range : Range
+  pub known : slice_get ranges bound.range ≡ Some range
+  pub from : range.low ≤ bound.low
+  pub to : bound.high ≤ range.high
+  pub room : bound.low ≤ bound.high

@@ -40,7 +40,7 @@ asked line from to conditions answer = record {
   answer = answer;
   other_level = false;
   omitted_stage = false;
-  decision = None
+  decision = None;
 }
 
 abbrev pub request : ℕ → ℕ → ℕ → Answer → Event
@@ -65,7 +65,7 @@ history snapshot events order spans versions removals = record {
   removals = removals;
   body = λ event tree. true;
   listable = λ event tree. true;
-  decides = λ event places. true
+  decides = λ event places. true;
 }
 
 abbrev pub line : ℕ → PlacedAnswer → PlacedLine
@@ -139,7 +139,7 @@ removal_seen_early_outcome = Explained (line 1 (placed.Made 14) ∷ line 2 (plac
 abbrev pub one_removal : History
 one_removal = history []
     (request 1 1 2 (Made (object a 14 A 1) true) ∷ request 2 3 20 (Removed a A) ∷ request 3 5 6 (SawNone a)
-      ∷ request 4 7 8 (Made (object b 16 B 1) true) ∷ request 5 9 10 (Saw (object a 14 A 1)) ∷ [])
+    ∷ request 4 7 8 (Made (object b 16 B 1) true) ∷ request 5 9 10 (Saw (object a 14 A 1)) ∷ [])
     (0 ∷ 2 ∷ 3 ∷ 4 ∷ 1 ∷ []) (written 14 1 2 ∷ written 16 7 8 ∷ [])
     (version (object a 14 A 1) (ByEvent 0) ∷ version (object b 16 B 1) (ByEvent 3) ∷ []) (removal_of_a ∷ [])
 
@@ -181,7 +181,7 @@ pod_cover = record { group = []; resource = codes "pods"; namespace = Some (code
 abbrev pub hidden_write : History
 hidden_write = history (object p 9 P 1 ∷ [])
     (request 1 1 2 (Opaque pod_cover) ∷ request 2 3 4 (Saw (object p 12 P 2))
-      ∷ asked 3 5 6 (record { revision = Some 12; uid = Some P }) (Made (object p 15 P 3) false) ∷ request 4 7 8 (Saw (object p 15 P 3)) ∷ [])
+    ∷ asked 3 5 6 (record { revision = Some 12; uid = Some P }) (Made (object p 15 P 3) false) ∷ request 4 7 8 (Saw (object p 15 P 3)) ∷ [])
     (0 ∷ 1 ∷ 2 ∷ 3 ∷ []) (written 15 5 6 ∷ []) (version (object p 9 P 1) Snapshot ∷ version (object p 15 P 3) (ByEvent 2) ∷ []) []
 
 abbrev pub hidden_write_outcome : Outcome
@@ -190,8 +190,8 @@ hidden_write_outcome = Explained (line 1 placed.Nowhere ∷ line 2 (placed.At 11
 abbrev pub hidden_no_more : History
 hidden_no_more = history (object p 9 P 1 ∷ [])
     (request 1 1 2 (Opaque pod_cover) ∷ request 2 3 4 (Saw (object p 12 P 2))
-      ∷ asked 3 5 6 (record { revision = Some 12; uid = Some P }) (Made (object p 15 P 3) false) ∷ request 4 7 8 (Saw (object p 15 P 3))
-      ∷ request 5 9 10 (Saw (object p 13 P 2)) ∷ [])
+    ∷ asked 3 5 6 (record { revision = Some 12; uid = Some P }) (Made (object p 15 P 3) false) ∷ request 4 7 8 (Saw (object p 15 P 3))
+    ∷ request 5 9 10 (Saw (object p 13 P 2)) ∷ [])
     (0 ∷ 1 ∷ 2 ∷ 3 ∷ 4 ∷ []) (written 15 5 6 ∷ []) (version (object p 9 P 1) Snapshot ∷ version (object p 15 P 3) (ByEvent 2) ∷ []) []
 
 abbrev pub hidden_no_more_outcome : Outcome

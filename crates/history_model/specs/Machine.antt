@@ -30,7 +30,7 @@ abbrev pub after_all : Map → List Step → Map
 after_all map [] = map
 after_all map (step ∷ steps) = after_all (after map step) steps
 
--- what the machine begins with
+-- The machine begins with the snapshot: its objects are the versions up to the start.
 abbrev pub snapshot_map : History → Map
 snapshot_map h key = latest h.versions key h.start
 

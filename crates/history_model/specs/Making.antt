@@ -34,9 +34,13 @@ abbrev pub IsOtherObject : Making → Option Version → Type 0
 IsOtherObject m None = Unit {0}
 IsOtherObject m (Some v) = v.uid ≢ m.item.uid
 
+-- the revision isn't one that the write can have made between its moments
+abbrev pub IsOutOfReach : (low high revision : ℕ) → Type 0
+IsOutOfReach low high revision = (revision ≤ low) ⊎ (high < revision)
+
 -- Why a write could not have made its revision, `before` being the object that was there before it.
 pub data HasFault (h : History) (m : Making) (before : Option Version) (code : Reason) : Type 0 where
-  outside : code ≡ U3 → (m.item.revision ≤ lowest h m.event.lo) ⊎ (highest h m.event.hi < m.item.revision) → HasFault h m before code
+  outside : code ≡ U3 → IsOutOfReach (lowest h m.event.lo) (highest h m.event.hi) m.item.revision → HasFault h m before code
   present : code ≡ U4 → IsClear h m → m.created ≡ true → IsSome before → HasFault h m before code
   used : code ≡ U5 → m.created ≡ true → IsUsedUid h m → HasFault h m before code
   replaced : code ≡ U6 → IsClear h m → m.created ≡ false → IsOtherObject m before → HasFault h m before code

@@ -69,5 +69,5 @@ abbrev pub placement_of : History → List PlacedLine → Placement
 placement_of h lines = record {
   choice = map (λ (removal : Removal). line_place (slice_get lines removal.range.event)) h.removals;
   at_place = λ number. line_place (slice_get lines number);
-  decided = λ number. line_places (slice_get lines number)
+  decided = λ number. line_places (slice_get lines number);
 }

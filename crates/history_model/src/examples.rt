@@ -12,8 +12,7 @@ pub fn explained_examples()
     ensures removal_seen_early { IsReadable removal_seen_early × IsOutcome removal_seen_early removal_seen_early_outcome }
     ensures conflict_unasked { IsReadable conflict_unasked × IsOutcome conflict_unasked conflict_unasked_outcome }
     ensures hidden_write { IsReadable hidden_write × IsOutcome hidden_write hidden_write_outcome }
-{
-}
+{}
 
 /// Unexplained ones, with the event, its code, its window and the writes there.
 pub fn unexplained_examples()
@@ -24,5 +23,4 @@ pub fn unexplained_examples()
     ensures conflict { IsReadable conflict × IsOutcome conflict conflict_outcome }
     ensures hidden_no_more { IsReadable hidden_no_more × IsOutcome hidden_no_more hidden_no_more_outcome }
     ensures out_of_turn { IsReadable out_of_turn × IsOutcome out_of_turn out_of_turn_outcome }
-{
-}
+{}

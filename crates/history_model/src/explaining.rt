@@ -20,8 +20,7 @@ ghost use Rattle.history_model.specs.Runs.{IsRun, IsExplainedUpTo};
 pub fn explained_law()
     ensures { (h : History) (n : ℕ) → IsReadable h
         → IsExplainedUpTo h n ↔ ((choice : List ℕ) × IsChoice (ranges h) choice × AreRightUpTo h n choice) }
-{
-}
+{}
 
 /// Exact claims and what settles them give the outcome: the least choice with the lines that it places, or
 /// the first event that breaks with its code and the writes in its window.
@@ -33,8 +32,7 @@ pub fn outcome_law()
         → IsReadable h → AreExact h claims → IsEvent h number event → BreaksFirst (ranges h) claims h.order number reason
         → AreWrites h (shown_low h event reason) (shown_high h event reason) writes
         → IsOutcome h (Unexplained number reason (shown_low h event reason) (shown_high h event reason) writes) }
-{
-}
+{}
 
 /// The printed placement is a run, whose choice is the least of all runs, and its check finds no fault.
 pub fn printed_law()
@@ -43,18 +41,15 @@ pub fn printed_law()
         → IsRun h (placement_of h lines) × ((placement_of h lines).choice ≡ choice) }
     ensures verified { (h : History) (choice : List ℕ) (lines : List PlacedLine)
         → IsReadable h → IsLeastOfRuns h choice → ArePlacedLines h choice lines → IsVerified h lines }
-{
-}
+{}
 
 /// A history has one outcome.
 pub fn one_outcome_law()
     ensures { (h : History) (a b : Outcome) → IsReadable h → IsOutcome h a → IsOutcome h b → a ≡ b }
-{
-}
+{}
 
 /// A setup and a log have one order of judgement, one list of spans, one of versions and one of removals.
 pub fn one_list_law()
     ensures { (g h : History) → HaveOneLog g h → IsReadable g → IsReadable h
         → (g.order ≡ h.order) × (g.spans ≡ h.spans) × (g.versions ≡ h.versions) × (g.removals ≡ h.removals) }
-{
-}
+{}

@@ -10,8 +10,8 @@ mod explaining;
 mod running;
 
 pub use bounding::{
-    absent_law, bound_law, found_law, list_law, listed_law, present_law, refused_law, shown_law,
-    unplaced_law,
+    absent_law, bound_law, choice_law, found_law, list_law, listed_law, present_law, refused_law,
+    shown_law, unplaced_law,
 };
 pub use checking::{fault_law, spelling_law, verified_law};
 pub use examples::{explained_examples, unexplained_examples};

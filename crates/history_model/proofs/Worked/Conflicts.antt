@@ -61,21 +61,21 @@ readable_conflict = record {
   spans = record {
     rising = rising_is (λ (s : Span). s.revision) conflict.spans refl;
     sound = each_of (IsSpan conflict) conflict.spans (span_is conflict m0_conflict is0_conflict group0_conflict (written 14 1 2) (omega arith) refl refl refl (inl (m0_conflict, record { making = is0_conflict; of_key = refl; at_revision = refl }, inl refl)), tt);
-    full = each_making conflict (λ m. 10 < m.item.revision → (span : Span) × Contains conflict.spans span × (span.revision ≡ m.item.revision)) ((λ l. (written 14 1 2, (0, omega arith, refl), refl)), (tt, tt))
+    full = each_making conflict (λ m. 10 < m.item.revision → (span : Span) × Contains conflict.spans span × (span.revision ≡ m.item.revision)) ((λ l. (written 14 1 2, (0, omega arith, refl), refl)), (tt, tt));
   };
   versions = record {
     rising = rising_is (λ (v : Version). v.revision) conflict.versions refl;
     sound = each_of (λ v. IsSnapshotVersion conflict v ⊎ IsMadeVersion conflict v) conflict.versions (inr (made_sole conflict m0_conflict is0_conflict group0_conflict (v14) (omega arith) refl refl refl refl refl None refl fine0_conflict U4 (creates refl refl)), tt);
     full_snapshot = each_of (λ i. (v : Version) × Contains conflict.versions v × (item_of v ≡ i)) conflict.snapshot tt;
-    full_log = each_making conflict (λ m. 10 < m.item.revision → (v : Version) × Contains conflict.versions v × (v.revision ≡ m.item.revision)) ((λ l. (v14, (0, omega arith, refl), refl)), (tt, tt))
+    full_log = each_making conflict (λ m. 10 < m.item.revision → (v : Version) × Contains conflict.versions v × (v.revision ≡ m.item.revision)) ((λ l. (v14, (0, omega arith, refl), refl)), (tt, tt));
   };
-  removals = no_removals conflict refl ((λ k u e. cc e), ((λ k u e. cc e), tt))
+  removals = no_removals conflict refl ((λ k u e. cc e), ((λ k u e. cc e), tt));
 }
 
 right0_conflict : (choice : List ℕ) → IsRightUnder conflict choice 0 e0
 right0_conflict choice = record {
   fixed = record { level = refl; stage = refl; by_word = λ before e. subst (λ z. HasNoFault conflict m0_conflict z) (sym e) fine0_conflict; decision = λ d e. absurd (cc e) };
-  answer = λ w. absurd (cc w)
+  answer = λ w. absurd (cc w);
 }
 
 abbrev m0_conflict_unasked : Making
@@ -103,21 +103,21 @@ readable_conflict_unasked = record {
   spans = record {
     rising = rising_is (λ (s : Span). s.revision) conflict_unasked.spans refl;
     sound = each_of (IsSpan conflict_unasked) conflict_unasked.spans (span_is conflict_unasked m0_conflict_unasked is0_conflict_unasked group0_conflict_unasked (written 14 1 2) (omega arith) refl refl refl (inl (m0_conflict_unasked, record { making = is0_conflict_unasked; of_key = refl; at_revision = refl }, inl refl)), tt);
-    full = each_making conflict_unasked (λ m. 10 < m.item.revision → (span : Span) × Contains conflict_unasked.spans span × (span.revision ≡ m.item.revision)) ((λ l. (written 14 1 2, (0, omega arith, refl), refl)), (tt, tt))
+    full = each_making conflict_unasked (λ m. 10 < m.item.revision → (span : Span) × Contains conflict_unasked.spans span × (span.revision ≡ m.item.revision)) ((λ l. (written 14 1 2, (0, omega arith, refl), refl)), (tt, tt));
   };
   versions = record {
     rising = rising_is (λ (v : Version). v.revision) conflict_unasked.versions refl;
     sound = each_of (λ v. IsSnapshotVersion conflict_unasked v ⊎ IsMadeVersion conflict_unasked v) conflict_unasked.versions (inr (made_sole conflict_unasked m0_conflict_unasked is0_conflict_unasked group0_conflict_unasked (v14) (omega arith) refl refl refl refl refl None refl fine0_conflict_unasked U4 (creates refl refl)), tt);
     full_snapshot = each_of (λ i. (v : Version) × Contains conflict_unasked.versions v × (item_of v ≡ i)) conflict_unasked.snapshot tt;
-    full_log = each_making conflict_unasked (λ m. 10 < m.item.revision → (v : Version) × Contains conflict_unasked.versions v × (v.revision ≡ m.item.revision)) ((λ l. (v14, (0, omega arith, refl), refl)), (tt, tt))
+    full_log = each_making conflict_unasked (λ m. 10 < m.item.revision → (v : Version) × Contains conflict_unasked.versions v × (v.revision ≡ m.item.revision)) ((λ l. (v14, (0, omega arith, refl), refl)), (tt, tt));
   };
-  removals = no_removals conflict_unasked refl ((λ k u e. cc e), ((λ k u e. cc e), tt))
+  removals = no_removals conflict_unasked refl ((λ k u e. cc e), ((λ k u e. cc e), tt));
 }
 
 right0_conflict_unasked : (choice : List ℕ) → IsRightUnder conflict_unasked choice 0 e0
 right0_conflict_unasked choice = record {
   fixed = record { level = refl; stage = refl; by_word = λ before e. subst (λ z. HasNoFault conflict_unasked m0_conflict_unasked z) (sym e) fine0_conflict_unasked; decision = λ d e. absurd (cc e) };
-  answer = λ w. absurd (cc w)
+  answer = λ w. absurd (cc w);
 }
 
 nothing : (other : List ℕ) → IsChoice [] other → AllZip ◌≤◌ [] other
@@ -149,8 +149,8 @@ refused_outcome = record {
     sorted = λ i j d l m. absurd (omega (arith, l, m));
     sound = each_of (IsWriteIn conflict 14 last_place) (MadeAt 14 1 a ∷ [])
         (made_in conflict 14 last_place v14 m0_conflict (0, omega arith, refl) (omega arith) (omega arith) (omega arith) (record { making = is0_conflict; of_key = refl; at_revision = refl }, refl), tt);
-    full = all
-  }
+    full = all;
+  };
 }
   where
     all : (w : Write) → IsWriteIn conflict 14 last_place w → Contains (MadeAt 14 1 a ∷ []) w
@@ -159,8 +159,10 @@ refused_outcome = record {
         (made_line conflict 14 last_place revision line key v14 0 e0 refl refl w (each_of (λ v. v ≡ v14) conflict.versions (refl, tt) w.version w.known))
 
 rights : EachAt (λ n e. IsRightUnder conflict_unasked [] n e) conflict_unasked.events
-rights = (right0_conflict_unasked [],
-    (record { fixed = record { level = refl; stage = refl; by_word = tt; decision = λ d e. absurd (cc e) }; answer = λ w. absurd (cc w) }, tt))
+rights = (
+  right0_conflict_unasked [],
+  (record { fixed = record { level = refl; stage = refl; by_word = tt; decision = λ d e. absurd (cc e) }; answer = λ w. absurd (cc w) }, tt),
+)
 
 placed_lines : EachLine (λ n e l. IsPlacedLine conflict_unasked [] n e l) conflict_unasked.events (line 1 (placed.Made 14) ∷ line 2 placed.Nowhere ∷ [])
 placed_lines = (record { of_event = refl; answer = refl; decision = refl }, (record { of_event = refl; answer = refl; decision = refl }, tt))

@@ -42,7 +42,7 @@ readable = record {
   spans = record {
     rising = rising_is (λ (s : Span). s.revision) create_and_get.spans refl;
     sound = each_of (IsSpan create_and_get) create_and_get.spans (span_is create_and_get m0 is0 group0 (written 11 1 2) (omega arith) refl refl refl (inl (m0, record { making = is0; of_key = refl; at_revision = refl }, inl refl)), tt);
-    full = each_making create_and_get (λ m. 10 < m.item.revision → (span : Span) × Contains create_and_get.spans span × (span.revision ≡ m.item.revision)) ((λ l. (written 11 1 2, here (written 11 1 2) [], refl)), (tt, tt))
+    full = each_making create_and_get (λ m. 10 < m.item.revision → (span : Span) × Contains create_and_get.spans span × (span.revision ≡ m.item.revision)) ((λ l. (written 11 1 2, here (written 11 1 2) [], refl)), (tt, tt));
   };
   versions = record {
     rising = rising_is (λ (v : Version). v.revision) create_and_get.versions refl;
@@ -50,22 +50,26 @@ readable = record {
         (inr (made_sole create_and_get m0 is0 group0 (version (object a 11 A 1) (ByEvent 0)) (omega arith) refl refl refl refl refl None refl fine0 U4 (creates refl refl)), tt);
     full_snapshot = λ item c. absurd (not_in_none c);
     full_log = each_making create_and_get (λ m. 10 < m.item.revision → (v : Version) × Contains create_and_get.versions v × (v.revision ≡ m.item.revision))
-        ((λ l. (version (object a 11 A 1) (ByEvent 0), here (version (object a 11 A 1) (ByEvent 0)) [], refl)), (tt, tt))
+        ((λ l. (version (object a 11 A 1) (ByEvent 0), here (version (object a 11 A 1) (ByEvent 0)) [], refl)), (tt, tt));
   };
-  removals = no_removals create_and_get refl ((λ k u e. cc e), ((λ k u e. cc e), tt))
+  removals = no_removals create_and_get refl ((λ k u e. cc e), ((λ k u e. cc e), tt));
 }
 
 rights : EachAt (λ n e. IsRightUnder create_and_get [] n e) create_and_get.events
-rights = (record { fixed = record { level = refl; stage = refl; by_word = λ before e. subst (λ z. HasNoFault create_and_get m0 z) (sym e) fine0; decision = λ d e. absurd (cc e) }; answer = λ w. absurd (cc w) },
-    (record { fixed = record { level = refl; stage = refl; by_word = tt; decision = λ d e. absurd (cc e) }; answer = λ w. (11, (omega arith, omega arith), inr (refl, refl, refl)) }, tt))
+rights = (
+  record { fixed = record { level = refl; stage = refl; by_word = λ before e. subst (λ z. HasNoFault create_and_get m0 z) (sym e) fine0; decision = λ d e. absurd (cc e) }; answer = λ w. absurd (cc w) },
+  (record { fixed = record { level = refl; stage = refl; by_word = tt; decision = λ d e. absurd (cc e) }; answer = λ w. (11, (omega arith, omega arith), inr (refl, refl, refl)) }, tt),
+)
 
 nothing : (other : List ℕ) → IsChoice [] other → AllZip ◌≤◌ [] other
 nothing [] c = tt
 nothing (x ∷ xs) c = absurd c
 
 placed_lines : EachLine (λ n e l. IsPlacedLine create_and_get [] n e l) create_and_get.events (line 1 (placed.Made 11) ∷ line 2 (placed.At 11) ∷ [])
-placed_lines = (record { of_event = refl; answer = refl; decision = refl },
-    (record { of_event = refl; answer = (11, record { inside = (omega arith, omega arith); right = inr (refl, refl, refl); least = λ other w r. omega (arith, w.0) }, refl); decision = refl }, tt))
+placed_lines = (
+  record { of_event = refl; answer = refl; decision = refl },
+  (record { of_event = refl; answer = (11, record { inside = (omega arith, omega arith); right = inr (refl, refl, refl); least = λ other w r. omega (arith, w.0) }, refl); decision = refl }, tt),
+)
 
 pub outcome : IsOutcome create_and_get create_and_get_outcome
 outcome = explanation create_and_get [] (line 1 (placed.Made 11) ∷ line 2 (placed.At 11) ∷ []) readable tt rights nothing (lines_are create_and_get [] (line 1 (placed.Made 11) ∷ line 2 (placed.At 11) ∷ []) placed_lines)

@@ -61,11 +61,16 @@ group2_hidden_write : IsGroup hidden_write m2_hidden_write
 group2_hidden_write = each_making hidden_write (λ o. o.item.revision ≡ 15 → Follows m2_hidden_write o) (tt, (tt, ((λ q. (refl, omega (arith, ints), omega (arith, ints), not_before e2 e2 refl refl (omega (arith, ints)) (λ z. omega arith))), (tt, tt))))
 
 cloud_hidden_write : (place : ℕ) → 10 < place → place < 15 → IsClouded hidden_write p place
-cloud_hidden_write place l u = (0, e0, refl, record {
-  hides = (pod_cover, refl, covered);
-  begun = l;
-  unseen = λ v c k b. each_of (λ v. 14 < v.revision → place < v.revision) hidden_write.versions ((λ b. absurd (omega (arith, b))), ((λ b. u), tt)) v c b
-})
+cloud_hidden_write place l u = (
+  0,
+  e0,
+  refl,
+  record {
+    hides = (pod_cover, refl, covered);
+    begun = l;
+    unseen = λ v c k b. each_of (λ v. 14 < v.revision → place < v.revision) hidden_write.versions ((λ b. absurd (omega (arith, b))), ((λ b. u), tt)) v c b;
+  },
+)
 
 -- and nowhere else
 cloud_in_hidden_write : (place : ℕ) → IsClouded hidden_write p place → (10 < place) × (place < 15)
@@ -91,15 +96,15 @@ readable_hidden_write = record {
   spans = record {
     rising = rising_is (λ (s : Span). s.revision) hidden_write.spans refl;
     sound = each_of (IsSpan hidden_write) hidden_write.spans (span_is hidden_write m2_hidden_write is2_hidden_write group2_hidden_write (written 15 5 6) (omega arith) refl refl refl (inl (m2_hidden_write, record { making = is2_hidden_write; of_key = refl; at_revision = refl }, inr (λ q. omega (arith, q)))), tt);
-    full = each_making hidden_write (λ m. 10 < m.item.revision → (span : Span) × Contains hidden_write.spans span × (span.revision ≡ m.item.revision)) (tt, (tt, ((λ l. (written 15 5 6, (0, omega arith, refl), refl)), (tt, tt))))
+    full = each_making hidden_write (λ m. 10 < m.item.revision → (span : Span) × Contains hidden_write.spans span × (span.revision ≡ m.item.revision)) (tt, (tt, ((λ l. (written 15 5 6, (0, omega arith, refl), refl)), (tt, tt))));
   };
   versions = record {
     rising = rising_is (λ (v : Version). v.revision) hidden_write.versions refl;
     sound = each_of (λ v. IsSnapshotVersion hidden_write v ⊎ IsMadeVersion hidden_write v) hidden_write.versions (inl (record { below = omega arith; maker = refl; listed = (0, omega arith, refl) }), (inr (made_sole hidden_write m2_hidden_write is2_hidden_write group2_hidden_write v15 (omega arith) refl refl refl refl refl (Some v9) entry_hidden_write fine2_hidden_write U7 (excludes refl (λ x. omega (arith, x.0)))), tt));
     full_snapshot = each_of (λ i. (v : Version) × Contains hidden_write.versions v × (item_of v ≡ i)) hidden_write.snapshot ((v9, (0, omega arith, refl), refl), tt);
-    full_log = each_making hidden_write (λ m. 10 < m.item.revision → (v : Version) × Contains hidden_write.versions v × (v.revision ≡ m.item.revision)) (tt, (tt, ((λ l. (v15, (1, omega arith, refl), refl)), (tt, tt))))
+    full_log = each_making hidden_write (λ m. 10 < m.item.revision → (v : Version) × Contains hidden_write.versions v × (v.revision ≡ m.item.revision)) (tt, (tt, ((λ l. (v15, (1, omega arith, refl), refl)), (tt, tt))));
   };
-  removals = no_removals hidden_write refl ((λ k u e. cc e), ((λ k u e. cc e), ((λ k u e. cc e), ((λ k u e. cc e), tt))))
+  removals = no_removals hidden_write refl ((λ k u e. cc e), ((λ k u e. cc e), ((λ k u e. cc e), ((λ k u e. cc e), tt))));
 }
 
 right0_hidden_write : (choice : List ℕ) → IsRightUnder hidden_write choice 0 e0
@@ -111,7 +116,7 @@ right1_hidden_write choice = record { fixed = record { level = refl; stage = ref
 right2_hidden_write : (choice : List ℕ) → IsRightUnder hidden_write choice 2 e2
 right2_hidden_write choice = record {
   fixed = record { level = refl; stage = refl; by_word = λ before e. subst (λ z. HasNoFault hidden_write m2_hidden_write z) (same_entry_hidden_write before e) fine2_hidden_write; decision = λ d e. absurd (cc e) };
-  answer = λ w. absurd (cc w)
+  answer = λ w. absurd (cc w);
 }
 
 right3_hidden_write : IsRightUnder hidden_write [] 3 e3
@@ -127,11 +132,16 @@ group2_hidden_no_more : IsGroup hidden_no_more m2_hidden_no_more
 group2_hidden_no_more = each_making hidden_no_more (λ o. o.item.revision ≡ 15 → Follows m2_hidden_no_more o) (tt, (tt, ((λ q. (refl, omega (arith, ints), omega (arith, ints), not_before e2 e2 refl refl (omega (arith, ints)) (λ z. omega arith))), (tt, (tt, tt)))))
 
 cloud_hidden_no_more : (place : ℕ) → 10 < place → place < 15 → IsClouded hidden_no_more p place
-cloud_hidden_no_more place l u = (0, e0, refl, record {
-  hides = (pod_cover, refl, covered);
-  begun = l;
-  unseen = λ v c k b. each_of (λ v. 14 < v.revision → place < v.revision) hidden_no_more.versions ((λ b. absurd (omega (arith, b))), ((λ b. u), tt)) v c b
-})
+cloud_hidden_no_more place l u = (
+  0,
+  e0,
+  refl,
+  record {
+    hides = (pod_cover, refl, covered);
+    begun = l;
+    unseen = λ v c k b. each_of (λ v. 14 < v.revision → place < v.revision) hidden_no_more.versions ((λ b. absurd (omega (arith, b))), ((λ b. u), tt)) v c b;
+  },
+)
 
 -- and nowhere else
 cloud_in_hidden_no_more : (place : ℕ) → IsClouded hidden_no_more p place → (10 < place) × (place < 15)
@@ -157,15 +167,15 @@ readable_hidden_no_more = record {
   spans = record {
     rising = rising_is (λ (s : Span). s.revision) hidden_no_more.spans refl;
     sound = each_of (IsSpan hidden_no_more) hidden_no_more.spans (span_is hidden_no_more m2_hidden_no_more is2_hidden_no_more group2_hidden_no_more (written 15 5 6) (omega arith) refl refl refl (inl (m2_hidden_no_more, record { making = is2_hidden_no_more; of_key = refl; at_revision = refl }, inr (λ q. omega (arith, q)))), tt);
-    full = each_making hidden_no_more (λ m. 10 < m.item.revision → (span : Span) × Contains hidden_no_more.spans span × (span.revision ≡ m.item.revision)) (tt, (tt, ((λ l. (written 15 5 6, (0, omega arith, refl), refl)), (tt, (tt, tt)))))
+    full = each_making hidden_no_more (λ m. 10 < m.item.revision → (span : Span) × Contains hidden_no_more.spans span × (span.revision ≡ m.item.revision)) (tt, (tt, ((λ l. (written 15 5 6, (0, omega arith, refl), refl)), (tt, (tt, tt)))));
   };
   versions = record {
     rising = rising_is (λ (v : Version). v.revision) hidden_no_more.versions refl;
     sound = each_of (λ v. IsSnapshotVersion hidden_no_more v ⊎ IsMadeVersion hidden_no_more v) hidden_no_more.versions (inl (record { below = omega arith; maker = refl; listed = (0, omega arith, refl) }), (inr (made_sole hidden_no_more m2_hidden_no_more is2_hidden_no_more group2_hidden_no_more v15 (omega arith) refl refl refl refl refl (Some v9) entry_hidden_no_more fine2_hidden_no_more U7 (excludes refl (λ x. omega (arith, x.0)))), tt));
     full_snapshot = each_of (λ i. (v : Version) × Contains hidden_no_more.versions v × (item_of v ≡ i)) hidden_no_more.snapshot ((v9, (0, omega arith, refl), refl), tt);
-    full_log = each_making hidden_no_more (λ m. 10 < m.item.revision → (v : Version) × Contains hidden_no_more.versions v × (v.revision ≡ m.item.revision)) (tt, (tt, ((λ l. (v15, (1, omega arith, refl), refl)), (tt, (tt, tt)))))
+    full_log = each_making hidden_no_more (λ m. 10 < m.item.revision → (v : Version) × Contains hidden_no_more.versions v × (v.revision ≡ m.item.revision)) (tt, (tt, ((λ l. (v15, (1, omega arith, refl), refl)), (tt, (tt, tt)))));
   };
-  removals = no_removals hidden_no_more refl ((λ k u e. cc e), ((λ k u e. cc e), ((λ k u e. cc e), ((λ k u e. cc e), ((λ k u e. cc e), tt)))))
+  removals = no_removals hidden_no_more refl ((λ k u e. cc e), ((λ k u e. cc e), ((λ k u e. cc e), ((λ k u e. cc e), ((λ k u e. cc e), tt)))));
 }
 
 right0_hidden_no_more : (choice : List ℕ) → IsRightUnder hidden_no_more choice 0 e0
@@ -177,7 +187,7 @@ right1_hidden_no_more choice = record { fixed = record { level = refl; stage = r
 right2_hidden_no_more : (choice : List ℕ) → IsRightUnder hidden_no_more choice 2 e2
 right2_hidden_no_more choice = record {
   fixed = record { level = refl; stage = refl; by_word = λ before e. subst (λ z. HasNoFault hidden_no_more m2_hidden_no_more z) (same_entry_hidden_no_more before e) fine2_hidden_no_more; decision = λ d e. absurd (cc e) };
-  answer = λ w. absurd (cc w)
+  answer = λ w. absurd (cc w);
 }
 
 right3_hidden_no_more : IsRightUnder hidden_no_more [] 3 e3
@@ -198,8 +208,13 @@ shown_place : IsLeastPlace hidden_write [] 3 e3 15
 shown_place = record { inside = (omega arith, omega arith); right = inr (refl, refl, refl); least = λ other w x. omega (arith, w.0) }
 
 placed_lines : EachLine (λ n e l. IsPlacedLine hidden_write [] n e l) hidden_write.events (line 1 placed.Nowhere ∷ line 2 (placed.At 11) ∷ line 3 (placed.Made 15) ∷ line 4 (placed.At 15) ∷ [])
-placed_lines = (record { of_event = refl; answer = refl; decision = refl }, (record { of_event = refl; answer = (11, hidden_place, refl); decision = refl },
-    (record { of_event = refl; answer = refl; decision = refl }, (record { of_event = refl; answer = (15, shown_place, refl); decision = refl }, tt))))
+placed_lines = (
+  record { of_event = refl; answer = refl; decision = refl },
+  (
+    record { of_event = refl; answer = (11, hidden_place, refl); decision = refl },
+    (record { of_event = refl; answer = refl; decision = refl }, (record { of_event = refl; answer = (15, shown_place, refl); decision = refl }, tt)),
+  ),
+)
 
 pub hidden : IsOutcome hidden_write hidden_write_outcome
 hidden = explanation hidden_write [] (line 1 placed.Nowhere ∷ line 2 (placed.At 11) ∷ line 3 (placed.Made 15) ∷ line 4 (placed.At 15) ∷ []) readable_hidden_write tt
@@ -222,8 +237,13 @@ pub no_more : IsOutcome hidden_no_more hidden_no_more_outcome
 no_more = record {
   event = e4;
   earliest = earliest hidden_no_more [] 4 4 e4 U10 readable_hidden_no_more refl refl tt
-      (judged_right hidden_no_more 4 [] (right_for hidden_no_more [] 0 e0 refl (right0_hidden_no_more []), (right_for hidden_no_more [] 1 e1 refl (right1_hidden_no_more []),
-        (right_for hidden_no_more [] 2 e2 refl (right2_hidden_no_more []), (right_for hidden_no_more [] 3 e3 refl right3_hidden_no_more, tt)))))
+      (judged_right hidden_no_more 4 [] (
+        right_for hidden_no_more [] 0 e0 refl (right0_hidden_no_more []),
+        (
+          right_for hidden_no_more [] 1 e1 refl (right1_hidden_no_more []),
+          (right_for hidden_no_more [] 2 e2 refl (right2_hidden_no_more []), (right_for hidden_no_more [] 3 e3 refl right3_hidden_no_more, tt)),
+        ),
+      ))
       (λ other c f x. not_thirteen other x.answer)
       (reader_least hidden_no_more 4 4 e4 refl refl refl refl (λ i c e. cc e) (inl (answer refl refl (λ choice c f. not_thirteen choice f))));
   from = refl;
@@ -232,12 +252,12 @@ no_more = record {
     sorted = λ i j d l m. absurd (omega (arith, l, m));
     sound = each_of (IsWriteIn hidden_no_more 15 last_place) (MadeAt 15 3 p ∷ [])
         (made_in hidden_no_more 15 last_place v15 m2_hidden_no_more (1, omega arith, refl) (omega arith) (omega arith) (omega arith) (record { making = is2_hidden_no_more; of_key = refl; at_revision = refl }, refl), tt);
-    full = all
-  }
+    full = all;
+  };
 }
   where
     all : (w : Write) → IsWriteIn hidden_no_more 15 last_place w → Contains (MadeAt 15 3 p ∷ []) w
     all (RemovedIn low high line key) w = absurd (not_in_none w.known)
     all (MadeAt revision line key) w = listed_at (MadeAt 15 3 p) (MadeAt revision line key) []
         (made_line hidden_no_more 15 last_place revision line key v15 2 e2 refl refl w
-          (each_of (λ v. 10 < v.revision → v ≡ v15) hidden_no_more.versions ((λ l. absurd (omega (arith, l))), ((λ l. refl), tt)) w.version w.known w.above))
+        (each_of (λ v. 10 < v.revision → v ≡ v15) hidden_no_more.versions ((λ l. absurd (omega (arith, l))), ((λ l. refl), tt)) w.version w.known w.above))

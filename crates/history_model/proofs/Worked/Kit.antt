@@ -1,8 +1,6 @@
 -- What small closed histories need.
 use Rattle.std.proofs.Common.{◌≡◌, ◌≢◌, ℕ, ℤ, pos, zero, suc, ◌<◌, ◌≤◌, ◌≤ℤ◌, ◌<ℤ◌, ◌+◌, ◌-◌, min, max, bytes_eq, ◌⊎◌, Bool, true, false, not, ◌&&◌, nat_lt, int_lt, ◌==◌, List, [], ◌∷◌, length, map, take, slice_get, Option, Some, None, IsSome, All, AllPairs, Contains, inl, inr, refl, sym, ap, ap₂, ◌∙◌, subst, arith, true≢false}
 use Rattle.std.specs.List.{AllZip, list_any}
-use mathlib.Core.HLevel.{is_prop→PathP}
-use Rattle.std.proofs.Math.Bridge.{le_prop}
 use Rattle.std.specs.Cmp.Lexicographic.{bytes_decides}
 use Rattle.std.proofs.lemmas.Int.{ints}
 use Rattle.std.proofs.lemmas.Bool.Decides.{leb_tells}
@@ -13,6 +11,7 @@ use Rattle.base_types.specs.declared.claim.Range.{Range}
 use Rattle.base_types.specs.declared.claim.Reason.{Reason}
 use Rattle.base_types.specs.declared.key.ObjectKey.{ObjectKey}
 use Rattle.base_types.specs.declared.placed.PlacedLine.{PlacedLine}
+use Rattle.history_model.proofs.CutLemmas.{same_removal}
 use Rattle.history_model.proofs.Fits.{same_event}
 use Rattle.history_model.proofs.Global.{global_is, right_has_run}
 use Rattle.history_model.proofs.JudgingLemmas.{judged_once}
@@ -110,6 +109,7 @@ above_is {X} f x (z ∷ zs) e y c = go (above_is f x zs parts.1 y) (in_cons z zs
   where
     parts : (nat_lt (f x) (f z) ≡ true) × (above_all (f x) (map f zs) ≡ true)
     parts = and_true (nat_lt (f x) (f z)) (above_all (f x) (map f zs)) e
+
     go : (Contains zs y → f x < f y) → (z ≡ y) ⊎ Contains zs y → f x < f y
     go more (inl q) = subst (λ w. f x < f w) q (lt_test (f x) (f z) parts.0)
     go more (inr d) = more d
@@ -134,9 +134,6 @@ ends_before_all h n (m ∷ ms) = ends_before (slice_get h.events n) (slice_get h
 abbrev pub is_sorted : History → List ℕ → Bool
 is_sorted h [] = true
 is_sorted h (n ∷ ns) = ends_before_all h n ns && is_sorted h ns
-
-has_number : ℕ → List ℕ → Bool
-has_number n xs = list_any (λ x. x == n) xs
 
 abbrev pub has_below : ℕ → List ℕ → Bool
 has_below zero xs = true
@@ -173,8 +170,10 @@ ends_is h n m e x y u v = judged_is x y (not_is (is_checkpoint x) p.0) (not_is (
   where
     f : (not (is_checkpoint x) && (not (is_checkpoint y) && int_lt x.hi y.hi)) ≡ true
     f = sym (ap₂ ends_before u v) ∙ e
+
     p : (not (is_checkpoint x) ≡ true) × ((not (is_checkpoint y) && int_lt x.hi y.hi) ≡ true)
     p = and_true (not (is_checkpoint x)) (not (is_checkpoint y) && int_lt x.hi y.hi) f
+
     q : (not (is_checkpoint y) ≡ true) × (int_lt x.hi y.hi ≡ true)
     q = and_true (not (is_checkpoint y)) (int_lt x.hi y.hi) p.1
 
@@ -184,6 +183,7 @@ ends_all_is h n (k ∷ ks) e m c = go (ends_all_is h n ks parts.1 m) (in_cons k 
   where
     parts : (ends_before (slice_get h.events n) (slice_get h.events k) ≡ true) × (ends_before_all h n ks ≡ true)
     parts = and_true (ends_before (slice_get h.events n) (slice_get h.events k)) (ends_before_all h n ks) e
+
     go : (Contains ks m → (x y : Event) → IsEvent h n x → IsEvent h m y → IsJudgedBefore x y) → (k ≡ m) ⊎ Contains ks m → (x y : Event) → IsEvent h n x → IsEvent h m y → IsJudgedBefore x y
     go more (inl q) = subst (λ z. (x y : Event) → IsEvent h n x → IsEvent h z y → IsJudgedBefore x y) q (ends_is h n k parts.0)
     go more (inr d) = more d
@@ -206,6 +206,7 @@ below_is n (x ∷ xs) e m c = go (below_is n xs parts.1 m) (in_cons x xs m c)
   where
     parts : (nat_lt x n ≡ true) × (below_each n xs ≡ true)
     parts = and_true (nat_lt x n) (below_each n xs) e
+
     go : (Contains xs m → m < n) → (x ≡ m) ⊎ Contains xs m → m < n
     go more (inl q) = subst (λ z. z < n) q (lt_test x n parts.0)
     go more (inr d) = more d
@@ -242,13 +243,15 @@ module _ (h : History) (first : Making) (is : IsMaking h first) (group : IsGroup
     key = first.item.key;
     belongs = subst (λ z. IsKeyOf h z first.item.key) (sym r) key_of;
     end = ((first, member_at, sym hi), λ t x. subst (λ z. z ≤ℤ t) (sym hi) (end x));
-    beginning = (inl (first, member_at, sym lo), λ t x. subst (λ z. z ≤ℤ t) (sym lo) (beginning x))
+    beginning = (inl (first, member_at, sym lo), λ t x. subst (λ z. z ≤ℤ t) (sym lo) (beginning x));
   }
     where
       member_at : IsMember h first.item.key span.revision first
       member_at = subst (λ z. IsMember h first.item.key z first) (sym r) member_of
+
       end : {t : ℤ} → IsEnd h first.item.key span.revision t → first.event.hi ≤ℤ t
       end (o, m, e) = subst (λ z. first.event.hi ≤ℤ z) e (group o m.making (m.at_revision ∙ r)).1
+
       beginning : {t : ℤ} → IsBeginning h first.item.key span.revision t → first.event.lo ≤ℤ t
       beginning (inl (o, m, e)) = subst (λ z. first.event.lo ≤ℤ z) e (group o m.making (m.at_revision ∙ r)).2
       beginning {t} (inr (n, (number, event, k, x, e))) = absurd (at s)
@@ -269,7 +272,7 @@ module _ (h : History) (first : Making) (is : IsMaking h first) (group : IsGroup
     m = first;
     shown = subst (λ z. IsShowing h v.key v.revision z first) (sym m) (subst (λ z. IsMember h z v.revision first) (sym k) (subst (λ z. IsMember h first.item.key z first) (sym r) member_of), refl);
     uid = u;
-    tree = t
+    tree = t;
   }
 
   -- a version whose first write must have made it
@@ -317,18 +320,11 @@ pub no_removals : (h : History) → h.removals ≡ [] → EachAt (λ n e. (key :
 no_removals h e f = record {
   rising = subst (λ xs. AllPairs (λ x y. x.range.event < y.range.event) xs) (sym e) (λ i j d l m. absurd (omega arith));
   sound = λ r c. absurd (not_in_none (subst (λ xs. Contains xs r) e c));
-  full = λ r i. absurd (each_event (λ n e. (key : ObjectKey) (uid : Text) → e.answer ≡ Removed key uid → ⊥) h.events f r.range.event i.behind.event i.behind.first.known i.version.key i.version.uid i.behind.first.holds)
+  full = λ r i. absurd (each_event (λ n e. (key : ObjectKey) (uid : Text) → e.answer ≡ Removed key uid → ⊥) h.events f r.range.event i.behind.event i.behind.first.known i.version.key i.version.uid i.behind.first.holds);
 }
 
 pub no_checkpoints : (h : History) → EachAt (λ n e. is_checkpoint e ≡ false) h.events → (number : ℕ) (event : Event) (revision : ℕ) → IsEvent h number event → event.reading ≡ Checkpoint revision → h.start ≤ revision
 no_checkpoints h f number event revision k e = absurd (true≢false (sym (ap is_checkpoint_reading e) ∙ each_event (λ n e. is_checkpoint e ≡ false) h.events f number event k))
-
--- removals are told apart by their numbers and texts
-pub same_removal : (x y : Removal) → x.key ≡ y.key → x.uid ≡ y.uid → x.last ≡ y.last → x.range.event ≡ y.range.event → x.range.low ≡ y.range.low → x.range.high ≡ y.range.high → x ≡ y
-same_removal x y k u l e f g = λ i. record { key = k i; uid = u i; last = l i; range = ranges_same x.range y.range e f g i }
-  where
-    ranges_same : (a b : Range) → a.event ≡ b.event → a.low ≡ b.low → a.high ≡ b.high → a ≡ b
-    ranges_same a b e f g = λ i. record { event = e i; low = f i; high = g i; ordered = is_prop→PathP (λ j. f j ≤ g j) (λ j. le_prop) a.ordered b.ordered i }
 
 -- keys that the test tells apart
 pub other_key : (x y : ObjectKey) → same_key x y ≡ false → x ≡ y → ⊥
@@ -376,7 +372,7 @@ earliest h choice before number event code r known at chosen right wrong least =
   found = at;
   explained = (global_is h before r).1 (choice, chosen, right);
   unexplained = λ x. go ((global_is h (before + 1) r).0 x);
-  least = least
+  least = least;
 }
   where
     go : (other : List ℕ) × IsChoice (ranges h) other × AreRightUpTo h (before + 1) other → ⊥
@@ -440,10 +436,13 @@ made_line h low high revision line key v number e maker k w same = λ i. MadeAt 
   where
     revisions : v.revision ≡ revision
     revisions = ap (λ (z : Version). z.revision) (sym same) ∙ sym w.of_revision
+
     keys : v.key ≡ key
     keys = ap (λ (z : Version). z.key) (sym same) ∙ sym w.of_key
+
     shown : IsShowing h w.version.key w.version.revision (ByEvent number) w.m
     shown = subst (λ z. IsShowing h w.version.key w.version.revision z w.m) (ap (λ (z : Version). z.maker) same ∙ maker) w.shown
+
     lines : e.line ≡ line
     lines = ap (λ (z : Event). z.line) (same_event h number e w.m.event k (subst (λ z. IsEvent h z w.m.event) shown.1 shown.0.making.known)) ∙ sym w.of_line
 
@@ -479,14 +478,16 @@ pub one_removal_is : (h : History) (r0 : Removal) (v : Version) (event : Event) 
 one_removal_is h r0 v event listed known alone is holds others k u l low high = record {
   rising = subst (λ xs. AllPairs (λ x y. x.range.event < y.range.event) xs) (sym listed) (λ i j d a b. absurd (omega (arith, a, b)));
   sound = λ r c. subst (λ z. IsRemoval h z) (at r (in_cons r0 [] r (subst (λ xs. Contains xs r) listed c))) sound;
-  full = λ r i. subst (λ xs. Contains xs r) (sym listed) (subst (λ z. Contains (r0 ∷ []) z) (same r i) (here r0 []))
+  full = λ r i. subst (λ xs. Contains xs r) (sym listed) (subst (λ z. Contains (r0 ∷ []) z) (same r i) (here r0 []));
 }
   where
     at : (r : Removal) → (r0 ≡ r) ⊎ Contains [] r → r0 ≡ r
     at r (inl e) = e
     at r (inr c) = absurd (not_in_none c)
+
     lone : (w : Version) → Contains h.versions w → w.key ≡ v.key → w ≡ v
     lone = each_of (λ w. w.key ≡ v.key → w ≡ v) h.versions alone
+
     sound : IsRemoval h r0
     sound = record {
       version = v;
@@ -501,12 +502,13 @@ one_removal_is h r0 v event listed known alone is holds others k u l low high = 
         of_uid = u;
         of_last = l;
         low = low;
-        high = high
-      }
+        high = high;
+      };
     }
       where
         first : (n : ℕ) (o : Event) → IsEvent h n o → IsRemovalOf v.key v.uid o → o ≡ event
         first n o x y = same_event h r0.range.event o event (subst (λ z. IsEvent h z o) (each_event (λ n e. (key : ObjectKey) (uid : Text) → e.answer ≡ Removed key uid → (n ≡ r0.range.event) × (key ≡ v.key) × (uid ≡ v.uid)) h.events others n o x v.key v.uid y).0 x) is
+
     same : (r : Removal) → IsRemoval h r → r0 ≡ r
     same r i = same_removal r0 r (k ∙ ap (λ (z : Version). z.key) (sym version) ∙ sym i.behind.of_key) (u ∙ ap (λ (z : Version). z.uid) (sym version) ∙ sym i.behind.of_uid)
         (l ∙ ap (λ (z : Version). z.revision) (sym version) ∙ sym i.behind.of_last) (sym facts.0)
@@ -515,10 +517,13 @@ one_removal_is h r0 v event listed known alone is holds others k u l low high = 
       where
         facts : (r.range.event ≡ r0.range.event) × (i.version.key ≡ v.key) × (i.version.uid ≡ v.uid)
         facts = each_event (λ n e. (key : ObjectKey) (uid : Text) → e.answer ≡ Removed key uid → (n ≡ r0.range.event) × (key ≡ v.key) × (uid ≡ v.uid)) h.events others r.range.event i.behind.event i.behind.first.known i.version.key i.version.uid i.behind.first.holds
+
         version : i.version ≡ v
         version = lone i.version i.known facts.1
+
         events : i.behind.event ≡ event
         events = same_event h r0.range.event i.behind.event event (subst (λ z. IsEvent h z i.behind.event) facts.0 i.behind.first.known) is
+
         next : i.next ≡ None
         next = go i.next i.ends
           where

@@ -84,27 +84,27 @@ readable_one_removal = record {
   spans = record {
     rising = rising_is (λ (s : Span). s.revision) one_removal.spans refl;
     sound = each_of (IsSpan one_removal) one_removal.spans (span_is one_removal m0_one_removal is0_one_removal group0_one_removal (written 14 1 2) (omega arith) refl refl refl (inl (m0_one_removal, record { making = is0_one_removal; of_key = refl; at_revision = refl }, inl refl)), (span_is one_removal m3_one_removal is3_one_removal group3_one_removal (written 16 7 8) (omega arith) refl refl refl (inl (m3_one_removal, record { making = is3_one_removal; of_key = refl; at_revision = refl }, inl refl)), tt));
-    full = each_making one_removal (λ m. 10 < m.item.revision → (span : Span) × Contains one_removal.spans span × (span.revision ≡ m.item.revision)) ((λ l. (written 14 1 2, (0, omega arith, refl), refl)), (tt, (tt, ((λ l. (written 16 7 8, (1, omega arith, refl), refl)), (tt, tt)))))
+    full = each_making one_removal (λ m. 10 < m.item.revision → (span : Span) × Contains one_removal.spans span × (span.revision ≡ m.item.revision)) ((λ l. (written 14 1 2, (0, omega arith, refl), refl)), (tt, (tt, ((λ l. (written 16 7 8, (1, omega arith, refl), refl)), (tt, tt)))));
   };
   versions = record {
     rising = rising_is (λ (v : Version). v.revision) one_removal.versions refl;
     sound = each_of (λ v. IsSnapshotVersion one_removal v ⊎ IsMadeVersion one_removal v) one_removal.versions (inr (made_sole one_removal m0_one_removal is0_one_removal group0_one_removal (v14) (omega arith) refl refl refl refl refl None refl fine0_one_removal U4 (creates refl refl)), (inr (made_sole one_removal m3_one_removal is3_one_removal group3_one_removal (v16) (omega arith) refl refl refl refl refl None refl fine3_one_removal U4 (creates refl refl)), tt));
     full_snapshot = each_of (λ i. (v : Version) × Contains one_removal.versions v × (item_of v ≡ i)) one_removal.snapshot tt;
-    full_log = each_making one_removal (λ m. 10 < m.item.revision → (v : Version) × Contains one_removal.versions v × (v.revision ≡ m.item.revision)) ((λ l. (v14, (0, omega arith, refl), refl)), (tt, (tt, ((λ l. (v16, (1, omega arith, refl), refl)), (tt, tt)))))
+    full_log = each_making one_removal (λ m. 10 < m.item.revision → (v : Version) × Contains one_removal.versions v × (v.revision ≡ m.item.revision)) ((λ l. (v14, (0, omega arith, refl), refl)), (tt, (tt, ((λ l. (v16, (1, omega arith, refl), refl)), (tt, tt)))));
   };
-  removals = one_removal_is one_removal removal_of_a v14 e1 refl (0, omega arith, refl) ((λ e. refl), ((λ e. absurd (other_key b a refl e)), tt)) refl refl ((λ k u e. cc e), ((λ k u e. (refl, cc e, cc e)), ((λ k u e. cc e), ((λ k u e. cc e), ((λ k u e. cc e), tt))))) refl refl refl refl refl
+  removals = one_removal_is one_removal removal_of_a v14 e1 refl (0, omega arith, refl) ((λ e. refl), ((λ e. absurd (other_key b a refl e)), tt)) refl refl ((λ k u e. cc e), ((λ k u e. (refl, cc e, cc e)), ((λ k u e. cc e), ((λ k u e. cc e), ((λ k u e. cc e), tt))))) refl refl refl refl refl;
 }
 
 right0_one_removal : (choice : List ℕ) → IsRightUnder one_removal choice 0 e0
 right0_one_removal choice = record {
   fixed = record { level = refl; stage = refl; by_word = λ before e. subst (λ z. HasNoFault one_removal m0_one_removal z) (sym e) fine0_one_removal; decision = λ d e. absurd (cc e) };
-  answer = λ w. absurd (cc w)
+  answer = λ w. absurd (cc w);
 }
 
 right3_one_removal : (choice : List ℕ) → IsRightUnder one_removal choice 3 e3
 right3_one_removal choice = record {
   fixed = record { level = refl; stage = refl; by_word = λ before e. subst (λ z. HasNoFault one_removal m3_one_removal z) (sym e) fine3_one_removal; decision = λ d e. absurd (cc e) };
-  answer = λ w. absurd (cc w)
+  answer = λ w. absurd (cc w);
 }
 
 -- from revision 14 on it is the latest of its key
@@ -154,11 +154,12 @@ outcome = record {
   written = record {
     sorted = pairs_cons IsListedBefore (RemovedIn 15 last_place 2 a) (MadeAt 16 4 b ∷ []) (all_from (IsListedBefore (RemovedIn 15 last_place 2 a)) (MadeAt 16 4 b ∷ [])
         (each_of (IsListedBefore (RemovedIn 15 last_place 2 a)) (MadeAt 16 4 b ∷ []) (inl (omega arith), tt))) (λ i j d l m. absurd (omega (arith, l, m)));
-    sound = each_of (IsWriteIn one_removal 16 last_place) (RemovedIn 15 last_place 2 a ∷ MadeAt 16 4 b ∷ [])
-        (record { removal = removal_of_a; known = (0, omega arith, refl); inside = (omega arith, omega arith, omega arith); of_first = refl; of_last = refl; of_key = refl; of_line = refl },
-        (made_in one_removal 16 last_place v16 m3_one_removal (1, omega arith, refl) (omega arith) (omega arith) (omega arith) (record { making = is3_one_removal; of_key = refl; at_revision = refl }, refl), tt));
-    full = all
-  }
+    sound = each_of (IsWriteIn one_removal 16 last_place) (RemovedIn 15 last_place 2 a ∷ MadeAt 16 4 b ∷ []) (
+      record { removal = removal_of_a; known = (0, omega arith, refl); inside = (omega arith, omega arith, omega arith); of_first = refl; of_last = refl; of_key = refl; of_line = refl },
+      (made_in one_removal 16 last_place v16 m3_one_removal (1, omega arith, refl) (omega arith) (omega arith) (omega arith) (record { making = is3_one_removal; of_key = refl; at_revision = refl }, refl), tt),
+    );
+    full = all;
+  };
 }
   where
     none : (other : List ℕ) → IsChoiceUpTo one_removal 3 other → AnswerHolds one_removal other 4 e4 → ⊥
@@ -166,21 +167,27 @@ outcome = record {
       where
         chosen : IsChoice (ranges one_removal) other
         chosen = subst (λ z. IsChoice (ranges one_removal) z) e run.placed.chosen
+
         right : AreRightUpTo one_removal 3 other
         right = subst (λ z. AreRightUpTo one_removal 3 z) e (run_is_right one_removal 3 p' readable_one_removal run)
+
     all : (w : Write) → IsWriteIn one_removal 16 last_place w → Contains (RemovedIn 15 last_place 2 a ∷ MadeAt 16 4 b ∷ []) w
     all (RemovedIn low high line key) w = listed_at (RemovedIn 15 last_place 2 a) (RemovedIn low high line key) (MadeAt 16 4 b ∷ []) (λ i. RemovedIn (lows i) (highs i) (lines i) (keys i))
       where
         same : w.removal ≡ removal_of_a
         same = each_of (λ r. r ≡ removal_of_a) one_removal.removals (refl, tt) w.removal w.known
+
         lows : 15 ≡ low
         lows = sym (w.of_first ∙ ap (λ (r : Removal). r.range.low) same)
+
         highs : last_place ≡ high
         highs = sym (w.of_last ∙ ap (λ (r : Removal). r.range.high) same)
+
         lines : 2 ≡ line
         lines = sym (w.of_line ∙ ap (λ (r : Removal). event_line (slice_get one_removal.events r.range.event)) same)
+
         keys : a ≡ key
         keys = sym (w.of_key ∙ ap (λ (r : Removal). r.key) same)
     all (MadeAt revision line key) w = there (RemovedIn 15 last_place 2 a) (MadeAt revision line key) (MadeAt 16 4 b ∷ []) (listed_at (MadeAt 16 4 b) (MadeAt revision line key) []
         (made_line one_removal 16 last_place revision line key v16 3 e3 refl refl w
-          (each_of (λ v. 16 ≤ v.revision → v ≡ v16) one_removal.versions ((λ l. absurd (omega (arith, l))), ((λ l. refl), tt)) w.version w.known (omega (arith, w.inside.0, w.of_revision)))))
+        (each_of (λ v. 16 ≤ v.revision → v ≡ v16) one_removal.versions ((λ l. absurd (omega (arith, l))), ((λ l. refl), tt)) w.version w.known (omega (arith, w.inside.0, w.of_revision)))))

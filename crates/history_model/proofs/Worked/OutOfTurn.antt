@@ -73,15 +73,15 @@ readable_out_of_turn = record {
   spans = record {
     rising = rising_is (λ (s : Span). s.revision) out_of_turn.spans refl;
     sound = each_of (IsSpan out_of_turn) out_of_turn.spans (span_is out_of_turn m1_out_of_turn is1_out_of_turn group1_out_of_turn (written 11 3 4) (omega arith) refl refl refl (inl (m1_out_of_turn, record { making = is1_out_of_turn; of_key = refl; at_revision = refl }, inl refl)), (span_is out_of_turn m0_out_of_turn is0_out_of_turn group0_out_of_turn (written 12 1 2) (omega arith) refl refl refl (inl (m0_out_of_turn, record { making = is0_out_of_turn; of_key = refl; at_revision = refl }, inl refl)), tt));
-    full = each_making out_of_turn (λ m. 10 < m.item.revision → (span : Span) × Contains out_of_turn.spans span × (span.revision ≡ m.item.revision)) ((λ l. (written 12 1 2, (1, omega arith, refl), refl)), ((λ l. (written 11 3 4, (0, omega arith, refl), refl)), tt))
+    full = each_making out_of_turn (λ m. 10 < m.item.revision → (span : Span) × Contains out_of_turn.spans span × (span.revision ≡ m.item.revision)) ((λ l. (written 12 1 2, (1, omega arith, refl), refl)), ((λ l. (written 11 3 4, (0, omega arith, refl), refl)), tt));
   };
   versions = record {
     rising = rising_is (λ (v : Version). v.revision) out_of_turn.versions refl;
     sound = each_of (λ v. IsSnapshotVersion out_of_turn v ⊎ IsMadeVersion out_of_turn v) out_of_turn.versions (inr (made_faulty out_of_turn m1_out_of_turn is1_out_of_turn group1_out_of_turn v11 (omega arith) refl refl refl refl refl (none_made b 11) (not_unrecorded b 11)), (inr (made_faulty out_of_turn m0_out_of_turn is0_out_of_turn group0_out_of_turn v12 (omega arith) refl refl refl refl refl (none_made a 12) (not_unrecorded a 12)), tt));
     full_snapshot = each_of (λ i. (v : Version) × Contains out_of_turn.versions v × (item_of v ≡ i)) out_of_turn.snapshot tt;
-    full_log = each_making out_of_turn (λ m. 10 < m.item.revision → (v : Version) × Contains out_of_turn.versions v × (v.revision ≡ m.item.revision)) ((λ l. (v12, (1, omega arith, refl), refl)), ((λ l. (v11, (0, omega arith, refl), refl)), tt))
+    full_log = each_making out_of_turn (λ m. 10 < m.item.revision → (v : Version) × Contains out_of_turn.versions v × (v.revision ≡ m.item.revision)) ((λ l. (v12, (1, omega arith, refl), refl)), ((λ l. (v11, (0, omega arith, refl), refl)), tt));
   };
-  removals = no_removals out_of_turn refl ((λ k u e. cc e), ((λ k u e. cc e), tt))
+  removals = no_removals out_of_turn refl ((λ k u e. cc e), ((λ k u e. cc e), tt));
 }
 
 three : (other : Reason) → IsCandidate out_of_turn 0 0 e0 other → 3 ≤ code_number other
@@ -111,8 +111,8 @@ outcome = record {
   written = record {
     sorted = λ i j d l m. absurd (omega arith);
     sound = λ w c. absurd (not_in_none c);
-    full = none
-  }
+    full = none;
+  };
 }
   where
     none : (w : Write) → IsWriteIn out_of_turn 10 10 w → Contains [] w

@@ -62,21 +62,21 @@ readable_removal_seen_early = record {
   spans = record {
     rising = rising_is (λ (s : Span). s.revision) removal_seen_early.spans refl;
     sound = each_of (IsSpan removal_seen_early) removal_seen_early.spans (span_is removal_seen_early m0_removal_seen_early is0_removal_seen_early group0_removal_seen_early (written 14 1 2) (omega arith) refl refl refl (inl (m0_removal_seen_early, record { making = is0_removal_seen_early; of_key = refl; at_revision = refl }, inl refl)), tt);
-    full = each_making removal_seen_early (λ m. 10 < m.item.revision → (span : Span) × Contains removal_seen_early.spans span × (span.revision ≡ m.item.revision)) ((λ l. (written 14 1 2, (0, omega arith, refl), refl)), (tt, (tt, (tt, tt))))
+    full = each_making removal_seen_early (λ m. 10 < m.item.revision → (span : Span) × Contains removal_seen_early.spans span × (span.revision ≡ m.item.revision)) ((λ l. (written 14 1 2, (0, omega arith, refl), refl)), (tt, (tt, (tt, tt))));
   };
   versions = record {
     rising = rising_is (λ (v : Version). v.revision) removal_seen_early.versions refl;
     sound = each_of (λ v. IsSnapshotVersion removal_seen_early v ⊎ IsMadeVersion removal_seen_early v) removal_seen_early.versions (inr (made_sole removal_seen_early m0_removal_seen_early is0_removal_seen_early group0_removal_seen_early (v14) (omega arith) refl refl refl refl refl None refl fine0_removal_seen_early U4 (creates refl refl)), tt);
     full_snapshot = each_of (λ i. (v : Version) × Contains removal_seen_early.versions v × (item_of v ≡ i)) removal_seen_early.snapshot tt;
-    full_log = each_making removal_seen_early (λ m. 10 < m.item.revision → (v : Version) × Contains removal_seen_early.versions v × (v.revision ≡ m.item.revision)) ((λ l. (v14, (0, omega arith, refl), refl)), (tt, (tt, (tt, tt))))
+    full_log = each_making removal_seen_early (λ m. 10 < m.item.revision → (v : Version) × Contains removal_seen_early.versions v × (v.revision ≡ m.item.revision)) ((λ l. (v14, (0, omega arith, refl), refl)), (tt, (tt, (tt, tt))));
   };
-  removals = one_removal_is removal_seen_early removal_of_a v14 e1 refl (0, omega arith, refl) ((λ e. refl), tt) refl refl ((λ k u e. cc e), ((λ k u e. (refl, cc e, cc e)), ((λ k u e. cc e), ((λ k u e. cc e), tt)))) refl refl refl refl refl
+  removals = one_removal_is removal_seen_early removal_of_a v14 e1 refl (0, omega arith, refl) ((λ e. refl), tt) refl refl ((λ k u e. cc e), ((λ k u e. (refl, cc e, cc e)), ((λ k u e. cc e), ((λ k u e. cc e), tt)))) refl refl refl refl refl;
 }
 
 right0_removal_seen_early : (choice : List ℕ) → IsRightUnder removal_seen_early choice 0 e0
 right0_removal_seen_early choice = record {
   fixed = record { level = refl; stage = refl; by_word = λ before e. subst (λ z. HasNoFault removal_seen_early m0_removal_seen_early z) (sym e) fine0_removal_seen_early; decision = λ d e. absurd (cc e) };
-  answer = λ w. absurd (cc w)
+  answer = λ w. absurd (cc w);
 }
 
 abbrev choice : List ℕ
@@ -95,15 +95,26 @@ gone = record { inside = (omega arith, omega arith); right = inr refl; least = �
     least other w (inr x) (inr (inr l)) = l
 
 rights : EachAt (λ n e. IsRightUnder removal_seen_early choice n e) removal_seen_early.events
-rights = (right0_removal_seen_early choice,
-    (record { fixed = record { level = refl; stage = refl; by_word = record { uid = tt; revision = tt }; decision = λ d e. absurd (cc e) }; answer = λ w. absurd (cc w) },
-    (record { fixed = record { level = refl; stage = refl; by_word = tt; decision = λ d e. absurd (cc e) }; answer = λ w. (14, seen.inside, seen.right) },
-    (record { fixed = record { level = refl; stage = refl; by_word = tt; decision = λ d e. absurd (cc e) }; answer = λ w. (15, gone.inside, gone.right) }, tt))))
+rights = (
+  right0_removal_seen_early choice,
+  (
+    record { fixed = record { level = refl; stage = refl; by_word = record { uid = tt; revision = tt }; decision = λ d e. absurd (cc e) }; answer = λ w. absurd (cc w) },
+    (
+      record { fixed = record { level = refl; stage = refl; by_word = tt; decision = λ d e. absurd (cc e) }; answer = λ w. (14, seen.inside, seen.right) },
+      (record { fixed = record { level = refl; stage = refl; by_word = tt; decision = λ d e. absurd (cc e) }; answer = λ w. (15, gone.inside, gone.right) }, tt),
+    ),
+  ),
+)
 
 placed_lines : EachLine (λ n e l. IsPlacedLine removal_seen_early choice n e l) removal_seen_early.events
     (line 1 (placed.Made 14) ∷ line 2 (placed.Removed 15) ∷ line 3 (placed.At 14) ∷ line 4 (placed.At 15) ∷ [])
-placed_lines = (record { of_event = refl; answer = refl; decision = refl }, (record { of_event = refl; answer = (15, (0, omega arith, refl), refl); decision = refl },
-    (record { of_event = refl; answer = (14, seen, refl); decision = refl }, (record { of_event = refl; answer = (15, gone, refl); decision = refl }, tt))))
+placed_lines = (
+  record { of_event = refl; answer = refl; decision = refl },
+  (
+    record { of_event = refl; answer = (15, (0, omega arith, refl), refl); decision = refl },
+    (record { of_event = refl; answer = (14, seen, refl); decision = refl }, (record { of_event = refl; answer = (15, gone, refl); decision = refl }, tt)),
+  ),
+)
 
 least_choice : (other : List ℕ) → IsChoice (ranges removal_seen_early) other → AllZip ◌≤◌ choice other
 least_choice [] c = absurd c

@@ -70,8 +70,10 @@ no_room v next gone e q i = omega (arith, low, high, gone.range.ordered)
   where
     facts : (i.event ≡ e1) × (v.uid ≡ A)
     facts = removing v.key v.uid gone.range.event i.event i.first
+
     low : gone.range.low ≡ 21
     low = i.low ∙ ap₂ (λ (x : Event) (z : Version). max (lowest removal_without_place x.lo) z.revision + 1) facts.0 e
+
     high : gone.range.high ≡ 20
     high = i.high ∙ ap₂ (λ (x : Event) z. min (highest removal_without_place x.hi) (place_before z)) facts.0 q
 
@@ -110,25 +112,25 @@ readable_removal_without_place = record {
   spans = record {
     rising = rising_is (λ (s : Span). s.revision) removal_without_place.spans refl;
     sound = each_of (IsSpan removal_without_place) removal_without_place.spans (span_is removal_without_place m0_removal_without_place is0_removal_without_place group0_removal_without_place (written 20 1 2) (omega arith) refl refl refl (inl (m0_removal_without_place, record { making = is0_removal_without_place; of_key = refl; at_revision = refl }, inl refl)), (span_is removal_without_place m2_removal_without_place is2_removal_without_place group2_removal_without_place (written 21 5 6) (omega arith) refl refl refl (inl (m2_removal_without_place, record { making = is2_removal_without_place; of_key = refl; at_revision = refl }, inl refl)), tt));
-    full = each_making removal_without_place (λ m. 10 < m.item.revision → (span : Span) × Contains removal_without_place.spans span × (span.revision ≡ m.item.revision)) ((λ l. (written 20 1 2, (0, omega arith, refl), refl)), (tt, ((λ l. (written 21 5 6, (1, omega arith, refl), refl)), tt)))
+    full = each_making removal_without_place (λ m. 10 < m.item.revision → (span : Span) × Contains removal_without_place.spans span × (span.revision ≡ m.item.revision)) ((λ l. (written 20 1 2, (0, omega arith, refl), refl)), (tt, ((λ l. (written 21 5 6, (1, omega arith, refl), refl)), tt)));
   };
   versions = record {
     rising = rising_is (λ (v : Version). v.revision) removal_without_place.versions refl;
     sound = each_of (λ v. IsSnapshotVersion removal_without_place v ⊎ IsMadeVersion removal_without_place v) removal_without_place.versions (inr (made_sole removal_without_place m0_removal_without_place is0_removal_without_place group0_removal_without_place (v20) (omega arith) refl refl refl refl refl None refl fine0_removal_without_place U4 (creates refl refl)), (inr (made_faulty removal_without_place m2_removal_without_place is2_removal_without_place group2_removal_without_place v21 (omega arith) refl refl refl refl refl not_made not_unrecorded), tt));
     full_snapshot = each_of (λ i. (v : Version) × Contains removal_without_place.versions v × (item_of v ≡ i)) removal_without_place.snapshot tt;
-    full_log = each_making removal_without_place (λ m. 10 < m.item.revision → (v : Version) × Contains removal_without_place.versions v × (v.revision ≡ m.item.revision)) ((λ l. (v20, (0, omega arith, refl), refl)), (tt, ((λ l. (v21, (1, omega arith, refl), refl)), tt)))
+    full_log = each_making removal_without_place (λ m. 10 < m.item.revision → (v : Version) × Contains removal_without_place.versions v × (v.revision ≡ m.item.revision)) ((λ l. (v20, (0, omega arith, refl), refl)), (tt, ((λ l. (v21, (1, omega arith, refl), refl)), tt)));
   };
   removals = record {
     rising = λ i j d l m. absurd (omega (arith, l, m));
     sound = λ gone c. absurd (not_in_none c);
-    full = λ gone i. absurd (none_removed gone i)
-  }
+    full = λ gone i. absurd (none_removed gone i);
+  };
 }
 
 right0_removal_without_place : (choice : List ℕ) → IsRightUnder removal_without_place choice 0 e0
 right0_removal_without_place choice = record {
   fixed = record { level = refl; stage = refl; by_word = λ before e. subst (λ z. HasNoFault removal_without_place m0_removal_without_place z) (sym e) fine0_removal_without_place; decision = λ d e. absurd (cc e) };
-  answer = λ w. absurd (cc w)
+  answer = λ w. absurd (cc w);
 }
 
 not_removed : (choice : List ℕ) → AnswerHolds removal_without_place choice 1 e1 → ⊥
@@ -150,12 +152,12 @@ outcome = record {
     sorted = λ i j d l m. absurd (omega (arith, l, m));
     sound = each_of (IsWriteIn removal_without_place 20 20) (MadeAt 20 1 a ∷ [])
         (made_in removal_without_place 20 20 v20 m0_removal_without_place (0, omega arith, refl) (omega arith) (omega arith) (omega arith) (record { making = is0_removal_without_place; of_key = refl; at_revision = refl }, refl), tt);
-    full = all
-  }
+    full = all;
+  };
 }
   where
     all : (w : Write) → IsWriteIn removal_without_place 20 20 w → Contains (MadeAt 20 1 a ∷ []) w
     all (RemovedIn low high line key) w = absurd (not_in_none w.known)
     all (MadeAt revision line key) w = listed_at (MadeAt 20 1 a) (MadeAt revision line key) []
         (made_line removal_without_place 20 20 revision line key v20 0 e0 refl refl w
-          (each_of (λ v. v.revision ≤ 20 → v ≡ v20) removal_without_place.versions ((λ l. refl), ((λ l. absurd (omega (arith, l))), tt)) w.version w.known (omega (arith, w.inside.1, w.of_revision))))
+        (each_of (λ v. v.revision ≤ 20 → v ≡ v20) removal_without_place.versions ((λ l. refl), ((λ l. absurd (omega (arith, l))), tt)) w.version w.known (omega (arith, w.inside.1, w.of_revision))))

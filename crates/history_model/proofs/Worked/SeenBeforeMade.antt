@@ -30,7 +30,6 @@ nothing (x ∷ xs) c = absurd c
 abbrev item : Item
 item = object a 11 A 1
 
-
 abbrev r_seen_before_made : Event
 r_seen_before_made = request 1 1 2 (Saw item)
 
@@ -60,7 +59,7 @@ readable_seen_before_made = record {
   spans = record {
     rising = rising_is (λ (s : Span). s.revision) seen_before_made.spans refl;
     sound = each_of (IsSpan seen_before_made) seen_before_made.spans (span_is seen_before_made m_seen_before_made is_seen_before_made group_seen_before_made (written 11 3 4) (omega arith) refl refl refl (inl (m_seen_before_made, record { making = is_seen_before_made; of_key = refl; at_revision = refl }, inl refl)), tt);
-    full = each_making seen_before_made (λ m. 10 < m.item.revision → (span : Span) × Contains seen_before_made.spans span × (span.revision ≡ m.item.revision)) (tt, ((λ l. (written 11 3 4, here (written 11 3 4) [], refl)), tt))
+    full = each_making seen_before_made (λ m. 10 < m.item.revision → (span : Span) × Contains seen_before_made.spans span × (span.revision ≡ m.item.revision)) (tt, ((λ l. (written 11 3 4, here (written 11 3 4) [], refl)), tt));
   };
   versions = record {
     rising = rising_is (λ (v : Version). v.revision) seen_before_made.versions refl;
@@ -68,9 +67,9 @@ readable_seen_before_made = record {
         (inr (made_sole seen_before_made m_seen_before_made is_seen_before_made group_seen_before_made (version item (ByEvent 1)) (omega arith) refl refl refl refl refl None refl fine_seen_before_made U4 (creates refl refl)), tt);
     full_snapshot = λ item c. absurd (not_in_none c);
     full_log = each_making seen_before_made (λ m. 10 < m.item.revision → (v : Version) × Contains seen_before_made.versions v × (v.revision ≡ m.item.revision))
-        (tt, ((λ l. (version item (ByEvent 1), here (version item (ByEvent 1)) [], refl)), tt))
+        (tt, ((λ l. (version item (ByEvent 1), here (version item (ByEvent 1)) [], refl)), tt));
   };
-  removals = no_removals seen_before_made refl ((λ k u e. cc e), ((λ k u e. cc e), tt))
+  removals = no_removals seen_before_made refl ((λ k u e. cc e), ((λ k u e. cc e), tt));
 }
 
 abbrev r_seen_within_slack : Event
@@ -102,7 +101,7 @@ readable_seen_within_slack = record {
   spans = record {
     rising = rising_is (λ (s : Span). s.revision) seen_within_slack.spans refl;
     sound = each_of (IsSpan seen_within_slack) seen_within_slack.spans (span_is seen_within_slack m_seen_within_slack is_seen_within_slack group_seen_within_slack (written 11 2 5) (omega arith) refl refl refl (inl (m_seen_within_slack, record { making = is_seen_within_slack; of_key = refl; at_revision = refl }, inl refl)), tt);
-    full = each_making seen_within_slack (λ m. 10 < m.item.revision → (span : Span) × Contains seen_within_slack.spans span × (span.revision ≡ m.item.revision)) (tt, ((λ l. (written 11 2 5, here (written 11 2 5) [], refl)), tt))
+    full = each_making seen_within_slack (λ m. 10 < m.item.revision → (span : Span) × Contains seen_within_slack.spans span × (span.revision ≡ m.item.revision)) (tt, ((λ l. (written 11 2 5, here (written 11 2 5) [], refl)), tt));
   };
   versions = record {
     rising = rising_is (λ (v : Version). v.revision) seen_within_slack.versions refl;
@@ -110,9 +109,9 @@ readable_seen_within_slack = record {
         (inr (made_sole seen_within_slack m_seen_within_slack is_seen_within_slack group_seen_within_slack (version item (ByEvent 1)) (omega arith) refl refl refl refl refl None refl fine_seen_within_slack U4 (creates refl refl)), tt);
     full_snapshot = λ item c. absurd (not_in_none c);
     full_log = each_making seen_within_slack (λ m. 10 < m.item.revision → (v : Version) × Contains seen_within_slack.versions v × (v.revision ≡ m.item.revision))
-        (tt, ((λ l. (version item (ByEvent 1), here (version item (ByEvent 1)) [], refl)), tt))
+        (tt, ((λ l. (version item (ByEvent 1), here (version item (ByEvent 1)) [], refl)), tt));
   };
-  removals = no_removals seen_within_slack refl ((λ k u e. cc e), ((λ k u e. cc e), tt))
+  removals = no_removals seen_within_slack refl ((λ k u e. cc e), ((λ k u e. cc e), tt));
 }
 
 -- in the window of the first reader, which has one place, there is no object
@@ -137,8 +136,8 @@ too_early = record {
   written = record {
     sorted = λ i j d l m. absurd (omega arith);
     sound = λ w c. absurd (not_in_none c);
-    full = none
-  }
+    full = none;
+  };
 }
   where
     none : (w : Write) → IsWriteIn seen_before_made 10 10 w → Contains [] w
@@ -146,8 +145,10 @@ too_early = record {
     none (RemovedIn low high line key) w = absurd (not_in_none w.known)
 
 rights : EachAt (λ n e. IsRightUnder seen_within_slack [] n e) seen_within_slack.events
-rights = (record { fixed = record { level = refl; stage = refl; by_word = tt; decision = λ d e. absurd (cc e) }; answer = λ w. (11, (omega arith, omega arith), inr (refl, refl, refl)) },
-    (record { fixed = record { level = refl; stage = refl; by_word = λ before e. subst (λ z. HasNoFault seen_within_slack m_seen_within_slack z) (sym e) fine_seen_within_slack; decision = λ d e. absurd (cc e) }; answer = λ w. absurd (cc w) }, tt))
+rights = (
+  record { fixed = record { level = refl; stage = refl; by_word = tt; decision = λ d e. absurd (cc e) }; answer = λ w. (11, (omega arith, omega arith), inr (refl, refl, refl)) },
+  (record { fixed = record { level = refl; stage = refl; by_word = λ before e. subst (λ z. HasNoFault seen_within_slack m_seen_within_slack z) (sym e) fine_seen_within_slack; decision = λ d e. absurd (cc e) }; answer = λ w. absurd (cc w) }, tt),
+)
 
 -- at the first place of the window there is nothing yet
 not_at_ten : (place : ℕ) → 10 ≤ place → IsClouded seen_within_slack a place ⊎ IsShown item (state seen_within_slack [] place a) → 11 ≤ place
@@ -162,8 +163,10 @@ not_at_ten place l (inr s) = go (grind arith)
         at x = x
 
 placed_lines : EachLine (λ n e l. IsPlacedLine seen_within_slack [] n e l) seen_within_slack.events (line 1 (placed.At 11) ∷ line 2 (placed.Made 11) ∷ [])
-placed_lines = (record { of_event = refl; answer = (11, record { inside = (omega arith, omega arith); right = inr (refl, refl, refl); least = λ other w r. not_at_ten other w.0 r }, refl); decision = refl },
-    (record { of_event = refl; answer = refl; decision = refl }, tt))
+placed_lines = (
+  record { of_event = refl; answer = (11, record { inside = (omega arith, omega arith); right = inr (refl, refl, refl); least = λ other w r. not_at_ten other w.0 r }, refl); decision = refl },
+  (record { of_event = refl; answer = refl; decision = refl }, tt),
+)
 
 pub within_slack : IsOutcome seen_within_slack seen_within_slack_outcome
 within_slack = explanation seen_within_slack [] (line 1 (placed.At 11) ∷ line 2 (placed.Made 11) ∷ []) readable_seen_within_slack tt rights nothing

@@ -51,9 +51,10 @@ is_unchanged_update : IsMaking unchanged_update m0_unchanged_update
 is_unchanged_update = record { known = refl; made = refl }
 
 group_unchanged_update : IsGroup unchanged_update m0_unchanged_update
-group_unchanged_update = each_making unchanged_update (λ o. o.item.revision ≡ 14 → Follows m0_unchanged_update o)
-    ((λ e. (refl, omega (arith, ints), omega (arith, ints), not_before e0_unchanged_update e0_unchanged_update refl refl (omega (arith, ints)) (λ q. omega arith))),
-    ((λ e. (refl, omega (arith, ints), omega (arith, ints), not_before e1_unchanged_update e0_unchanged_update refl refl (omega (arith, ints)) (λ q. omega arith))), tt))
+group_unchanged_update = each_making unchanged_update (λ o. o.item.revision ≡ 14 → Follows m0_unchanged_update o) (
+  (λ e. (refl, omega (arith, ints), omega (arith, ints), not_before e0_unchanged_update e0_unchanged_update refl refl (omega (arith, ints)) (λ q. omega arith))),
+  ((λ e. (refl, omega (arith, ints), omega (arith, ints), not_before e1_unchanged_update e0_unchanged_update refl refl (omega (arith, ints)) (λ q. omega arith))), tt),
+)
 
 fine_unchanged_update : HasNoFault unchanged_update m0_unchanged_update (Some old)
 fine_unchanged_update = no_fault unchanged_update m0_unchanged_update (Some old) (omega arith) (omega arith) (λ t s. true≢false (sym t)) (λ t s. true≢false (sym t)) (λ f o. o refl) (tt, tt) refl
@@ -76,10 +77,13 @@ readable_unchanged_update = record {
   order = order_is unchanged_update refl refl refl;
   spans = record {
     rising = rising_is (λ (s : Span). s.revision) unchanged_update.spans refl;
-    sound = each_of (IsSpan unchanged_update) unchanged_update.spans (span_is unchanged_update m0_unchanged_update is_unchanged_update group_unchanged_update (written 14 1 2) (omega arith) refl refl refl
-        (inr (each_event (λ k e. Hides a e → ⊥) unchanged_update.events ((λ y. cc (y.1)), ((λ y. cc (y.1)), tt)))), tt);
+    sound = each_of (IsSpan unchanged_update) unchanged_update.spans (
+      span_is unchanged_update m0_unchanged_update is_unchanged_update group_unchanged_update (written 14 1 2) (omega arith) refl refl refl
+          (inr (each_event (λ k e. Hides a e → ⊥) unchanged_update.events ((λ y. cc (y.1)), ((λ y. cc (y.1)), tt)))),
+      tt,
+    );
     full = each_making unchanged_update (λ m. 10 < m.item.revision → (span : Span) × Contains unchanged_update.spans span × (span.revision ≡ m.item.revision))
-        ((λ l. (written 14 1 2, here (written 14 1 2) [], refl)), ((λ l. (written 14 1 2, here (written 14 1 2) [], refl)), tt))
+        ((λ l. (written 14 1 2, here (written 14 1 2) [], refl)), ((λ l. (written 14 1 2, here (written 14 1 2) [], refl)), tt));
   };
   versions = record {
     rising = rising_is (λ (v : Version). v.revision) unchanged_update.versions refl;
@@ -87,15 +91,15 @@ readable_unchanged_update = record {
         (inl (record { below = omega arith; maker = refl; listed = here (object a 9 A 1) [] }), (inr (made_able unchanged_update m0_unchanged_update is_unchanged_update group_unchanged_update new (omega arith) refl refl refl refl refl (Some old) entry_unchanged_update fine_unchanged_update (each_making unchanged_update (λ o. (code : Reason) → HasFoundFault unchanged_update o code → ⊥) (could_find unchanged_update m0_unchanged_update refl (tt, tt) refl, (could_find unchanged_update m1_unchanged_update refl (tt, tt) refl, tt)))), tt));
     full_snapshot = each_of (λ i. (v : Version) × Contains unchanged_update.versions v × (item_of v ≡ i)) unchanged_update.snapshot ((old, here old (new ∷ []), refl), tt);
     full_log = each_making unchanged_update (λ m. 10 < m.item.revision → (v : Version) × Contains unchanged_update.versions v × (v.revision ≡ m.item.revision))
-        ((λ l. (new, there old new (new ∷ []) (here new []), refl)), ((λ l. (new, there old new (new ∷ []) (here new []), refl)), tt))
+        ((λ l. (new, there old new (new ∷ []) (here new []), refl)), ((λ l. (new, there old new (new ∷ []) (here new []), refl)), tt));
   };
-  removals = no_removals unchanged_update refl ((λ k u e. cc e), ((λ k u e. cc e), tt))
+  removals = no_removals unchanged_update refl ((λ k u e. cc e), ((λ k u e. cc e), tt));
 }
 
 first_unchanged_update : (choice : List ℕ) → IsRightUnder unchanged_update choice 0 e0_unchanged_update
 first_unchanged_update choice = record {
   fixed = record { level = refl; stage = refl; by_word = λ before e. subst (λ z. HasNoFault unchanged_update m0_unchanged_update z) (same_entry_unchanged_update before e) fine_unchanged_update; decision = λ d e. absurd (cc e) };
-  answer = λ w. absurd (cc w)
+  answer = λ w. absurd (cc w);
 }
 
 abbrev e0_second_update : Event
@@ -114,9 +118,10 @@ is_second_update : IsMaking second_update m0_second_update
 is_second_update = record { known = refl; made = refl }
 
 group_second_update : IsGroup second_update m0_second_update
-group_second_update = each_making second_update (λ o. o.item.revision ≡ 14 → Follows m0_second_update o)
-    ((λ e. (refl, omega (arith, ints), omega (arith, ints), not_before e0_second_update e0_second_update refl refl (omega (arith, ints)) (λ q. omega arith))),
-    ((λ e. (refl, omega (arith, ints), omega (arith, ints), not_before e1_second_update e0_second_update refl refl (omega (arith, ints)) (λ q. omega arith))), tt))
+group_second_update = each_making second_update (λ o. o.item.revision ≡ 14 → Follows m0_second_update o) (
+  (λ e. (refl, omega (arith, ints), omega (arith, ints), not_before e0_second_update e0_second_update refl refl (omega (arith, ints)) (λ q. omega arith))),
+  ((λ e. (refl, omega (arith, ints), omega (arith, ints), not_before e1_second_update e0_second_update refl refl (omega (arith, ints)) (λ q. omega arith))), tt),
+)
 
 fine_second_update : HasNoFault second_update m0_second_update (Some old)
 fine_second_update = no_fault second_update m0_second_update (Some old) (omega arith) (omega arith) (λ t s. true≢false (sym t)) (λ t s. true≢false (sym t)) (λ f o. o refl) (refl, tt) refl
@@ -139,10 +144,13 @@ readable_second_update = record {
   order = order_is second_update refl refl refl;
   spans = record {
     rising = rising_is (λ (s : Span). s.revision) second_update.spans refl;
-    sound = each_of (IsSpan second_update) second_update.spans (span_is second_update m0_second_update is_second_update group_second_update (written 14 1 2) (omega arith) refl refl refl
-        (inr (each_event (λ k e. Hides a e → ⊥) second_update.events ((λ y. cc (y.1)), ((λ y. cc (y.1)), tt)))), tt);
+    sound = each_of (IsSpan second_update) second_update.spans (
+      span_is second_update m0_second_update is_second_update group_second_update (written 14 1 2) (omega arith) refl refl refl
+          (inr (each_event (λ k e. Hides a e → ⊥) second_update.events ((λ y. cc (y.1)), ((λ y. cc (y.1)), tt)))),
+      tt,
+    );
     full = each_making second_update (λ m. 10 < m.item.revision → (span : Span) × Contains second_update.spans span × (span.revision ≡ m.item.revision))
-        ((λ l. (written 14 1 2, here (written 14 1 2) [], refl)), ((λ l. (written 14 1 2, here (written 14 1 2) [], refl)), tt))
+        ((λ l. (written 14 1 2, here (written 14 1 2) [], refl)), ((λ l. (written 14 1 2, here (written 14 1 2) [], refl)), tt));
   };
   versions = record {
     rising = rising_is (λ (v : Version). v.revision) second_update.versions refl;
@@ -150,22 +158,22 @@ readable_second_update = record {
         (inl (record { below = omega arith; maker = refl; listed = here (object a 9 A 1) [] }), (inr (made_sole second_update m0_second_update is_second_update group_second_update new (omega arith) refl refl refl refl refl (Some old) entry_second_update fine_second_update U7 (excludes refl (λ x. omega (arith, x.0)))), tt));
     full_snapshot = each_of (λ i. (v : Version) × Contains second_update.versions v × (item_of v ≡ i)) second_update.snapshot ((old, here old (new ∷ []), refl), tt);
     full_log = each_making second_update (λ m. 10 < m.item.revision → (v : Version) × Contains second_update.versions v × (v.revision ≡ m.item.revision))
-        ((λ l. (new, there old new (new ∷ []) (here new []), refl)), ((λ l. (new, there old new (new ∷ []) (here new []), refl)), tt))
+        ((λ l. (new, there old new (new ∷ []) (here new []), refl)), ((λ l. (new, there old new (new ∷ []) (here new []), refl)), tt));
   };
-  removals = no_removals second_update refl ((λ k u e. cc e), ((λ k u e. cc e), tt))
+  removals = no_removals second_update refl ((λ k u e. cc e), ((λ k u e. cc e), tt));
 }
 
 first_second_update : (choice : List ℕ) → IsRightUnder second_update choice 0 e0_second_update
 first_second_update choice = record {
   fixed = record { level = refl; stage = refl; by_word = λ before e. subst (λ z. HasNoFault second_update m0_second_update z) (same_entry_second_update before e) fine_second_update; decision = λ d e. absurd (cc e) };
-  answer = λ w. absurd (cc w)
+  answer = λ w. absurd (cc w);
 }
 
 found_place : IsLeastPlace unchanged_update [] 1 e1_unchanged_update 14
 found_place = record {
   inside = (omega arith, omega arith);
   right = inr ((refl, refl, refl), could_find unchanged_update m1_unchanged_update refl (tt, tt) refl);
-  least = λ other w x. at other x
+  least = λ other w x. at other x;
 }
   where
     at : (other : ℕ) → IsClouded unchanged_update a other ⊎ (IsShown item (state unchanged_update [] other a) × CouldHaveFound unchanged_update m1_unchanged_update) → 14 ≤ other
@@ -173,8 +181,10 @@ found_place = record {
     at other (inr x) = shown_above unchanged_update [] other item a x.0
 
 rights : EachAt (λ n e. IsRightUnder unchanged_update [] n e) unchanged_update.events
-rights = (first_unchanged_update [],
-    (record { fixed = record { level = refl; stage = refl; by_word = tt; decision = λ d e. absurd (cc e) }; answer = λ w. (14, found_place.inside, found_place.right) }, tt))
+rights = (
+  first_unchanged_update [],
+  (record { fixed = record { level = refl; stage = refl; by_word = tt; decision = λ d e. absurd (cc e) }; answer = λ w. (14, found_place.inside, found_place.right) }, tt),
+)
 
 nothing : (other : List ℕ) → IsChoice [] other → AllZip ◌≤◌ [] other
 nothing [] c = tt
@@ -217,7 +227,7 @@ second = record {
       (λ other c f x. not_found other x.answer)
       (record {
         candidate = inl (found item false refl refl (λ (place, l, m, c). clear_second_update a place c) (excludes refl (λ x. omega (arith, x.0))));
-        least = seven
+        least = seven;
       });
   from = refl;
   to = refl;
@@ -225,12 +235,12 @@ second = record {
     sorted = λ i j d l m. absurd (omega (arith, l, m));
     sound = each_of (IsWriteIn second_update 10 last_place) (MadeAt 14 1 a ∷ [])
         (made_in second_update 10 last_place new m0_second_update (there old new (new ∷ []) (here new [])) (omega arith) (omega arith) (omega arith) (record { making = is_second_update; of_key = refl; at_revision = refl }, refl), tt);
-    full = all
-  }
+    full = all;
+  };
 }
   where
     all : (w : Write) → IsWriteIn second_update 10 last_place w → Contains (MadeAt 14 1 a ∷ []) w
     all (RemovedIn low high line key) w = absurd (not_in_none w.known)
     all (MadeAt revision line key) w = listed_at (MadeAt 14 1 a) (MadeAt revision line key) []
         (made_line second_update 10 last_place revision line key new 0 e0_second_update refl refl w
-          (each_of (λ v. 10 < v.revision → v ≡ new) second_update.versions ((λ l. absurd (omega (arith, l))), ((λ l. refl), tt)) w.version w.known w.above))
+        (each_of (λ v. 10 < v.revision → v ≡ new) second_update.versions ((λ l. absurd (omega (arith, l))), ((λ l. refl), tt)) w.version w.known w.above))
