@@ -1,5 +1,5 @@
 -- The check of a given placement, and its first fault.
-use Rattle.std.specs.Prelude.{◌≡◌, ◌≢◌, ◌≤◌, ◌++◌, ◌∷◌, ℕ, ◌⊎◌, true, false, List, Option, Some, None, length, slice_get, Contains}
+use Rattle.std.specs.Prelude.{◌≡◌, ◌≢◌, ◌≤◌, ◌++◌, ◌∷◌, ℕ, ◌⊎◌, true, false, List, Option, Some, None, length, slice_get, Contains, Bool}
 use Rattle.base_types.specs.Choices.{IsPlaceOf}
 use Rattle.base_types.specs.Reasons.{code_number}
 use Rattle.base_types.specs.declared.claim.Reason.{Reason}
@@ -23,7 +23,6 @@ use Rattle.history_model.specs.Runs.{AreSteps, IsRun}
 use Rattle.history_model.specs.States.{Map, Cut}
 use Rattle.history_model.specs.Windows.{InWindow}
 use Rattle.history_model.specs.Words.{Word, Makes, Removes, At, Strays, Nothing, word}
-use Rattle.std.specs.Prelude.{Bool}
 
 -- V1: the lines aren't those of the log; V2: a place that the event may not have; or an event's code
 pub data CheckCode : Type 0 where

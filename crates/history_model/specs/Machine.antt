@@ -1,5 +1,5 @@
 -- The serial API machine: it holds one object for each key, and takes one step after the other.
-use Rattle.std.specs.Prelude.{◌≡◌, ◌<◌, ℕ, ◌⊎◌, if◌then◌else◌, List, [], ◌∷◌, Option, Some, None, IfSome, All, slice_get}
+use Rattle.std.specs.Prelude.{◌≡◌, ◌<◌, ℕ, ◌⊎◌, if◌then◌else◌, List, [], ◌∷◌, Option, Some, None, IfSome, All, slice_get, ◌-◌}
 use Rattle.base_types.specs.declared.key.ObjectKey.{ObjectKey}
 use Rattle.history_model.specs.Clouds.{IsCloudedWithin}
 use Rattle.history_model.specs.Events.{Event}
@@ -9,7 +9,6 @@ use Rattle.history_model.specs.Keys.{same_key}
 use Rattle.history_model.specs.Making.{HasNoFault}
 use Rattle.history_model.specs.Right.{IsRight}
 use Rattle.history_model.specs.States.{Map, Cut, latest}
-use Rattle.std.specs.Prelude.{◌-◌}
 
 -- One atomic step: a write of a version at its revision, a removal at its place, or an answer at a place.
 pub data Step : Type 0 where
