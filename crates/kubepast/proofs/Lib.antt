@@ -1,0 +1,12 @@
+pub mod EndingFacts
+pub mod FormOfLog
+pub mod LogFacts
+pub mod LogStates
+pub mod JudgingOrder
+pub mod JudgingPlacement
+pub mod JudgingPlaces
+pub mod JudgingPrefixes
+pub mod JudgingWindows
+pub mod JudgingWrites
+pub mod SetupFacts
+pub mod StreamFacts
