@@ -6,4 +6,5 @@ pub mod Parts
 pub mod Search
 pub mod Size
 pub mod Stored
+pub mod Texts
 pub mod Values

@@ -6,6 +6,7 @@ mod equality;
 mod parts;
 mod search;
 mod stored;
+mod texts;
 mod tree;
 mod values;
 
