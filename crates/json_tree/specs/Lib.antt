@@ -9,4 +9,5 @@ pub mod Same
 pub mod Search
 pub mod Size
 pub mod Stored
+pub mod Texts
 pub mod Values

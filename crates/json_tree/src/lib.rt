@@ -8,6 +8,7 @@ mod parts;
 mod pointers;
 mod search;
 mod stored;
+mod texts;
 mod tree;
 mod values;
 
