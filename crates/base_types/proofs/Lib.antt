@@ -1,3 +1,6 @@
+pub mod EscapeLemmas
 pub mod Integers
+pub mod KeyLemmas
 pub mod Lending
 pub mod Quantifiers
+pub mod RevisionTexts

@@ -1,4 +1,7 @@
 pub mod Choices
+pub mod Covers
+pub mod Escapes
+pub mod Keys
 pub mod Placements
 pub mod Reasons
 pub mod Revisions

@@ -2,6 +2,7 @@
 #![tactic(auto)]
 
 mod claim;
+mod escaping;
 mod key;
 mod listed;
 mod memory;
@@ -11,7 +12,8 @@ mod revision;
 mod text;
 
 pub use claim::{Bound, Bounds, Claim, Claims, Range, Reason};
-pub use key::{Cover, CoverName, ObjectKey};
+pub use escaping::escape;
+pub use key::{Cover, CoverName, ObjectKey, covers, exact_key, key_text, read_key};
 pub use listed::Listed;
 pub use memory::OutOfMemory;
 pub use placed::{
@@ -20,5 +22,5 @@ pub use placed::{
 pub use request::{
     Decision, Level, Pair, Pairs, PolicyLevel, Possible, RequestAttrs, Stage, StageSet, User,
 };
-pub use revision::{Moment, Revision};
+pub use revision::{Moment, Revision, read_revision};
 pub use text::{Bytes, Text, Texts};

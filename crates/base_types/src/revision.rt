@@ -1,4 +1,4 @@
-ghost use Rattle.std.specs.Prelude.{◌≡◌, ℕ, IfSome, IsSome, ◌↔◌};
+ghost use Rattle.std.specs.Prelude.{◌≡◌, ◌≢◌, ℕ, IfSome, IfNone, IsSome, ◌↔◌, decimal};
 ghost use Rattle.base_types.specs.Revisions.{IsRevision};
 
 use std::marker::Model;
@@ -39,6 +39,58 @@ impl Revision {
     }
 }
 
+/// Reads a revision in its one spelling: decimal digits without a leading zero.
+pub fn read_revision(text: &[u8]) -> Option<Revision>
+    ensures some { IfSome result (λ revision. text.now ≡ decimal revision) }
+    ensures none { IfNone result ((revision : ℕ) → IsRevision revision → text.now ≢ decimal revision) }
+{
+    if text.is_empty() {
+        return None;
+    }
+    if text[0] < b'1' {
+        return None;
+    }
+    if text[0] > b'9' {
+        return None;
+    }
+    let Ok(digits) = str::from_utf8(text) else {
+        return None;
+    };
+    let Ok(number) = digits.parse::<u64>() else {
+        return None;
+    };
+    Revision::new(number)
+}
+
 /// A moment of the wall clock, in nanoseconds since 1970-01-01T00:00:00Z.
 #[derive(Clone, Copy, Debug, Drop, PartialEq, Eq, PartialOrd, Ord)]
 pub struct Moment(pub i128);
+
+#[cfg(test)]
+mod tests {
+    use super::*;
+
+    #[test]
+    fn revisions(rt: HostRuntime) {
+        let cases: [(&[u8], Option<u64>); 15] = [
+            (b"1", Some(1)),
+            (b"10", Some(10)),
+            (b"907", Some(907)),
+            (b"18446744073709551614", Some(18446744073709551614)),
+            (b"18446744073709551615", None),
+            (b"18446744073709551616", None),
+            (b"184467440737095516140", None),
+            (b"0", None),
+            (b"01", None),
+            (b"", None),
+            (b"+1", None),
+            (b"-1", None),
+            (b"1 ", None),
+            (b"1a", None),
+            (b"1\xFF", None),
+        ];
+        for (text, number) in cases {
+            assert_eq!(rt; read_revision(text).map(|revision| revision.get()), number);
+        }
+    }
+}

@@ -1,0 +1,140 @@
+ghost use Rattle.std.specs.Prelude.{◌≡◌, ◌≤◌, None, length, IfOk, IfSome};
+
+use crate::edge::{Desk, DeskFailed, Sink, SinkFailed};
+use base_types::{OutOfMemory, Text};
+use std::alloc::Global;
+use std::io::{Input, Print, Read, Write};
+use std::rt::Files;
+use std::{fs, io};
+
+/// The name under which a desk of files has the standard input.
+pub const STANDARD_INPUT: &str = "-";
+
+// Where a name is read from.
+#[derive(Drop)]
+enum Source<F, I> {
+    Closed,
+    File(F),
+    Input(I),
+}
+
+#[derive(Drop)]
+struct NamedSource<F, I> {
+    name: Text,
+    source: Source<F, I>,
+}
+
+/// Files by their paths, and the standard input. It tells no content.
+#[derive(Drop)]
+pub struct FileDesk<'a, R: Files + Input> {
+    rt: &'a R,
+    sources: Vec<NamedSource<R::File, R::Reader>>,
+    faults: u64,
+}
+
+impl<'a, R: Files + Input> FileDesk<'a, R> {
+    /// A desk of these names, each of which is opened at its first read.
+    pub fn new(alloc: Global, rt: &'a R, names: &[String]) -> Result<FileDesk<'a, R>, OutOfMemory>
+        ensures { IfOk result (λ desk. desk.faults ≡ 0) }
+    {
+        let mut sources = Vec::new(alloc);
+        for name in names {
+            sources.push(NamedSource {
+                name: Text::from_str(alloc, name)?,
+                source: Source::Closed,
+            })?;
+        }
+        Ok(FileDesk {
+            rt,
+            sources,
+            faults: 0,
+        })
+    }
+}
+
+fn open_source<R: Files + Input>(rt: &R, name: &str) -> io::Result<Source<R::File, R::Reader>> {
+    if name == STANDARD_INPUT {
+        return Ok(Source::Input(rt.reader()));
+    }
+    Ok(Source::File(fs::open(rt, name)?))
+}
+
+fn read_source<R: Files + Input>(
+    rt: &R,
+    named: &mut NamedSource<R::File, R::Reader>,
+    into: &mut [u8],
+) -> io::Result<usize>
+    ensures { IfOk result (λ n. n ≤ length into.new) }
+{
+    if let Source::Closed = named.source {
+        named.source = open_source(rt, named.name.as_str())?;
+    }
+    match &mut named.source {
+        Source::Closed => Ok(0),
+        Source::File(file) => file.read(into),
+        Source::Input(input) => input.read(into),
+    }
+}
+
+fn read_named<R: Files + Input>(
+    rt: &R,
+    sources: &mut Vec<NamedSource<R::File, R::Reader>>,
+    name: &str,
+    into: &mut [u8],
+) -> Option<usize>
+    ensures { IfSome result (λ n. n ≤ length into.new) }
+{
+    for at in 0..sources.len() {
+        if sources[at].name.as_str() == name {
+            return read_source(rt, &mut sources[at], into).ok();
+        }
+    }
+    None
+}
+
+impl<'a, R: Files + Input> Desk for FileDesk<'a, R> {
+    ghost left = { λ _ _. None };
+
+    ghost faults = { λ desk. desk.faults };
+
+    fn read(&mut self, name: &str, into: &mut [u8]) -> Result<usize, DeskFailed> {
+        match read_named(self.rt, &mut self.sources, name, into) {
+            Some(count) => Ok(count),
+            None => {
+                self.faults = self.faults.saturating_add(1);
+                Err(DeskFailed)
+            }
+        }
+    }
+}
+
+/// The standard output. It tells no content.
+#[derive(Drop)]
+pub struct StdSink<'a, R: Print> {
+    rt: &'a R,
+    faults: u64,
+}
+
+impl<'a, R: Print> StdSink<'a, R> {
+    pub fn new(rt: &'a R) -> StdSink<'a, R>
+        ensures { result.faults ≡ 0 }
+    {
+        StdSink { rt, faults: 0 }
+    }
+}
+
+impl<'a, R: Print> Sink for StdSink<'a, R> {
+    ghost written = { λ _. None };
+
+    ghost faults = { λ sink. sink.faults };
+
+    fn write(&mut self, piece: &[u8]) -> Result<usize, SinkFailed> {
+        match self.rt.write_some(piece) {
+            Ok(count) if count > 0 => Ok(count),
+            _ => {
+                self.faults = self.faults.saturating_add(1);
+                Err(SinkFailed)
+            }
+        }
+    }
+}

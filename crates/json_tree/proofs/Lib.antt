@@ -1,0 +1,4 @@
+pub mod Lists
+pub mod Ordered
+pub mod Reading
+pub mod Removing

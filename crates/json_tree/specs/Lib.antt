@@ -1,0 +1,9 @@
+pub mod Code
+pub mod Meaning
+pub mod Names
+pub mod Node
+pub mod Parts
+pub mod Search
+pub mod Size
+pub mod Stored
+pub mod Values

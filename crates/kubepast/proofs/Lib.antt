@@ -1,0 +1,3 @@
+pub mod EndingFacts
+pub mod SetupFacts
+pub mod StreamFacts
