@@ -40,14 +40,22 @@ pub record IsLeastFromThere (order marks : List Mark) : Type 0 where
   pub moments : (k : ℕ) (d : Mark) → k < length order → (slice_index_or marks k d).at ≡ (slice_index_or order k d).at
   pub revisions : (k : ℕ) (d : Mark) → k < length order → IsLeastOf (drop k order) (slice_index_or marks k d).revision
 
--- one mark for each span: its end, in order, with the greatest revision up to it
-pub record IsByHi (spans : List Span) (marks : List Mark) : Type 0 where
+-- the marks in order, each with the greatest revision up to it
+pub record IsRunningGreatest (marks running : List Mark) : Type 0 where
   pub order : List Mark
-  pub sorted : IsInOrder (map end_of spans) order
-  pub running : IsGreatestSoFar order marks
+  pub sorted : IsInOrder marks order
+  pub greatest : IsGreatestSoFar order running
 
--- one mark for each span: its start, in order, with the least revision from it on
-pub record IsByLo (spans : List Span) (marks : List Mark) : Type 0 where
+-- the marks in order, each with the least revision from it on
+pub record IsRunningLeast (marks running : List Mark) : Type 0 where
   pub order : List Mark
-  pub sorted : IsInOrder (map start_of spans) order
-  pub running : IsLeastFromThere order marks
+  pub sorted : IsInOrder marks order
+  pub least : IsLeastFromThere order running
+
+-- the spans' ends, each with the greatest revision up to it
+abbrev pub IsByHi : List Span → List Mark → Type 0
+IsByHi spans marks = IsRunningGreatest (map end_of spans) marks
+
+-- the spans' starts, each with the least revision from it on
+abbrev pub IsByLo : List Span → List Mark → Type 0
+IsByLo spans marks = IsRunningLeast (map start_of spans) marks

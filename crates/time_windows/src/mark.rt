@@ -12,9 +12,10 @@ pub struct Mark {
     pub revision: u64,
 }
 
-ghost use Rattle.time_windows.specs.Marks.{start_of, end_of, IsInOrder, IsGreatestSoFar, IsLeastFromThere, IsByHi, IsByLo};
+ghost use Rattle.time_windows.specs.Marks.{start_of, end_of, IsInOrder, IsGreatestSoFar, IsLeastFromThere, IsRunningGreatest, IsRunningLeast};
 
-fn ends_of(alloc: Global, spans: &[Span]) -> Result<Vec<Mark>, OutOfMemory>
+/// The end of each span.
+pub fn ends_of(alloc: Global, spans: &[Span]) -> Result<Vec<Mark>, OutOfMemory>
     ensures { IfOk result (λ marks. marks.items ≡ map end_of spans.now) }
 {
     let marks = spans
@@ -27,7 +28,8 @@ fn ends_of(alloc: Global, spans: &[Span]) -> Result<Vec<Mark>, OutOfMemory>
     Ok(marks)
 }
 
-fn starts_of(alloc: Global, spans: &[Span]) -> Result<Vec<Mark>, OutOfMemory>
+/// The start of each span.
+pub fn starts_of(alloc: Global, spans: &[Span]) -> Result<Vec<Mark>, OutOfMemory>
     ensures { IfOk result (λ marks. marks.items ≡ map start_of spans.now) }
 {
     let marks = spans
@@ -69,20 +71,20 @@ fn lower(marks: &mut [Mark])
     }
 }
 
-/// The ends of the spans in order, each with the greatest revision up to it.
-pub fn by_hi(alloc: Global, spans: &[Span]) -> Result<Vec<Mark>, OutOfMemory>
-    ensures { IfOk result (λ marks. IsByHi spans.now marks.items) }
+/// The marks in order, each with the greatest revision up to it.
+pub fn running_greatest(marks: Vec<Mark>) -> Result<Vec<Mark>, OutOfMemory>
+    ensures { IfOk result (λ running. IsRunningGreatest marks.items running.items) }
 {
-    let mut marks = sorted(ends_of(alloc, spans)?)?;
-    raise(&mut marks);
-    Ok(marks)
+    let mut order = sorted(marks)?;
+    raise(&mut order);
+    Ok(order)
 }
 
-/// The starts of the spans in order, each with the least revision from it on.
-pub fn by_lo(alloc: Global, spans: &[Span]) -> Result<Vec<Mark>, OutOfMemory>
-    ensures { IfOk result (λ marks. IsByLo spans.now marks.items) }
+/// The marks in order, each with the least revision from it on.
+pub fn running_least(marks: Vec<Mark>) -> Result<Vec<Mark>, OutOfMemory>
+    ensures { IfOk result (λ running. IsRunningLeast marks.items running.items) }
 {
-    let mut marks = sorted(starts_of(alloc, spans)?)?;
-    lower(&mut marks);
-    Ok(marks)
+    let mut order = sorted(marks)?;
+    lower(&mut order);
+    Ok(order)
 }

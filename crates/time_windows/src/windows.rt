@@ -1,6 +1,6 @@
 ghost use Rattle.std.specs.Prelude.{◌≡◌, ◌<◌, IfOk, All, AllPairs};
 
-use crate::mark::{Mark, by_hi, by_lo};
+use crate::mark::{Mark, ends_of, running_greatest, running_least, starts_of};
 use crate::span::Span;
 use base_types::{Moment, OutOfMemory, Revision};
 use std::alloc::Global;
@@ -13,7 +13,9 @@ pub struct Windows {
     start: Revision,
     by_hi: Vec<Mark>,
     by_lo: Vec<Mark>,
-    spans: Snapshot<Vec<Span>>,
+    // For contracts alone: they take no memory.
+    ends: Snapshot<Vec<Mark>>,
+    starts: Snapshot<Vec<Mark>>,
 }
 
 impl Model for Windows {
@@ -21,11 +23,11 @@ impl Model for Windows {
 
     ghost Value = { History };
 
-    ghost use Rattle.time_windows.specs.Kept.{IsKept};
+    ghost use Rattle.time_windows.specs.Kept.{IsKept, spans_of};
 
-    ghost view = { λ w. record { start = w.start; spans = w.spans.value.items } };
+    ghost view = { λ w. record { start = w.start; spans = spans_of w.ends.value.items w.starts.value.items } };
 
-    ghost invariant = { λ w. IsKept w.start w.spans.value.items w.by_hi.items w.by_lo.items };
+    ghost invariant = { λ w. IsKept w.start (spans_of w.ends.value.items w.starts.value.items) w.by_hi.items w.by_lo.items };
 }
 
 impl Windows {
@@ -43,12 +45,14 @@ impl Windows {
         ensures start { IfOk result (λ windows. windows.start ≡ start) }
         ensures spans { IfOk result (λ windows. windows.spans ≡ spans.now) }
     {
-        let kept = Vec::from_slice(alloc, spans)?;
+        let ends = ends_of(alloc, spans)?;
+        let starts = starts_of(alloc, spans)?;
         Ok(Windows {
             start,
-            by_hi: by_hi(alloc, spans)?,
-            by_lo: by_lo(alloc, spans)?,
-            spans: Snapshot::of(&kept),
+            ends: Snapshot::of(&ends),
+            starts: Snapshot::of(&starts),
+            by_hi: running_greatest(ends)?,
+            by_lo: running_least(starts)?,
         })
     }
 
