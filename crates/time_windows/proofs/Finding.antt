@@ -1,5 +1,5 @@
 -- From a place in the marks to what the spans say of a moment.
-use Rattle.std.proofs.Common.{◌≡◌, ℕ, zero, suc, ◌+◌, ◌-◌, ◌^◌, ◌<◌, ◌≤◌, ℤ, ◌<ℤ◌, ◌≤ℤ◌, ◌⊎◌, ⊎_elim, inl, inr, Bool, true, false, List, length, get_or, map, take, drop, All, Any, refl, sym, ◌∙◌, subst, ap, arith}
+use Rattle.std.proofs.Common.{◌≡◌, ℕ, zero, suc, ◌+◌, ◌-◌, ◌^◌, ◌<◌, ◌≤◌, ℤ, ◌<ℤ◌, ◌≤ℤ◌, ⊎_elim, inl, inr, Bool, true, false, List, length, get_or, map, take, drop, All, refl, sym, ◌∙◌, subst, ap, arith}
 use Rattle.std.specs.List.Sorted.{IsPartitionPoint, IsPartitionedBy}
 use Rattle.std.specs.Ordering.{int_cmp, is_le, is_lt}
 use Rattle.std.proofs.lemmas.Bool.{cases_lt}
@@ -11,7 +11,7 @@ use Rattle.base_types.proofs.Quantifiers.{Any-map, Any-permutation, Any-unmap}
 use Rattle.base_types.specs.declared.revision.Moment.{Moment}
 use Rattle.time_windows.specs.declared.mark.Mark.{Mark}
 use Rattle.time_windows.specs.declared.span.Span.{Span}
-use Rattle.time_windows.specs.Marks.{IsByHi, IsByLo, IsGreatestOf, IsInOrder, IsLeastOf, Precedes, end_of, start_of}
+use Rattle.time_windows.specs.Marks.{IsByHi, IsByLo, IsGreatestOf, IsInOrder, IsLeastOf, end_of, start_of}
 use Rattle.time_windows.specs.Places.{BeginsAfter, EndedBefore, IsHighest, IsLowest}
 
 -- the moments of marks in order never fall
@@ -21,7 +21,7 @@ rises marks order sorted i zero d within =
 rises marks order sorted i (suc n) d within =
     let upto = rises marks order sorted i n d (omega arith) in
     let last : (get_or order (i + n) d).at.0 ≤ℤ (get_or order (i + n + 1) d).at.0 =
-      ⊎_elim (λ before. omega (arith, ints)) (λ tie. let moment = tie.0 in omega (arith, ints)) (sorted.each (i + n) d (omega arith)) in
+    ⊎_elim (λ before. omega (arith, ints)) (λ tie. let moment = tie.0 in omega (arith, ints)) (sorted.each (i + n) d (omega arith)) in
     let same : i + n + 1 ≡ i + suc n = omega arith in
     subst (λ j. (get_or order i d).at.0 ≤ℤ (get_or order j d).at.0) same (omega (arith, ints))
 
@@ -76,13 +76,13 @@ ended_in_front spans marks at place revision by_hi parts ended =
     let any = Any-permutation (λ mark. (mark.revision ≡ revision) × (mark.at.0 <ℤ at)) (map end_of spans) by_hi.order by_hi.sorted.same (Any-map end_of (λ mark. (mark.revision ≡ revision) × (mark.at.0 <ℤ at)) spans ended) in
     let long = by_hi.greatest.long in
     let front = ⊎_elim
-      (λ (before : any.0 < place). before)
-      (λ (behind : place ≤ any.0).
-        let fails = ge_from_test (get_or marks any.0 any.1).at.0 at (parts.1 any.0 any.1 behind (let within = any.2 in omega arith)) in
-        let moment : (get_or marks any.0 any.1).at.0 ≡ any.1.at.0 = ap (λ (m : Moment). m.0) (by_hi.greatest.moments any.0 any.1 any.2) ∙ ap (λ (mark : Mark). mark.at.0) any.3 in
-        let passes = any.4.1 in
-        absurd (omega (arith, ints)))
-      (cases_lt any.0 place) in
+    (λ (before : any.0 < place). before)
+    (λ (behind : place ≤ any.0).
+    let fails = ge_from_test (get_or marks any.0 any.1).at.0 at (parts.1 any.0 any.1 behind (let within = any.2 in omega arith)) in
+    let moment : (get_or marks any.0 any.1).at.0 ≡ any.1.at.0 = ap (λ (m : Moment). m.0) (by_hi.greatest.moments any.0 any.1 any.2) ∙ ap (λ (mark : Mark). mark.at.0) any.3 in
+    let passes = any.4.1 in
+    absurd (omega (arith, ints)))
+    (cases_lt any.0 place) in
     (any.0, front, any.2, λ d. ap (λ (mark : Mark). mark.revision) (get_or_default by_hi.order any.0 d any.1 any.2 ∙ any.3) ∙ any.4.0)
 
 -- a revision that had ended lies behind the start
@@ -97,7 +97,7 @@ pub IsLowest-start : (start : ℕ) (spans : List Span) (marks : List Mark) (at :
 IsLowest-start start spans marks at place by_hi parts first = record {
   reached = inl refl;
   from_start = omega arith;
-  greatest = λ revision ended. let front = ended_in_front spans marks at place revision by_hi parts ended in let before = front.1 in absurd (omega arith)
+  greatest = λ revision ended. let front = ended_in_front spans marks at place revision by_hi parts ended in let before = front.1 in absurd (omega arith);
 }
 
 -- the greatest revision of the marks in front
@@ -112,20 +112,20 @@ IsLowest-of start spans marks at place revision behind by_hi parts upto greatest
     let moment : (get_or marks any.0 any.1).at.0 ≡ any.1.at.0 = ap (λ (m : Moment). m.0) (by_hi.greatest.moments any.0 any.1 within) ∙ ap (λ (mark : Mark). mark.at.0) there in
     let passes = lt_from_test (get_or marks any.0 any.1).at.0 at (parts.0 any.0 any.1 (omega arith) front) in
     let ended : EndedBefore spans at revision =
-      Any-unmap end_of (λ mark. (mark.revision ≡ revision) × (mark.at.0 <ℤ at)) spans
-        (Any-permutation (λ mark. (mark.revision ≡ revision) × (mark.at.0 <ℤ at)) by_hi.order (map end_of spans) (IsPermutation-sym _ _ by_hi.sorted.same) (any.0, any.1, within, there, (any.4, omega (arith, ints)))) in
+    Any-unmap end_of (λ mark. (mark.revision ≡ revision) × (mark.at.0 <ℤ at)) spans
+    (Any-permutation (λ mark. (mark.revision ≡ revision) × (mark.at.0 <ℤ at)) by_hi.order (map end_of spans) (IsPermutation-sym _ _ by_hi.sorted.same) (any.0, any.1, within, there, (any.4, omega (arith, ints)))) in
     record {
       reached = inr ended;
       from_start = start_below start spans at revision behind ended;
       greatest = λ other other_ended.
-        let found = ended_in_front spans marks at place other by_hi parts other_ended in
-        let before = found.1 in
-        let known = found.2 in
-        let d = any.1 in
-        let among : found.0 < length (take place by_hi.order) = omega (arith, length-take place by_hi.order) in
-        let bound : (get_or by_hi.order found.0 d).revision ≤ revision = subst (λ (mark : Mark). mark.revision ≤ revision) (get_or-take place by_hi.order found.0 d before) (greatest.bound found.0 d among) in
-        let is = found.3 d in
-        omega arith
+          let found = ended_in_front spans marks at place other by_hi parts other_ended in
+          let before = found.1 in
+          let known = found.2 in
+          let d = any.1 in
+          let among : found.0 < length (take place by_hi.order) = omega (arith, length-take place by_hi.order) in
+          let bound : (get_or by_hi.order found.0 d).revision ≤ revision = subst (λ (mark : Mark). mark.revision ≤ revision) (get_or-take place by_hi.order found.0 d before) (greatest.bound found.0 d among) in
+          let is = found.3 d in
+          omega arith;
     }
 
 -- and else the revision of the last mark that does
@@ -135,7 +135,7 @@ IsLowest-mark start spans marks at place d behind by_hi parts after_first upto =
     let long = by_hi.greatest.long in
     let next : place - 1 + 1 ≡ place = omega arith in
     IsLowest-of start spans marks at place _ behind by_hi parts upto
-      (subst (λ n. IsGreatestOf (take n by_hi.order) (get_or marks (place - 1) d).revision) next (by_hi.greatest.revisions (place - 1) d (omega arith)))
+    (subst (λ n. IsGreatestOf (take n by_hi.order) (get_or marks (place - 1) d).revision) next (by_hi.greatest.revisions (place - 1) d (omega arith)))
 
 -- the spans that begin later are those whose starts stand behind
 begun_behind : (spans : List Span) (marks : List Mark) (at : ℤ) (place revision : ℕ) (by_lo : IsByLo spans marks) → Parts (stands_by at) marks place → BeginsAfter spans at revision
@@ -144,13 +144,13 @@ begun_behind spans marks at place revision by_lo parts begins =
     let any = Any-permutation (λ mark. (mark.revision ≡ revision) × (at <ℤ mark.at.0)) (map start_of spans) by_lo.order by_lo.sorted.same (Any-map start_of (λ mark. (mark.revision ≡ revision) × (at <ℤ mark.at.0)) spans begins) in
     let long = by_lo.least.long in
     let behind = ⊎_elim
-      (λ (before : any.0 < place).
-        let passes = le_from_test (get_or marks any.0 any.1).at.0 at (parts.0 any.0 any.1 (omega arith) before) in
-        let moment : (get_or marks any.0 any.1).at.0 ≡ any.1.at.0 = ap (λ (m : Moment). m.0) (by_lo.least.moments any.0 any.1 any.2) ∙ ap (λ (mark : Mark). mark.at.0) any.3 in
-        let fails = any.4.1 in
-        absurd (omega (arith, ints)))
-      (λ (behind : place ≤ any.0). behind)
-      (cases_lt any.0 place) in
+    (λ (before : any.0 < place).
+    let passes = le_from_test (get_or marks any.0 any.1).at.0 at (parts.0 any.0 any.1 (omega arith) before) in
+    let moment : (get_or marks any.0 any.1).at.0 ≡ any.1.at.0 = ap (λ (m : Moment). m.0) (by_lo.least.moments any.0 any.1 any.2) ∙ ap (λ (mark : Mark). mark.at.0) any.3 in
+    let fails = any.4.1 in
+    absurd (omega (arith, ints)))
+    (λ (behind : place ≤ any.0). behind)
+    (cases_lt any.0 place) in
     (any.0, behind, any.2, λ d. ap (λ (mark : Mark). mark.revision) (get_or_default by_lo.order any.0 d any.1 any.2 ∙ any.3) ∙ any.4.0)
 
 -- the last place of all, where no mark stands behind
@@ -158,11 +158,11 @@ pub IsHighest-end : (spans : List Span) (marks : List Mark) (at : ℤ) (place hi
 IsHighest-end spans marks at place highest by_lo parts ended last = record {
   reached = inl last;
   least = λ revision begins.
-    let behind = begun_behind spans marks at place revision by_lo parts begins in
-    let long = by_lo.least.long in
-    let after = behind.1 in
-    let within = behind.2 in
-    absurd (omega arith)
+      let behind = begun_behind spans marks at place revision by_lo parts begins in
+      let long = by_lo.least.long in
+      let after = behind.1 in
+      let within = behind.2 in
+      absurd (omega arith);
 }
 
 -- a revision that begins later lies behind the first
@@ -188,22 +188,22 @@ IsBegun-of first spans marks at place revision behind by_lo parts within_marks l
     let moment : (get_or marks (place + any.0) any.1).at.0 ≡ any.1.at.0 = ap (λ (m : Moment). m.0) (by_lo.least.moments (place + any.0) any.1 within) ∙ ap (λ (mark : Mark). mark.at.0) there in
     let fails = gt_from_test (get_or marks (place + any.0) any.1).at.0 at (parts.1 (place + any.0) any.1 (omega arith) (omega arith)) in
     let begins : BeginsAfter spans at revision =
-      Any-unmap start_of (λ mark. (mark.revision ≡ revision) × (at <ℤ mark.at.0)) spans
-        (Any-permutation (λ mark. (mark.revision ≡ revision) × (at <ℤ mark.at.0)) by_lo.order (map start_of spans) (IsPermutation-sym _ _ by_lo.sorted.same) (place + any.0, any.1, within, there, (any.4, omega (arith, ints)))) in
+    Any-unmap start_of (λ mark. (mark.revision ≡ revision) × (at <ℤ mark.at.0)) spans
+    (Any-permutation (λ mark. (mark.revision ≡ revision) × (at <ℤ mark.at.0)) by_lo.order (map start_of spans) (IsPermutation-sym _ _ by_lo.sorted.same) (place + any.0, any.1, within, there, (any.4, omega (arith, ints)))) in
     record {
       above = first_below first spans at revision behind begins;
       begins = begins;
       least = λ other other_begins.
-        let found = begun_behind spans marks at place other by_lo parts other_begins in
-        let after = found.1 in
-        let known = found.2 in
-        let d = any.1 in
-        let among : found.0 - place < length (drop place by_lo.order) = omega (arith, length-drop place by_lo.order) in
-        let there : place + (found.0 - place) ≡ found.0 = omega arith in
-        let bound : revision ≤ (get_or by_lo.order found.0 d).revision =
+          let found = begun_behind spans marks at place other by_lo parts other_begins in
+          let after = found.1 in
+          let known = found.2 in
+          let d = any.1 in
+          let among : found.0 - place < length (drop place by_lo.order) = omega (arith, length-drop place by_lo.order) in
+          let there : place + (found.0 - place) ≡ found.0 = omega arith in
+          let bound : revision ≤ (get_or by_lo.order found.0 d).revision =
           subst (λ n. revision ≤ (get_or by_lo.order n d).revision) there (subst (λ (mark : Mark). revision ≤ mark.revision) (get_or-drop place by_lo.order (found.0 - place) d) (least.bound (found.0 - place) d among)) in
-        let is = found.3 d in
-        omega arith
+          let is = found.3 d in
+          omega arith;
     }
 
 pub IsBegun-mark : (first : ℕ) (spans : List Span) (marks : List Mark) (at : ℤ) (place : ℕ) (d : Mark) → All (λ span. first < span.revision) spans → IsByLo spans marks
@@ -218,7 +218,7 @@ IsHighest-before first spans at revision begun =
     let same : revision - 1 + 1 ≡ revision = omega arith in
     record {
       reached = inr (subst (BeginsAfter spans at) (sym same) begun.begins);
-      least = λ other begins. let upto = begun.least other begins in omega arith
+      least = λ other begins. let upto = begun.least other begins in omega arith;
     }
 
 -- the same, of the mark that was read there

@@ -35,11 +35,7 @@ impl Windows {
     ghost use Rattle.time_windows.specs.Places.{IsLowest, IsHighest};
 
     /// Keeps the spans of the recorded writes behind the start revision.
-    pub fn build(
-        alloc: Global,
-        start: Revision,
-        spans: &[Span],
-    ) -> Result<Windows, OutOfMemory>
+    pub fn build(alloc: Global, start: Revision, spans: &[Span]) -> Result<Windows, OutOfMemory>
         requires rising { AllPairs (λ a b. a.revision < b.revision) spans.now }
         requires above { All (λ span. start < span.revision) spans.now }
         ensures start { IfOk result (λ windows. windows.start ≡ start) }
@@ -92,3 +88,6 @@ impl Windows {
         self.by_lo.as_slice()
     }
 }
+
+#[cfg(test)]
+mod tests;

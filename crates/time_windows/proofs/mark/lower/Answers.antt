@@ -1,4 +1,4 @@
-use Rattle.std.proofs.Common.{refl, arith, sym, subst}
+use Rattle.std.proofs.Common.{refl, arith, subst}
 use Rattle.time_windows.proofs.Running.{Gets, Gets-set, IsLeastFromThere-end, IsLowered-last, IsLowered-more}
 use Rattle.time_windows.proofs.mark.lower.Goals as goal
 
