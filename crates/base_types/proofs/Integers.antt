@@ -3,7 +3,7 @@ use Rattle.std.proofs.Common.{◌≡◌, ◌⊎◌, ⊎_elim, inl, inr, true, fa
 use Rattle.std.proofs.lemmas.Bool.{cases_Bool}
 use Rattle.std.proofs.lemmas.Int.{ints}
 use Rattle.std.specs.Cmp.{int_ranks}
-use Rattle.std.specs.Ordering.{int_cmp, is_lt, MatchOrdering}
+use Rattle.std.specs.Ordering.{int_cmp, is_le, is_lt, MatchOrdering}
 use Rattle.std.specs.declared.cmp.Ordering.{Ordering}
 use Rattle.std.specs.declared.cmp.Ordering.TheVariants.{Less, Equal, Greater}
 
@@ -30,3 +30,15 @@ test_from_ge x y above =
 -- one of two integers is below the other, or not
 pub lt_or_ge : (x y : ℤ) → (x <ℤ y) ⊎ (y ≤ℤ x)
 lt_or_ge x y = by_order x y (int_cmp x y) (int_ranks x y) (λ _. (x <ℤ y) ⊎ (y ≤ℤ x)) inl (λ equal. inr (omega (arith, ints))) (λ above. inr (omega (arith, ints)))
+
+pub le_from_test : (x y : ℤ) → is_le (int_cmp x y) ≡ true → x ≤ℤ y
+le_from_test x y =
+    by_order x y (int_cmp x y) (int_ranks x y) (λ o. is_le o ≡ true → x ≤ℤ y) (λ below _. omega (arith, ints)) (λ equal _. omega (arith, ints)) (λ _ no. cc)
+
+pub gt_from_test : (x y : ℤ) → is_le (int_cmp x y) ≡ false → y <ℤ x
+gt_from_test x y =
+    by_order x y (int_cmp x y) (int_ranks x y) (λ o. is_le o ≡ false → y <ℤ x) (λ _ no. cc) (λ _ no. cc) (λ above _. above)
+
+pub test_from_le : (x y : ℤ) → x ≤ℤ y → is_le (int_cmp x y) ≡ true
+test_from_le x y upto =
+    ⊎_elim (λ is. is) (λ no. let above = gt_from_test x y no in absurd (omega (arith, ints))) (cases_Bool (is_le (int_cmp x y)))

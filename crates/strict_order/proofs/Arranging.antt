@@ -1,7 +1,7 @@
 -- Every list stands in an order that its elements allow.
-use Rattle.std.proofs.Common.{◌≡◌, ℕ, zero, suc, ◌+◌, ◌<◌, ◌≤◌, ◌⊎◌, ⊎_elim, List, [], ◌∷◌, length, get_or, All, AllPairs, refl, subst, arith}
+use Rattle.std.proofs.Common.{ℕ, zero, suc, ◌<◌, ◌⊎◌, ⊎_elim, List, [], ◌∷◌, length, get_or, All, AllPairs, refl, arith}
 use Rattle.std.specs.List.Sorted.{IsPermutation}
-use Rattle.std.proofs.lemmas.List.Elements.{All-cons, All-nil, All-tail, All-weaker}
+use Rattle.std.proofs.lemmas.List.Elements.{All-cons, All-nil, All-weaker}
 use Rattle.std.proofs.lemmas.List.Sorted.{All-permutation, IsPermutation-cons, IsPermutation-refl, IsPermutation-swap, IsPermutation-trans}
 
 -- each element is related to those after it
@@ -40,15 +40,15 @@ placed R order x (y ∷ ys) ascends = ⊎_elim
     (λ before. record {
       list = x ∷ y ∷ ys;
       same = IsPermutation-refl (x ∷ y ∷ ys);
-      ascends = (All-cons (R x) y ys before (All-weaker (R y) (R x) (λ z after. order.trans x y z before after) ys ascends.0), ascends)
+      ascends = (All-cons (R x) y ys before (All-weaker (R y) (R x) (λ z after. order.trans x y z before after) ys ascends.0), ascends);
     })
     (λ after.
-      let rest = placed R order x ys ascends.1 in
-      record {
-        list = y ∷ rest.list;
-        same = IsPermutation-second x y ys rest.list rest.same;
-        ascends = (All-permutation (R y) (x ∷ ys) rest.list rest.same (All-cons (R y) x ys after ascends.0), rest.ascends)
-      })
+    let rest = placed R order x ys ascends.1 in
+    record {
+      list = y ∷ rest.list;
+      same = IsPermutation-second x y ys rest.list rest.same;
+      ascends = (All-permutation (R y) (x ∷ ys) rest.list rest.same (All-cons (R y) x ys after ascends.0), rest.ascends);
+    })
     (order.decide x y)
 
 pub arranged : {X : Type 0} (R : X → X → Type 0) → IsOrder R → (xs : List X) → IsArranged R xs
@@ -59,5 +59,5 @@ arranged R order (x ∷ xs) =
     record {
       list = whole.list;
       same = IsPermutation-trans (x ∷ xs) (x ∷ rest.list) whole.list (IsPermutation-cons x xs rest.list rest.same) whole.same;
-      ascends = whole.ascends
+      ascends = whole.ascends;
     }

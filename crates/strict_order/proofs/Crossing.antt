@@ -15,7 +15,7 @@ use Rattle.strict_order.specs.declared.thing.Thing.{Thing}
 use Rattle.strict_order.specs.Printed.{IsPrinted}
 use Rattle.strict_order.specs.Strict.{Standing, IsStrict, NeverFalls, StandsAt}
 use Rattle.strict_order.specs.Things.{ComesBefore, Crosses}
-use Rattle.strict_order.proofs.Arranging.{Ascends, AllPairs-from_ascends, IsArranged, IsOrder, arranged}
+use Rattle.strict_order.proofs.Arranging.{Ascends, AllPairs-from_ascends, IsOrder, arranged}
 use Rattle.strict_order.proofs.Judging.{crossed_from_late}
 use Rattle.strict_order.proofs.Numbering.{IsFit, Timed, map-numbered, numbered, numbered-allowed, numbered-rises}
 
@@ -33,8 +33,8 @@ Any-zip P things moments long any = go things moments long any.0 any.1 any.2 any
 stands_in_line : (things : List Thing) (moments : List Moment) (a : Thing) (stands : StandsAt things moments) → Contains things a → Any (λ (s : Standing). s.thing ≡ a) stands.line
 stands_in_line things moments a stands among =
     Any-unmap (λ (s : Standing). (s.thing, s.moment)) (λ (p : Timed). p.0 ≡ a) stands.line
-      (Any-permutation (λ (p : Timed). p.0 ≡ a) (zip things moments) (map (λ (s : Standing). (s.thing, s.moment)) stands.line) stands.same
-        (Any-zip (λ t. t ≡ a) things moments stands.long (Any-contains (λ t. t ≡ a) things a among refl)))
+    (Any-permutation (λ (p : Timed). p.0 ≡ a) (zip things moments) (map (λ (s : Standing). (s.thing, s.moment)) stands.line) stands.same
+    (Any-zip (λ t. t ≡ a) things moments stands.long (Any-contains (λ t. t ≡ a) things a among refl)))
 
 -- along a line that never falls, no greater number stands at an earlier moment
 in_line : (line : List Standing) (i j : ℕ) (d : Standing) → AllPairs NeverFalls line → i < length line → j < length line
@@ -42,12 +42,12 @@ in_line : (line : List Standing) (i j : ℕ) (d : Standing) → AllPairs NeverFa
 in_line line i j d rising i_within j_within lower earlier = ⊎_elim
     (λ before. let up = rising i j d before j_within in let later = up.0 in omega (arith, ints))
     (λ not_before. ⊎_elim
-      (λ after. let up = rising j i d after i_within in let higher = up.1 in omega arith)
-      (λ not_after.
-        let same : i ≡ j = omega arith in
-        let number : (get_or line i d).number ≡ (get_or line j d).number = ap (λ k. (get_or line k d).number) same in
-        omega arith)
-      (cases_lt j i))
+    (λ after. let up = rising j i d after i_within in let higher = up.1 in omega arith)
+    (λ not_after.
+    let same : i ≡ j = omega arith in
+    let number : (get_or line i d).number ≡ (get_or line j d).number = ap (λ k. (get_or line k d).number) same in
+    omega arith)
+    (cases_lt j i))
     (cases_lt i j)
 
 -- where things stand in one line, none of them cross
@@ -75,21 +75,21 @@ IsNoLater p q = (p.1.0 <ℤ q.1.0) ⊎ ((p.1.0 ≡ q.1.0) × (p.0.least ≤ q.0.
 IsNoLater-order : IsOrder IsNoLater
 IsNoLater-order = record {
   decide = λ p q. ⊎_elim
-    (λ lower. inl (inl lower))
-    (λ upto. ⊎_elim
+      (λ lower. inl (inl lower))
+      (λ upto. ⊎_elim
       (λ higher. inr (inl higher))
       (λ downto.
-        let same : p.1.0 ≡ q.1.0 = omega (arith, ints) in
-        ⊎_elim (λ less. inl (inr (same, omega arith))) (λ more. inr (inr (sym same, more))) (cases_lt p.0.least q.0.least))
+      let same : p.1.0 ≡ q.1.0 = omega (arith, ints) in
+      ⊎_elim (λ less. inl (inr (same, omega arith))) (λ more. inr (inr (sym same, more))) (cases_lt p.0.least q.0.least))
       (lt_or_ge q.1.0 p.1.0))
-    (lt_or_ge p.1.0 q.1.0);
+      (lt_or_ge p.1.0 q.1.0);
   trans = λ p q r before after. ⊎_elim
-    (λ lower. ⊎_elim (λ next. inl (omega (arith, ints))) (λ tie. let same = tie.0 in inl (omega (arith, ints))) after)
-    (λ tie. ⊎_elim
+      (λ lower. ⊎_elim (λ next. inl (omega (arith, ints))) (λ tie. let same = tie.0 in inl (omega (arith, ints))) after)
+      (λ tie. ⊎_elim
       (λ next. let same = tie.0 in inl (omega (arith, ints)))
       (λ other. inr (tie.0 ∙ other.0, (let low = tie.1 in let high = other.1 in omega arith)))
       after)
-    before
+      before;
 }
 
 -- a thing with the first moment that it can have, where that isn't too late
@@ -102,25 +102,25 @@ record IsFirst (things : List Thing) (p : Timed) : Type 0 where
 rises_along : (things : List Thing) (q p : Timed) → IsFirst things q → IsFirst things p → ComesBefore q.0 p.0 → q.1.0 ≤ℤ p.1.0
 rises_along things q p of_q of_p before = ⊎_elim
     (λ own.
-      let same : q.1.0 ≡ q.0.lo.0 = ap (λ (m : Moment). m.0) own in
-      let upto : q.0.lo.0 ≤ℤ p.1.0 = All-contains (λ a. ComesBefore a p.0 → a.lo.0 ≤ℤ p.1.0) things q.0 of_p.printed.others of_q.stands before in
-      omega (arith, ints))
+    let same : q.1.0 ≡ q.0.lo.0 = ap (λ (m : Moment). m.0) own in
+    let upto : q.0.lo.0 ≤ℤ p.1.0 = All-contains (λ a. ComesBefore a p.0 → a.lo.0 ≤ℤ p.1.0) things q.0 of_p.printed.others of_q.stands before in
+    omega (arith, ints))
     (λ any.
-      let numbers = of_q.fit.numbers in
-      let is = any.4 in
-      let same : q.1.0 ≡ any.1.lo.0 = ap (λ (m : Moment). m.0) is.1 in
-      let first = is.0 in
-      let upto : any.1.lo.0 ≤ℤ p.1.0 = All-contains (λ a. ComesBefore a p.0 → a.lo.0 ≤ℤ p.1.0) things any.1 of_p.printed.others (any.0, any.2, any.3) (omega arith) in
-      omega (arith, ints))
+    let numbers = of_q.fit.numbers in
+    let is = any.4 in
+    let same : q.1.0 ≡ any.1.lo.0 = ap (λ (m : Moment). m.0) is.1 in
+    let first = is.0 in
+    let upto : any.1.lo.0 ≤ℤ p.1.0 = All-contains (λ a. ComesBefore a p.0 → a.lo.0 ≤ℤ p.1.0) things any.1 of_p.printed.others (any.0, any.2, any.3) (omega arith) in
+    omega (arith, ints))
     of_q.printed.reached
 
 -- so in the order of the moments no thing comes before an earlier one
 no_lower : (things : List Thing) (p q : Timed) → IsFirst things p → IsFirst things q → IsNoLater p q → p.0.least ≤ q.0.greatest
 no_lower things p q of_p of_q order = ⊎_elim
     (λ before.
-      let back = rises_along things q p of_q of_p before in
-      let numbers = of_q.fit.numbers in
-      absurd (⊎_elim (λ lower. omega (arith, ints)) (λ tie. let least = tie.1 in omega arith) order))
+    let back = rises_along things q p of_q of_p before in
+    let numbers = of_q.fit.numbers in
+    absurd (⊎_elim (λ lower. omega (arith, ints)) (λ tie. let least = tie.1 in omega arith) order))
     (λ not_before. not_before)
     (cases_lt q.0.greatest p.0.least)
 
@@ -152,8 +152,8 @@ IsFirst-of things p both = record {
   fit = record {
     not_early = both.1.own;
     not_late = ⊎_elim (λ late. absurd (both.0.uncrossed (crossed_from_late things p.0 p.1 both.1 both.0.moments late))) (λ upto. upto) (lt_or_ge p.0.hi.0 p.1.0);
-    numbers = both.0.numbers
-  }
+    numbers = both.0.numbers;
+  };
 }
 
 -- where no thing is crossed, all stand in one line at the first moments that they can have
@@ -162,18 +162,18 @@ StandsAt-from_uncrossed things moments uncrossed printed =
     let pairs = zip things moments in
     let order = arranged IsNoLater IsNoLater-order pairs in
     let first : All (IsFirst things) order.list =
-      All-permutation (IsFirst things) pairs order.list order.same
-        (All-weaker (λ p. IsUncrossed things p.0 × IsPrinted things p.0 p.1) (IsFirst things) (IsFirst-of things) pairs (All-zip (IsUncrossed things) (IsPrinted things) things moments uncrossed printed)) in
+    All-permutation (IsFirst things) pairs order.list order.same
+    (All-weaker (λ p. IsUncrossed things p.0 × IsPrinted things p.0 p.1) (IsFirst things) (IsFirst-of things) pairs (All-zip (IsUncrossed things) (IsPrinted things) things moments uncrossed printed)) in
     record {
       long = AllZip-long (IsPrinted things) things moments printed;
       line = numbered 0 order.list;
       same = subst (IsPermutation pairs) (sym (map-numbered 0 order.list)) order.same;
       allowed = numbered-allowed 0 order.list (λ k d within. (first k d within).fit) (λ k d within. omega arith)
-        (Ascends-weaker (IsFirst things) IsNoLater (λ p q. p.0.least ≤ q.0.greatest) order.list (no_lower things) first order.ascends);
+          (Ascends-weaker (IsFirst things) IsNoLater (λ p q. p.0.least ≤ q.0.greatest) order.list (no_lower things) first order.ascends);
       rising = AllPairs-from_ascends NeverFalls (numbered 0 order.list)
-        (numbered-rises 0 order.list
+          (numbered-rises 0 order.list
           (Ascends-weaker (IsFirst things) IsNoLater (λ p q. p.1.0 ≤ℤ q.1.0) order.list
-            (λ p q _ _ before. ⊎_elim (λ lower. omega (arith, ints)) (λ tie. let same = tie.0 in omega (arith, ints)) before) first order.ascends))
+          (λ p q _ _ before. ⊎_elim (λ lower. omega (arith, ints)) (λ tie. let same = tie.0 in omega (arith, ints)) before) first order.ascends));
     }
 
 -- the same, of things whose bounds are in order

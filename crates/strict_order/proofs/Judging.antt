@@ -1,6 +1,5 @@
 -- The first in the order of judgement, over more and more things.
-use Rattle.std.proofs.Common.{◌≡◌, ℕ, ◌+◌, ◌<◌, ◌≤◌, ◌<ℤ◌, ◌≤ℤ◌, ◌⊎◌, ⊎_elim, inl, inr, List, [], ◌∷◌, ◌++◌, length, get_or, take, Option, None, Some, All, Any, Contains, refl, sym, ◌∙◌, ap, subst, arith}
-use Rattle.std.specs.Option.{MatchOption}
+use Rattle.std.proofs.Common.{◌≡◌, ℕ, ◌+◌, ◌<◌, ◌<ℤ◌, ◌≤ℤ◌, ⊎_elim, inl, inr, List, length, get_or, take, Option, None, Some, Any, Contains, refl, sym, ◌∙◌, ap, subst, arith}
 use Rattle.std.proofs.lemmas.Int.{ints}
 use Rattle.std.proofs.lemmas.List.{get_or_default, get_or-take, length-take}
 use Rattle.std.proofs.lemmas.List.Elements.{All-more, All-weaker}
@@ -41,17 +40,23 @@ IsFirstSuch-skip P things i d (Some t) within fails such =
 pub IsFirstSuch-take : (P : Thing → Type 0) (things : List Thing) (i : ℕ) (d : Thing) (first : Option Thing) (earlier : Thing) → i < length things → P (get_or things i d)
     → IsEarlier first (get_or things i d) earlier → IsFirstSuch P (take i things) first → IsFirstSuch P (take (i + 1) things) (Some earlier)
 IsFirstSuch-take P things i d None earlier within holds is such =
-    subst (λ t. IsFirstSuch P (take (i + 1) things) (Some t)) (sym is)
-      (Contains-last things i d within, holds, All-more (λ thing. P thing → IsJudgedNoLater (get_or things i d) thing) things i d within
-        (All-weaker (λ thing. P thing → ⊥) (λ thing. P thing → IsJudgedNoLater (get_or things i d) thing) (λ thing none is_so. absurd (none is_so)) (take i things) such)
-        (λ _. judged-refl (get_or things i d)))
+    subst (λ t. IsFirstSuch P (take (i + 1) things) (Some t)) (sym is) (
+      Contains-last things i d within,
+      holds,
+      All-more (λ thing. P thing → IsJudgedNoLater (get_or things i d) thing) things i d within
+          (All-weaker (λ thing. P thing → ⊥) (λ thing. P thing → IsJudgedNoLater (get_or things i d) thing) (λ thing none is_so. absurd (none is_so)) (take i things) such)
+          (λ _. judged-refl (get_or things i d)),
+    )
 IsFirstSuch-take P things i d (Some t) earlier within holds is such = ⊎_elim
     (λ stays. subst (λ t. IsFirstSuch P (take (i + 1) things) (Some t)) (sym stays.0)
-      (Contains-longer things i t within such.0, such.1, All-more (λ thing. P thing → IsJudgedNoLater t thing) things i d within such.2 (λ _. stays.1)))
-    (λ goes. subst (λ t. IsFirstSuch P (take (i + 1) things) (Some t)) (sym goes.0)
-      (Contains-last things i d within, holds, All-more (λ thing. P thing → IsJudgedNoLater (get_or things i d) thing) things i d within
-        (All-weaker (λ thing. P thing → IsJudgedNoLater t thing) (λ thing. P thing → IsJudgedNoLater (get_or things i d) thing) (λ thing before is_so. judged-trans (get_or things i d) t thing goes.1 (before is_so)) (take i things) such.2)
-        (λ _. judged-refl (get_or things i d))))
+    (Contains-longer things i t within such.0, such.1, All-more (λ thing. P thing → IsJudgedNoLater t thing) things i d within such.2 (λ _. stays.1)))
+    (λ goes. subst (λ t. IsFirstSuch P (take (i + 1) things) (Some t)) (sym goes.0) (
+      Contains-last things i d within,
+      holds,
+      All-more (λ thing. P thing → IsJudgedNoLater (get_or things i d) thing) things i d within
+          (All-weaker (λ thing. P thing → IsJudgedNoLater t thing) (λ thing. P thing → IsJudgedNoLater (get_or things i d) thing) (λ thing before is_so. judged-trans (get_or things i d) t thing goes.1 (before is_so)) (take i things) such.2)
+          (λ _. judged-refl (get_or things i d)),
+    ))
     is
 
 -- where the first moment that a thing can have is too late, some thing crosses it
@@ -59,7 +64,7 @@ pub crossed_from_late : (things : List Thing) (b : Thing) (moment : Moment) → 
 crossed_from_late things b moment printed ordered late = ⊎_elim
     (λ own. let same : moment.0 ≡ b.lo.0 = ap (λ (m : Moment). m.0) own in absurd (omega (arith, ints)))
     (λ any. Any-weaker (λ a. ComesBefore a b × (moment ≡ a.lo)) (λ a. Crosses a b) things (λ a parts.
-      let same : moment.0 ≡ a.lo.0 = ap (λ (m : Moment). m.0) parts.1 in (parts.0, omega (arith, ints))) any)
+    let same : moment.0 ≡ a.lo.0 = ap (λ (m : Moment). m.0) parts.1 in (parts.0, omega (arith, ints))) any)
     printed.reached
 
 -- and else none does

@@ -1,6 +1,5 @@
 -- Things in an order get the least numbers that don't fall.
-use Rattle.std.proofs.Common.{◌≡◌, ℕ, ◌<◌, ◌≤◌, ◌≤ℤ◌, List, [], ◌∷◌, map, max, All, AllPairs, refl, ap, arith}
-use Rattle.std.proofs.lemmas.Int.{ints}
+use Rattle.std.proofs.Common.{◌≡◌, ℕ, ◌≤◌, ◌≤ℤ◌, List, [], ◌∷◌, map, max, All, refl, ap, arith}
 use Rattle.std.proofs.lemmas.List.Elements.{All-cons, All-head, All-nil, All-tail, All-weaker}
 use Rattle.base_types.specs.declared.revision.Moment.{Moment}
 use Rattle.strict_order.specs.declared.thing.Thing.{Thing}
@@ -24,10 +23,10 @@ numbered_above : (top : ℕ) (moment : Moment) (ps : List Timed) → All (λ p. 
 numbered_above top moment [] later = All-nil (λ (standing : Standing). (moment.0 ≤ℤ standing.moment.0) × (top ≤ standing.number))
 numbered_above top moment (p ∷ ps) later =
     All-cons (λ (standing : Standing). (moment.0 ≤ℤ standing.moment.0) × (top ≤ standing.number)) _ _
-      (All-head (λ (p : Timed). moment.0 ≤ℤ p.1.0) p ps later, omega arith)
-      (All-weaker (λ (standing : Standing). (moment.0 ≤ℤ standing.moment.0) × (max top p.0.least ≤ standing.number)) (λ (standing : Standing). (moment.0 ≤ℤ standing.moment.0) × (top ≤ standing.number))
-        (λ standing above. (above.0, (let high = above.1 in omega arith))) _
-        (numbered_above (max top p.0.least) moment ps (All-tail (λ (p : Timed). moment.0 ≤ℤ p.1.0) p ps later)))
+    (All-head (λ (p : Timed). moment.0 ≤ℤ p.1.0) p ps later, omega arith)
+    (All-weaker (λ (standing : Standing). (moment.0 ≤ℤ standing.moment.0) × (max top p.0.least ≤ standing.number)) (λ (standing : Standing). (moment.0 ≤ℤ standing.moment.0) × (top ≤ standing.number))
+    (λ standing above. (above.0, (let high = above.1 in omega arith))) _
+    (numbered_above (max top p.0.least) moment ps (All-tail (λ (p : Timed). moment.0 ≤ℤ p.1.0) p ps later)))
 
 pub numbered-rises : (top : ℕ) (ps : List Timed) → Ascends (λ p q. p.1.0 ≤ℤ q.1.0) ps → Ascends NeverFalls (numbered top ps)
 numbered-rises top [] ascends = tt
@@ -47,7 +46,7 @@ numbered-allowed top (p ∷ ps) fit low ascends =
     let upto = All-head (λ (p : Timed). top ≤ p.0.greatest) p ps low in
     let numbers = first.numbers in
     All-cons IsAllowed _ _
-      (record { not_early = first.not_early; not_late = first.not_late; not_low = omega arith; not_high = omega arith })
-      (numbered-allowed (max top p.0.least) ps (All-tail IsFit p ps fit)
-        (λ k d within. let before = All-tail (λ (p : Timed). top ≤ p.0.greatest) p ps low k d within in let least = ascends.0 k d within in omega arith)
-        ascends.1)
+    (record { not_early = first.not_early; not_late = first.not_late; not_low = omega arith; not_high = omega arith })
+    (numbered-allowed (max top p.0.least) ps (All-tail IsFit p ps fit)
+    (λ k d within. let before = All-tail (λ (p : Timed). top ≤ p.0.greatest) p ps low k d within in let least = ascends.0 k d within in omega arith)
+    ascends.1)

@@ -1,4 +1,4 @@
-use Rattle.std.specs.Prelude.{◌≡◌, ℕ, ◌+◌, ◌<◌, ◌≤◌, ◌<ℤ◌, ◌≤ℤ◌, ◌⊎◌, List, length, map, take, slice_index_or, All, Any}
+use Rattle.std.specs.Prelude.{◌≡◌, ℕ, ◌+◌, ◌<◌, ◌≤◌, ◌≤ℤ◌, List, length, map, take, slice_index_or, All, Any}
 use Rattle.std.specs.List.Sorted.{IsPermutation}
 use Rattle.base_types.specs.declared.revision.Moment.{Moment}
 use Rattle.strict_order.specs.declared.latest.Mark.{Mark}

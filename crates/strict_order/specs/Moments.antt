@@ -1,4 +1,4 @@
-use Rattle.std.specs.Prelude.{◌≡◌, ℕ, List, Option, All, Any, Contains, MatchOption}
+use Rattle.std.specs.Prelude.{◌≡◌, ℕ, List, All, Any, Contains}
 use Rattle.std.specs.List.{AllZip}
 use Rattle.strict_order.specs.declared.moments.Moments.{Moments}
 use Rattle.strict_order.specs.declared.moments.Moments.TheVariants.{Found, Crossed}

@@ -1,4 +1,4 @@
-use Rattle.std.specs.Prelude.{◌≡◌, ℕ, ◌≤ℤ◌, ◌⊎◌, List, All, Any}
+use Rattle.std.specs.Prelude.{◌≡◌, ◌≤ℤ◌, ◌⊎◌, List, All, Any}
 use Rattle.base_types.specs.declared.revision.Moment.{Moment}
 use Rattle.strict_order.specs.declared.thing.Thing.{Thing}
 use Rattle.strict_order.specs.Things.{ComesBefore}

@@ -105,3 +105,6 @@ pub fn settle_moments(alloc: Global, things: &[Thing]) -> Result<Moments, OutOfM
         second: second.line,
     })
 }
+
+#[cfg(test)]
+mod tests;

@@ -6,4 +6,4 @@ pub returns : goal.returns
 returns c =
     let marks = c.in_ok-marks.marks in
     rw (written marks.len c.raise.new.marks marks.items (omega (arith, marks.ok.0)) (omega (arith, marks.ok.0, c.raise.auto.marks, c.deref_mut.ensures.len)))
-      (record { order = marks.items; sorted = c.in_ok-marks.ensures; latest = rw c.deref_mut.ensures.value at c.raise.ensures })
+    (record { order = marks.items; sorted = c.in_ok-marks.ensures; latest = rw c.deref_mut.ensures.value at c.raise.ensures })

@@ -8,7 +8,7 @@ returns-in_default c =
     let stands = StandsAt-from_none _ _ c.requires.moments c.requires.numbers none c.in_ok-moments.ensures.printed in
     record {
       settled = rw c.from_vec.ensures (stands, c.in_ok-moments.ensures.printed);
-      strict = (λ _. (_, stands), λ _. tt)
+      strict = (λ _. (_, stands), λ _. tt);
     }
 
 pub returns-clause-strict : goal.returns-clause-strict
