@@ -1,0 +1,3 @@
+pub mod NumberTexts
+pub mod CutFacts
+pub mod PlacedFacts

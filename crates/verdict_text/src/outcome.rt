@@ -1,0 +1,69 @@
+ghost use Rattle.std.specs.Prelude.{◌≡◌, ◌++◌, OnOk, IfOk, string_bytes};
+ghost use Rattle.verdict_text.specs.Words.{ended};
+ghost use Rattle.verdict_text.specs.Outcome.{explained_text, outcome_text, write_text, writes_text};
+
+use crate::placed::append_placed;
+use base_types::{Bytes, OutOfMemory, Outcome, PlacedLine, WriteLine, escape};
+use std::alloc::Global;
+
+/// The text of an outcome, as `judge` prints it. Each of its lines ends with a newline.
+pub fn print_outcome(alloc: Global, outcome: &Outcome) -> Result<Bytes, OutOfMemory>
+    ensures { IfOk result (λ text. text ≡ outcome_text outcome.now) }
+{
+    let mut text = String::new(alloc);
+    match outcome {
+        Outcome::Explained(placement) => append_explained(&mut text, placement.as_slice())?,
+        Outcome::Unexplained {
+            line,
+            audit_id,
+            reason,
+            low,
+            high,
+            writes,
+        } => {
+            let name = escape(alloc, audit_id)?;
+            let code = reason.number();
+            writeln!(text, "unexplained {line} {} U{code} {low} {high}", name.as_str())?;
+            append_writes(&mut text, writes.as_slice())?;
+        }
+    }
+    Ok(Bytes::from_vec(text.into_bytes()))
+}
+
+fn append_explained(text: &mut String, lines: &[PlacedLine]) -> Result<(), OutOfMemory>
+    ensures { OnOk result (string_bytes text.new ≡ string_bytes text.old ++ explained_text lines.now) }
+{
+    writeln!(text, "explained {}", lines.len())?;
+    for placed in lines {
+        append_placed(text, placed)?;
+    }
+    Ok(())
+}
+
+fn append_writes(text: &mut String, writes: &[WriteLine]) -> Result<(), OutOfMemory>
+    ensures { OnOk result (string_bytes text.new ≡ string_bytes text.old ++ writes_text writes.now) }
+{
+    for write in writes {
+        append_write(text, write)?;
+    }
+    Ok(())
+}
+
+fn append_write(text: &mut String, write: &WriteLine) -> Result<(), OutOfMemory>
+    ensures { OnOk result (string_bytes text.new ≡ string_bytes text.old ++ ended (write_text write.now)) }
+{
+    match write {
+        WriteLine::Made {
+            revision,
+            line,
+            key,
+        } => writeln!(text, "made {revision} {line} {}", key.as_str())?,
+        WriteLine::Removed {
+            low,
+            high,
+            line,
+            key,
+        } => writeln!(text, "removed {low} {high} {line} {}", key.as_str())?,
+    }
+    Ok(())
+}
