@@ -1,8 +1,8 @@
 -- The text of a placed line has one reading, and no newline.
-use Rattle.std.proofs.Common.{◌≡◌, ◌≢◌, ℕ, ◌≤◌, List, [], ◌∷◌, ◌++◌, Option, Some, None, refl, sym, ap, ◌∙◌, arith, get_or, ltb, ◌||◌, true, not, ◌==◌, nat_eq}
-use Rattle.std.specs.Prelude.{decimal, codes, All}
-use Rattle.std.proofs.lemmas.List.{append_cancel_left}
-use Rattle.std.proofs.lemmas.List.Elements.{All-nil, All-cons, All-append}
+use Rattle.std.proofs.Common.{◌≡◌, ◌≢◌, ℕ, ◌≤◌, List, [], ◌∷◌, ◌++◌, Option, Some, None, refl, sym, ap, ◌∙◌, arith, get_or, length, ltb, leb, ◌<◌, ◌||◌, ◌&&◌, true, inl, inr}
+use Rattle.std.specs.Prelude.{decimal, codes, All, IsUtf8}
+use Rattle.std.proofs.lemmas.List.{append_cancel_left, get_or_past}
+use Rattle.std.proofs.lemmas.List.Elements.{All-nil, All-cons, All-append, All-weaker, All-get_or}
 use Rattle.base_types.specs.declared.request.Decision.{Decision}
 use Rattle.base_types.specs.declared.request.Decision.TheVariants.{Allow, Forbid}
 use Rattle.base_types.specs.declared.placed.Places.{Places}
@@ -12,11 +12,19 @@ use Rattle.base_types.specs.declared.placed.PlacedDecision.{PlacedDecision}
 use Rattle.base_types.specs.declared.placed.PlacedLine.{PlacedLine}
 use Rattle.verdict_text.specs.Words.{IsNumber, Lacks}
 use Rattle.verdict_text.specs.Placed.{answer_text, decision_text, decision_word, placed_text, places_text, FitsAnswer, FitsDecision, FitsPlaced, FitsPlaces}
-use Rattle.verdict_text.proofs.NumberTexts.{numbers_agree, lacks-decimal}
+use Rattle.verdict_text.proofs.NumberTexts.{IsDigit, numbers_agree, digits-decimal}
 use Rattle.std.proofs.lemmas.Fmt.{decimal_injective}
 use Rattle.std.proofs.lemmas.Bool.Decides.{nat_tests}
-use Rattle.std.proofs.lemmas.Bool.{and_parts}
+use Rattle.std.proofs.lemmas.Bool.{and_parts, cases_lt}
 use Rattle.std.specs.List.{list_all}
+use Rattle.std.proofs.lemmas.Str.{IsUtf8-from_ascii}
+use borrow.Author.Tests.{ltb-true, leb-true}
+use Rattle.verdict_text.specs.Outcome.{count_text}
+
+-- a space or a graphic ASCII character
+pub record IsShown (byte : ℕ) : Type 0 where
+  pub above : 32 ≤ byte
+  pub below : byte < 127
 
 apart : (x y : List ℕ) → ltb (get_or x 0 0) (get_or y 0 0) || ltb (get_or y 0 0) (get_or x 0 0) ≡ true → x ≢ y
 apart x y h e = let wrong : ltb (get_or y 0 0) (get_or y 0 0) || ltb (get_or y 0 0) (get_or y 0 0) ≡ true = rw e at h in grind (arith, nat_tests)
@@ -87,42 +95,57 @@ placed_agree a b fa fb e =
     ap (λ n. whole_placed n a.answer a.decision) lines.0 ∙ ap (λ d. whole_placed b.line d a.decision) answers.0
     ∙ ap (λ d. whole_placed b.line b.answer d) decisions
 
--- no newline
+-- each byte is a space or a graphic ASCII character
 
-lacks_word : (text : List ℕ) → list_all (λ b. not (b == 10)) text ≡ true → Lacks 10 text
-lacks_word [] h = All-nil (λ b. b ≢ 10)
-lacks_word (b ∷ text) h =
-    let both = and_parts (not (b == 10)) (list_all (λ b. not (b == 10)) text) h in
-    All-cons (λ b. b ≢ 10) b text (λ same. let wrong : not (10 == 10) ≡ true = rw same at both.0 in cc) (lacks_word text both.1)
+shown_word : (text : List ℕ) → list_all (λ b. leb 32 b && ltb b 127) text ≡ true → All IsShown text
+shown_word [] h = All-nil IsShown
+shown_word (b ∷ text) h =
+    let both = and_parts (leb 32 b && ltb b 127) (list_all (λ b. leb 32 b && ltb b 127) text) h in
+    let ends = and_parts (leb 32 b) (ltb b 127) both.0 in
+    let above = leb-true 32 b ends.0 in
+    let below = ltb-true b 127 ends.1 in
+    All-cons IsShown b text (record { above = above; below = below }) (shown_word text both.1)
 
-lacks_number : (n : ℕ) → IsNumber n → Lacks 10 (decimal n)
-lacks_number n small = lacks-decimal 10 n small (λ digit. omega (arith, digit.above))
+shown_number : (n : ℕ) → IsNumber n → All IsShown (decimal n)
+shown_number n small = All-weaker IsDigit IsShown (λ b digit. record { above = omega (arith, digit.above); below = omega (arith, digit.below) }) (decimal n) (digits-decimal n small)
 
 -- words with a space between
-lacks_both : (xs ys : List ℕ) → Lacks 10 xs → Lacks 10 ys → Lacks 10 (xs ++ 32 ∷ ys)
-lacks_both xs ys nx ny = All-append (λ b. b ≢ 10) xs (32 ∷ ys) nx (All-cons (λ b. b ≢ 10) 32 ys (omega arith) ny)
+shown_both : (xs ys : List ℕ) → All IsShown xs → All IsShown ys → All IsShown (xs ++ 32 ∷ ys)
+shown_both xs ys nx ny = All-append IsShown xs (32 ∷ ys) nx (All-cons IsShown 32 ys (record { above = omega arith; below = omega arith }) ny)
 
-lacks_answer : (answer : PlacedAnswer) → FitsAnswer answer → Lacks 10 (answer_text answer)
-lacks_answer (Made n) small = lacks_both (codes "made") (decimal n) (lacks_word (codes "made") refl) (lacks_number n small)
-lacks_answer (Removed n) small = lacks_both (codes "removed") (decimal n) (lacks_word (codes "removed") refl) (lacks_number n small)
-lacks_answer (At n) small = lacks_both (codes "at") (decimal n) (lacks_word (codes "at") refl) (lacks_number n small)
-lacks_answer Nowhere small = lacks_word (codes "none") refl
+shown_answer : (answer : PlacedAnswer) → FitsAnswer answer → All IsShown (answer_text answer)
+shown_answer (Made n) small = shown_both (codes "made") (decimal n) (shown_word (codes "made") refl) (shown_number n small)
+shown_answer (Removed n) small = shown_both (codes "removed") (decimal n) (shown_word (codes "removed") refl) (shown_number n small)
+shown_answer (At n) small = shown_both (codes "at") (decimal n) (shown_word (codes "at") refl) (shown_number n small)
+shown_answer Nowhere small = shown_word (codes "none") refl
 
-lacks_decision_word : (word : Decision) → Lacks 10 (decision_word word)
-lacks_decision_word Allow = lacks_word (codes "allow") refl
-lacks_decision_word Forbid = lacks_word (codes "forbid") refl
+shown_decision_word : (word : Decision) → All IsShown (decision_word word)
+shown_decision_word Allow = shown_word (codes "allow") refl
+shown_decision_word Forbid = shown_word (codes "forbid") refl
 
-lacks_places : (places : Places) → FitsPlaces places → Lacks 10 (places_text places)
-lacks_places places fits =
-    lacks_both (decimal places.roles) _ (lacks_number places.roles fits.roles)
-    (lacks_both (decimal places.cluster_roles) _ (lacks_number places.cluster_roles fits.cluster_roles)
-    (lacks_both (decimal places.bindings) _ (lacks_number places.bindings fits.bindings) (lacks_number places.cluster_bindings fits.cluster_bindings)))
+shown_places : (places : Places) → FitsPlaces places → All IsShown (places_text places)
+shown_places places fits =
+    shown_both (decimal places.roles) _ (shown_number places.roles fits.roles)
+    (shown_both (decimal places.cluster_roles) _ (shown_number places.cluster_roles fits.cluster_roles)
+    (shown_both (decimal places.bindings) _ (shown_number places.bindings fits.bindings) (shown_number places.cluster_bindings fits.cluster_bindings)))
 
-lacks_decision : (decision : Option PlacedDecision) → FitsDecision decision → Lacks 10 (decision_text decision)
-lacks_decision None fits = lacks_word (codes "none") refl
-lacks_decision (Some judged) fits = lacks_both (decision_word judged.decision) (places_text judged.places) (lacks_decision_word judged.decision) (lacks_places judged.places fits)
+shown_decision : (decision : Option PlacedDecision) → FitsDecision decision → All IsShown (decision_text decision)
+shown_decision None fits = shown_word (codes "none") refl
+shown_decision (Some judged) fits = shown_both (decision_word judged.decision) (places_text judged.places) (shown_decision_word judged.decision) (shown_places judged.places fits)
 
-pub lacks-placed : (placed : PlacedLine) → FitsPlaced placed → Lacks 10 (placed_text placed)
-lacks-placed placed fits =
-    lacks_both (decimal placed.line) _ (lacks_number placed.line fits.line)
-    (lacks_both (answer_text placed.answer) (decision_text placed.decision) (lacks_answer placed.answer fits.answer) (lacks_decision placed.decision fits.decision))
+pub shown-placed : (placed : PlacedLine) → FitsPlaced placed → All IsShown (placed_text placed)
+shown-placed placed fits =
+    shown_both (decimal placed.line) _ (shown_number placed.line fits.line)
+    (shown_both (answer_text placed.answer) (decision_text placed.decision) (shown_answer placed.answer fits.answer) (shown_decision placed.decision fits.decision))
+
+pub shown-count : (count : ℕ) → IsNumber count → All IsShown (count_text count)
+shown-count count small = shown_both (codes "explained") (decimal count) (shown_word (codes "explained") refl) (shown_number count small)
+
+pub lacks-shown : (text : List ℕ) → All IsShown text → Lacks 10 text
+lacks-shown text shown = All-weaker IsShown (λ b. b ≢ 10) (λ b is same. let wrong : 32 ≤ 10 = rw same at is.above in omega arith) text shown
+
+pub utf8-shown : (text : List ℕ) → All IsShown text → IsUtf8 text
+utf8-shown text shown = IsUtf8-from_ascii text (λ i. elim (cases_lt i (length text)) [
+      inl within ↦ let is = All-get_or IsShown text i 0 within shown in omega (arith, is.below)
+    | inr past ↦ rw (get_or_past text i 0 past) (omega arith)
+    ])

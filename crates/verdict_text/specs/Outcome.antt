@@ -12,15 +12,15 @@ use Rattle.verdict_text.specs.Words.{spaced, ended}
 use Rattle.verdict_text.specs.Placed.{placed_text}
 
 -- `explained N`
-abbrev pub count_line : ℕ → List ℕ
-count_line count = ended (spaced (codes "explained" ∷ decimal count ∷ []))
+abbrev pub count_text : ℕ → List ℕ
+count_text count = spaced (codes "explained" ∷ decimal count ∷ [])
 
 abbrev pub placed_lines : List PlacedLine → List ℕ
 placed_lines lines = flat_map (λ placed. ended (placed_text placed)) lines
 
 -- how many lines follow, and then each of them
 abbrev pub explained_text : List PlacedLine → List ℕ
-explained_text lines = count_line (length lines) ++ placed_lines lines
+explained_text lines = ended (count_text (length lines)) ++ placed_lines lines
 
 -- U1 to U14
 abbrev pub code_text : Reason → List ℕ

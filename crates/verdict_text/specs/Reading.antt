@@ -1,9 +1,9 @@
-use Rattle.std.specs.Prelude.{◌≡◌, ℕ, ◌+◌, ◌≤◌, ◌==◌, ◌⊎◌, List, [], ◌∷◌, ◌++◌, length, All, count_by}
+use Rattle.std.specs.Prelude.{◌≡◌, ℕ, ◌+◌, ◌<◌, ◌≤◌, ◌==◌, ◌⊎◌, List, [], ◌∷◌, ◌++◌, length, All, count_by}
 use Rattle.base_types.specs.declared.placed.PlacedLine.{PlacedLine}
 use Rattle.base_types.specs.Placements.{RisesByLine}
 use Rattle.verdict_text.specs.Words.{ended, IsNumber, Lacks}
-use Rattle.verdict_text.specs.Placed.{FitsPlaced}
-use Rattle.verdict_text.specs.Outcome.{count_line, placed_lines, explained_text}
+use Rattle.verdict_text.specs.Placed.{placed_text, FitsPlaced}
+use Rattle.verdict_text.specs.Outcome.{count_text, placed_lines, explained_text}
 
 -- the lines of a placement, as far as a text can say them
 pub record IsPlacement (lines : List PlacedLine) : Type 0 where
@@ -20,11 +20,18 @@ pub record BeginsBy (text : List ℕ) (count : ℕ) (lines : List PlacedLine) : 
   pub counted : IsNumber count
   pub placed : IsPlacement lines
   pub room : length lines ≤ count
-  pub spelled : text ≡ count_line count ++ placed_lines lines
+  pub spelled : text ≡ ended (count_text count) ++ placed_lines lines
 
 -- the same, or no line at all
 abbrev pub IsBegun : List ℕ → Type 0
 IsBegun text = (text ≡ []) ⊎ ((count : ℕ) × (lines : List PlacedLine) × BeginsBy text count lines)
+
+-- the line says a placed line that may follow these, where `explained N` says so many
+pub record IsNext (lines : List PlacedLine) (count : ℕ) (line : List ℕ) (placed : PlacedLine) : Type 0 where
+  pub fits : FitsPlaced placed
+  pub spelled : line ≡ placed_text placed
+  pub rises : All (λ earlier. earlier.line < placed.line) lines
+  pub room : length lines < count
 
 -- the rest's first line can't follow the lines before it, or the text breaks off in place of that line
 abbrev pub Stops : List ℕ → List ℕ → Type 0

@@ -1,16 +1,15 @@
 ghost use Rattle.std.specs.Prelude.{◌≡◌, ◌≢◌, ◌<◌, ◌+◌, ◌↔◌, ℕ, List, [], ◌∷◌, ◌++◌, length, All, IfOk, IfErr, IfSome, IfNone, IsTrue};
 ghost use Rattle.base_types.specs.declared.placed.PlacedLine.{PlacedLine};
-ghost use Rattle.verdict_text.specs.Words.{ended, IsNumber, Lacks};
-ghost use Rattle.verdict_text.specs.Placed.{placed_text, FitsPlaced};
-ghost use Rattle.verdict_text.specs.Outcome.{count_line, explained_text};
-ghost use Rattle.verdict_text.specs.Reading.{BreaksAt, IsExplained, IsPlacement};
+ghost use Rattle.verdict_text.specs.Words.{IsNumber, Lacks};
+ghost use Rattle.base_types.specs.Placements.{RisesByLine};
+ghost use Rattle.verdict_text.specs.Outcome.{count_text, explained_text};
+ghost use Rattle.verdict_text.specs.Reading.{IsNext, IsPlacement};
 ghost use Rattle.verdict_text.specs.PlacementFaults.{IsCause};
 
 use crate::placed::read_placed;
-use crate::words::{after_front, read_number};
+use crate::words::{after_front, as_text, read_number};
 use base_types::{OutOfMemory, PlacedLine, Placement};
 use std::alloc::Global;
-use std::str;
 use thiserror::Error;
 
 /// Why a text isn't read as a placement.
@@ -40,15 +39,18 @@ pub fn read_placement(alloc: Global, bytes: &[u8]) -> Result<Placement, Placemen
     ensures alone { IfOk result (λ placement. (other : List PlacedLine) → IsPlacement other → explained_text other ≡ bytes.now → other ≡ placement) }
     ensures fault { IfErr result (IsCause bytes.now) }
 {
-    let Some((count, mut rest)) = read_count(bytes) else {
+    let Some((first, mut rest)) = cut_line(bytes) else {
+        return Err(PlacementFault::Line { number: 1 });
+    };
+    let Some(count) = read_count(first) else {
         return Err(PlacementFault::Line { number: 1 });
     };
     let mut placement = Placement::new(alloc);
     while let Some((line, after)) = cut_line(rest) {
-        match read_next(&placement, count, line) {
-            Some(placed) => placement.push(placed)?,
-            None => return Err(fault_behind(&placement)),
-        }
+        let Some(placed) = read_next(&placement, count, line) else {
+            return Err(fault_behind(&placement));
+        };
+        placement.push(placed)?;
         rest = after;
     }
     if rest.is_empty() && placement.as_slice().len() as u64 == count {
@@ -69,33 +71,41 @@ fn cut_line(bytes: &[u8]) -> Option<(&[u8], &[u8])>
     Some((line, &rest[1..]))
 }
 
-// The first line's number, and what follows that line.
-fn read_count(bytes: &[u8]) -> Option<(u64, &[u8])>
-    ensures some { IfSome result (λ found. bytes.now ≡ count_line found.0 ++ found.1.now) }
-    ensures none { IfNone result (BreaksAt bytes.now 1) }
+// The number of the first line.
+fn read_count(line: &[u8]) -> Option<u64>
+    ensures some { IfSome result (λ count. line.now ≡ count_text count) }
+    ensures fits { IfSome result IsNumber }
+    ensures none { IfNone result ((count : ℕ) → IsNumber count → line.now ≢ count_text count) }
 {
-    let (line, rest) = cut_line(bytes)?;
-    let word = after_front(str::from_utf8(line).ok()?, "explained ")?;
-    Some((read_number(word)?, rest))
+    read_number(after_front(as_text(line)?, "explained ")?)
 }
 
-// The placed line that this line says, where it may follow the placement's lines.
+// The placed line that this line says, where it may follow the lines of the placement.
 fn read_next(placement: &Placement, count: u64, line: &[u8]) -> Option<PlacedLine>
+    ensures some { IfSome result (IsNext placement.now count line.now) }
+    ensures none { IfNone result ((placed : PlacedLine) → ¬ (IsNext placement.now count line.now placed)) }
 {
-    let placed = read_placed(str::from_utf8(line).ok()?)?;
+    let placed = read_placed(as_text(line)?)?;
     let lines = placement.as_slice();
-    let rises = match lines.last() {
-        Some(before) => before.line < placed.line,
-        None => true,
-    };
-    if rises && (lines.len() as u64) < count {
+    if (lines.len() as u64) < count && rises_to(lines, placed.line) {
         Some(placed)
     } else {
         None
     }
 }
 
-// The fault of the line behind those of the placement and the first one.
+// Whether a line number is above those of the lines.
+fn rises_to(lines: &[PlacedLine], number: u64) -> bool
+    requires { RisesByLine lines.now }
+    ensures { IsTrue result ↔ All (λ earlier. earlier.line < number) lines.now }
+{
+    match lines.last() {
+        Some(before) => before.line < number,
+        None => true,
+    }
+}
+
+// The fault of the line that would follow those of the placement.
 fn fault_behind(placement: &Placement) -> PlacementFault
     ensures { result ≡ PlacementFault.Line (length placement.now + 2) }
 {

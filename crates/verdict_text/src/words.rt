@@ -1,5 +1,15 @@
-ghost use Rattle.std.specs.Prelude.{◌≡◌, ◌≢◌, ℕ, List, [], ◌∷◌, ◌++◌, IfSome, IfNone, decimal, IsTrue, ◌↔◌};
+ghost use Rattle.std.specs.Prelude.{◌≡◌, ◌≢◌, ℕ, List, [], ◌∷◌, ◌++◌, IfSome, IfNone, decimal, IsTrue, ◌↔◌, IsUtf8};
 ghost use Rattle.verdict_text.specs.Words.{BeginsPlainly, IsNumber, Lacks};
+
+use std::str;
+
+/// The bytes as text, where they are UTF-8.
+pub fn as_text(bytes: &[u8]) -> Option<&str>
+    ensures some { IfSome result (λ text. text.now ≡ bytes.now) }
+    ensures none { IfNone result (¬ (IsUtf8 bytes.now)) }
+{
+    str::from_utf8(bytes).ok()
+}
 
 /// Reads a number in its one spelling: decimal digits without a leading zero.
 pub fn read_number(word: &str) -> Option<u64>
