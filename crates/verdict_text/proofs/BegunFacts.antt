@@ -55,7 +55,7 @@ front_of (a ∷ front) (b ∷ whole) rest nf nw e =
     let fa = All-head FitsPlaced a front nf in
     let fb = All-head FitsPlaced b whole nw in
     let same = lines_agree (placed_text a) (placed_text b) (placed_lines front ++ rest) (placed_lines whole) (lacks_placed a fa) (lacks_placed b fb)
-        (sym (append_assoc (ended (placed_text a)) (placed_lines front) rest) ∙ e) in
+    (sym (append_assoc (ended (placed_text a)) (placed_lines front) rest) ∙ e) in
     let more = front_of front whole rest (All-tail FitsPlaced a front nf) (All-tail FitsPlaced b whole nw) same.1 in
     let first : a ≡ b = placed_agree a b fa fb same.0 in
     record { tail = more.tail; joined = ap (λ p. p ∷ whole) (sym first) ∙ ap (λ l. a ∷ l) more.joined; left = more.left; fits = more.fits }
@@ -102,14 +102,14 @@ begins_more before line count lines placed begun next =
       placed = record {
         fits = All-push FitsPlaced lines placed begun.placed.fits next.fits;
         rising = all_pairs_push (λ a b. a.line < b.line) lines placed begun.placed.rising next.rises;
-        counted = omega (arith, longer)
+        counted = omega (arith, longer);
       };
       room = omega (arith, longer);
       spelled =
-        ap (λ l. l ++ ended line) begun.spelled
-        ∙ append_assoc (ended (count_text count)) (placed_lines lines) (ended line)
-        ∙ ap (λ l. ended (count_text count) ++ (placed_lines lines ++ l)) (ap ended next.spelled ∙ sym (append-nil (ended (placed_text placed))))
-        ∙ ap (λ l. ended (count_text count) ++ l) (sym (flat_map-append (λ placed. ended (placed_text placed)) lines (placed ∷ [])))
+          ap (λ l. l ++ ended line) begun.spelled
+          ∙ append_assoc (ended (count_text count)) (placed_lines lines) (ended line)
+          ∙ ap (λ l. ended (count_text count) ++ (placed_lines lines ++ l)) (ap ended next.spelled ∙ sym (append-nil (ended (placed_text placed))))
+          ∙ ap (λ l. ended (count_text count) ++ l) (sym (flat_map-append (λ placed. ended (placed_text placed)) lines (placed ∷ [])));
     }
 
 -- where more lines follow a front, the next is one that may
@@ -195,11 +195,11 @@ breaks_at_once text lacks =
 pub breaks_at_first : (text line after : List ℕ) → text ≡ line ++ 10 ∷ after → Lacks 10 line → ((count : ℕ) → IsNumber count → line ≢ count_text count) → IsCause text (Line 1)
 breaks_at_first text line after e lacks other =
     let begun : IsBegun (ended line) → ⊥ = λ is. elim is [
-          inl none ↦ ended_some line [] (append-nil (ended line) ∙ none)
-        | inr (n, lines, by) ↦ other n by.counted (lines_agree line (count_text n) [] (placed_lines lines) lacks (lacks_count n by.counted) (append-nil (ended line) ∙ by.spelled)).0
-        ] in
+      | inl none ↦ ended_some line [] (append-nil (ended line) ∙ none)
+      | inr (n, lines, by) ↦ other n by.counted (lines_agree line (count_text n) [] (placed_lines lines) lacks (lacks_count n by.counted) (append-nil (ended line) ∙ by.spelled)).0
+    ] in
     let none : IsExplained text → ⊥ = λ (lines, placed, same).
-          other (length lines) placed.counted (lines_agree line (count_text (length lines)) after (placed_lines lines) lacks (lacks_count (length lines) placed.counted) (ended_before line after ∙ sym e ∙ sym same)).0 in
+    other (length lines) placed.counted (lines_agree line (count_text (length lines)) after (placed_lines lines) lacks (lacks_count (length lines) placed.counted) (ended_before line after ∙ sym e ∙ sym same)).0 in
     (record { before = []; rest = text; parts = refl; begun = inl refl; numbered = refl; stops = inl (line, after, lacks, e, begun) }, none)
 
 -- a line that can't follow
@@ -207,14 +207,14 @@ pub breaks_at_line : (text before line after : List ℕ) (count : ℕ) (lines : 
     → ((placed : PlacedLine) → ¬ (IsNext lines count line placed)) → IsCause text (Line (length lines + 2))
 breaks_at_line text before line after count lines e begun lacks other =
     let more : IsBegun (before ++ ended line) → ⊥ = λ is. elim is [
-          inl none ↦ joined_some before line none
-        | inr (n, whole, by) ↦
-            let next = next_in before line [] count lines n whole begun lacks by.counted by.placed by.room (ap (λ l. before ++ l) (append-nil (ended line)) ∙ by.spelled) in
-            other next.0 next.1
-        ] in
+      | inl none ↦ joined_some before line none
+      | inr (n, whole, by) ↦
+          let next = next_in before line [] count lines n whole begun lacks by.counted by.placed by.room (ap (λ l. before ++ l) (append-nil (ended line)) ∙ by.spelled) in
+          other next.0 next.1
+    ] in
     let none : IsExplained text → ⊥ = λ (whole, placed, same).
-          let next = next_in before line after count lines (length whole) whole begun lacks placed.counted placed (omega arith) (ap (λ l. before ++ l) (ended_before line after) ∙ sym e ∙ sym same) in
-          other next.0 next.1 in
+    let next = next_in before line after count lines (length whole) whole begun lacks placed.counted placed (omega arith) (ap (λ l. before ++ l) (ended_before line after) ∙ sym e ∙ sym same) in
+    other next.0 next.1 in
     (record { before = before; rest = line ++ 10 ∷ after; parts = e; begun = inr (count, lines, begun); numbered = newlines_begun before count lines begun; stops = inl (line, after, lacks, refl, more) }, none)
 
 -- a line without its newline, or lines that are missing
@@ -222,8 +222,8 @@ pub breaks_at_end : (text before rest : List ℕ) (count : ℕ) (lines : List Pl
     → (rest ≡ [] → count ≢ length lines) → IsCause text (Line (length lines + 2))
 breaks_at_end text before rest count lines e begun lacks unended =
     let none : IsExplained (before ++ rest) → ⊥ = λ (whole, placed, same).
-          let split = begun_front before rest count lines (length whole) whole begun placed.counted placed.fits (sym same) in
-          ends_before lines whole rest count split.0 split.1 lacks unended in
+    let split = begun_front before rest count lines (length whole) whole begun placed.counted placed.fits (sym same) in
+    ends_before lines whole rest count split.0 split.1 lacks unended in
     (record { before = before; rest = rest; parts = e; begun = inr (count, lines, begun); numbered = newlines_begun before count lines begun; stops = inr (lacks, none) }, λ is. none (rw e at is))
 
 pub parts_more : (text before rest line after : List ℕ) → text ≡ before ++ rest → rest ≡ line ++ 10 ∷ after → text ≡ (before ++ ended line) ++ after

@@ -31,8 +31,10 @@ begins-decimal n small =
     let some = decimal_nonempty n small in
     let digit = digit_at (decimal n) 0 (digits_decimal own n small) some in
     record {
-      some = some; above = omega (arith, digit); below = omega (arith, digit);
-      alone = zero_alone n small
+      some = some;
+      above = omega (arith, digit);
+      below = omega (arith, digit);
+      alone = zero_alone n small;
     }
 
 pub parsed_plainly : {E : Type 0} (word : List ℕ) (result : Result ℕ E) → BeginsPlainly word → ParsesUnsigned 64 10 word result → IfSome (result_ok result) (λ n. word ≡ decimal n)

@@ -146,6 +146,6 @@ lacks-shown text shown = All-weaker IsShown (λ b. b ≢ 10) (λ b is same. let 
 
 pub utf8-shown : (text : List ℕ) → All IsShown text → IsUtf8 text
 utf8-shown text shown = IsUtf8-from_ascii text (λ i. elim (cases_lt i (length text)) [
-      inl within ↦ let is = All-get_or IsShown text i 0 within shown in omega (arith, is.below)
-    | inr past ↦ rw (get_or_past text i 0 past) (omega arith)
-    ])
+  | inl within ↦ let is = All-get_or IsShown text i 0 within shown in omega (arith, is.below)
+  | inr past ↦ rw (get_or_past text i 0 past) (omega arith)
+])

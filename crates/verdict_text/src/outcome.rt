@@ -23,7 +23,11 @@ pub fn print_outcome(alloc: Global, outcome: &Outcome) -> Result<Bytes, OutOfMem
         } => {
             let name = escape(alloc, audit_id)?;
             let code = reason.number();
-            writeln!(text, "unexplained {line} {} U{code} {low} {high}", name.as_str())?;
+            writeln!(
+                text,
+                "unexplained {line} {} U{code} {low} {high}",
+                name.as_str()
+            )?;
             append_writes(&mut text, writes.as_slice())?;
         }
     }
@@ -67,3 +71,6 @@ fn append_write(text: &mut String, write: &WriteLine) -> Result<(), OutOfMemory>
     }
     Ok(())
 }
+
+#[cfg(test)]
+mod tests;

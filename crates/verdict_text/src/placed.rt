@@ -34,10 +34,7 @@ fn append_answer(text: &mut String, answer: &PlacedAnswer) -> Result<(), OutOfMe
     Ok(())
 }
 
-fn append_decision(
-    text: &mut String,
-    decision: &Option<PlacedDecision>,
-) -> Result<(), OutOfMemory>
+fn append_decision(text: &mut String, decision: &Option<PlacedDecision>) -> Result<(), OutOfMemory>
     ensures { OnOk result (string_bytes text.new ≡ string_bytes text.old ++ decision_text decision.now) }
 {
     let Some(judged) = decision else {

@@ -15,6 +15,6 @@ returns-else-lines-count-clause-none c = λ placed next.
     let all : All (λ earlier. earlier.line < c.in_ok-placed.placed.line) c.as_slice-lines.result.now = rw (c.as_slice-lines.ensures.lines, ← same) next.rises in
     let room : length c.as_slice-lines.result.now < c.args.count = rw c.as_slice-lines.ensures.lines next.room in
     elim c.else-lines-count.branch [
-      else-lines-count-via-then-lines-count+else-rises_to w ↦ let rises = w.rises_to.ensures.1 all in cc
-    | else-lines-count-via-else-lines-count w ↦ omega arith
+      | else-lines-count-via-then-lines-count+else-rises_to w ↦ let rises = w.rises_to.ensures.1 all in cc
+      | else-lines-count-via-else-lines-count w ↦ omega arith
     ]

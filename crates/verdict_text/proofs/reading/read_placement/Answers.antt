@@ -22,11 +22,11 @@ returns-in_default-read_next-clause-fault c =
 
 pub loop-line-preserved : goal.loop-line-preserved
 loop-line-preserved c = record {
-    before = c.loop-line.invariant.before ++ ended c.in-Some-cut_line.line.now;
-    parts = parts_more c.args.bytes.now c.loop-line.invariant.before c.loop-line.rest.now c.in-Some-cut_line.line.now c.in-Some-cut_line.after.now c.loop-line.invariant.parts c.in-Some-cut_line.ensures.some;
-    begun = rw c.in_ok-push.ensures.ok (begins_more c.loop-line.invariant.before c.in-Some-cut_line.line.now c.in-Some-read_count.count c.loop-line.placement c.in-Some-read_next.placed
-      c.loop-line.invariant.begun c.in-Some-read_next.ensures.some)
-  }
+  before = c.loop-line.invariant.before ++ ended c.in-Some-cut_line.line.now;
+  parts = parts_more c.args.bytes.now c.loop-line.invariant.before c.loop-line.rest.now c.in-Some-cut_line.line.now c.in-Some-cut_line.after.now c.loop-line.invariant.parts c.in-Some-cut_line.ensures.some;
+  begun = rw c.in_ok-push.ensures.ok (begins_more c.loop-line.invariant.before c.in-Some-cut_line.line.now c.in-Some-read_count.count c.loop-line.placement c.in-Some-read_next.placed
+      c.loop-line.invariant.begun c.in-Some-read_next.ensures.some);
+}
 
 pub returns-then-as_slice-count-clause-alone : goal.returns-then-as_slice-count-clause-alone
 returns-then-as_slice-count-clause-alone c = λ other is e.
@@ -38,11 +38,11 @@ returns-then-as_slice-count-clause-alone c = λ other is e.
 pub returns-else-is_empty-clause-fault : goal.returns-else-is_empty-clause-fault
 returns-else-is_empty-clause-fault c =
     let unended : c.loop-line.rest.now ≡ [] → c.in-Some-read_count.count ≢ length c.loop-line.placement = λ empty counted.
-          elim c.else-is_empty.branch [
-            else-is_empty-via-then-is_empty+else-as_slice-count w ↦
-              w.if-as_slice-count.false (ap length w.as_slice.ensures.lines ∙ sym counted)
-          | else-is_empty-via-else-is_empty w ↦ grind (arith, common_steps)
-          ] in
+    elim c.else-is_empty.branch [
+      | else-is_empty-via-then-is_empty+else-as_slice-count w ↦
+          w.if-as_slice-count.false (ap length w.as_slice.ensures.lines ∙ sym counted)
+      | else-is_empty-via-else-is_empty w ↦ grind (arith, common_steps)
+    ] in
     rw c.fault_behind-else-is_empty.ensures
     (breaks_at_end c.args.bytes.now c.loop-line.invariant.before c.loop-line.rest.now c.in-Some-read_count.count c.loop-line.placement
     c.loop-line.invariant.parts c.loop-line.invariant.begun c.in_default-cut_line.ensures.none unended)

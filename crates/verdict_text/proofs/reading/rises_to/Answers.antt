@@ -12,16 +12,16 @@ above_all : (lines : List PlacedLine) (last : PlacedLine) (number : ℕ) → Ris
 above_all lines last number rising some at above = λ k d within.
     let line_at : last.line ≡ (get_or lines (length lines - 1) last).line = ap (λ (p : PlacedLine). p.line) at in
     elim (cases_lt k (length lines - 1)) [
-      inl before ↦
-        let pair = rising k (length lines - 1) d before (omega arith) in
-        let same = get_or_default lines (length lines - 1) d last (omega arith) in
-        let pair_line : (get_or lines (length lines - 1) d).line ≡ (get_or lines (length lines - 1) last).line = ap (λ (p : PlacedLine). p.line) same in
-        omega (arith, pair, line_at, pair_line)
-    | inr not_before ↦
-        let here : k ≡ length lines - 1 = omega arith in
-        let same = get_or_default lines k d last within in
-        let here_line : (get_or lines k d).line ≡ (get_or lines (length lines - 1) last).line = ap (λ (p : PlacedLine). p.line) (same ∙ ap (λ n. get_or lines n last) here) in
-        omega (arith, line_at, here_line)
+      | inl before ↦
+          let pair = rising k (length lines - 1) d before (omega arith) in
+          let same = get_or_default lines (length lines - 1) d last (omega arith) in
+          let pair_line : (get_or lines (length lines - 1) d).line ≡ (get_or lines (length lines - 1) last).line = ap (λ (p : PlacedLine). p.line) same in
+          omega (arith, pair, line_at, pair_line)
+      | inr not_before ↦
+          let here : k ≡ length lines - 1 = omega arith in
+          let same = get_or_default lines k d last within in
+          let here_line : (get_or lines k d).line ≡ (get_or lines (length lines - 1) last).line = ap (λ (p : PlacedLine). p.line) (same ∙ ap (λ n. get_or lines n last) here) in
+          omega (arith, line_at, here_line)
     ]
 
 -- and the other way round
@@ -34,6 +34,7 @@ above_last lines last number some at all =
 
 pub returns-in-Some : goal.returns-in-Some
 returns-in-Some c =
-    let item = c.in-Some.ensures.item in
-    (λ above. above_all c.args.lines.now c.in-Some.before.now c.args.number c.requires item.3.0 item.1 (ltb-true c.in-Some.before.now.line c.args.number above),
-     λ all. lt-ltb c.in-Some.before.now.line c.args.number (above_last c.args.lines.now c.in-Some.before.now c.args.number item.3.0 item.1 all))
+    let item = c.in-Some.ensures.item in (
+      λ above. above_all c.args.lines.now c.in-Some.before.now c.args.number c.requires item.3.0 item.1 (ltb-true c.in-Some.before.now.line c.args.number above),
+      λ all. lt-ltb c.in-Some.before.now.line c.args.number (above_last c.args.lines.now c.in-Some.before.now c.args.number item.3.0 item.1 all),
+    )
