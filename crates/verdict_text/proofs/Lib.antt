@@ -1,0 +1,4 @@
+pub mod NumberTexts
+pub mod CutFacts
+pub mod PlacedFacts
+pub mod BegunFacts

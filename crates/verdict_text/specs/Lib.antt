@@ -1,2 +1,5 @@
 pub mod Words
-pub mod Printing
+pub mod Placed
+pub mod Outcome
+pub mod Reading
+pub mod PlacementFaults

@@ -1,12 +1,5 @@
-use Rattle.std.specs.Prelude.{ℕ, List, [], ◌∷◌, ◌++◌, Option, Some, None, codes}
-use Rattle.std.specs.Prelude.{decimal}
+use Rattle.std.specs.Prelude.{◌≡◌, ◌≢◌, ℕ, ◌<◌, ◌≤◌, ◌^◌, List, [], ◌∷◌, ◌++◌, length, slice_index, All}
 use Rattle.std.specs.List.{join_with_byte}
-use Rattle.base_types.specs.declared.request.Decision.{Decision}
-use Rattle.base_types.specs.declared.request.Decision.TheVariants.{Allow, Forbid}
-use Rattle.base_types.specs.declared.placed.PlacedAnswer.{PlacedAnswer}
-use Rattle.base_types.specs.declared.placed.PlacedAnswer.TheVariants.{Made, Removed, At, Nowhere}
-use Rattle.base_types.specs.declared.placed.PlacedDecision.{PlacedDecision}
-use Rattle.base_types.specs.declared.placed.PlacedLine.{PlacedLine}
 
 -- words with one space between two of them
 abbrev pub spaced : List (List ℕ) → List ℕ
@@ -16,22 +9,17 @@ spaced words = join_with_byte 32 words
 abbrev pub ended : List ℕ → List ℕ
 ended line = line ++ 10 ∷ []
 
-abbrev pub answer_text : PlacedAnswer → List ℕ
-answer_text (Made revision) = spaced (codes "made" ∷ decimal revision ∷ [])
-answer_text (Removed place) = spaced (codes "removed" ∷ decimal place ∷ [])
-answer_text (At place) = spaced (codes "at" ∷ decimal place ∷ [])
-answer_text Nowhere = codes "none"
+-- a number that a text may have
+abbrev pub IsNumber : ℕ → Type 0
+IsNumber number = number < 2 ^ 64
 
-abbrev pub decision_word : Decision → List ℕ
-decision_word Allow = codes "allow"
-decision_word Forbid = codes "forbid"
+-- the first byte is a digit, and it isn't a zero with more behind it
+pub record BeginsPlainly (word : List ℕ) : Type 0 where
+  pub some : 0 < length word
+  pub above : 48 ≤ slice_index word 0
+  pub below : slice_index word 0 ≤ 57
+  pub alone : slice_index word 0 ≡ 48 → length word ≡ 1
 
--- the places of the caches of roles, cluster roles, role bindings and cluster role bindings follow
-abbrev pub decision_text : Option PlacedDecision → List ℕ
-decision_text None = codes "none"
-decision_text (Some judged) = spaced (decision_word judged.decision ∷ decimal judged.places.roles ∷ decimal judged.places.cluster_roles
-    ∷ decimal judged.places.bindings ∷ decimal judged.places.cluster_bindings ∷ [])
-
--- LINE ANSWER DECISION
-abbrev pub placed_text : PlacedLine → List ℕ
-placed_text placed = spaced (decimal placed.line ∷ answer_text placed.answer ∷ decision_text placed.decision ∷ [])
+-- no byte is this one
+abbrev pub Lacks : ℕ → List ℕ → Type 0
+Lacks byte text = All (λ other. other ≢ byte) text

@@ -1,6 +1,10 @@
 //! The text of an outcome, and the placement that such a text says.
 #![tactic(auto)]
 
-mod printing;
+mod outcome;
+mod placed;
+mod reading;
+mod words;
 
-pub use printing::print_outcome;
+pub use outcome::print_outcome;
+pub use reading::{PlacementFault, read_placement};

@@ -8,11 +8,19 @@ use Rattle.base_types.specs.declared.placed.Outcome.{Outcome}
 use Rattle.base_types.specs.declared.placed.Outcome.TheVariants.{Explained, Unexplained}
 use Rattle.base_types.specs.Escapes.{escaped}
 use Rattle.base_types.specs.Reasons.{code_number}
-use Rattle.verdict_text.specs.Words.{spaced, ended, placed_text}
+use Rattle.verdict_text.specs.Words.{spaced, ended}
+use Rattle.verdict_text.specs.Placed.{placed_text}
 
--- `explained N`, N being how many lines there are, and then each placed line
+-- `explained N`
+abbrev pub count_text : ℕ → List ℕ
+count_text count = spaced (codes "explained" ∷ decimal count ∷ [])
+
+abbrev pub placed_lines : List PlacedLine → List ℕ
+placed_lines lines = flat_map (λ placed. ended (placed_text placed)) lines
+
+-- how many lines follow, and then each of them
 abbrev pub explained_text : List PlacedLine → List ℕ
-explained_text lines = ended (spaced (codes "explained" ∷ decimal (length lines) ∷ [])) ++ flat_map (λ placed. ended (placed_text placed)) lines
+explained_text lines = ended (count_text (length lines)) ++ placed_lines lines
 
 -- U1 to U14
 abbrev pub code_text : Reason → List ℕ

@@ -1,11 +1,9 @@
-ghost use Rattle.std.specs.Prelude.{◌≡◌, ◌++◌, OnOk, IfOk, decimal, string_bytes};
-ghost use Rattle.verdict_text.specs.Words.{answer_text, decision_text, ended, placed_text};
-ghost use Rattle.verdict_text.specs.Printing.{explained_text, outcome_text, write_text, writes_text};
+ghost use Rattle.std.specs.Prelude.{◌≡◌, ◌++◌, OnOk, IfOk, string_bytes};
+ghost use Rattle.verdict_text.specs.Words.{ended};
+ghost use Rattle.verdict_text.specs.Outcome.{explained_text, outcome_text, write_text, writes_text};
 
-use base_types::{
-    Bytes, Decision, OutOfMemory, Outcome, PlacedAnswer, PlacedDecision, PlacedLine, WriteLine,
-    escape,
-};
+use crate::placed::append_placed;
+use base_types::{Bytes, OutOfMemory, Outcome, PlacedLine, WriteLine, escape};
 use std::alloc::Global;
 
 /// The text of an outcome, as `judge` prints it. Each of its lines ends with a newline.
@@ -46,49 +44,6 @@ fn append_explained(text: &mut String, lines: &[PlacedLine]) -> Result<(), OutOf
     Ok(())
 }
 
-fn append_placed(text: &mut String, placed: &PlacedLine) -> Result<(), OutOfMemory>
-    ensures { OnOk result (string_bytes text.new ≡ string_bytes text.old ++ ended (placed_text placed.now)) }
-{
-    write!(text, "{} ", placed.line)?;
-    append_answer(text, &placed.answer)?;
-    text.push(' ')?;
-    append_decision(text, &placed.decision)?;
-    text.push('\n')?;
-    Ok(())
-}
-
-fn append_answer(text: &mut String, answer: &PlacedAnswer) -> Result<(), OutOfMemory>
-    ensures { OnOk result (string_bytes text.new ≡ string_bytes text.old ++ answer_text answer.now) }
-{
-    match answer {
-        PlacedAnswer::Made(revision) => write!(text, "made {revision}")?,
-        PlacedAnswer::Removed(place) => write!(text, "removed {place}")?,
-        PlacedAnswer::At(place) => write!(text, "at {place}")?,
-        PlacedAnswer::Nowhere => text.push_str("none")?,
-    }
-    Ok(())
-}
-
-fn append_decision(text: &mut String, decision: &Option<PlacedDecision>) -> Result<(), OutOfMemory>
-    ensures { OnOk result (string_bytes text.new ≡ string_bytes text.old ++ decision_text decision.now) }
-{
-    let Some(judged) = decision else {
-        text.push_str("none")?;
-        return Ok(());
-    };
-    let word = match judged.decision {
-        Decision::Allow => "allow",
-        Decision::Forbid => "forbid",
-    };
-    let places = &judged.places;
-    write!(
-        text,
-        "{word} {} {} {} {}",
-        places.roles, places.cluster_roles, places.bindings, places.cluster_bindings
-    )?;
-    Ok(())
-}
-
 fn append_writes(text: &mut String, writes: &[WriteLine]) -> Result<(), OutOfMemory>
     ensures { OnOk result (string_bytes text.new ≡ string_bytes text.old ++ writes_text writes.now) }
 {
@@ -116,3 +71,6 @@ fn append_write(text: &mut String, write: &WriteLine) -> Result<(), OutOfMemory>
     }
     Ok(())
 }
+
+#[cfg(test)]
+mod tests;

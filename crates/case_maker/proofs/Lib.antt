@@ -1,0 +1,4 @@
+pub mod Padding
+pub mod Chains
+pub mod Present
+pub mod CaseFacts
