@@ -55,12 +55,12 @@ form_of events final (line ∷ lines) above form low rises (inl (event, admitted
     let at = admitted.form.stands.line in
     let rise = rises.0 in
     form_of (events ++ event ∷ []) final lines line.number (form_more events line event above form low rise admitted)
-      (All-push (λ e. e.line ≤ line.number) events event (λ k d within. let l = low k d within in omega (arith, l, rise)) (omega (arith, at))) rises.1 rest
+    (All-push (λ e. e.line ≤ line.number) events event (λ k d within. let l = low k d within in omega (arith, l, rise)) (omega (arith, at))) rises.1 rest
 form_of events final (line ∷ lines) above form low rises (inr (none, is)) = absurd (let no : Admitted final ≡ Refused line.number = is in cc)
 
 pub form_of_log : (bytes : List ℕ) (events : List Event) → length bytes ≤ 1099511627776 → Reads [] (lines_from 0 bytes) (Admitted events) → AreFirstForm events
 form_of_log bytes events within reads =
     let few = few_lines bytes in
     form_of [] events (lines_from 0 bytes) 0
-      record { lines = λ i j d below within. absurd (omega (arith, within)); apart = λ i j d below within. absurd (omega (arith, within)); after_start = All-nil (λ e. e.verb ≡ Create → 10 < e.revision) }
-      (All-nil (λ e. e.line ≤ 0)) (numbers_rise 0 0 (lines_of bytes) (omega arith) (omega (arith, few, within))) reads
+    record { lines = λ i j d below within. absurd (omega (arith, within)); apart = λ i j d below within. absurd (omega (arith, within)); after_start = All-nil (λ e. e.verb ≡ Create → 10 < e.revision) }
+    (All-nil (λ e. e.line ≤ 0)) (numbers_rise 0 0 (lines_of bytes) (omega arith) (omega (arith, few, within))) reads

@@ -53,9 +53,9 @@ refuses_line events reader reader' line c none =
 -- a line that is too long, whole or not
 pub refuses_long : (events : List Event) (reader : Reading) (number : ℕ) → IsTooLong number reader → Refuses events reader number
 refuses_long events reader number long = record {
-    lines = λ more. too_long_refused events (lines_from reader.number (reader.pending ++ more)) number (long more);
-    cut = λ more. go more (too_long_whole number reader.number (whole_lines (reader.pending ++ more)) (last_line (rest_of (reader.pending ++ more))) (long more));
-  }
+  lines = λ more. too_long_refused events (lines_from reader.number (reader.pending ++ more)) number (long more);
+  cut = λ more. go more (too_long_whole number reader.number (whole_lines (reader.pending ++ more)) (last_line (rest_of (reader.pending ++ more))) (long more));
+}
   where
     go : (more : List ℕ) → StartsTooLong number (numbered reader.number (whole_lines (reader.pending ++ more))) ⊎ ((numbered reader.number (whole_lines (reader.pending ++ more)) ≡ []) × StartsTooLong number (numbered (count_behind reader.number (whole_lines (reader.pending ++ more))) (last_line (rest_of (reader.pending ++ more)))))
         → (found : LogRead) × Reads events (numbered reader.number (whole_lines (reader.pending ++ more))) found × (Refused number ≡ refused_behind found (number_after (count_behind reader.number (whole_lines (reader.pending ++ more)))))
@@ -71,18 +71,19 @@ refuses_before events events' reader reader' given number c admits r =
     record {
       lines = λ more. subst P (sym (c.lines more)) (reads_then events events' given (lines_from reader'.number (reader'.pending ++ more)) (Refused number) admits (r.lines more));
       cut = λ more.
-        let found = (r.cut more).0 in
-        let Q : List NumberedLine → Type 0 = λ lines. Reads events lines found in
-        (found,
-         subst Q (sym (c.whole more)) (reads_then events events' given (numbered reader'.number (whole_lines (reader'.pending ++ more))) found admits (r.cut more).1),
-         (r.cut more).2 ∙ ap (λ n. refused_behind found (number_after n)) (sym (c.count more)));
+          let found = (r.cut more).0 in
+          let Q : List NumberedLine → Type 0 = λ lines. Reads events lines found in (
+            found,
+            subst Q (sym (c.whole more)) (reads_then events events' given (numbered reader'.number (whole_lines (reader'.pending ++ more))) found admits (r.cut more).1),
+            (r.cut more).2 ∙ ap (λ n. refused_behind found (number_after n)) (sym (c.count more)),
+          );
     }
 
 -- the lines that wait, once more line was taken of them
 pub fewer_wait : (reader reader' : Reading) (line : NumberedLine) → Continues reader (line ∷ []) reader' → length (lines_from reader'.number reader'.pending) < length (lines_from reader.number reader.pending)
 fewer_wait reader reader' line c =
     let is : lines_from reader.number reader.pending ≡ line ∷ lines_from reader'.number reader'.pending =
-        ap (λ p. lines_from reader.number p) (sym (append-nil reader.pending)) ∙ c.lines [] ∙ ap (λ p. line ∷ lines_from reader'.number p) (append-nil reader'.pending) in
+    ap (λ p. lines_from reader.number p) (sym (append-nil reader.pending)) ∙ c.lines [] ∙ ap (λ p. line ∷ lines_from reader'.number p) (append-nil reader'.pending) in
     let all : length (lines_from reader.number reader.pending) ≡ length (line ∷ lines_from reader'.number reader'.pending) = ap (λ l. length l) is in
     omega (arith, all)
 

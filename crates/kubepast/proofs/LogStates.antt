@@ -39,11 +39,17 @@ limit_is = sym most_input_is
 -- before the first read
 pub nothing_read : (old : Option (List ℕ)) (faults : ℕ) → HasReadLog old old faults faults new_reading [] 0
 nothing_read old faults = record {
-    front = []; long = refl; within = omega arith; given = [];
-    continues = record { lines = λ more. refl; whole = λ more. refl; rest = λ more. refl; count = λ more. refl };
-    rest = record { whole = refl; short = omega arith; all_given = λ over. absurd (let no : false ≡ true = over in cc) };
-    admits = refl; going = refl; counted = omega arith; told = taken_nothing old;
-  }
+  front = [];
+  long = refl;
+  within = omega arith;
+  given = [];
+  continues = record { lines = λ more. refl; whole = λ more. refl; rest = λ more. refl; count = λ more. refl };
+  rest = record { whole = refl; short = omega arith; all_given = λ over. absurd (let no : false ≡ true = over in cc) };
+  admits = refl;
+  going = refl;
+  counted = omega arith;
+  told = taken_nothing old;
+}
 
 -- a piece more was fed
 pub continues_fed : (front piece : List ℕ) (given : List NumberedLine) (reader reader' : Reading) → Continues (fed front) given reader → reader' ≡ record reader { pending = reader.pending ++ piece } → Continues (fed (front ++ piece)) given reader'
@@ -51,11 +57,11 @@ continues_fed front piece given reader reader' c is =
     let behind : (more : List ℕ) → (front ++ piece) ++ more ≡ front ++ (piece ++ more) = λ more. append_assoc front piece more in
     let pending : (more : List ℕ) → reader.pending ++ (piece ++ more) ≡ (reader.pending ++ piece) ++ more = λ more. sym (append_assoc reader.pending piece more) in
     let core : Continues (fed (front ++ piece)) given record reader { pending = reader.pending ++ piece } = record {
-        lines = λ more. ap (λ b. lines_from 0 b) (behind more) ∙ c.lines (piece ++ more) ∙ ap (λ b. given ++ lines_from reader.number b) (pending more);
-        whole = λ more. ap (λ b. numbered 0 (whole_lines b)) (behind more) ∙ c.whole (piece ++ more) ∙ ap (λ b. given ++ numbered reader.number (whole_lines b)) (pending more);
-        rest = λ more. ap (λ b. rest_of b) (behind more) ∙ c.rest (piece ++ more) ∙ ap (λ b. rest_of b) (pending more);
-        count = λ more. ap (λ b. count_behind 0 (whole_lines b)) (behind more) ∙ c.count (piece ++ more) ∙ ap (λ b. count_behind reader.number (whole_lines b)) (pending more);
-      } in
+      lines = λ more. ap (λ b. lines_from 0 b) (behind more) ∙ c.lines (piece ++ more) ∙ ap (λ b. given ++ lines_from reader.number b) (pending more);
+      whole = λ more. ap (λ b. numbered 0 (whole_lines b)) (behind more) ∙ c.whole (piece ++ more) ∙ ap (λ b. given ++ numbered reader.number (whole_lines b)) (pending more);
+      rest = λ more. ap (λ b. rest_of b) (behind more) ∙ c.rest (piece ++ more) ∙ ap (λ b. rest_of b) (pending more);
+      count = λ more. ap (λ b. count_behind 0 (whole_lines b)) (behind more) ∙ c.count (piece ++ more) ∙ ap (λ b. count_behind reader.number (whole_lines b)) (pending more);
+    } in
     let P : Reading → Type 0 = λ r. Continues (fed (front ++ piece)) given r in
     subst P (sym is) core
 
@@ -109,9 +115,9 @@ given_all front given reader c = ap (λ b. lines_from 0 b) (sym (append-nil fron
 -- a log that is refused behind these bytes, or at them
 pub log_refused : (bytes front behind : List ℕ) (number : ℕ) → bytes ≡ front ++ behind → length front ≤ 1099511627776 → Refuses [] (fed front) number → IsLogRead bytes (Refused number)
 log_refused bytes front behind number is within r = elim (leb_tells (length bytes) most_input) [
-      inl small ↦ inl (small.1, rw is (r.lines behind))
-    | inr large ↦ inr (large.1, rw (is, ← limit_is, take_front front behind 1099511627776 within) (r.cut (take (1099511627776 - length front) behind)))
-    ]
+  | inl small ↦ inl (small.1, rw is (r.lines behind))
+  | inr large ↦ inr (large.1, rw (is, ← limit_is, take_front front behind 1099511627776 within) (r.cut (take (1099511627776 - length front) behind)))
+]
 
 -- a log that passes the limit behind these bytes
 pub log_cut : (bytes front behind : List ℕ) (given : List NumberedLine) (reader : Reading) (events : List Event) → bytes ≡ front ++ behind → length front ≡ 1099511627776 → 0 < length behind → Continues (fed front) given reader → HoldsRest reader → Reads [] given (Admitted events) → IsLogRead bytes (Refused (number_after reader.number))
@@ -119,15 +125,17 @@ log_cut bytes front behind given reader events is long some c rest admits =
     let all : take most_input bytes ≡ front = rw (is, ← limit_is) (take_front front behind 1099511627776 (omega (arith, long)) ∙ ap (λ n. front ++ take n behind) (let e : 1099511627776 - length front ≡ 0 = omega (arith, long) in e) ∙ append-nil front) in
     let P : List NumberedLine → Type 0 = λ lines. Reads [] lines (Admitted events) in
     let sum = length-append front behind in
-    inr (rw (is, ← limit_is) (omega (arith, sum, long, some)),
-         (Admitted events, rw all (subst P (sym (given_whole front given reader c rest.whole)) admits), rw all (ap (λ n. Refused (number_after n)) (sym (count_whole front given reader c rest.whole)))))
+    inr (
+      rw (is, ← limit_is) (omega (arith, sum, long, some)),
+      (Admitted events, rw all (subst P (sym (given_whole front given reader c rest.whole)) admits), rw all (ap (λ n. Refused (number_after n)) (sym (count_whole front given reader c rest.whole)))),
+    )
 
 -- all lines of a log that ends here
 reads_ended : (front : List ℕ) (given given' : List NumberedLine) (reader reader' reader'' : Reading) (events events' : List Event) → Continues (fed front) given reader → Reads [] given (Admitted events) → reader'.number ≡ reader.number → lines_from reader'.number reader'.pending ≡ lines_from reader.number reader.pending
     → Continues reader' given' reader'' → Reads events given' (Admitted events') → reader''.pending ≡ [] → Reads [] (lines_from 0 front) (Admitted events')
 reads_ended front given given' reader reader' reader'' events events' c admits number same c' admits' none =
     let last : lines_from reader'.number reader'.pending ≡ given' =
-        ap (λ b. lines_from reader'.number b) (sym (append-nil reader'.pending)) ∙ c'.lines [] ∙ ap (λ b. given' ++ lines_from reader''.number b) (append-nil reader''.pending ∙ none) ∙ append-nil given' in
+    ap (λ b. lines_from reader'.number b) (sym (append-nil reader'.pending)) ∙ c'.lines [] ∙ ap (λ b. given' ++ lines_from reader''.number b) (append-nil reader''.pending ∙ none) ∙ append-nil given' in
     let P : List NumberedLine → Type 0 = λ lines. Reads [] lines (Admitted events') in
     subst P (sym (given_all front given reader c ∙ ap (λ l. given ++ l) (sym same ∙ last))) (reads_then [] events given given' (Admitted events') admits admits')
 
@@ -168,8 +176,8 @@ fed_piece into within count few = ap (λ front. front ++ drop within (take count
 front_fed : (bytes front into behind : List ℕ) (within count : ℕ) → within ≤ count → bytes ≡ (front ++ take count into) ++ behind → bytes ≡ (front ++ take within into) ++ (drop within (take count into) ++ behind)
 front_fed bytes front into behind within count few is =
     is ∙ ap (λ p. (front ++ p) ++ behind) (sym (fed_piece into within count few))
-       ∙ ap (λ p. p ++ behind) (sym (append_assoc front (take within into) (drop within (take count into))))
-       ∙ append_assoc (front ++ take within into) (drop within (take count into)) behind
+    ∙ ap (λ p. p ++ behind) (sym (append_assoc front (take within into) (drop within (take count into))))
+    ∙ append_assoc (front ++ take within into) (drop within (take count into)) behind
 
 -- a line of the piece is refused
 pub piece_refused : (old middle now : Option (List ℕ)) (faults_before faults_now : ℕ) (reader reader' : Reading) (events : List Event) (taken within count number : ℕ) (into bytes : List ℕ) → HasReadLog old middle faults_before faults_now reader events taken → Consumes middle now (take count into)
@@ -180,7 +188,7 @@ piece_refused old middle now faults_before faults_now reader reader' events take
     let piece = length-take within into in
     let l = s.long in
     log_refused bytes (s.front ++ take within into) (drop within (take count into) ++ all.0) number (front_fed bytes s.front into all.0 within count few all.2) (omega (arith, long, piece, l, room))
-      (refuses_before [] events (fed (s.front ++ take within into)) reader' s.given number (continues_fed s.front (take within into) s.given reader reader' s.continues is) s.admits r)
+    (refuses_before [] events (fed (s.front ++ take within into)) reader' s.given number (continues_fed s.front (take within into) s.given reader reader' s.continues is) s.admits r)
 
 -- the piece passes the limit
 pub piece_cut : (old middle now : Option (List ℕ)) (faults_before faults_now : ℕ) (reader reader' reader'' : Reading) (events events' : List Event) (taken within count : ℕ) (into bytes : List ℕ) → HasReadLog old middle faults_before faults_now reader events taken → Consumes middle now (take count into)
@@ -194,9 +202,9 @@ piece_cut old middle now faults_before faults_now reader reader' reader'' events
     let left = length-drop within (take count into) in
     let whole = length-take count into in
     log_cut bytes (s.front ++ take within into) (drop within (take count into) ++ all.0) (s.given ++ t.given) reader'' events' (front_fed bytes s.front into all.0 within count (omega (arith, few)) all.2)
-      (omega (arith, long, piece, l, room, few, given)) (omega (arith, sum, left, whole, few, given))
-      (continues_both (fed (s.front ++ take within into)) reader' reader'' s.given t.given (continues_fed s.front (take within into) s.given reader reader' s.continues is) t.continues)
-      t.rest (reads_then [] events s.given t.given (Admitted events') s.admits t.admits)
+    (omega (arith, long, piece, l, room, few, given)) (omega (arith, sum, left, whole, few, given))
+    (continues_both (fed (s.front ++ take within into)) reader' reader'' s.given t.given (continues_fed s.front (take within into) s.given reader reader' s.continues is) t.continues)
+    t.rest (reads_then [] events s.given t.given (Admitted events') s.admits t.admits)
 
 -- the piece was read
 pub piece_read : (old middle now : Option (List ℕ)) (faults_before faults_middle faults_now : ℕ) (reader reader' reader'' : Reading) (events events' : List Event) (taken within count : ℕ) (into : List ℕ) → HasReadLog old middle faults_before faults_middle reader events taken → Consumes middle now (take count into)

@@ -114,7 +114,7 @@ line_front : (line piece rest : List ℕ) (taken : ℕ) → taken ≤ length lin
 line_front line piece rest taken within is =
     let long : length (take taken line) ≡ taken = length-take taken line ∙ (omega (arith, within)) in
     let behind : drop taken line ≡ piece ++ rest =
-        ap (λ l. drop taken l) (sym is ∙ append_assoc (take taken line) piece rest) ∙ ap (λ n. drop n (take taken line ++ (piece ++ rest))) (sym long) ∙ drop-append_seam (take taken line) (piece ++ rest) in
+    ap (λ l. drop taken l) (sym is ∙ append_assoc (take taken line) piece rest) ∙ ap (λ n. drop n (take taken line ++ (piece ++ rest))) (sym long) ∙ drop-append_seam (take taken line) (piece ++ rest) in
     ap (λ l. take (length piece) l) behind ∙ take-append_seam piece rest
 
 -- a piece that doesn't go on

@@ -58,7 +58,7 @@ parts_in tree =
 abbrev pub answer_put : ℕ → Parts → Fields → Fields
 answer_put code p ms =
     put (codes "user") user_tree (put (codes "stageTimestamp") (words p.staged) (put (codes "stage") (words (codes "ResponseComplete"))
-      (put (codes "responseStatus") (status_tree code) (put (codes "responseObject") (answered_tree p) ms))))
+    (put (codes "responseStatus") (status_tree code) (put (codes "responseObject") (answered_tree p) ms))))
 
 -- the event of these texts
 abbrev pub event_read : ℕ → Verb → Parts → Moment → Moment → ℕ → Event

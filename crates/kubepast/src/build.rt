@@ -89,7 +89,12 @@ pub fn answered_object(alloc: Global, texts: &Texts<'_>) -> Result<Tree, OutOfMe
     let mut metadata = no_members(alloc);
     put_text(alloc, &mut metadata, "name", texts.name.as_str())?;
     put_text(alloc, &mut metadata, "namespace", "d")?;
-    put_text(alloc, &mut metadata, "resourceVersion", texts.revision.as_str())?;
+    put_text(
+        alloc,
+        &mut metadata,
+        "resourceVersion",
+        texts.revision.as_str(),
+    )?;
     put_text(alloc, &mut metadata, "uid", texts.uid.as_str())?;
     let mut list = no_members(alloc);
     put_text(alloc, &mut list, "apiVersion", "v1")?;
@@ -137,8 +142,18 @@ fn create_object(alloc: Global, texts: &Texts<'_>) -> Result<Tree, OutOfMemory>
     put_text(alloc, &mut list, "auditID", texts.audit_id.as_str())?;
     put_text(alloc, &mut list, "kind", "Event")?;
     put_text(alloc, &mut list, "level", "RequestResponse")?;
-    put_member(alloc, &mut list, "requestObject", asked_object(alloc, texts)?)?;
-    put_text(alloc, &mut list, "requestReceivedTimestamp", texts.received.as_str())?;
+    put_member(
+        alloc,
+        &mut list,
+        "requestObject",
+        asked_object(alloc, texts)?,
+    )?;
+    put_text(
+        alloc,
+        &mut list,
+        "requestReceivedTimestamp",
+        texts.received.as_str(),
+    )?;
     put_text(alloc, &mut list, "requestURI", COLLECTION)?;
     put_answer(alloc, &mut list, 201, texts)?;
     put_text(alloc, &mut list, "verb", "create")?;
@@ -154,7 +169,12 @@ fn get_object(alloc: Global, texts: &Texts<'_>) -> Result<Tree, OutOfMemory>
     put_text(alloc, &mut list, "auditID", texts.audit_id.as_str())?;
     put_text(alloc, &mut list, "kind", "Event")?;
     put_text(alloc, &mut list, "level", "RequestResponse")?;
-    put_text(alloc, &mut list, "requestReceivedTimestamp", texts.received.as_str())?;
+    put_text(
+        alloc,
+        &mut list,
+        "requestReceivedTimestamp",
+        texts.received.as_str(),
+    )?;
     put_text(alloc, &mut list, "requestURI", path.as_str())?;
     put_answer(alloc, &mut list, 200, texts)?;
     put_text(alloc, &mut list, "verb", "get")?;
@@ -170,7 +190,12 @@ fn put_answer(
 ) -> Result<(), OutOfMemory>
     ensures { OnOk result (fields_of list.new ≡ answer_put code (parts_of texts.now) (fields_of list.old)) }
 {
-    put_member(alloc, list, "responseObject", answered_object(alloc, texts)?)?;
+    put_member(
+        alloc,
+        list,
+        "responseObject",
+        answered_object(alloc, texts)?,
+    )?;
     put_member(alloc, list, "responseStatus", status_object(alloc, code)?)?;
     put_text(alloc, list, "stage", "ResponseComplete")?;
     put_text(alloc, list, "stageTimestamp", texts.staged.as_str())?;

@@ -84,12 +84,7 @@ fn read_tree(
 }
 
 // Whether a tree is that of an event with these texts.
-fn is_built(
-    alloc: Global,
-    tree: &Tree,
-    verb: Verb,
-    texts: &Texts<'_>,
-) -> Result<bool, OutOfMemory>
+fn is_built(alloc: Global, tree: &Tree, verb: Verb, texts: &Texts<'_>) -> Result<bool, OutOfMemory>
     ensures { IfOk result (λ is. IsTrue is ↔ (tree.now ≡ event_tree verb (parts_of texts.now))) }
 {
     let built = event_object(alloc, verb, texts)?;

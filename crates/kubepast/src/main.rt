@@ -10,11 +10,10 @@ mod log;
 mod run;
 mod setup;
 mod stop;
-mod windows;
-mod words;
-
 #[cfg(test)]
 mod tests;
+mod windows;
+mod words;
 
 use edge_io::{FileDesk, StdSink};
 use run::run;

@@ -68,8 +68,8 @@ pub fn run<R: Threads + Sync, D: Desk, K: Sink>(
 ) -> u8
     ensures answer { (files : List ℕ → List ℕ) → Tells (D.left desk.old) files
         → IsAnswered (IsAnswer (asked_of (map string_bytes words.now)) files)
-            (D.faults desk.old) (D.faults desk.new) (K.faults out.old) (K.faults out.new)
-            (K.written out.old) (K.written out.new) result }
+        (D.faults desk.old) (D.faults desk.new) (K.faults out.old) (K.faults out.new)
+        (K.written out.old) (K.written out.new) result }
 
     // Whether the desk tells its bytes or not.
     ensures usage { asked_of (map string_bytes words.now) ≡ Usage

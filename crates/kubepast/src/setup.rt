@@ -5,14 +5,11 @@ ghost use Rattle.kubepast.specs.Setup.{IsBuilt, TakesSetup};
 use edge_io::{Desk, DeskFailed};
 
 /// The one setup that this form of the program knows, as a line.
-pub const SETUP_LINE: &[u8] = b"{\"kind\":\"PastSetup\",\"version\":1,\"start\":{\"revision\":\"10\",\"time\":\"2024-05-01T10:00:00.000000Z\"},\"until\":\"2024-05-01T11:00:00.000000Z\",\"policy\":{\"apiVersion\":\"audit.k8s.io/v1\",\"kind\":\"Policy\",\"rules\":[{\"level\":\"RequestResponse\"}]},\"resources\":[{\"group\":\"\",\"version\":\"v1\",\"resource\":\"configmaps\",\"kind\":\"ConfigMap\",\"listKind\":\"ConfigMapList\",\"namespaced\":true}],\"snapshot\":[]}\n";
+pub const SETUP_LINE: &[u8] =
+    b"{\"kind\":\"PastSetup\",\"version\":1,\"start\":{\"revision\":\"10\",\"time\":\"2024-05-01T10:00:00.000000Z\"},\"until\":\"2024-05-01T11:00:00.000000Z\",\"policy\":{\"apiVersion\":\"audit.k8s.io/v1\",\"kind\":\"Policy\",\"rules\":[{\"level\":\"RequestResponse\"}]},\"resources\":[{\"group\":\"\",\"version\":\"v1\",\"resource\":\"configmaps\",\"kind\":\"ConfigMap\",\"listKind\":\"ConfigMapList\",\"namespaced\":true}],\"snapshot\":[]}\n";
 
 /// Reads a setup, up to the byte at which it can't be the one that is known, and says whether it is.
-pub fn read_setup<D: Desk>(
-    desk: &mut D,
-    name: &str,
-    buffer: &mut [u8],
-) -> Result<bool, DeskFailed>
+pub fn read_setup<D: Desk>(desk: &mut D, name: &str, buffer: &mut [u8]) -> Result<bool, DeskFailed>
     requires some { 0 < length buffer.old }
     requires piece { length buffer.old ≤ 65536 }
     ensures built { IfOk result (λ is. (bytes : List ℕ) → D.left desk.old name.now ≡ Some bytes → IsTrue is ↔ IsBuilt bytes) }

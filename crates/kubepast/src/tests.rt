@@ -7,7 +7,8 @@ use std::process::Abort;
 use std::test::Fail;
 use std::thread::Threads;
 
-const SETUP: &str = "{\"kind\":\"PastSetup\",\"version\":1,\"start\":{\"revision\":\"10\",\"time\":\"2024-05-01T10:00:00.000000Z\"},\"until\":\"2024-05-01T11:00:00.000000Z\",\"policy\":{\"apiVersion\":\"audit.k8s.io/v1\",\"kind\":\"Policy\",\"rules\":[{\"level\":\"RequestResponse\"}]},\"resources\":[{\"group\":\"\",\"version\":\"v1\",\"resource\":\"configmaps\",\"kind\":\"ConfigMap\",\"listKind\":\"ConfigMapList\",\"namespaced\":true}],\"snapshot\":[]}";
+const SETUP: &str =
+    "{\"kind\":\"PastSetup\",\"version\":1,\"start\":{\"revision\":\"10\",\"time\":\"2024-05-01T10:00:00.000000Z\"},\"until\":\"2024-05-01T11:00:00.000000Z\",\"policy\":{\"apiVersion\":\"audit.k8s.io/v1\",\"kind\":\"Policy\",\"rules\":[{\"level\":\"RequestResponse\"}]},\"resources\":[{\"group\":\"\",\"version\":\"v1\",\"resource\":\"configmaps\",\"kind\":\"ConfigMap\",\"listKind\":\"ConfigMapList\",\"namespaced\":true}],\"snapshot\":[]}";
 
 const NAMES: [&str; 3] = ["judge", "s", "l"];
 
@@ -67,25 +68,25 @@ fn expect<R: Threads + Sync + Abort>(
 }
 
 fn body(alloc: Global, revision: &str) -> Result<String, Fail> {
-    Ok(
-        format!(in alloc; "{{\"kind\":\"ConfigMap\",\"apiVersion\":\"v1\",\"metadata\":{{\"name\":\"a\",\"namespace\":\"d\",\"uid\":\"A\",\"resourceVersion\":\"{revision}\"}},\"data\":{{\"k\":\"x\"}}}}")?,
-    )
+    Ok(format!(in alloc;
+        "{{\"kind\":\"ConfigMap\",\"apiVersion\":\"v1\",\"metadata\":{{\"name\":\"a\",\"namespace\":\"d\",\"uid\":\"A\",\"resourceVersion\":\"{revision}\"}},\"data\":{{\"k\":\"x\"}}}}"
+    )?)
 }
 
 fn create_line(alloc: Global, id: &str, revision: &str, from: u8) -> Result<String, Fail> {
     let answer = body(alloc, revision)?;
     let until = from.saturating_add(1);
-    Ok(
-        format!(in alloc; "{{\"kind\":\"Event\",\"apiVersion\":\"audit.k8s.io/v1\",\"level\":\"RequestResponse\",\"auditID\":\"{id}\",\"stage\":\"ResponseComplete\",\"requestURI\":\"/api/v1/namespaces/d/configmaps\",\"verb\":\"create\",\"user\":{{\"username\":\"u\"}},\"responseStatus\":{{\"metadata\":{{}},\"code\":201}},\"requestObject\":{{\"kind\":\"ConfigMap\",\"apiVersion\":\"v1\",\"metadata\":{{\"name\":\"a\",\"namespace\":\"d\"}},\"data\":{{\"k\":\"x\"}}}},\"responseObject\":{answer},\"requestReceivedTimestamp\":\"2024-05-01T10:00:0{from}.000000Z\",\"stageTimestamp\":\"2024-05-01T10:00:0{until}.000000Z\"}}\n")?,
-    )
+    Ok(format!(in alloc;
+        "{{\"kind\":\"Event\",\"apiVersion\":\"audit.k8s.io/v1\",\"level\":\"RequestResponse\",\"auditID\":\"{id}\",\"stage\":\"ResponseComplete\",\"requestURI\":\"/api/v1/namespaces/d/configmaps\",\"verb\":\"create\",\"user\":{{\"username\":\"u\"}},\"responseStatus\":{{\"metadata\":{{}},\"code\":201}},\"requestObject\":{{\"kind\":\"ConfigMap\",\"apiVersion\":\"v1\",\"metadata\":{{\"name\":\"a\",\"namespace\":\"d\"}},\"data\":{{\"k\":\"x\"}}}},\"responseObject\":{answer},\"requestReceivedTimestamp\":\"2024-05-01T10:00:0{from}.000000Z\",\"stageTimestamp\":\"2024-05-01T10:00:0{until}.000000Z\"}}\n"
+    )?)
 }
 
 fn get_line(alloc: Global, id: &str, revision: &str, from: u8) -> Result<String, Fail> {
     let answer = body(alloc, revision)?;
     let until = from.saturating_add(1);
-    Ok(
-        format!(in alloc; "{{\"kind\":\"Event\",\"apiVersion\":\"audit.k8s.io/v1\",\"level\":\"RequestResponse\",\"auditID\":\"{id}\",\"stage\":\"ResponseComplete\",\"requestURI\":\"/api/v1/namespaces/d/configmaps/a\",\"verb\":\"get\",\"user\":{{\"username\":\"u\"}},\"responseStatus\":{{\"metadata\":{{}},\"code\":200}},\"responseObject\":{answer},\"requestReceivedTimestamp\":\"2024-05-01T10:00:0{from}.000000Z\",\"stageTimestamp\":\"2024-05-01T10:00:0{until}.000000Z\"}}\n")?,
-    )
+    Ok(format!(in alloc;
+        "{{\"kind\":\"Event\",\"apiVersion\":\"audit.k8s.io/v1\",\"level\":\"RequestResponse\",\"auditID\":\"{id}\",\"stage\":\"ResponseComplete\",\"requestURI\":\"/api/v1/namespaces/d/configmaps/a\",\"verb\":\"get\",\"user\":{{\"username\":\"u\"}},\"responseStatus\":{{\"metadata\":{{}},\"code\":200}},\"responseObject\":{answer},\"requestReceivedTimestamp\":\"2024-05-01T10:00:0{from}.000000Z\",\"stageTimestamp\":\"2024-05-01T10:00:0{until}.000000Z\"}}\n"
+    )?)
 }
 
 #[test]
@@ -104,14 +105,32 @@ fn verdicts(rt: HostRuntime) -> Result<(), Fail> {
     // Blank lines are counted.
     let mut blank = String::from_str(alloc, " \t\n")?;
     blank.push_str(&log)?;
-    expect(&rt, alloc, &judging(&blank), 0, "explained 2\n2 made 11 none\n3 at 11 none\n")?;
+    expect(
+        &rt,
+        alloc,
+        &judging(&blank),
+        0,
+        "explained 2\n2 made 11 none\n3 at 11 none\n",
+    )?;
     // The order of lines doesn't matter, the order in time does.
     let mut exchanged = seen.clone()?;
     exchanged.push_str(&made)?;
-    expect(&rt, alloc, &judging(&exchanged), 0, "explained 2\n1 at 11 none\n2 made 11 none\n")?;
+    expect(
+        &rt,
+        alloc,
+        &judging(&exchanged),
+        0,
+        "explained 2\n1 at 11 none\n2 made 11 none\n",
+    )?;
     let mut early = get_line(alloc, "a1", "11", 1)?;
     early.push_str(&create_line(alloc, "a2", "11", 3)?)?;
-    expect(&rt, alloc, &judging(&early), 1, "unexplained 1 a1 U10 10 10\n")
+    expect(
+        &rt,
+        alloc,
+        &judging(&early),
+        1,
+        "unexplained 1 a1 U10 10 10\n",
+    )
 }
 
 #[test]

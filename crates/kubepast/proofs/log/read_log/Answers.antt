@@ -68,7 +68,7 @@ returns-then-within-count-clause-unbuilt g c = λ line stopped bytes told.
     let t = c.if-within-count.true in
     let same : c.next_number.result ≡ line = cc in
     log_told bytes _ line (sym c.next_number.ensures ∙ same)
-      (piece_cut _ _ _ _ _ c.pieces.reader c.feed.new.self c.take_lines-in-pieces.new.reader c.pieces.events.items c.take_lines-in-pieces.new.events.items c.pieces.taken c.min-within.result c.in_ok-count.count c.read.new.into bytes c.pieces.invariant.0 c.in_ok-count.ensures.bytes.0 t c.in_ok-count.ensures.bound.0 (omega (arith, m, w, t)) c.in_default-feed.ensures.ok c.in_default-take_lines.ensures.ok told)
+    (piece_cut _ _ _ _ _ c.pieces.reader c.feed.new.self c.take_lines-in-pieces.new.reader c.pieces.events.items c.take_lines-in-pieces.new.events.items c.pieces.taken c.min-within.result c.in_ok-count.count c.read.new.into bytes c.pieces.invariant.0 c.in_ok-count.ensures.bytes.0 t c.in_ok-count.ensures.bound.0 (omega (arith, m, w, t)) c.in_default-feed.ensures.ok c.in_default-take_lines.ensures.ok told)
 
 pub returns-then-within-count-clause-taken : goal.returns-then-within-count-clause-taken
 returns-then-within-count-clause-taken g c =
