@@ -1,5 +1,5 @@
 -- What a read of one file leaves of the names of all files.
-use Rattle.std.proofs.Common.{◌≡◌, ◌≢◌, ℕ, ◌+◌, ◌<◌, suc, zero, List, [], ◌∷◌, length, get_or, Option, Some, None, Bool, true, false, cond, refl, sym, ◌∙◌, ap, slice_set, arith}
+use Rattle.std.proofs.Common.{◌≡◌, ◌≢◌, ℕ, ◌+◌, ◌<◌, suc, zero, List, [], ◌∷◌, length, get_or, Some, None, Bool, true, false, refl, sym, ◌∙◌, ap, slice_set, arith}
 use Rattle.std.specs.Str.{bytes_eq}
 use Rattle.std.specs.List.{position, position_from}
 use Rattle.std.proofs.lemmas.Slice.Eq.{bytes_eq-Decides}

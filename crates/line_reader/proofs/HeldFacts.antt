@@ -1,13 +1,13 @@
 -- What the reader keeps, after each call.
-use Rattle.std.proofs.Common.{◌≡◌, ◌≢◌, ℕ, ◌+◌, ◌-◌, ◌<◌, ◌≤◌, List, [], ◌∷◌, ◌++◌, length, take, drop, Bool, true, false, refl, sym, ◌∙◌, ap, arith, append_assoc}
+use Rattle.std.proofs.Common.{◌≡◌, ℕ, ◌+◌, ◌-◌, ◌<◌, ◌≤◌, List, [], ◌++◌, length, take, drop, true, false, refl, sym, ◌∙◌, ap, arith}
 use Rattle.std.specs.Prelude.{vec_len, vec_capacity}
 use Rattle.std.proofs.lemmas.List.{length-append, length-drop, take-append-le, drop-append-le, drop-drop, append-nil, take_rest}
 use Rattle.line_reader.specs.declared.reader.LineReader.TheInside.{Inside}
 use Rattle.line_reader.specs.Held.{IsHeld, reading_of}
-use Rattle.line_reader.specs.Lines.{newline, rest_of, closing_of, longest_line, whole_lines, number_after, numbered, lines_from}
-use Rattle.line_reader.specs.Reading.{Reading, Continues, HoldsRest, IsTooLong}
+use Rattle.line_reader.specs.Lines.{rest_of, closing_of, longest_line, numbered, lines_from}
+use Rattle.line_reader.specs.Reading.{Reading, HoldsRest}
 use Rattle.line_reader.specs.Search.{HasNoNewline, Skips, IsLineAt}
-use Rattle.line_reader.proofs.LineFacts.{rest_of-line, none_between, rest_of-none}
+use Rattle.line_reader.proofs.LineFacts.{rest_of-line}
 use Rattle.line_reader.proofs.ReaderFacts.{rest_of-closing, lines_of-closing, holds_rest}
 
 -- the front stays, whatever comes behind

@@ -1,5 +1,5 @@
 -- Lines, newlines and counts.
-use Rattle.std.proofs.Common.{◌≡◌, ◌≢◌, ℕ, suc, ◌+◌, ◌<◌, ◌≤◌, List, [], ◌∷◌, ◌++◌, length, take, drop, slice_index, ◌-◌, Bool, true, false, cond, All, refl, sym, ◌∙◌, ap, arith, append_assoc}
+use Rattle.std.proofs.Common.{◌≡◌, ◌≢◌, ℕ, suc, ◌+◌, ◌<◌, ◌≤◌, List, [], ◌∷◌, ◌++◌, length, take, drop, slice_index, ◌-◌, Bool, true, false, All, refl, sym, ◌∙◌, ap, arith, append_assoc}
 use Rattle.std.proofs.lemmas.Bool.{eqb-true}
 use Rattle.std.specs.Prelude.{nat_eq}
 use Rattle.std.proofs.Common.{add-one}
@@ -7,7 +7,7 @@ use Rattle.std.proofs.Math.Nat.{sub_self}
 use Rattle.std.proofs.Math.Seq.{drop-cons, take-add}
 use Rattle.std.proofs.lemmas.List.{take-append-drop, drop-drop}
 use Rattle.std.proofs.lemmas.List.Elements.{All-append, All-cons}
-use Rattle.line_reader.specs.Lines.{newline, NumberedLine, extend_first, extend_rest, whole_lines, rest_of, last_line, lines_of, is_dropped, number_after, number_line, numbered, lines_from, count_behind}
+use Rattle.line_reader.specs.Lines.{newline, whole_lines, rest_of, is_dropped, number_after, numbered, count_behind}
 use Rattle.line_reader.specs.Search.{HasNoNewline, Skips, IsLineAt}
 
 pub All-head : {X : Type 0} (P : X → Type 0) (x : X) (xs : List X) → All P (x ∷ xs) → P x

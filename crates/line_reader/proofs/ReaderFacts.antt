@@ -1,12 +1,12 @@
 -- What the calls of a line reader do, over its reading.
-use Rattle.std.proofs.Common.{◌≡◌, ◌≢◌, ℕ, suc, ◌+◌, ◌-◌, ◌<◌, ◌≤◌, List, [], ◌∷◌, ◌++◌, length, take, drop, slice_index, Bool, true, false, cond, All, refl, sym, ◌∙◌, ap, arith, append_assoc, add-one}
+use Rattle.std.proofs.Common.{◌≡◌, ◌≢◌, ℕ, suc, ◌+◌, ◌-◌, ◌<◌, ◌≤◌, List, [], ◌∷◌, ◌++◌, length, take, drop, Bool, true, false, All, refl, sym, ◌∙◌, ap, arith, append_assoc}
 use Rattle.std.proofs.lemmas.List.{length-append, length-drop, length-take, append-nil, take-append-drop, drop_all}
 use Rattle.std.proofs.lemmas.Bool.Decides.{nat_tests}
 use Rattle.std.specs.Prelude.{nat_le, nat_eq, Option, Some, None, IfSome, IfNone, IsTrue, is_some, ◌↔◌}
 use Rattle.std.proofs.Common.{get_or, Any, not, subst}
 use Rattle.std.proofs.lemmas.Bool.{eqb-true}
 use Rattle.std.proofs.Math.Seq.{drop-cons, get_or-append_seam}
-use Rattle.line_reader.specs.Lines.{newline, NumberedLine, longest_line, extend_first, extend_rest, whole_lines, rest_of, last_line, closing_of, lines_of, is_dropped, number_after, number_line, numbered, lines_from, count_behind}
+use Rattle.line_reader.specs.Lines.{newline, NumberedLine, longest_line, extend_first, extend_rest, whole_lines, rest_of, last_line, closing_of, lines_of, is_dropped, number_after, numbered, lines_from, count_behind}
 use Rattle.line_reader.specs.Reading.{Reading, Continues, HoldsRest, StartsTooLong, IsTooLong, HasWaiting}
 use Rattle.line_reader.specs.Search.{HasNoNewline, Skips, IsLineAt}
 use Rattle.line_reader.proofs.LineFacts.{not_newline, whole_lines-line, rest_of-line, whole_lines-none, rest_of-none, numbered-dropped, count_behind-append, All-head, All-tail}

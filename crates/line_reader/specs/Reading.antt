@@ -1,8 +1,8 @@
 -- What a line reader holds, and what a call of it does in front of whatever comes.
-use Rattle.std.specs.Prelude.{◌≡◌, ℕ, ◌<◌, ◌≤◌, List, [], ◌∷◌, ◌++◌, length, Bool, true, false, Option, Some, None, Any, IsTrue}
+use Rattle.std.specs.Prelude.{◌≡◌, ℕ, ◌<◌, ◌≤◌, List, [], ◌∷◌, ◌++◌, length, Bool, true, false, Option, Some, None, Any}
 use Rattle.std.specs.Prelude.{option_map}
 use Rattle.line_reader.specs.declared.line.Line.{Line}
-use Rattle.line_reader.specs.Lines.{NumberedLine, newline, longest_line, whole_lines, rest_of, lines_from, numbered, count_behind, is_dropped, number_after}
+use Rattle.line_reader.specs.Lines.{NumberedLine, longest_line, whole_lines, rest_of, lines_from, numbered, count_behind, is_dropped}
 
 pub record Reading : Type 0 where
   -- the lines given or skipped

@@ -1,4 +1,4 @@
-use Rattle.std.proofs.Common.{◌≡◌, sym, ◌∙◌, arith}
+use Rattle.std.proofs.Common.{sym, ◌∙◌, arith}
 use Rattle.edge_io.proofs.NamedFiles.{IsRead, is_read, left_of-unnamed}
 use Rattle.edge_io.proofs.files.give_named.Goals as goal
 

@@ -1,7 +1,3 @@
-use Rattle.std.proofs.Common.{◌≡◌, ◌≢◌, ℕ, nat_eq, length, ◌-◌, get_or, true, false, sym, ◌∙◌, ap, arith, Bool, not}
-use Rattle.std.specs.Prelude.{IsTrue}
-use Rattle.std.proofs.lemmas.Bool.{eqb-true}
-use Rattle.line_reader.specs.Lines.{newline, rest_of}
 use Rattle.line_reader.proofs.ReaderFacts.{ends_open_is, ends_closed_is}
 use Rattle.line_reader.proofs.reader.ends_open.Goals as goal
 

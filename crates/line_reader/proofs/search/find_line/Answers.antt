@@ -1,5 +1,4 @@
-use Rattle.std.proofs.Common.{◌≡◌, ◌+◌, ◌-◌, ◌≤◌, ◌<◌, length, take, drop, arith, sym, ◌∙◌, ap, refl}
-use Rattle.line_reader.specs.Search.{HasNoNewline, IsLineAt}
+use Rattle.std.proofs.Common.{◌+◌, ◌≤◌, arith, sym, ◌∙◌}
 use Rattle.line_reader.proofs.LineFacts.{line_at, skips_more, none_through, none_behind, none_between}
 use Rattle.line_reader.proofs.search.find_line.Goals as goal
 

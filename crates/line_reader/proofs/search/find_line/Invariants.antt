@@ -1,4 +1,4 @@
-use Rattle.std.proofs.Common.{◌≡◌, ◌-◌, ◌≤◌, length, drop, take}
+use Rattle.std.proofs.Common.{◌-◌, ◌≤◌, length, drop, take}
 use Rattle.line_reader.specs.Search.{Skips, HasNoNewline}
 use Rattle.line_reader.proofs.search.find_line.Given as goal
 

@@ -1,4 +1,4 @@
-use Rattle.std.proofs.Common.{◌≡◌, refl, sym, ◌∙◌, ap}
+use Rattle.std.proofs.Common.{refl}
 use Rattle.line_reader.proofs.HeldFacts.{held_ended, lines_ended}
 use Rattle.line_reader.proofs.reader.LineReader.end.Goals as goal
 

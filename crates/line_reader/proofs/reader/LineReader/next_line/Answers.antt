@@ -2,7 +2,6 @@ use Rattle.std.proofs.Common.{◌≡◌, ℕ, ◌+◌, ◌-◌, ◌<◌, ◌≤�
 use Rattle.std.proofs.lemmas.List.{length-drop, length-take, drop-drop}
 use Rattle.line_reader.specs.Lines.{number_after}
 use Rattle.line_reader.specs.Reading.{IsTooLong, Reading}
-use Rattle.line_reader.specs.Search.{IsLineAt, HasNoNewline}
 use Rattle.line_reader.proofs.HeldFacts.{held_given, held_none, holds_none}
 use Rattle.line_reader.proofs.ReaderFacts.{gives_line, gives_none, whole_too_long, part_too_long}
 use Rattle.line_reader.proofs.reader.LineReader.next_line.Goals as goal
