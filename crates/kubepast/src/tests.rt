@@ -25,9 +25,13 @@ struct Call<'a> {
 }
 
 fn judging(log: &str) -> Call<'_> {
+    calling(&NAMES, SETUP, log)
+}
+
+fn calling<'a>(words: &'a [&'a str], setup: &'a str, log: &'a str) -> Call<'a> {
     Call {
-        words: &NAMES,
-        setup: SETUP,
+        words,
+        setup,
         log,
         cut: 65_536,
         failing_reads: &[],
@@ -134,18 +138,28 @@ fn verdicts(rt: HostRuntime) -> Result<(), Fail> {
 }
 
 #[test]
-fn refusals(rt: HostRuntime) -> Result<(), Fail> {
+fn refused_lines(rt: HostRuntime) -> Result<(), Fail> {
     let alloc = rt.alloc();
     expect(&rt, alloc, &judging(""), 0, "explained 0\n")?;
     let mut line = create_line(alloc, "a1", "11", 1)?;
     line.push_str("\nx\n")?;
     expect(&rt, alloc, &judging(&line), 9, "unbuilt 3\n")?;
-    let mut words = judging("");
-    words.words = &[];
-    expect(&rt, alloc, &words, 2, "usage\n")?;
-    let mut setup = judging("");
-    setup.setup = "{\"kind\":\"PastSetup\",\"version\":3}";
-    expect(&rt, alloc, &setup, 9, "unbuilt setup\n")
+    Ok(())
+}
+
+#[test]
+fn refused_words_and_setups(rt: HostRuntime) -> Result<(), Fail> {
+    let alloc = rt.alloc();
+    expect(&rt, alloc, &calling(&[], SETUP, ""), 2, "usage\n")?;
+    let other = "{\"kind\":\"PastSetup\",\"version\":3}";
+    expect(
+        &rt,
+        alloc,
+        &calling(&NAMES, other, ""),
+        9,
+        "unbuilt setup\n",
+    )?;
+    Ok(())
 }
 
 #[test]
