@@ -1,5 +1,5 @@
 -- What `escaped` keeps: which bytes it writes, that it is undone, and that it is percent-encoding.
-use Rattle.std.proofs.Common.{◌≡◌, ◌≢◌, ℕ, zero, suc, ◌+◌, ◌*◌, ◌/◌, ◌%◌, ◌<◌, ◌≤◌, Bool, true, false, not, cond, ◌&&◌, ltb, List, [], ◌∷◌, ◌++◌, length, refl, sym, ap, ◌∙◌, inl, inr, ◌⊎◌, ⊎_elim, arith}
+use Rattle.std.proofs.Common.{◌≡◌, ◌≢◌, ℕ, ◌+◌, ◌/◌, ◌%◌, ◌<◌, true, false, not, ltb, List, [], ◌∷◌, ◌++◌, refl, sym, ap, ◌∙◌, inl, inr, arith}
 use Rattle.std.specs.Prelude.{All, IsUtf8}
 use Rattle.std.specs.Fmt.{digit_glyph}
 use Rattle.std.proofs.lemmas.Bool.{cond-true, cond-false, cond_both, agree_below, agree_below_at, and_parts, cases_Bool}
@@ -71,16 +71,16 @@ percent_encode-cons : (b : ℕ) (bs : List ℕ) → b < 256 → percent_encode E
 unfolding percent_encode_byte
 percent_encode-cons b bs small rest =
     elim (cases_Bool (is_plain b)) [
-      inl plain ↦
-        let kept : should_percent_encode ESCAPED b ≡ false = escapes_rest b small ∙ ap not plain in
-        percent_encode_kept ESCAPED b bs kept ∙ ap (λ l. b ∷ l) rest ∙ ap (λ l. l ++ escaped bs) (sym (byte_plain b plain))
-    | inr other ↦
-        let goes : should_percent_encode ESCAPED b ≡ true = escapes_rest b small ∙ ap not other in
-        let high : b / 16 % 16 ≡ b / 16 = omega arith in
-        percent_encode_escaped ESCAPED b bs goes
-        ∙ ap (λ d. 37 ∷ digit_glyph true d ∷ digit_glyph true (b % 16) ∷ percent_encode ESCAPED bs) high
-        ∙ ap (λ l. 37 ∷ digit_glyph true (b / 16) ∷ digit_glyph true (b % 16) ∷ l) rest
-        ∙ ap (λ l. l ++ escaped bs) (sym (byte_other b other))
+      | inl plain ↦
+          let kept : should_percent_encode ESCAPED b ≡ false = escapes_rest b small ∙ ap not plain in
+          percent_encode_kept ESCAPED b bs kept ∙ ap (λ l. b ∷ l) rest ∙ ap (λ l. l ++ escaped bs) (sym (byte_plain b plain))
+      | inr other ↦
+          let goes : should_percent_encode ESCAPED b ≡ true = escapes_rest b small ∙ ap not other in
+          let high : b / 16 % 16 ≡ b / 16 = omega arith in
+          percent_encode_escaped ESCAPED b bs goes
+          ∙ ap (λ d. 37 ∷ digit_glyph true d ∷ digit_glyph true (b % 16) ∷ percent_encode ESCAPED bs) high
+          ∙ ap (λ l. 37 ∷ digit_glyph true (b / 16) ∷ digit_glyph true (b % 16) ∷ l) rest
+          ∙ ap (λ l. l ++ escaped bs) (sym (byte_other b other))
     ]
 
 pub percent_encode-escaped : (bs : List ℕ) → All IsByte bs → percent_encode ESCAPED bs ≡ escaped bs
@@ -104,12 +104,12 @@ plain_no_slash b plain e = let wrong : is_plain 47 ≡ true = rw e at plain in c
 escaped_byte_no_slash : (b : ℕ) → HasNoSlash (escaped_byte b)
 escaped_byte_no_slash b =
     elim (cases_Bool (is_plain b)) [
-      inl plain ↦ rw (byte_plain b plain) (All-cons Other b [] (plain_no_slash b plain) (All-nil Other))
-    | inr other ↦
-        let last : HasNoSlash (digit_glyph true (b % 16) ∷ []) = All-cons Other (digit_glyph true (b % 16)) [] (glyph_no_slash (b % 16)) (All-nil Other) in
-        rw (byte_other b other)
-        (All-cons Other 37 (digit_glyph true (b / 16) ∷ digit_glyph true (b % 16) ∷ []) (omega arith)
-        (All-cons Other (digit_glyph true (b / 16)) (digit_glyph true (b % 16) ∷ []) (glyph_no_slash (b / 16)) last))
+      | inl plain ↦ rw (byte_plain b plain) (All-cons Other b [] (plain_no_slash b plain) (All-nil Other))
+      | inr other ↦
+          let last : HasNoSlash (digit_glyph true (b % 16) ∷ []) = All-cons Other (digit_glyph true (b % 16)) [] (glyph_no_slash (b % 16)) (All-nil Other) in
+          rw (byte_other b other)
+          (All-cons Other 37 (digit_glyph true (b / 16) ∷ digit_glyph true (b % 16) ∷ []) (omega arith)
+          (All-cons Other (digit_glyph true (b / 16)) (digit_glyph true (b % 16) ∷ []) (glyph_no_slash (b / 16)) last))
     ]
 
 pub no_slash-escaped : (bs : List ℕ) → HasNoSlash (escaped bs)
@@ -126,20 +126,20 @@ plain_no_percent b plain e = let wrong : is_plain 37 ≡ true = rw e at plain in
 first_same : (x y : ℕ) (xs ys : List ℕ) → escaped_byte x ++ xs ≡ escaped_byte y ++ ys → (x ≡ y) × (xs ≡ ys)
 first_same x y xs ys same =
     elim (cases_Bool (is_plain x)) [
-      inl px ↦ elim (cases_Bool (is_plain y)) [
-        inl py ↦ let e : x ∷ xs ≡ y ∷ ys = rw (byte_plain x px, byte_plain y py) at same in (cc, cc)
-      | inr oy ↦ let e : x ∷ xs ≡ 37 ∷ digit_glyph true (y / 16) ∷ digit_glyph true (y % 16) ∷ ys = rw (byte_plain x px, byte_other y oy) at same in
-        absurd (plain_no_percent x px (cc))
+      | inl px ↦ elim (cases_Bool (is_plain y)) [
+        | inl py ↦ let e : x ∷ xs ≡ y ∷ ys = rw (byte_plain x px, byte_plain y py) at same in (cc, cc)
+        | inr oy ↦ let e : x ∷ xs ≡ 37 ∷ digit_glyph true (y / 16) ∷ digit_glyph true (y % 16) ∷ ys = rw (byte_plain x px, byte_other y oy) at same in
+            absurd (plain_no_percent x px (cc))
       ]
-    | inr ox ↦ elim (cases_Bool (is_plain y)) [
-        inl py ↦ let e : 37 ∷ digit_glyph true (x / 16) ∷ digit_glyph true (x % 16) ∷ xs ≡ y ∷ ys = rw (byte_other x ox, byte_plain y py) at same in
-        absurd (plain_no_percent y py (cc))
-      | inr oy ↦
-        let e : 37 ∷ digit_glyph true (x / 16) ∷ digit_glyph true (x % 16) ∷ xs ≡ 37 ∷ digit_glyph true (y / 16) ∷ digit_glyph true (y % 16) ∷ ys
+      | inr ox ↦ elim (cases_Bool (is_plain y)) [
+        | inl py ↦ let e : 37 ∷ digit_glyph true (x / 16) ∷ digit_glyph true (x % 16) ∷ xs ≡ y ∷ ys = rw (byte_other x ox, byte_plain y py) at same in
+            absurd (plain_no_percent y py (cc))
+        | inr oy ↦
+            let e : 37 ∷ digit_glyph true (x / 16) ∷ digit_glyph true (x % 16) ∷ xs ≡ 37 ∷ digit_glyph true (y / 16) ∷ digit_glyph true (y % 16) ∷ ys
             = rw (byte_other x ox, byte_other y oy) at same in
-        let high : x / 16 ≡ y / 16 = glyph_injective (x / 16) (y / 16) (cc) in
-        let low : x % 16 ≡ y % 16 = glyph_injective (x % 16) (y % 16) (cc) in
-        (omega arith, cc)
+            let high : x / 16 ≡ y / 16 = glyph_injective (x / 16) (y / 16) (cc) in
+            let low : x % 16 ≡ y % 16 = glyph_injective (x % 16) (y % 16) (cc) in
+            (omega arith, cc)
       ]
     ]
 
@@ -148,8 +148,8 @@ escaped_nonempty [] none = refl
 escaped_nonempty (b ∷ bs) none =
     let e : escaped_byte b ++ escaped bs ≡ [] = sym (escaped-cons b bs) ∙ none in
     elim (cases_Bool (is_plain b)) [
-      inl plain ↦ let wrong : b ∷ escaped bs ≡ [] = rw (byte_plain b plain) at e in cc
-    | inr other ↦ let wrong : 37 ∷ digit_glyph true (b / 16) ∷ digit_glyph true (b % 16) ∷ escaped bs ≡ [] = rw (byte_other b other) at e in cc
+      | inl plain ↦ let wrong : b ∷ escaped bs ≡ [] = rw (byte_plain b plain) at e in cc
+      | inr other ↦ let wrong : 37 ∷ digit_glyph true (b / 16) ∷ digit_glyph true (b % 16) ∷ escaped bs ≡ [] = rw (byte_other b other) at e in cc
     ]
 
 pub escaped_injective : (xs ys : List ℕ) → escaped xs ≡ escaped ys → xs ≡ ys

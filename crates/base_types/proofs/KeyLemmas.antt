@@ -1,9 +1,8 @@
 -- A key's text is cut at its first three slashes in one way.
-use Rattle.std.proofs.Common.{◌≡◌, ◌≢◌, ℕ, ◌<◌, List, [], ◌∷◌, ◌++◌, length, get_or, refl, sym, ap, ◌∙◌, arith}
-use Rattle.std.specs.Prelude.{All, map, Option, Some, None, IfSome, IfNone}
+use Rattle.std.proofs.Common.{◌≡◌, ◌≢◌, ℕ, ◌<◌, List, [], ◌∷◌, ◌++◌, length, refl, sym, ap, ◌∙◌, arith}
+use Rattle.std.specs.Prelude.{Option, Some, None, IfSome, IfNone}
 use Rattle.std.specs.Borrow.{Bor}
 use Rattle.std.proofs.lemmas.Str.Pattern.{IsSplitOnceResult, split_parts}
-use Rattle.std.specs.List.{join_with_byte}
 use Rattle.std.proofs.lemmas.List.Elements.{All-head, All-tail, All-from_get_or}
 use Rattle.base_types.specs.declared.key.ObjectKey.{ObjectKey}
 use Rattle.base_types.specs.Escapes.{escaped}
@@ -58,9 +57,11 @@ no_key_2 word g rest r more is next none key e =
 
 pub joined_from_cuts : (word g rest r more s n : List ℕ) → IsCut word g rest → IsCut rest r more → IsCut more s n → IsJoined word g r s n
 joined_from_cuts word g rest r more s n first second third = record {
-    joined = first.joined ∙ ap (λ l. g ++ (47 ∷ l)) (second.joined ∙ ap (λ l. r ++ (47 ∷ l)) third.joined);
-    first_whole = first.whole; second_whole = second.whole; third_whole = third.whole
-  }
+  joined = first.joined ∙ ap (λ l. g ++ (47 ∷ l)) (second.joined ∙ ap (λ l. r ++ (47 ∷ l)) third.joined);
+  first_whole = first.whole;
+  second_whole = second.whole;
+  third_whole = third.whole;
+}
 
 pub none_anyway : {X : Type 0} (r : Option X) (P : Type 0) → P → IfNone r P
 none_anyway None P p = p

@@ -1,3 +1,7 @@
 pub mod EscapeLemmas
+pub mod Integers
 pub mod KeyLemmas
+pub mod MatchingLemmas
+pub mod Lending
+pub mod Quantifiers
 pub mod RevisionTexts

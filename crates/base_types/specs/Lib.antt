@@ -2,6 +2,7 @@ pub mod Choices
 pub mod Covers
 pub mod Escapes
 pub mod Keys
+pub mod Matching
 pub mod Placements
 pub mod Reasons
 pub mod Revisions

@@ -1,4 +1,4 @@
-use Rattle.std.specs.Prelude.{◌≡◌, ℕ, ◌+◌, ◌≤◌, ◌⊎◌, List, Option, Some, None, IfSome, All, slice_get, take}
+use Rattle.std.specs.Prelude.{◌≡◌, ℕ, ◌+◌, ◌≤◌, ◌⊎◌, List, Some, None, IfSome, All, slice_get, take}
 use Rattle.std.specs.List.{AllZip}
 use Rattle.base_types.specs.declared.claim.Claim.{Claim}
 use Rattle.base_types.specs.declared.claim.Range.{Range}

@@ -9,7 +9,14 @@ use percent_encoding::{
 use std::alloc::Global;
 
 /// What a printed word escapes of ASCII: all but letters, digits, `-`, `.`, `_`, `~` and `:`.
-const ESCAPED: AsciiSet = ascii_set!(NON_ALPHANUMERIC.remove(b'-').remove(b'.').remove(b'_').remove(b'~').remove(b':'));
+const ESCAPED: AsciiSet = ascii_set!(
+    NON_ALPHANUMERIC
+        .remove(b'-')
+        .remove(b'.')
+        .remove(b'_')
+        .remove(b'~')
+        .remove(b':')
+);
 
 /// The text as one word of a printed line: letters, digits, `-`, `.`, `_`, `~` and `:` stay, and each
 /// other byte of its UTF-8 becomes `%` and two upper-case hexadecimal digits.

@@ -163,3 +163,6 @@ pub fn exact_key(alloc: Global, cover: &Cover) -> Result<Option<ObjectKey>, OutO
         name: name.clone()?,
     }))
 }
+
+#[cfg(test)]
+mod tests;

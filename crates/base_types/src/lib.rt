@@ -5,6 +5,7 @@ mod claim;
 mod escaping;
 mod key;
 mod listed;
+mod matching;
 mod memory;
 mod placed;
 mod request;
@@ -15,6 +16,7 @@ pub use claim::{Bound, Bounds, Claim, Claims, Range, Reason};
 pub use escaping::escape;
 pub use key::{Cover, CoverName, ObjectKey, covers, exact_key, key_text, read_key};
 pub use listed::Listed;
+pub use matching::{has_text, is_combined, path_matches};
 pub use memory::OutOfMemory;
 pub use placed::{
     Outcome, PlacedAnswer, PlacedDecision, PlacedLine, Placement, Places, WriteLine, WriteLines,

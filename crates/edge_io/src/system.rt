@@ -138,3 +138,37 @@ impl<'a, R: Print> Sink for StdSink<'a, R> {
         }
     }
 }
+
+#[cfg(test)]
+mod tests {
+    use super::*;
+    use std::env;
+    use std::test::Fail;
+
+    #[test]
+    fn reads_a_file_and_counts_faults(rt: HostRuntime) -> Result<(), Fail> {
+        let alloc = rt.alloc();
+        let folder = env::temp_dir(&rt)?;
+        let path = format!(in alloc; "{}/kubepast-edge-io-test", folder.as_path().display())?;
+        fs::write(&rt, path.as_str(), "told")?;
+        let mut names = Vec::new(alloc);
+        names.push(path.clone()?)?;
+        let mut desk = FileDesk::new(alloc, &rt, &names)?;
+        let mut into = [0u8; 8];
+        assert_eq!(rt; desk.read(&path, &mut into), Ok(4));
+        assert_eq!(rt; &into[..4], b"told".as_slice());
+        assert_eq!(rt; desk.read(&path, &mut into), Ok(0));
+        assert_eq!(rt; desk.read("another", &mut into), Err(DeskFailed));
+        assert_eq!(rt; desk.faults, 1);
+        fs::remove_file(&rt, path.as_str())?;
+        Ok(())
+    }
+
+    #[test]
+    fn writes_standard_output(rt: HostRuntime) -> Result<(), Fail> {
+        let mut sink = StdSink::new(&rt);
+        assert_eq!(rt; sink.write(b"kubepast\n"), Ok(9));
+        assert_eq!(rt; sink.faults, 0);
+        Ok(())
+    }
+}

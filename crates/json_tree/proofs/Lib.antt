@@ -1,4 +1,8 @@
+pub mod Escapes
+pub mod Indices
 pub mod Lists
 pub mod Ordered
+pub mod Placing
+pub mod Printing
 pub mod Reading
 pub mod Removing

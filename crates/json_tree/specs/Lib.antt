@@ -1,9 +1,13 @@
 pub mod Code
+pub mod Edits
 pub mod Meaning
 pub mod Names
 pub mod Node
 pub mod Parts
+pub mod Pointers
+pub mod Same
 pub mod Search
 pub mod Size
 pub mod Stored
+pub mod Texts
 pub mod Values

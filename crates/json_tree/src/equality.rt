@@ -54,3 +54,22 @@ fn equal_member(a: &Member, b: &Member) -> bool
 {
     a.name == b.name && equal(&a.value, &b.value)
 }
+
+impl PartialEq for Tree {
+    ghost use Rattle.json_tree.specs.Same.{same, same-equiv};
+    ghost use Rattle.std.specs.Cmp.{partial_equiv_from_equiv};
+
+    ghost eq = { same };
+
+    ghost laws = { partial_equiv_from_equiv same-equiv };
+
+    fn eq(&self, other: &Tree) -> bool {
+        equal(self, other)
+    }
+}
+
+impl Eq for Tree {
+    ghost use Rattle.json_tree.specs.Same.{same-equiv};
+
+    ghost laws = { same-equiv };
+}

@@ -3,6 +3,7 @@ ghost use Rattle.std.specs.Ordering.{nat_cmp};
 ghost use Rattle.std.specs.Cmp.Lexicographic.{slice_cmp};
 ghost use Rattle.json_tree.specs.Meaning.{fields_of};
 ghost use Rattle.json_tree.specs.Parts.{lookup};
+ghost use Rattle.json_tree.specs.Names.{AreSorted};
 ghost use Rattle.json_tree.specs.Search.{IsNamedAt, IsPlaceFor};
 
 use crate::tree::{Member, MemberList, Tree};
@@ -13,6 +14,7 @@ impl MemberList {
     pub fn find(&self, name: &str) -> Result<usize, usize>
         ensures found { IfOk result (IsNamedAt name.now self.now) }
         ensures place { IfErr result (IsPlaceFor name.now self.now) }
+        ensures sorted { AreSorted self.now }
     {
         self.all.binary_search_by(
             |member: &Member| -> Ordering

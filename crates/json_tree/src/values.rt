@@ -1,10 +1,11 @@
 ghost use Rattle.std.specs.Prelude.{◌≡◌, Some, None, Err, IfOk};
 ghost use Rattle.serde_json.specs.View.{view, number_view, items_view, members_view};
+ghost use Rattle.serde_json.specs.Find.{of_integer};
 ghost use Rattle.json_tree.specs.Meaning.{whole, kids_of, fields_of};
-ghost use Rattle.json_tree.specs.Values.{of_number, of_data, of_items, of_members, IsInteger, InRange, KidsInRange, FieldsInRange};
+ghost use Rattle.json_tree.specs.Values.{of_number, of_data, of_items, of_members, IsInteger, InRange, KidsInRange, FieldsInRange, data_of, data_items, data_members};
 
 use crate::tree::{Member, MemberList, Node, Tree, TreeFault, Trees};
-use base_types::Text;
+use base_types::{OutOfMemory, Text};
 use serde_json::{Map, Number, Value};
 use std::alloc::Global;
 
@@ -65,4 +66,64 @@ fn from_members(alloc: Global, map: &Map<String, Value>) -> Result<MemberList, T
         all.push(Member { name, value })?;
     }
     Ok(MemberList { all })
+}
+
+/// The JSON value of a tree.
+pub fn to_value(alloc: Global, tree: &Tree) -> Result<Value, OutOfMemory>
+    requires { InRange tree.now }
+    ensures value { IfOk result (λ v. view v ≡ data_of tree.now) }
+    ensures reads_back { IfOk result (λ v. of_data (view v) ≡ Some tree.now) }
+{
+    value_of(alloc, tree)
+}
+
+#[cycle(value_of)]
+fn value_of(alloc: Global, tree: &Tree) -> Result<Value, OutOfMemory>
+    requires { InRange tree.now }
+    ensures { IfOk result (λ v. view v ≡ data_of tree.now) }
+{
+    match &tree.node {
+        Node::Null => Ok(Value::Null),
+        Node::Flag(flag) => Ok(Value::Bool(*flag)),
+        Node::Whole(number) => Ok(Value::Number(to_number(*number))),
+        Node::Words(text) => Ok(Value::String(String::from_str(alloc, text.as_str())?)),
+        Node::Items(list) => Ok(Value::Array(to_items(alloc, list)?)),
+        Node::Members(list) => Ok(Value::Object(to_members(alloc, list)?)),
+    }
+}
+
+fn to_number(number: i128) -> Number
+    requires { IsInteger number }
+    ensures { number_view result ≡ of_integer number }
+{
+    match Number::from_i128(number) {
+        Some(number) => number,
+        None => unreachable!(),
+    }
+}
+
+#[cycle(value_of)]
+fn to_items(alloc: Global, list: &Trees) -> Result<Vec<Value>, OutOfMemory>
+    requires { KidsInRange (kids_of list.now) }
+    ensures { IfOk result (λ made. items_view made.items ≡ data_items (kids_of list.now)) }
+{
+    let mut all = Vec::with_capacity(alloc, list.all.len())?;
+    for item in &list.all {
+        all.push(value_of(alloc, item)?)?;
+    }
+    Ok(all)
+}
+
+#[cycle(value_of)]
+fn to_members(alloc: Global, list: &MemberList) -> Result<Map<String, Value>, OutOfMemory>
+    requires { FieldsInRange (fields_of list.now) }
+    ensures { IfOk result (λ made. members_view made.entries ≡ data_members (fields_of list.now)) }
+{
+    let mut map = Map::new(alloc);
+    for member in &list.all {
+        let name = String::from_str(alloc, member.name.as_str())?;
+        let value = value_of(alloc, &member.value)?;
+        map.insert(name, value)?;
+    }
+    Ok(map)
 }

@@ -1,5 +1,5 @@
 -- Answers to all places of a list, in order, are the list.
-use Rattle.std.proofs.Common.{◌≡◌, ℕ, suc, ◌+◌, ◌<◌, List, [], ◌∷◌, length, get_or, map, Ok, Some, IfOk, slice_get, refl, sym, ap, ◌∙◌, subst, arith}
+use Rattle.std.proofs.Common.{◌≡◌, ℕ, suc, ◌+◌, ◌<◌, List, [], ◌∷◌, length, get_or, map, Ok, Some, IfOk, slice_get, refl, sym, ap, ◌∙◌, arith}
 use Rattle.std.specs.List.{AllZip, range_with_len}
 use Rattle.std.proofs.lemmas.Option.{slice_get-get_or, same_Some}
 use Rattle.std.specs.declared.result.Result.{Result}
@@ -19,7 +19,7 @@ module _ {X : Type 0} (E : Type 0) where
       let first : slice_get xs a ≡ Some x = (let here : a ≡ a + 0 = omega arith in ap (slice_get xs) here ∙ stands 0 x (omega arith)) in
       let same : y ≡ x = same_Some y x (sym each.0 ∙ first) in
       let next = λ (k : ℕ) (d : X) (below : k < length rest).
-        let step : a + 1 + k ≡ a + suc k = omega arith in ap (slice_get xs) step ∙ stands (suc k) d (omega arith) in
+      let step : a + 1 + k ≡ a + suc k = omega arith in ap (slice_get xs) step ∙ stands (suc k) d (omega arith) in
       ap (λ z. z ∷ ys) same ∙ ap (λ zs. x ∷ zs) (gathered_from xs (a + 1) rest ys next each.1)
 
   pub gathered : (xs ys : List X) → AllZip (AnswersPlace {E = E} xs) (range_with_len 0 (length xs)) (map Ok ys) → ys ≡ xs

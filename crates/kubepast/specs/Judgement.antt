@@ -1,5 +1,5 @@
 -- When a log of creates and gets can be true, and what is said of it.
-use Rattle.std.specs.Prelude.{◌≡◌, ◌⊎◌, ℕ, ℤ, ◌+◌, ◌<◌, ◌≤◌, List, [], ◌∷◌, length, take, slice_get, Contains, All, AllPairs, IsPermutation, Option, Some, None, bytes_eq, ◌++◌, codes}
+use Rattle.std.specs.Prelude.{◌≡◌, ◌⊎◌, ℕ, ◌+◌, ◌<◌, ◌≤◌, List, take, slice_get, Contains, All, AllPairs, IsPermutation, Some, None, Bool, ◌&&◌, nat_le, ◌++◌, codes}
 use Rattle.std.specs.Prelude.{◌<ℤ◌}
 use Rattle.std.specs.List.{AllZip}
 use Rattle.base_types.specs.declared.claim.Reason.{Reason}
@@ -14,7 +14,10 @@ use Rattle.base_types.specs.declared.placed.Outcome.TheVariants.{Explained, Unex
 use Rattle.kubepast.specs.declared.event.Event.{Event}
 use Rattle.kubepast.specs.declared.event.Verb.{Verb}
 use Rattle.kubepast.specs.declared.event.Verb.TheVariants.{Create, Get}
-use Rattle.kubepast.specs.Windows.{lowest, highest}
+use Rattle.kubepast.specs.Windows.{lowest, highest, is_create}
+
+abbrev pub IsCreateOf : List ℕ → Event → Type 0
+IsCreateOf name event = (event.verb ≡ Create) × (event.name ≡ name)
 
 -- State: the version of a name that is the latest at or below a place
 pub record IsLatest (events : List Event) (name : List ℕ) (place : ℕ) (version : Event) : Type 0 where
@@ -34,14 +37,16 @@ pub record IsMadeAt (events : List Event) (event : Event) (place : ℕ) : Type 0
   pub above : lowest events event.received.0 < place
   pub below : place ≤ highest events event.staged.0
 
+-- the object that an event answers is this version
+abbrev pub Shows : Event → Event → Type 0
+Shows event version = (version.revision ≡ event.revision) × (version.uid ≡ event.uid) × (version.tree ≡ event.tree)
+
 -- a get is right where the object it shows is the latest version of its name
 pub record IsFoundAt (events : List Event) (event : Event) (place : ℕ) : Type 0 where
   pub window : InWindow events event place
   pub version : Event
   pub latest : IsLatest events event.name place version
-  pub revision : version.revision ≡ event.revision
-  pub uid : version.uid ≡ event.uid
-  pub tree : version.tree ≡ event.tree
+  pub shown : Shows event version
 
 abbrev pub IsRightAs : Verb → List Event → Event → ℕ → Type 0
 IsRightAs Create events event place = IsMadeAt events event place
@@ -50,6 +55,10 @@ IsRightAs Get events event place = IsFoundAt events event place
 -- Right
 abbrev pub IsRight : List Event → Event → ℕ → Type 0
 IsRight events event place = IsRightAs event.verb events event place
+
+-- the answer is right somewhere
+abbrev pub HasPlace : List Event → Event → Type 0
+HasPlace events event = (place : ℕ) × IsRight events event place
 
 pub record IsLeastPlace (events : List Event) (event : Event) (place : ℕ) : Type 0 where
   pub right : IsRight events event place
@@ -107,6 +116,10 @@ write_of event = write.Made event.revision event.line (key_spelling event.name)
 abbrev pub write_revision : WriteLine → ℕ
 write_revision (write.Made revision line key) = revision
 write_revision (write.Removed low high line key) = low
+
+-- a create whose revision lies in the window
+abbrev pub is_write_within : ℕ → ℕ → Event → Bool
+is_write_within low high event = is_create event.verb && nat_le low event.revision && nat_le event.revision high
 
 -- the creates whose revision lies in the window, by revision
 pub record AreWritesOf (events : List Event) (low high : ℕ) (writes : List WriteLine) : Type 0 where

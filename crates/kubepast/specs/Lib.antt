@@ -1,2 +1,10 @@
+pub mod Command
+pub mod Endings
+pub mod FirstForm
 pub mod Judgement
+pub mod Log
+pub mod Setup
 pub mod Windows
+pub mod Program
+pub mod Reading
+pub mod Statuses

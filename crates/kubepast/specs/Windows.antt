@@ -13,12 +13,19 @@ abbrev pub is_create : Verb → Bool
 is_create Create = true
 is_create Get = false
 
+-- a create that had ended before a moment, and one that began after it
+abbrev pub is_ended_before : Event → ℤ → Bool
+is_ended_before event at = is_create event.verb && int_lt event.staged.0 at
+
+abbrev pub is_begun_after : Event → ℤ → Bool
+is_begun_after event at = is_create event.verb && int_lt at event.received.0
+
 -- the greatest revision whose create had ended before a moment, or the start
 abbrev pub lowest : List Event → ℤ → ℕ
 lowest [] at = start_revision
-lowest (event ∷ events) at = if is_create event.verb && int_lt event.staged.0 at then max event.revision (lowest events at) else lowest events at
+lowest (event ∷ events) at = if is_ended_before event at then max event.revision (lowest events at) else lowest events at
 
 -- one less than the least revision whose create began after a moment, or the greatest place
 abbrev pub highest : List Event → ℤ → ℕ
 highest [] at = 2 ^ 64 - 1
-highest (event ∷ events) at = if is_create event.verb && int_lt at event.received.0 then min (event.revision - 1) (highest events at) else highest events at
+highest (event ∷ events) at = if is_begun_after event at then min (event.revision - 1) (highest events at) else highest events at

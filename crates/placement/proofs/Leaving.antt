@@ -2,7 +2,6 @@
 use Rattle.std.proofs.Common.{◌≡◌, ℕ, ◌+◌, ◌<◌, ◌≤◌, ⊎_elim, inl, inr, ◌↔◌, List, [], ◌∷◌, length, get_or, map, take, drop, ◌++◌, Bool, true, false, All, None, IfSome, slice_get, arith, subst, sym, refl}
 use Rattle.std.specs.List.{AllZip, range_with_len}
 use Rattle.std.specs.List.Sorted.{IsPermutation}
-use Rattle.std.proofs.lemmas.Grind.{common_steps}
 use Rattle.std.proofs.lemmas.List.{take_all}
 use Rattle.std.proofs.lemmas.List.Elements.{All-more}
 use Rattle.std.proofs.lemmas.Option.{slice_get-get_or}
@@ -13,7 +12,7 @@ use Rattle.base_types.specs.Choices.{IsChoice, MeetsAll}
 use Rattle.base_types.specs.Settlement.{MeetsBounds, ExplainsAll, IsLeastChoice, LeavesNoChoice, HasLeastCode, BreaksFirst}
 use Rattle.placement.specs.Room.{Narrows}
 use Rattle.placement.proofs.Explaining.{IfSome-at, at-IfSome, ExplainsAll-from_order, Explains-from_all}
-use Rattle.placement.proofs.Narrowing.{All-fewer, All-last}
+use Rattle.base_types.proofs.Quantifiers.{All-fewer, All-last}
 
 -- none of these events fails, and the choices of what is left are those that meet their bounds
 pub record LeavesExactly (ranges left : List Range) (claims : List Claim) (events : List ℕ) : Type 0 where
@@ -144,7 +143,3 @@ pub none_from_breaks : (ranges : List Range) (claims : List Claim) (order : List
     → ExplainsAll ranges claims choice → ⊥
 none_from_breaks ranges claims order event reason choice breaks explains =
     breaks.breaks choice (Explains-from_all ranges claims (take (breaks.before + 1) order) choice explains)
-
--- a list that was lent whole holds what was written
-pub written : {X : Type 0} (n : ℕ) (new old : List X) → length old ≡ n → length new ≡ n → take n (new ++ drop (length new) old) ≡ new
-written n new old long same = grind (arith, common_steps)

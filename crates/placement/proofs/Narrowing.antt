@@ -2,22 +2,11 @@
 use Rattle.std.proofs.Common.{◌≡◌, ℕ, zero, suc, ◌+◌, ◌<◌, ◌≤◌, List, [], ◌∷◌, length, get_or, set, take, All, min, max, arith, subst, sym, ◌∙◌}
 use Rattle.std.proofs.lemmas.List.{get_or-take, length-take}
 use Rattle.std.proofs.lemmas.List.Elements.{All-more, All-take}
+use Rattle.base_types.proofs.Quantifiers.{All-fewer, All-last}
 use Rattle.base_types.specs.declared.claim.Bound.{Bound}
 use Rattle.base_types.specs.declared.claim.Range.{Range}
 use Rattle.base_types.specs.Choices.{IsChoice, Meets, MeetsAll}
 use Rattle.placement.specs.Room.{Narrows}
-
--- what holds of the first elements and of the next one, and only of them, holds up to it
-pub All-fewer : {X : Type 0} (P : X → Type 0) (xs : List X) (i : ℕ) → i < length xs → All P (take (i + 1) xs) → All P (take i xs)
-All-fewer P xs i within all = λ k d below.
-    let before : k < i = omega (arith, length-take i xs) in
-    let among : k < length (take (i + 1) xs) = omega (arith, length-take (i + 1) xs) in
-    subst P (get_or-take (i + 1) xs k d (omega arith) ∙ sym (get_or-take i xs k d before)) (all k d among)
-
-pub All-last : {X : Type 0} (P : X → Type 0) (xs : List X) (i : ℕ) (d : X) → i < length xs → All P (take (i + 1) xs) → P (get_or xs i d)
-All-last P xs i d within all =
-    let among : i < length (take (i + 1) xs) = omega (arith, length-take (i + 1) xs) in
-    subst P (get_or-take (i + 1) xs i d (omega arith)) (all i d among)
 
 -- a range that is cut at both sides has the places that it had, within the cuts
 pub record IsCut (old new : Range) (low high : ℕ) : Type 0 where

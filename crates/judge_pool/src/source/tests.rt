@@ -5,6 +5,7 @@ use std::sync::atomic::{AtomicBool, Ordering};
 use std::test::Fail;
 
 const EVENTS: u32 = 8_192;
+
 const TURNS: u32 = 10_000_000;
 
 /// Claims that ask nothing.

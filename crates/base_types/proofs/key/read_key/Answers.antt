@@ -1,6 +1,5 @@
-use Rattle.std.proofs.Common.{◌≡◌, ◌<◌, length, sym, ap, ◌∙◌, arith, rules}
+use Rattle.std.proofs.Common.{◌<◌, length, sym, ◌∙◌, arith}
 use Rattle.std.proofs.lemmas.Grind.{common_steps}
-use Rattle.base_types.specs.Keys.{key_spelling, IsJoined, IsNamed}
 use Rattle.base_types.proofs.KeyLemmas.{same_parts, spelled_by, word_some, part_some, key_spelling_injective}
 use Rattle.base_types.proofs.key.read_key.Goals as goal
 use Rattle.base_types.proofs.key.read_key.Goals.{then-is_empty-via-then-is_empty, then-is_empty-via-else-is_empty+then-is_empty-2}
@@ -11,8 +10,8 @@ returns-then-is_empty-clause-none c = λ key is e.
     let resource = word_some _ _ same.resource is.has_resource in
     let name = word_some _ _ same.name is.has_name in
     elim c.then-is_empty.branch [
-      then-is_empty-via-then-is_empty w ↦ grind (arith, common_steps)
-    | then-is_empty-via-else-is_empty+then-is_empty-2 w ↦ grind (arith, common_steps)
+      | then-is_empty-via-then-is_empty w ↦ grind (arith, common_steps)
+      | then-is_empty-via-else-is_empty+then-is_empty-2 w ↦ grind (arith, common_steps)
     ]
 
 pub returns-in_default-2-clause-none : goal.returns-in_default-2-clause-none
@@ -45,7 +44,7 @@ returns-clause-named c =
       namespace = rw c.in-Some-4.is at c.in_ok-namespace.ensures.utf8;
       name = rw c.in-Some-5.is at c.in_ok-name.ensures.utf8;
       has_resource = part_some _ _ (rw c.in-Some-3.is at c.in_ok-resource.ensures.some) resource_some;
-      has_name = part_some _ _ (rw c.in-Some-5.is at c.in_ok-name.ensures.some) name_some
+      has_name = part_some _ _ (rw c.in-Some-5.is at c.in_ok-name.ensures.some) name_some;
     }
 
 pub returns-clause-alone : goal.returns-clause-alone
@@ -54,6 +53,6 @@ returns-clause-alone c = λ other e.
       group = rw c.in-Some-2.is at c.in_ok-group.ensures.some;
       resource = rw c.in-Some-3.is at c.in_ok-resource.ensures.some;
       namespace = rw c.in-Some-4.is at c.in_ok-namespace.ensures.some;
-      name = rw c.in-Some-5.is at c.in_ok-name.ensures.some
+      name = rw c.in-Some-5.is at c.in_ok-name.ensures.some;
     }) in
     key_spelling_injective other _ (sym e ∙ spelled)

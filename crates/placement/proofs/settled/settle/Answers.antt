@@ -1,7 +1,8 @@
 use Rattle.std.proofs.Common.{◌≡◌, ◌<◌, length, get_or, arith, All, refl}
 use Rattle.base_types.specs.declared.claim.Bound.{Bound}
+use Rattle.base_types.proofs.Lending.{written}
 use Rattle.placement.proofs.Explaining.{below_all}
-use Rattle.placement.proofs.Leaving.{IsNext, BreaksFirst-here, IsLeastChoice-at_end, LeavesExactly-more, none_from_breaks, written}
+use Rattle.placement.proofs.Leaving.{IsNext, BreaksFirst-here, IsLeastChoice-at_end, LeavesExactly-more, none_from_breaks}
 use Rattle.placement.proofs.settled.settle.Goals as goal
 
 pub bounds-claims-event : goal.bounds-claims-event

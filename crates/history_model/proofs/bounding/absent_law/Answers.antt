@@ -1,0 +1,5 @@
+use Rattle.history_model.proofs.Classes.{saw_none_is}
+use Rattle.history_model.proofs.bounding.absent_law.Goals as goal
+
+pub returns : goal.returns
+returns c = λ h choice number event key r chosen. saw_none_is h choice r chosen number event key

@@ -1,0 +1,56 @@
+-- A change under the last token of a target location, and what it does to the size of a document.
+use Rattle.std.specs.Prelude.{◌≡◌, ℕ, ◌+◌, ◌≤◌, max, List, Option, Some, None, IsSome, Result, Err}
+use Rattle.json_tree.specs.Meaning.{Meaning}
+use Rattle.json_patch.specs.declared.edit.Edit.{Edit}
+use Rattle.json_patch.specs.declared.edit.Edit.TheVariants.{Add, Remove, Replace}
+use Rattle.json_patch.specs.declared.fault.ApplyCause.{ApplyCause}
+use Rattle.json_patch.specs.declared.fault.ApplyCause.TheVariants.{NoValue, NoParent}
+use Rattle.json_patch.specs.declared.edit.Refusal.{Refusal}
+use Rattle.json_patch.specs.declared.edit.Refusal.TheVariants.{Cause, OutOfMemory}
+use Rattle.json_patch.specs.Effects.{at_parent, added_in, removed_in, replaced_in}
+use Rattle.json_patch.specs.Limits.{depth, values}
+
+abbrev pub change_of : Edit → List ℕ → Meaning → Result Meaning ApplyCause
+change_of (Add v) = added_in v
+change_of Remove = removed_in
+change_of (Replace v) = replaced_in v
+
+-- the cause where the parent isn't there
+abbrev pub missing_of : Edit → ApplyCause
+missing_of (Add v) = NoParent
+missing_of Remove = NoValue
+missing_of (Replace v) = NoValue
+
+abbrev pub edited : List ℕ → List (List ℕ) → Edit → Meaning → Result Meaning ApplyCause
+edited first rest edit t = at_parent first rest (missing_of edit) (change_of edit) t
+
+-- the cause is the one that the definition gives
+abbrev pub RefusedBy : Result Meaning ApplyCause → Refusal → Type 0
+RefusedBy made (Cause cause) = made ≡ Err cause
+RefusedBy made OutOfMemory = Unit {0}
+
+-- a value that was removed is the one that was there
+abbrev pub IsTaken : Edit → Option Meaning → Option Meaning → Type 0
+IsTaken (Add v) left there = Unit {0}
+IsTaken Remove left there = (left ≡ there) × IsSome left
+IsTaken (Replace v) left there = Unit {0}
+
+-- how many values come, and how many leave
+abbrev pub came_of : Edit → ℕ
+came_of (Add v) = values v
+came_of Remove = 0
+came_of (Replace v) = values v
+
+abbrev pub went_of : Option Meaning → ℕ
+went_of None = 0
+went_of (Some v) = values v
+
+-- a value that comes below so many containers is as deep as the document, unless something else is deeper
+abbrev pub IsAsDeep : Edit → ℕ → Meaning → Meaning → Type 0
+IsAsDeep (Add v) level old new = (level + depth v ≤ depth new) × (depth new ≤ max (depth old) (level + depth v))
+IsAsDeep Remove level old new = depth new ≤ depth old
+IsAsDeep (Replace v) level old new = (level + depth v ≤ depth new) × (depth new ≤ max (depth old) (level + depth v))
+
+pub record IsEdited (edit : Edit) (level : ℕ) (old new : Meaning) (left : Option Meaning) : Type 0 where
+  pub counted : values new + went_of left ≡ values old + came_of edit
+  pub deep : IsAsDeep edit level old new

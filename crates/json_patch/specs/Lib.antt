@@ -1,0 +1,5 @@
+pub mod Edits
+pub mod Effects
+pub mod Limits
+pub mod Patches
+pub mod Targets

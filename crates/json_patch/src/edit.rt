@@ -1,0 +1,217 @@
+ghost use Rattle.std.specs.Prelude.{◌≡◌, ◌+◌, ◌<◌, ℕ, Ok, IfOk, IfErr, length, ◌∷◌};
+ghost use Rattle.json_tree.specs.Meaning.{items, members, kids_of, fields_of};
+ghost use Rattle.json_tree.specs.Pointers.{child_of, pointed};
+ghost use Rattle.json_patch.specs.Edits.{change_of, missing_of, edited, RefusedBy, IsTaken, IsEdited};
+ghost use Rattle.json_patch.specs.Effects.{place_of};
+
+use crate::fault::ApplyCause;
+use base_types::{OutOfMemory, Text};
+use json_tree::{MemberList, Node, Tree, Trees, read_index};
+use std::alloc::{AllocFailed, Global};
+use std::mem;
+
+/// What changes under the last token of a target location.
+#[derive(Debug, Drop)]
+pub enum Edit {
+    Add(Tree),
+    Remove,
+    Replace(Tree),
+}
+
+/// Why an edit isn't made. The document may then be part of what it was, and is given up.
+#[derive(Clone, Copy, Debug, PartialEq, Eq)]
+pub enum Refusal {
+    Cause(ApplyCause),
+    OutOfMemory,
+}
+
+impl From<OutOfMemory> for Refusal {
+    ghost use Rattle.json_patch.specs.declared.edit.Refusal.TheVariants.{OutOfMemory as Refused};
+    ghost use Rattle.std.specs.Prelude.{◌≡◌};
+
+    ghost from_gives = { λ _ refusal. refusal ≡ Refused };
+
+    fn from(_: OutOfMemory) -> Refusal {
+        Refusal::OutOfMemory
+    }
+}
+
+impl<T: Drop> From<AllocFailed<T>> for Refusal {
+    ghost use Rattle.json_patch.specs.declared.edit.Refusal.TheVariants.{OutOfMemory};
+    ghost use Rattle.std.specs.Prelude.{◌≡◌};
+
+    ghost from_gives = { λ _ refusal. refusal ≡ OutOfMemory };
+
+    fn from(_: AllocFailed<T>) -> Refusal {
+        Refusal::OutOfMemory
+    }
+}
+
+impl Edit {
+    ghost use Rattle.json_patch.specs.Edits.{missing_of};
+
+    // The cause where the parent of the target location isn't there.
+    fn missing(&self) -> ApplyCause
+        ensures { result ≡ missing_of self.now }
+    {
+        match self {
+            Edit::Add(_) => ApplyCause::NoParent,
+            Edit::Remove | Edit::Replace(_) => ApplyCause::NoValue,
+        }
+    }
+}
+
+/// Makes an edit at the target location of these tokens, and answers the value that left the document.
+#[cycle(edit_at)]
+pub fn edit_at(
+    alloc: Global,
+    tree: &mut Tree,
+    first: &Text,
+    rest: &[Text],
+    edit: Edit,
+) -> Result<Option<Tree>, Refusal>
+    ensures done { IfOk result (λ _. edited first.now rest.now edit tree.old ≡ Ok tree.new) }
+    ensures taken { IfOk result (λ left. IsTaken edit left (pointed (first.now ∷ rest.now) tree.old)) }
+    ensures size { IfOk result (IsEdited edit (1 + length rest.now) tree.old tree.new) }
+    ensures refused { IfErr result (RefusedBy (edited first.now rest.now edit tree.old)) }
+{
+    match rest {
+        [] => edit_in(alloc, tree, first.as_str(), edit),
+        [next, after @ ..] => match &mut tree.node {
+            Node::Items(list) => edit_below_items(alloc, list, first, next, after, edit),
+            Node::Members(list) => edit_below_members(alloc, list, first, next, after, edit),
+            _ => Err(Refusal::Cause(edit.missing())),
+        },
+    }
+}
+
+// The same where the parent of the target location is below an item of an array.
+#[cycle(edit_at)]
+fn edit_below_items(
+    alloc: Global,
+    list: &mut Trees,
+    first: &Text,
+    next: &Text,
+    after: &[Text],
+    edit: Edit,
+) -> Result<Option<Tree>, Refusal>
+    ensures done { IfOk result
+        (λ _. edited first.now (next.now ∷ after.now) edit (items (kids_of list.old)) ≡ Ok (items (kids_of list.new))) }
+    ensures taken { IfOk result
+        (λ left. IsTaken edit left (pointed (first.now ∷ next.now ∷ after.now) (items (kids_of list.old)))) }
+    ensures size { IfOk result
+        (IsEdited edit (2 + length after.now) (items (kids_of list.old)) (items (kids_of list.new))) }
+    ensures refused { IfErr result (RefusedBy (edited first.now (next.now ∷ after.now) edit (items (kids_of list.old)))) }
+{
+    match list.find(first.as_str()) {
+        Some(at) => {
+            let child = &mut list.all[at];
+            edit_at(alloc, child, next, after, edit)
+        }
+        None => Err(Refusal::Cause(edit.missing())),
+    }
+}
+
+// The same where it is below a member of an object.
+#[cycle(edit_at)]
+fn edit_below_members(
+    alloc: Global,
+    list: &mut MemberList,
+    first: &Text,
+    next: &Text,
+    after: &[Text],
+    edit: Edit,
+) -> Result<Option<Tree>, Refusal>
+    ensures done { IfOk result
+        (λ _. edited first.now (next.now ∷ after.now) edit (members (fields_of list.old)) ≡ Ok (members (fields_of list.new))) }
+    ensures taken { IfOk result
+        (λ left. IsTaken edit left (pointed (first.now ∷ next.now ∷ after.now) (members (fields_of list.old)))) }
+    ensures size { IfOk result
+        (IsEdited edit (2 + length after.now) (members (fields_of list.old)) (members (fields_of list.new))) }
+    ensures refused { IfErr result
+        (RefusedBy (edited first.now (next.now ∷ after.now) edit (members (fields_of list.old)))) }
+{
+    match list.find(first.as_str()) {
+        Ok(at) => {
+            let member = &mut list.all[at];
+            edit_at(alloc, &mut member.value, next, after, edit)
+        }
+        Err(_) => Err(Refusal::Cause(edit.missing())),
+    }
+}
+
+// Makes an edit of a container under one token.
+fn edit_in(alloc: Global, tree: &mut Tree, token: &str, edit: Edit) -> Result<Option<Tree>, Refusal>
+    ensures done { IfOk result (λ _. change_of edit token.now tree.old ≡ Ok tree.new) }
+    ensures taken { IfOk result (λ left. IsTaken edit left (child_of token.now tree.old)) }
+    ensures size { IfOk result (IsEdited edit 1 tree.old tree.new) }
+    ensures refused { IfErr result (RefusedBy (change_of edit token.now tree.old)) }
+{
+    match &mut tree.node {
+        Node::Items(list) => edit_item(list, token, edit),
+        Node::Members(list) => edit_member(alloc, list, token, edit),
+        _ => Err(Refusal::Cause(edit.missing())),
+    }
+}
+
+fn edit_item(list: &mut Trees, token: &str, edit: Edit) -> Result<Option<Tree>, Refusal>
+    ensures done { IfOk result (λ _. change_of edit token.now (items (kids_of list.old)) ≡ Ok (items (kids_of list.new))) }
+    ensures taken { IfOk result (λ left. IsTaken edit left (child_of token.now (items (kids_of list.old)))) }
+    ensures size { IfOk result (IsEdited edit 1 (items (kids_of list.old)) (items (kids_of list.new))) }
+    ensures refused { IfErr result (RefusedBy (change_of edit token.now (items (kids_of list.old)))) }
+{
+    match edit {
+        Edit::Add(value) => match place_of(token, list.all.len()) {
+            Some(at) => {
+                list.all.insert(at, value)?;
+                Ok(None)
+            }
+            None => Err(Refusal::Cause(ApplyCause::BadIndex)),
+        },
+        Edit::Remove => match list.find(token) {
+            Some(at) => Ok(Some(list.all.remove(at))),
+            None => Err(Refusal::Cause(ApplyCause::NoValue)),
+        },
+        Edit::Replace(value) => match list.find(token) {
+            Some(at) => Ok(Some(mem::replace(&mut list.all[at], value))),
+            None => Err(Refusal::Cause(ApplyCause::NoValue)),
+        },
+    }
+}
+
+// The place before which an item of an array is inserted.
+fn place_of(token: &str, count: usize) -> Option<usize>
+    ensures { result ≡ place_of token.now count }
+{
+    if token == "-" {
+        return Some(count);
+    }
+    match read_index(token) {
+        Some(index) if index <= count => Some(index),
+        _ => None,
+    }
+}
+
+fn edit_member(
+    alloc: Global,
+    list: &mut MemberList,
+    token: &str,
+    edit: Edit,
+) -> Result<Option<Tree>, Refusal>
+    ensures done { IfOk result (λ _. change_of edit token.now (members (fields_of list.old)) ≡ Ok (members (fields_of list.new))) }
+    ensures taken { IfOk result (λ left. IsTaken edit left (child_of token.now (members (fields_of list.old)))) }
+    ensures size { IfOk result (IsEdited edit 1 (members (fields_of list.old)) (members (fields_of list.new))) }
+    ensures refused { IfErr result (RefusedBy (change_of edit token.now (members (fields_of list.old)))) }
+{
+    match edit {
+        Edit::Add(value) => Ok(list.put(Text::from_str(alloc, token)?, value)?),
+        Edit::Remove => match list.take(token) {
+            Some(value) => Ok(Some(value)),
+            None => Err(Refusal::Cause(ApplyCause::NoValue)),
+        },
+        Edit::Replace(value) => match list.get(token) {
+            Some(_) => Ok(list.put(Text::from_str(alloc, token)?, value)?),
+            None => Err(Refusal::Cause(ApplyCause::NoValue)),
+        },
+    }
+}

@@ -1,0 +1,10 @@
+use Rattle.std.proofs.Common.{◌≡◌, ◌<◌, length, get_or, subst, ap, sym}
+use Rattle.json_tree.specs.Pointers.{index_of}
+use Rattle.json_tree.proofs.Indices.{item_read}
+use Rattle.json_tree.proofs.tree.Trees.item.Goals as goal
+
+pub returns-in-Some : goal.returns-in-Some
+returns-in-Some c =
+    let found = c.in-Some.ensures.some in
+    let read = subst (λ ts. c.index.result.now ≡ get_or ts c.in-Some.index c.index.result.now) c.self.view_is c.index.ensures in
+    item_read c.args.self.now c.in-Some.index (index_of c.args.token.now) c.index.result.now found.0 found.1 read

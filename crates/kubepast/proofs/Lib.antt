@@ -1,0 +1,15 @@
+pub mod BuildFacts
+pub mod EndingFacts
+pub mod FormFacts
+pub mod FormOfLog
+pub mod LogFacts
+pub mod LogStates
+pub mod JudgingOrder
+pub mod JudgingPlacement
+pub mod JudgingPlaces
+pub mod JudgingPrefixes
+pub mod JudgingWindows
+pub mod JudgingWrites
+pub mod RunFacts
+pub mod SetupFacts
+pub mod StreamFacts

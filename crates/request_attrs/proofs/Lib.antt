@@ -1,0 +1,3 @@
+pub mod CauseLemmas
+pub mod PathLemmas
+pub mod QueryLemmas

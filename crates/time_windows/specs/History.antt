@@ -1,0 +1,7 @@
+use Rattle.std.specs.Prelude.{ℕ, List}
+use Rattle.time_windows.specs.declared.span.Span.{Span}
+
+-- where recorded writes begin, and the spans of those behind it
+pub record History : Type 0 where
+  pub start : ℕ
+  pub spans : List Span
