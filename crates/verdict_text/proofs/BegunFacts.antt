@@ -1,8 +1,8 @@
 -- A text is cut into its lines in one way, so what it begins with says its count and its lines.
-use Rattle.std.proofs.Common.{◌≡◌, ◌≢◌, ℕ, zero, suc, ◌+◌, ◌<◌, ◌≤◌, ◌^◌, ◌⊎◌, inl, inr, List, [], ◌∷◌, ◌++◌, length, cond, ◌==◌, refl, sym, ap, ◌∙◌, append_assoc, length-append, arith}
-use Rattle.std.specs.Prelude.{decimal, codes, All, AllPairs, count_by}
+use Rattle.std.proofs.Common.{◌≡◌, ◌≢◌, ℕ, ◌+◌, ◌<◌, ◌≤◌, List, [], ◌∷◌, ◌++◌, length, cond, ◌==◌, refl, sym, ap, ◌∙◌, append_assoc, length-append, arith}
+use Rattle.std.specs.Prelude.{decimal, codes, All, count_by}
 use Rattle.std.proofs.lemmas.List.{append-nil, append_cancel_left, get_or_at, get_or_append_left}
-use Rattle.std.proofs.lemmas.List.Elements.{All-head, All-tail, All-push}
+use Rattle.std.proofs.lemmas.List.Elements.{All-nil, All-head, All-tail, All-push}
 use Rattle.std.proofs.lemmas.List.Quantifiers.{all_pairs_push}
 use Rattle.std.proofs.lemmas.List.Sums.{sum_by-cons, sum_by-append}
 use Rattle.std.proofs.lemmas.Bool.Decides.{nat_tests}
@@ -13,23 +13,21 @@ use Rattle.base_types.specs.Placements.{RisesByLine}
 use Rattle.verdict_text.specs.Words.{ended, IsNumber, Lacks}
 use Rattle.verdict_text.specs.Placed.{placed_text, FitsPlaced}
 use Rattle.verdict_text.specs.Outcome.{count_text, placed_lines, explained_text}
-use Rattle.verdict_text.specs.Reading.{IsPlacement, IsExplained, BeginsBy, IsBegun, IsNext, Stops, BreaksAt}
-use Rattle.verdict_text.specs.PlacementFaults.{IsCause}
-use Rattle.verdict_text.specs.declared.reading.PlacementFault.TheVariants.{Line}
+use Rattle.verdict_text.specs.Reading.{IsPlacement, BeginsBy, IsNext}
 use Rattle.verdict_text.proofs.CutFacts.{first_cut, no_cut}
 use Rattle.verdict_text.proofs.PlacedFacts.{placed_agree, shown-placed, shown-count, lacks-shown}
 
-lacks_placed : (placed : PlacedLine) → FitsPlaced placed → Lacks 10 (placed_text placed)
+pub lacks_placed : (placed : PlacedLine) → FitsPlaced placed → Lacks 10 (placed_text placed)
 lacks_placed placed fits = lacks-shown (placed_text placed) (shown-placed placed fits)
 
-lacks_count : (count : ℕ) → IsNumber count → Lacks 10 (count_text count)
+pub lacks_count : (count : ℕ) → IsNumber count → Lacks 10 (count_text count)
 lacks_count count small = lacks-shown (count_text count) (shown-count count small)
 
 -- an ended line and what follows it
-ended_before : (line rest : List ℕ) → ended line ++ rest ≡ line ++ 10 ∷ rest
+pub ended_before : (line rest : List ℕ) → ended line ++ rest ≡ line ++ 10 ∷ rest
 ended_before line rest = append_assoc line (10 ∷ []) rest
 
-ended_some : (line rest : List ℕ) → ended line ++ rest ≢ []
+pub ended_some : (line rest : List ℕ) → ended line ++ rest ≢ []
 ended_some [] rest e = cc
 ended_some (b ∷ line) rest e = cc
 
@@ -61,7 +59,7 @@ front_of (a ∷ front) (b ∷ whole) rest nf nw e =
     record { tail = more.tail; joined = ap (λ p. p ∷ whole) (sym first) ∙ ap (λ l. a ∷ l) more.joined; left = more.left; fits = more.fits }
 
 -- the text begins with these lines, and goes on to be explained by those
-begun_front : (before rest : List ℕ) (count : ℕ) (lines : List PlacedLine) (n : ℕ) (whole : List PlacedLine)
+pub begun_front : (before rest : List ℕ) (count : ℕ) (lines : List PlacedLine) (n : ℕ) (whole : List PlacedLine)
     → BeginsBy before count lines → IsNumber n → All FitsPlaced whole → before ++ rest ≡ ended (count_text n) ++ placed_lines whole → (count ≡ n) × IsFront lines whole rest
 begun_front before rest count lines n whole begun small fits e =
     let split = append_assoc (ended (count_text count)) (placed_lines lines) rest in
@@ -81,9 +79,12 @@ explained_agree a b na nb e =
     let same = counts_agree (length a) (length b) (placed_lines a) (placed_lines b) na.counted nb.counted e in
     sym (whole_front a b (front_of a b [] na.fits nb.fits (append-nil (placed_lines a) ∙ same.1)))
 
+pub no_placement : IsPlacement []
+no_placement = record { fits = All-nil FitsPlaced; rising = λ i j d before within. absurd (omega arith); counted = omega arith }
+
 -- one more line
 
-rises_before : (lines tail : List PlacedLine) (placed : PlacedLine) → RisesByLine (lines ++ placed ∷ tail) → All (λ earlier. earlier.line < placed.line) lines
+pub rises_before : (lines tail : List PlacedLine) (placed : PlacedLine) → RisesByLine (lines ++ placed ∷ tail) → All (λ earlier. earlier.line < placed.line) lines
 rises_before lines tail placed rising = λ k d within.
     let inside : length lines < length (lines ++ placed ∷ tail) = omega (arith, length-append lines (placed ∷ tail)) in
     let pair = rising k (length lines) d within inside in
@@ -121,7 +122,7 @@ next_of lines (placed ∷ tail) line after count e fits rising room whole =
     let same = lines_agree line (placed_text placed) after (placed_lines tail) whole (lacks_placed placed fit) e in
     (placed, record { fits = fit; spelled = same.0; rises = rises_before lines tail placed rising; room = omega (arith, length-append lines (placed ∷ tail)) })
 
-next_in : (before line after : List ℕ) (count : ℕ) (lines : List PlacedLine) (n : ℕ) (whole : List PlacedLine) → BeginsBy before count lines → Lacks 10 line
+pub next_in : (before line after : List ℕ) (count : ℕ) (lines : List PlacedLine) (n : ℕ) (whole : List PlacedLine) → BeginsBy before count lines → Lacks 10 line
     → IsNumber n → IsPlacement whole → length whole ≤ n → before ++ (ended line ++ after) ≡ ended (count_text n) ++ placed_lines whole
     → (placed : PlacedLine) × IsNext lines count line placed
 next_in before line after count lines n whole begun lacks small placed room e =
@@ -130,7 +131,7 @@ next_in before line after count lines n whole begun lacks small placed room e =
     let front = split.1 in
     next_of lines front.tail line after count front.left front.fits (rw front.joined at placed.rising) (omega (arith, ap length front.joined)) lacks
 
-joined_some : (xs line : List ℕ) → xs ++ ended line ≢ []
+pub joined_some : (xs line : List ℕ) → xs ++ ended line ≢ []
 joined_some [] line e = ended_some line [] (append-nil (ended line) ∙ e)
 joined_some (x ∷ xs) line e = cc
 
@@ -139,7 +140,7 @@ no_rest : (tail : List PlacedLine) (rest : List ℕ) → rest ≡ placed_lines t
 no_rest [] rest e lacks = refl
 no_rest (placed ∷ tail) rest e lacks = absurd (no_cut 10 rest (placed_text placed) (placed_lines tail) lacks (e ∙ ended_before (placed_text placed) (placed_lines tail)))
 
-ends_before : (lines whole : List PlacedLine) (rest : List ℕ) (count : ℕ) → count ≡ length whole → IsFront lines whole rest → Lacks 10 rest → (rest ≡ [] → count ≢ length lines) → ⊥
+pub ends_before : (lines whole : List PlacedLine) (rest : List ℕ) (count : ℕ) → count ≡ length whole → IsFront lines whole rest → Lacks 10 rest → (rest ≡ [] → count ≢ length lines) → ⊥
 ends_before lines whole rest count counted front lacks unended =
     let none = no_rest front.tail rest front.left lacks in
     let empty : rest ≡ [] = front.left ∙ ap placed_lines none in
@@ -179,52 +180,11 @@ newlines_lines (placed ∷ lines) fits =
     newlines_ended (placed_text placed) (placed_lines lines) (lacks_placed placed (All-head FitsPlaced placed lines fits))
     ∙ ap (λ n. n + 1) (newlines_lines lines (All-tail FitsPlaced placed lines fits)) ∙ omega arith
 
-newlines_begun : (before : List ℕ) (count : ℕ) (lines : List PlacedLine) → BeginsBy before count lines → newlines before + 1 ≡ length lines + 2
+pub newlines_begun : (before : List ℕ) (count : ℕ) (lines : List PlacedLine) → BeginsBy before count lines → newlines before + 1 ≡ length lines + 2
 newlines_begun before count lines begun =
     let all = ap newlines begun.spelled ∙ newlines_ended (count_text count) (placed_lines lines) (lacks_count count begun.counted) in
     let rest = newlines_lines lines begun.placed.fits in
     omega (arith, all, rest)
-
--- no line at all
-pub breaks_at_once : (text : List ℕ) → Lacks 10 text → IsCause text (Line 1)
-breaks_at_once text lacks =
-    let none : IsExplained text → ⊥ = λ (lines, placed, e). no_cut 10 text (count_text (length lines)) (placed_lines lines) lacks (sym e ∙ ended_before (count_text (length lines)) (placed_lines lines)) in
-    (record { before = []; rest = text; parts = refl; begun = inl refl; numbered = refl; stops = inr (lacks, none) }, none)
-
--- a first line of another form
-pub breaks_at_first : (text line after : List ℕ) → text ≡ line ++ 10 ∷ after → Lacks 10 line → ((count : ℕ) → IsNumber count → line ≢ count_text count) → IsCause text (Line 1)
-breaks_at_first text line after e lacks other =
-    let begun : IsBegun (ended line) → ⊥ = λ is. elim is [
-      | inl none ↦ ended_some line [] (append-nil (ended line) ∙ none)
-      | inr (n, lines, by) ↦ other n by.counted (lines_agree line (count_text n) [] (placed_lines lines) lacks (lacks_count n by.counted) (append-nil (ended line) ∙ by.spelled)).0
-    ] in
-    let none : IsExplained text → ⊥ = λ (lines, placed, same).
-    other (length lines) placed.counted (lines_agree line (count_text (length lines)) after (placed_lines lines) lacks (lacks_count (length lines) placed.counted) (ended_before line after ∙ sym e ∙ sym same)).0 in
-    (record { before = []; rest = text; parts = refl; begun = inl refl; numbered = refl; stops = inl (line, after, lacks, e, begun) }, none)
-
--- a line that can't follow
-pub breaks_at_line : (text before line after : List ℕ) (count : ℕ) (lines : List PlacedLine) → text ≡ before ++ (line ++ 10 ∷ after) → BeginsBy before count lines → Lacks 10 line
-    → ((placed : PlacedLine) → ¬ (IsNext lines count line placed)) → IsCause text (Line (length lines + 2))
-breaks_at_line text before line after count lines e begun lacks other =
-    let more : IsBegun (before ++ ended line) → ⊥ = λ is. elim is [
-      | inl none ↦ joined_some before line none
-      | inr (n, whole, by) ↦
-          let next = next_in before line [] count lines n whole begun lacks by.counted by.placed by.room (ap (λ l. before ++ l) (append-nil (ended line)) ∙ by.spelled) in
-          other next.0 next.1
-    ] in
-    let none : IsExplained text → ⊥ = λ (whole, placed, same).
-    let next = next_in before line after count lines (length whole) whole begun lacks placed.counted placed (omega arith) (ap (λ l. before ++ l) (ended_before line after) ∙ sym e ∙ sym same) in
-    other next.0 next.1 in
-    (record { before = before; rest = line ++ 10 ∷ after; parts = e; begun = inr (count, lines, begun); numbered = newlines_begun before count lines begun; stops = inl (line, after, lacks, refl, more) }, none)
-
--- a line without its newline, or lines that are missing
-pub breaks_at_end : (text before rest : List ℕ) (count : ℕ) (lines : List PlacedLine) → text ≡ before ++ rest → BeginsBy before count lines → Lacks 10 rest
-    → (rest ≡ [] → count ≢ length lines) → IsCause text (Line (length lines + 2))
-breaks_at_end text before rest count lines e begun lacks unended =
-    let none : IsExplained (before ++ rest) → ⊥ = λ (whole, placed, same).
-    let split = begun_front before rest count lines (length whole) whole begun placed.counted placed.fits (sym same) in
-    ends_before lines whole rest count split.0 split.1 lacks unended in
-    (record { before = before; rest = rest; parts = e; begun = inr (count, lines, begun); numbered = newlines_begun before count lines begun; stops = inr (lacks, none) }, λ is. none (rw e at is))
 
 pub parts_more : (text before rest line after : List ℕ) → text ≡ before ++ rest → rest ≡ line ++ 10 ∷ after → text ≡ (before ++ ended line) ++ after
 parts_more text before rest line after e cut = e ∙ ap (λ l. before ++ l) (cut ∙ sym (ended_before line after)) ∙ sym (append_assoc before (ended line) after)

@@ -1,9 +1,9 @@
 -- A number's one spelling: what it begins with, what parsing it gives, and that no other text is it.
-use Rattle.std.proofs.Common.{◌≡◌, ◌≢◌, ℕ, ◌<◌, ◌≤◌, ◌^◌, List, ◌++◌, [], ◌∷◌, zero, suc, ap, length, get_or, Result, Ok, Err, Option, Some, None, refl, arith, sym, ◌∙◌}
-use Rattle.std.specs.Prelude.{decimal, IsUtf8, IfSome, IfNone, All}
+use Rattle.std.proofs.Common.{◌≡◌, ◌≢◌, ℕ, ◌≤◌, List, ◌++◌, ◌∷◌, zero, suc, ap, length, get_or, Result, Ok, Err, refl, arith, sym, ◌∙◌}
+use Rattle.std.specs.Prelude.{decimal, IfSome, IfNone, All}
 use Rattle.std.specs.Result.{result_ok}
 use Rattle.std.specs.Str.Parse.{AllDigits, ParsesUnsigned, digits_value}
-use Rattle.std.proofs.lemmas.Fmt.{first_decimal, decimal_nonempty, decimal_digit, IsAscii-decimal, parse-decimal, decimal-digits_value, digits_decimal, decimal_injective}
+use Rattle.std.proofs.lemmas.Fmt.{first_decimal, decimal_nonempty, decimal_digit, parse-decimal, decimal-digits_value, digits_decimal, decimal_injective}
 use Rattle.std.proofs.lemmas.Str.Parse.{numerals_by_value, tells_digits, digit_at, parse_plain, IsNumeralModel}
 use Rattle.std.proofs.lemmas.List.Elements.{All-from_get_or, All-weaker}
 use Rattle.verdict_text.specs.Words.{IsNumber, BeginsPlainly, Lacks}

@@ -48,3 +48,9 @@ pub record BreaksAt (text : List ℕ) (number : ℕ) : Type 0 where
   pub begun : IsBegun before
   pub numbered : count_by (λ byte. byte == 10) before + 1 ≡ number
   pub stops : Stops before rest
+
+-- that line is the only one, and no placement has this text
+pub record IsFaultLine (text : List ℕ) (number : ℕ) : Type 0 where
+  pub breaks : BreaksAt text number
+  pub alone : (other : ℕ) → BreaksAt text other → other ≡ number
+  pub refused : IsExplained text → ⊥

@@ -1,7 +1,5 @@
 use Rattle.std.proofs.Common.{◌≡◌, ◌≢◌, ◌++◌, [], take, string_bytes, true, false}
 use Rattle.std.specs.List.{join_with_byte}
-use Rattle.std.specs.Bool.{IsTrue}
-use Rattle.std.specs.Prelude.{◌↔◌}
 use Rattle.case_maker.specs.Bodies.{present_texts}
 use Rattle.case_maker.proofs.bodies.append_present.Given as goal
 

@@ -1,4 +1,4 @@
-use Rattle.std.proofs.Common.{◌≡◌, ◌-◌, ◌≤◌, ◌+◌, ap, ◌∙◌, string_bytes, arith}
+use Rattle.std.proofs.Common.{◌-◌, ap, ◌∙◌, string_bytes, arith}
 use Rattle.case_maker.specs.declared.cluster.Cluster.{Cluster}
 use Rattle.case_maker.proofs.CaseFacts.{revision_bound, event_step}
 use Rattle.case_maker.proofs.case.make_case.Goals as goal

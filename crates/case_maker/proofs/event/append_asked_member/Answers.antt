@@ -1,4 +1,4 @@
-use Rattle.std.proofs.Common.{◌≡◌, ◌⊎◌, ℕ, List, ◌++◌, Option, refl, inl, inr, string_bytes}
+use Rattle.std.proofs.Common.{◌≡◌, ◌⊎◌, ℕ, List, Option, refl, inl, inr, string_bytes}
 use Rattle.std.specs.Prelude.{codes}
 use Rattle.case_maker.specs.declared.exchange.Held.{Held}
 use Rattle.case_maker.specs.declared.exchange.Exchange.{Exchange}

@@ -1,4 +1,4 @@
-use Rattle.std.proofs.Common.{◌≡◌, sym, ◌∙◌}
+use Rattle.std.proofs.Common.{sym, ◌∙◌}
 use Rattle.verdict_text.proofs.NumberTexts.{numbers_agree}
 use Rattle.verdict_text.proofs.placed.read_places.Goals as goal
 

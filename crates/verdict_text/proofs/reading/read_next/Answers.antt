@@ -1,4 +1,4 @@
-use Rattle.std.proofs.Common.{◌≡◌, ◌<◌, length, arith, sym, ap, ◌∙◌}
+use Rattle.std.proofs.Common.{◌<◌, length, arith, sym, ◌∙◌}
 use Rattle.std.specs.Prelude.{All}
 use Rattle.verdict_text.proofs.PlacedFacts.{placed_agree, shown-placed, utf8-shown}
 use Rattle.verdict_text.specs.Placed.{placed_text}

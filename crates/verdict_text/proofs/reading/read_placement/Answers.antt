@@ -1,6 +1,6 @@
-use Rattle.std.proofs.Common.{◌≡◌, ◌≢◌, ◌++◌, ◌∷◌, [], length, arith, sym, ap, ◌∙◌, List}
-use Rattle.std.specs.Prelude.{All}
-use Rattle.verdict_text.proofs.BegunFacts.{explained_agree, begins_more, parts_more, whole_text, breaks_at_once, breaks_at_first, breaks_at_line, breaks_at_end}
+use Rattle.std.proofs.Common.{◌≡◌, ◌≢◌, ◌++◌, [], length, arith, sym, ap, ◌∙◌}
+use Rattle.verdict_text.proofs.BegunFacts.{explained_agree, begins_more, parts_more, whole_text}
+use Rattle.verdict_text.proofs.FaultFacts.{breaks_at_once, breaks_at_first, breaks_at_line, breaks_at_end}
 use Rattle.std.proofs.lemmas.Grind.{common_steps}
 use Rattle.verdict_text.specs.Words.{ended}
 use Rattle.verdict_text.proofs.reading.read_placement.Goals as goal

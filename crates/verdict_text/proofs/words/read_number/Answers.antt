@@ -1,4 +1,4 @@
-use Rattle.std.proofs.Common.{◌≡◌, sym, ◌∙◌}
+use Rattle.std.proofs.Common.{◌∙◌}
 use Rattle.verdict_text.specs.Words.{BeginsPlainly}
 use Rattle.verdict_text.proofs.NumberTexts.{begins-decimal, parsed_plainly, not_parsed}
 use Rattle.verdict_text.proofs.words.read_number.Goals as goal
