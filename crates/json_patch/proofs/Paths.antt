@@ -43,9 +43,9 @@ edited_below first next after edit t child is = ap (changed_at (first ∷ at) (m
 pub edited_missing : (first next : List ℕ) (after : List (List ℕ)) (edit : Edit) (t : Meaning) → child_of first t ≡ None → edited first (next ∷ after) edit t ≡ Err (missing_of edit)
 edited_missing first next after edit t is = ap (λ o. changed_at (first ∷ parent_of next after) (missing_of edit) (change_of edit (last_of next after)) t (option_and_then (pointed (parent_of next after)) o)) is
 
-pub done_below : (first next : List ℕ) (after : List (List ℕ)) (edit : Edit) (t child made whole : Meaning) → child_of first t ≡ Some child → edited next after edit child ≡ Ok made → with_child first made t ≡ whole
-    → edited first (next ∷ after) edit t ≡ Ok whole
-done_below first next after edit t child made whole is inner e =
+pub done_below : (first next : List ℕ) (after : List (List ℕ)) (edit : Edit) (t child made document : Meaning) → child_of first t ≡ Some child → edited next after edit child ≡ Ok made → with_child first made t ≡ document
+    → edited first (next ∷ after) edit t ≡ Ok document
+done_below first next after edit t child made document is inner e =
     edited_below first next after edit t child is ∙ ap (λ r. and_then r (λ made. Ok (with_child first made t))) inner ∙ ap Ok e
 
 pub refused_below : (first next : List ℕ) (after : List (List ℕ)) (edit : Edit) (t child : Meaning) (refusal : Refusal) → child_of first t ≡ Some child → RefusedBy (edited next after edit child) refusal

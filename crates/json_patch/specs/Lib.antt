@@ -1,3 +1,4 @@
+pub mod Changes
 pub mod Edits
 pub mod Effects
 pub mod Limits
