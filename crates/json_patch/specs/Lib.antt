@@ -3,4 +3,5 @@ pub mod Edits
 pub mod Effects
 pub mod Limits
 pub mod Patches
+pub mod Reading
 pub mod Targets

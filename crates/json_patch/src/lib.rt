@@ -5,8 +5,10 @@ mod applying;
 mod edit;
 mod fault;
 mod op;
+mod reading;
 mod size;
 
 pub use applying::apply;
 pub use fault::{ApplyCause, ApplyFault, PatchFault};
 pub use op::{Op, Patch};
+pub use reading::read_patch;
