@@ -29,13 +29,17 @@ edited_below first next after edit t child is = ap (changed_at (first ∷ at) (m
   where
     at : List (List ℕ)
     at = parent_of next after
+
     change : Meaning → Result Meaning ApplyCause
     change = change_of edit (last_of next after)
+
     there : pointed (first ∷ at) t ≡ pointed at child
     there = ap (option_and_then (pointed at)) is
+
     made_below : (r : Result Meaning ApplyCause) → and_then r (λ made. Ok (put_at (first ∷ at) made t)) ≡ and_then (and_then r (λ made. Ok (put_at at made child))) (λ made. Ok (with_child first made t))
     made_below (Err cause) = refl
     made_below (Ok made) = ap Ok (put_below first at made t child is)
+
     go : (o : Option Meaning) → changed_at (first ∷ at) (missing_of edit) change t o ≡ and_then (changed_at at (missing_of edit) change child o) (λ made. Ok (with_child first made t))
     go None = refl
     go (Some v) = made_below (change v)
@@ -74,12 +78,12 @@ with_member first ms n m t s is read = ap members (sym (put_changed first ms n m
 pub items_added : (token : List ℕ) (ts : List Meaning) (n : ℕ) (v : Meaning) → place_of token (length ts) ≡ Some n → added_in v token (items (kids_of ts)) ≡ Ok (items (kids_of (insert ts n v)))
 items_added token ts n v is =
     ap (λ l. unwrap_or (option_map (λ n. Ok (items (kids_of (insert l n v)))) (place_of token (length l))) (Err BadIndex)) (kids_list-kids_of ts)
-      ∙ ap (λ o. unwrap_or (option_map (λ n. Ok (items (kids_of (insert ts n v)))) o) (Err BadIndex)) is
+    ∙ ap (λ o. unwrap_or (option_map (λ n. Ok (items (kids_of (insert ts n v)))) o) (Err BadIndex)) is
 
 pub items_not_added : (token : List ℕ) (ts : List Meaning) (v : Meaning) → place_of token (length ts) ≡ None → added_in v token (items (kids_of ts)) ≡ Err BadIndex
 items_not_added token ts v is =
     ap (λ l. unwrap_or (option_map (λ n. Ok (items (kids_of (insert l n v)))) (place_of token (length l))) (Err BadIndex)) (kids_list-kids_of ts)
-      ∙ ap (λ o. unwrap_or (option_map (λ n. Ok (items (kids_of (insert ts n v)))) o) (Err BadIndex)) is
+    ∙ ap (λ o. unwrap_or (option_map (λ n. Ok (items (kids_of (insert ts n v)))) o) (Err BadIndex)) is
 
 without_item : (token : List ℕ) (ts : List Meaning) (n : ℕ) → index_of token ≡ Some n → without_child token (items (kids_of ts)) ≡ items (kids_of (remove ts n))
 without_item token ts n is =

@@ -185,16 +185,16 @@ fields_depth-without k (field l u ms) = go (bytes_eq l k) (fields_depth-without 
 pub edited_items : (edit : Edit) (level : ℕ) (ts : List Meaning) (n : ℕ) (t u : Meaning) (left : Option Meaning) → n < length ts → t ≡ get_or ts n t → IsEdited edit level t u left
     → IsEdited edit (1 + level) (items (kids_of ts)) (items (kids_of (set ts n u))) left
 edited_items edit level ts n t u left lt read h = record {
-    counted =
-        let count : values u + went_of left ≡ values t + came_of edit = h.counted in
-        let all : kids_values (kids_of (set ts n u)) + values t ≡ kids_values (kids_of ts) + values u = subst (λ x. kids_values (kids_of (set ts n u)) + values x ≡ kids_values (kids_of ts) + values u) (sym read) (kids_values-set ts n t u lt) in
-        omega arith;
-    part =
-        let inner = h.part in
-        let whole : values t ≤ kids_values (kids_of ts) = subst (λ x. values x ≤ kids_values (kids_of ts)) (sym read) (kid_values ts n t lt) in
-        omega arith;
-    deep = go edit h.deep;
-  }
+  counted =
+      let count : values u + went_of left ≡ values t + came_of edit = h.counted in
+      let all : kids_values (kids_of (set ts n u)) + values t ≡ kids_values (kids_of ts) + values u = subst (λ x. kids_values (kids_of (set ts n u)) + values x ≡ kids_values (kids_of ts) + values u) (sym read) (kids_values-set ts n t u lt) in
+      omega arith;
+  part =
+      let inner = h.part in
+      let whole : values t ≤ kids_values (kids_of ts) = subst (λ x. values x ≤ kids_values (kids_of ts)) (sym read) (kid_values ts n t lt) in
+      omega arith;
+  deep = go edit h.deep;
+}
   where
     go : (edit : Edit) → IsAsDeep edit level t u → IsAsDeep edit (1 + level) (items (kids_of ts)) (items (kids_of (set ts n u)))
     go (Add v) d =
@@ -219,17 +219,17 @@ edited_items edit level ts n t u left lt read h = record {
 pub edited_members : (edit : Edit) (level : ℕ) (ms : List (List ℕ × Meaning)) (n : ℕ) (m : List ℕ × Meaning) (u : Meaning) (left : Option Meaning) → n < length ms → m ≡ get_or ms n m → IsEdited edit level m.1 u left
     → IsEdited edit (1 + level) (members (fields_of ms)) (members (fields_of (set ms n (m.0, u)))) left
 edited_members edit level ms n m u left lt read h = record {
-    counted =
-        let count : values u + went_of left ≡ values m.1 + came_of edit = h.counted in
-        let all : fields_values (fields_of (set ms n (m.0, u))) + values m.1 ≡ fields_values (fields_of ms) + values u =
-            subst (λ (x : List ℕ × Meaning). fields_values (fields_of (set ms n (m.0, u))) + values x.1 ≡ fields_values (fields_of ms) + values u) (sym read) (fields_values-set ms n m m.0 u lt) in
-        omega arith;
-    part =
-        let inner = h.part in
-        let whole : values m.1 ≤ fields_values (fields_of ms) = subst (λ (x : List ℕ × Meaning). values x.1 ≤ fields_values (fields_of ms)) (sym read) (field_values ms n m lt) in
-        omega arith;
-    deep = go edit h.deep;
-  }
+  counted =
+      let count : values u + went_of left ≡ values m.1 + came_of edit = h.counted in
+      let all : fields_values (fields_of (set ms n (m.0, u))) + values m.1 ≡ fields_values (fields_of ms) + values u =
+      subst (λ (x : List ℕ × Meaning). fields_values (fields_of (set ms n (m.0, u))) + values x.1 ≡ fields_values (fields_of ms) + values u) (sym read) (fields_values-set ms n m m.0 u lt) in
+      omega arith;
+  part =
+      let inner = h.part in
+      let whole : values m.1 ≤ fields_values (fields_of ms) = subst (λ (x : List ℕ × Meaning). values x.1 ≤ fields_values (fields_of ms)) (sym read) (field_values ms n m lt) in
+      omega arith;
+  deep = go edit h.deep;
+}
   where
     go : (edit : Edit) → IsAsDeep edit level m.1 u → IsAsDeep edit (1 + level) (members (fields_of ms)) (members (fields_of (set ms n (m.0, u))))
     go (Add v) d =

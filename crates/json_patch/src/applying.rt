@@ -92,7 +92,9 @@ fn size_after(count: u64, change: Change) -> Size
     ensures { (old new : Meaning) → IsWithin old count → IsChange old new change → Tells new result }
 {
     Size {
-        values: count.saturating_add(change.came).saturating_sub(change.went),
+        values: count
+            .saturating_add(change.came)
+            .saturating_sub(change.went),
         depth: change.depth,
     }
 }
@@ -200,7 +202,12 @@ fn is_proper_prefix(from: &[Text], path: &[Text]) -> bool
     }
 }
 
-fn copy_value(alloc: Global, tree: &mut Tree, from: &Pointer, path: &Pointer) -> Result<Change, Refusal>
+fn copy_value(
+    alloc: Global,
+    tree: &mut Tree,
+    from: &Pointer,
+    path: &Pointer,
+) -> Result<Change, Refusal>
     ensures done { IfOk result (λ _. copied from.now path.now tree.old ≡ Ok tree.new) }
     ensures change { IfOk result (IsChange tree.old tree.new) }
     ensures refused { IfErr result (RefusedBy (copied from.now path.now tree.old)) }

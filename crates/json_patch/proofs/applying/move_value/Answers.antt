@@ -15,7 +15,7 @@ returns-clause-change c =
     let there : pointed c.args.from.now c.args.tree.now ≡ Some v = sym c.in_ok-value.ensures.taken.0 ∙ c.in-Some.is in
     let here = pointed_depth c.args.from.now c.args.tree.now v there in
     elim c.if-path-from.branch [
-      then-path-from w ↦ moved_level c.args.tree.now c.edit_path.new.tree c.edit_path-2.new.tree v (length c.args.from.now) (length c.args.path.now) c.in_ok-left.left _ out c.in_ok-left.ensures.size here w.if-path-from.true refl c.values_of.ensures w.depth-is
+      | then-path-from w ↦ moved_level c.args.tree.now c.edit_path.new.tree c.edit_path-2.new.tree v (length c.args.from.now) (length c.args.path.now) c.in_ok-left.left _ out c.in_ok-left.ensures.size here w.if-path-from.true refl c.values_of.ensures w.depth-is
       | else-path-from w ↦ let deep = w.depth-is ∙ w.saturating_add-depth.ensures ∙ ap (λ n. min (n + length c.args.path.now) (2 ^ 64 - 1)) w.size_of.ensures.depth in
           moved_deeper c.args.tree.now c.edit_path.new.tree c.edit_path-2.new.tree v (length c.args.from.now) (length c.args.path.now) c.in_ok-left.left _ out c.in_ok-left.ensures.size refl c.values_of.ensures deep
     ]

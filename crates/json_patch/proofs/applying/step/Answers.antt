@@ -9,7 +9,7 @@ use Rattle.json_patch.proofs.applying.step.Goals as goal
 pub returns-then-size-gt-MAX_DEPTH-clause-refused : goal.returns-then-size-gt-MAX_DEPTH-clause-refused
 returns-then-size-gt-MAX_DEPTH-clause-refused c =
     let told : Tells c.make.new.tree c.match-known.size = elim c.match-known.branch [
-      in-Some w ↦ let known : IsWithin c.args.tree.now w.in-Some.count = search rules in subst (Tells c.make.new.tree) (sym w.size-is) (w.size_after-size.ensures c.args.tree.now c.make.new.tree known c.in_ok-change.ensures.change)
+      | in-Some w ↦ let known : IsWithin c.args.tree.now w.in-Some.count = search rules in subst (Tells c.make.new.tree) (sym w.size-is) (w.size_after-size.ensures c.args.tree.now c.make.new.tree known c.in_ok-change.ensures.change)
       | in-None w ↦ subst (Tells c.make.new.tree) (sym w.size-is) (tells_size c.make.new.tree w.size_of-size.result w.size_of-size.ensures.values w.size_of-size.ensures.depth)
     ] in
     ap (λ r. and_then r within_limits) c.in_ok-change.ensures.done ∙ too_deep c.make.new.tree (told.deep.0 c.if-size-gt-MAX_DEPTH.true)
@@ -17,7 +17,7 @@ returns-then-size-gt-MAX_DEPTH-clause-refused c =
 pub returns-then-size-gt-MAX_VALUES-clause-refused : goal.returns-then-size-gt-MAX_VALUES-clause-refused
 returns-then-size-gt-MAX_VALUES-clause-refused c =
     let told : Tells c.make.new.tree c.match-known.size = elim c.match-known.branch [
-      in-Some w ↦ let known : IsWithin c.args.tree.now w.in-Some.count = search rules in subst (Tells c.make.new.tree) (sym w.size-is) (w.size_after-size.ensures c.args.tree.now c.make.new.tree known c.in_ok-change.ensures.change)
+      | in-Some w ↦ let known : IsWithin c.args.tree.now w.in-Some.count = search rules in subst (Tells c.make.new.tree) (sym w.size-is) (w.size_after-size.ensures c.args.tree.now c.make.new.tree known c.in_ok-change.ensures.change)
       | in-None w ↦ subst (Tells c.make.new.tree) (sym w.size-is) (tells_size c.make.new.tree w.size_of-size.result w.size_of-size.ensures.values w.size_of-size.ensures.depth)
     ] in
     let shallow : depth c.make.new.tree ≤ 127 = small_depth c.make.new.tree c.match-known.size told c.if-size-gt-MAX_DEPTH.false in
@@ -26,7 +26,7 @@ returns-then-size-gt-MAX_VALUES-clause-refused c =
 pub returns-clause-done : goal.returns-clause-done
 returns-clause-done c =
     let told : Tells c.make.new.tree c.match-known.size = elim c.match-known.branch [
-      in-Some w ↦ let known : IsWithin c.args.tree.now w.in-Some.count = search rules in subst (Tells c.make.new.tree) (sym w.size-is) (w.size_after-size.ensures c.args.tree.now c.make.new.tree known c.in_ok-change.ensures.change)
+      | in-Some w ↦ let known : IsWithin c.args.tree.now w.in-Some.count = search rules in subst (Tells c.make.new.tree) (sym w.size-is) (w.size_after-size.ensures c.args.tree.now c.make.new.tree known c.in_ok-change.ensures.change)
       | in-None w ↦ subst (Tells c.make.new.tree) (sym w.size-is) (tells_size c.make.new.tree w.size_of-size.result w.size_of-size.ensures.values w.size_of-size.ensures.depth)
     ] in
     let shallow : depth c.make.new.tree ≤ 127 = small_depth c.make.new.tree c.match-known.size told c.if-size-gt-MAX_DEPTH.false in
@@ -36,7 +36,7 @@ returns-clause-done c =
 pub returns-clause-known : goal.returns-clause-known
 returns-clause-known c =
     let told : Tells c.make.new.tree c.match-known.size = elim c.match-known.branch [
-      in-Some w ↦ let known : IsWithin c.args.tree.now w.in-Some.count = search rules in subst (Tells c.make.new.tree) (sym w.size-is) (w.size_after-size.ensures c.args.tree.now c.make.new.tree known c.in_ok-change.ensures.change)
+      | in-Some w ↦ let known : IsWithin c.args.tree.now w.in-Some.count = search rules in subst (Tells c.make.new.tree) (sym w.size-is) (w.size_after-size.ensures c.args.tree.now c.make.new.tree known c.in_ok-change.ensures.change)
       | in-None w ↦ subst (Tells c.make.new.tree) (sym w.size-is) (tells_size c.make.new.tree w.size_of-size.result w.size_of-size.ensures.values w.size_of-size.ensures.depth)
     ] in
     let small : values c.make.new.tree ≤ 1_000_000 = small_values c.make.new.tree c.match-known.size told c.if-size-gt-MAX_VALUES.false in
