@@ -22,3 +22,9 @@ abbrev pub IsFirstValue : List ℕ → List (List ℕ × Meaning) → Option Mea
 IsFirstValue name [] value = value ≡ None
 IsFirstValue name (m ∷ ms) None = m.0 ≡ name → ⊥
 IsFirstValue name (m ∷ ms) (Some v) = (m.0 ≡ name) × (m.1 ≡ v)
+
+-- the members behind the first, where its value was taken
+abbrev pub behind : Option Meaning → List (List ℕ × Meaning) → List (List ℕ × Meaning)
+behind None ms = ms
+behind (Some v) [] = []
+behind (Some v) (m ∷ ms) = ms

@@ -1,11 +1,11 @@
-ghost use Rattle.std.specs.Prelude.{◌≡◌, ◌++◌, ◌≤◌, ◌<◌, ◌+◌, ℕ, List, IfOk, OnOk, IsSome, option_map, take, drop, length, if◌then◌else◌, is_some};
+ghost use Rattle.std.specs.Prelude.{◌≡◌, ◌++◌, ◌≤◌, ℕ, List, IfOk, OnOk, IsTrue, ◌↔◌, option_map, drop, length};
 ghost use Rattle.std.specs.Ordering.{nat_cmp};
 ghost use Rattle.std.specs.Cmp.Lexicographic.{slice_cmp};
 ghost use Rattle.std.specs.declared.cmp.Ordering.TheVariants.{Less};
 ghost use Rattle.json_tree.specs.Meaning.{fields_of};
 ghost use Rattle.json_tree.specs.Names.{AreSorted};
 ghost use Rattle.merge_patch.specs.Merging.{object_of, merged, merged_fields, changed};
-ghost use Rattle.merge_patch.specs.Walking.{AllBelow, StartsNotBelow, IsFirstValue};
+ghost use Rattle.merge_patch.specs.Walking.{AllBelow, StartsNotBelow, IsFirstValue, behind};
 
 use base_types::{OutOfMemory, Text};
 use json_tree::{Member, MemberList, Node, Tree, copy};
@@ -80,16 +80,14 @@ fn merge_member(
     ensures below { OnOk result ((name : List ℕ) → slice_cmp nat_cmp change.now.0 name ≡ Less → AllBelow name all.new.items) }
 {
     let at = copy_below(alloc, all, old, at, &change.name)?;
-    let value = value_at(old, at, &change.name);
-    if !change.value.is_null() {
-        let name = change.name.clone()?;
-        let value = merge(alloc, value, &change.value)?;
-        all.push(Member { name, value })?;
+    let (value, next) = take_named(old, at, &change.name);
+    if change.value.is_null() {
+        return Ok(next);
     }
-    match value {
-        Some(_) => Ok(at + 1),
-        None => Ok(at),
-    }
+    let name = change.name.clone()?;
+    let value = merge(alloc, value, &change.value)?;
+    all.push(Member { name, value })?;
+    Ok(next)
 }
 
 // The members from `at` on that stand before a name are copied. The answer is the place of the next one.
@@ -107,15 +105,17 @@ fn copy_below(
     ensures next { IfOk result (λ next. StartsNotBelow name.now (drop next old.now)) }
 {
     let mut next = at;
-    while next < old.len() {
-        let member = &old[next];
-        if member.name >= *name {
-            break;
-        }
-        all.push(copy_member(alloc, member)?)?;
+    while next < old.len() && is_before(&old[next], name) {
+        all.push(copy_member(alloc, &old[next])?)?;
         next += 1;
     }
     Ok(next)
+}
+
+fn is_before(member: &Member, name: &Text) -> bool
+    ensures { IsTrue result ↔ (slice_cmp nat_cmp member.now.0 name.now ≡ Less) }
+{
+    member.name < *name
 }
 
 fn copy_rest(
@@ -142,16 +142,18 @@ fn copy_member(alloc: Global, member: &Member) -> Result<Member, OutOfMemory>
     })
 }
 
-// The value of the member at a place, where it has the name.
-fn value_at<'a>(old: &'a [Member], at: usize, name: &Text) -> Option<&'a Tree>
+// The value of the member at a place, where it has the name, and the place behind it.
+fn take_named<'a>(old: &'a [Member], at: usize, name: &Text) -> (Option<&'a Tree>, usize)
     requires { at ≤ length old.now }
-    ensures { IsFirstValue name.now (drop at old.now) (option_map (λ t. t.now) result) }
+    ensures value { IsFirstValue name.now (drop at old.now) (option_map (λ t. t.now) result.0) }
+    ensures within { result.1 ≤ length old.now }
+    ensures next { drop result.1 old.now ≡ behind (option_map (λ t. t.now) result.0) (drop at old.now) }
 {
     if at < old.len() {
         let member = &old[at];
         if member.name == *name {
-            return Some(&member.value);
+            return (Some(&member.value), at + 1);
         }
     }
-    None
+    (None, at)
 }
