@@ -1,2 +1,4 @@
+pub mod Counting
+pub mod Listing
 pub mod Paths
 pub mod Sizes

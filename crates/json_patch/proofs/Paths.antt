@@ -29,13 +29,17 @@ edited_below first next after edit t child is = ap (changed_at (first ∷ at) (m
   where
     at : List (List ℕ)
     at = parent_of next after
+
     change : Meaning → Result Meaning ApplyCause
     change = change_of edit (last_of next after)
+
     there : pointed (first ∷ at) t ≡ pointed at child
     there = ap (option_and_then (pointed at)) is
+
     made_below : (r : Result Meaning ApplyCause) → and_then r (λ made. Ok (put_at (first ∷ at) made t)) ≡ and_then (and_then r (λ made. Ok (put_at at made child))) (λ made. Ok (with_child first made t))
     made_below (Err cause) = refl
     made_below (Ok made) = ap Ok (put_below first at made t child is)
+
     go : (o : Option Meaning) → changed_at (first ∷ at) (missing_of edit) change t o ≡ and_then (changed_at at (missing_of edit) change child o) (λ made. Ok (with_child first made t))
     go None = refl
     go (Some v) = made_below (change v)
@@ -43,9 +47,9 @@ edited_below first next after edit t child is = ap (changed_at (first ∷ at) (m
 pub edited_missing : (first next : List ℕ) (after : List (List ℕ)) (edit : Edit) (t : Meaning) → child_of first t ≡ None → edited first (next ∷ after) edit t ≡ Err (missing_of edit)
 edited_missing first next after edit t is = ap (λ o. changed_at (first ∷ parent_of next after) (missing_of edit) (change_of edit (last_of next after)) t (option_and_then (pointed (parent_of next after)) o)) is
 
-pub done_below : (first next : List ℕ) (after : List (List ℕ)) (edit : Edit) (t child made whole : Meaning) → child_of first t ≡ Some child → edited next after edit child ≡ Ok made → with_child first made t ≡ whole
-    → edited first (next ∷ after) edit t ≡ Ok whole
-done_below first next after edit t child made whole is inner e =
+pub done_below : (first next : List ℕ) (after : List (List ℕ)) (edit : Edit) (t child made document : Meaning) → child_of first t ≡ Some child → edited next after edit child ≡ Ok made → with_child first made t ≡ document
+    → edited first (next ∷ after) edit t ≡ Ok document
+done_below first next after edit t child made document is inner e =
     edited_below first next after edit t child is ∙ ap (λ r. and_then r (λ made. Ok (with_child first made t))) inner ∙ ap Ok e
 
 pub refused_below : (first next : List ℕ) (after : List (List ℕ)) (edit : Edit) (t child : Meaning) (refusal : Refusal) → child_of first t ≡ Some child → RefusedBy (edited next after edit child) refusal
@@ -74,12 +78,12 @@ with_member first ms n m t s is read = ap members (sym (put_changed first ms n m
 pub items_added : (token : List ℕ) (ts : List Meaning) (n : ℕ) (v : Meaning) → place_of token (length ts) ≡ Some n → added_in v token (items (kids_of ts)) ≡ Ok (items (kids_of (insert ts n v)))
 items_added token ts n v is =
     ap (λ l. unwrap_or (option_map (λ n. Ok (items (kids_of (insert l n v)))) (place_of token (length l))) (Err BadIndex)) (kids_list-kids_of ts)
-      ∙ ap (λ o. unwrap_or (option_map (λ n. Ok (items (kids_of (insert ts n v)))) o) (Err BadIndex)) is
+    ∙ ap (λ o. unwrap_or (option_map (λ n. Ok (items (kids_of (insert ts n v)))) o) (Err BadIndex)) is
 
 pub items_not_added : (token : List ℕ) (ts : List Meaning) (v : Meaning) → place_of token (length ts) ≡ None → added_in v token (items (kids_of ts)) ≡ Err BadIndex
 items_not_added token ts v is =
     ap (λ l. unwrap_or (option_map (λ n. Ok (items (kids_of (insert l n v)))) (place_of token (length l))) (Err BadIndex)) (kids_list-kids_of ts)
-      ∙ ap (λ o. unwrap_or (option_map (λ n. Ok (items (kids_of (insert ts n v)))) o) (Err BadIndex)) is
+    ∙ ap (λ o. unwrap_or (option_map (λ n. Ok (items (kids_of (insert ts n v)))) o) (Err BadIndex)) is
 
 without_item : (token : List ℕ) (ts : List Meaning) (n : ℕ) → index_of token ≡ Some n → without_child token (items (kids_of ts)) ≡ items (kids_of (remove ts n))
 without_item token ts n is =

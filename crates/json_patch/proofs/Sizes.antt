@@ -32,6 +32,11 @@ kid_depth [] n d lt = absurd (omega arith)
 kid_depth (x ∷ ts) zero d lt = omega arith
 kid_depth (x ∷ ts) (suc n) d lt = let rest = kid_depth ts n d (omega arith) in omega arith
 
+pub kid_values : (ts : List Meaning) (n : ℕ) (d : Meaning) → n < length ts → values (get_or ts n d) ≤ kids_values (kids_of ts)
+kid_values [] n d lt = absurd (omega arith)
+kid_values (x ∷ ts) zero d lt = omega arith
+kid_values (x ∷ ts) (suc n) d lt = let rest = kid_values ts n d (omega arith) in omega arith
+
 pub set_kid_depth : (ts : List Meaning) (n : ℕ) (t : Meaning) → n < length ts → depth t ≤ kids_depth (kids_of (set ts n t))
 set_kid_depth [] n t lt = absurd (omega arith)
 set_kid_depth (x ∷ ts) zero t lt = omega arith
@@ -82,6 +87,19 @@ pub field_depth : (ms : List (List ℕ × Meaning)) (n : ℕ) (d : List ℕ × M
 field_depth [] n d lt = absurd (omega arith)
 field_depth (x ∷ ms) zero d lt = omega arith
 field_depth (x ∷ ms) (suc n) d lt = let rest = field_depth ms n d (omega arith) in omega arith
+
+pub field_values : (ms : List (List ℕ × Meaning)) (n : ℕ) (d : List ℕ × Meaning) → n < length ms → values (get_or ms n d).1 ≤ fields_values (fields_of ms)
+field_values [] n d lt = absurd (omega arith)
+field_values (x ∷ ms) zero d lt = omega arith
+field_values (x ∷ ms) (suc n) d lt = let rest = field_values ms n d (omega arith) in omega arith
+
+pub lookup_values : (k : List ℕ) (ms : Fields) → went_of (lookup k ms) ≤ fields_values ms
+lookup_values k no_fields = omega arith
+lookup_values k (field l u ms) = go (bytes_eq l k) (lookup_values k ms)
+  where
+    go : (b : Bool) → went_of (lookup k ms) ≤ fields_values ms → went_of (if b then Some u else lookup k ms) ≤ fields_values (field l u ms)
+    go true rest = omega arith
+    go false rest = omega arith
 
 pub set_field_depth : (ms : List (List ℕ × Meaning)) (n : ℕ) (k : List ℕ) (t : Meaning) → n < length ms → depth t ≤ fields_depth (fields_of (set ms n (k, t)))
 set_field_depth [] n k t lt = absurd (omega arith)
@@ -167,12 +185,16 @@ fields_depth-without k (field l u ms) = go (bytes_eq l k) (fields_depth-without 
 pub edited_items : (edit : Edit) (level : ℕ) (ts : List Meaning) (n : ℕ) (t u : Meaning) (left : Option Meaning) → n < length ts → t ≡ get_or ts n t → IsEdited edit level t u left
     → IsEdited edit (1 + level) (items (kids_of ts)) (items (kids_of (set ts n u))) left
 edited_items edit level ts n t u left lt read h = record {
-    counted =
-        let count : values u + went_of left ≡ values t + came_of edit = h.counted in
-        let all : kids_values (kids_of (set ts n u)) + values t ≡ kids_values (kids_of ts) + values u = subst (λ x. kids_values (kids_of (set ts n u)) + values x ≡ kids_values (kids_of ts) + values u) (sym read) (kids_values-set ts n t u lt) in
-        omega arith;
-    deep = go edit h.deep;
-  }
+  counted =
+      let count : values u + went_of left ≡ values t + came_of edit = h.counted in
+      let all : kids_values (kids_of (set ts n u)) + values t ≡ kids_values (kids_of ts) + values u = subst (λ x. kids_values (kids_of (set ts n u)) + values x ≡ kids_values (kids_of ts) + values u) (sym read) (kids_values-set ts n t u lt) in
+      omega arith;
+  part =
+      let inner = h.part in
+      let whole : values t ≤ kids_values (kids_of ts) = subst (λ x. values x ≤ kids_values (kids_of ts)) (sym read) (kid_values ts n t lt) in
+      omega arith;
+  deep = go edit h.deep;
+}
   where
     go : (edit : Edit) → IsAsDeep edit level t u → IsAsDeep edit (1 + level) (items (kids_of ts)) (items (kids_of (set ts n u)))
     go (Add v) d =
@@ -197,13 +219,17 @@ edited_items edit level ts n t u left lt read h = record {
 pub edited_members : (edit : Edit) (level : ℕ) (ms : List (List ℕ × Meaning)) (n : ℕ) (m : List ℕ × Meaning) (u : Meaning) (left : Option Meaning) → n < length ms → m ≡ get_or ms n m → IsEdited edit level m.1 u left
     → IsEdited edit (1 + level) (members (fields_of ms)) (members (fields_of (set ms n (m.0, u)))) left
 edited_members edit level ms n m u left lt read h = record {
-    counted =
-        let count : values u + went_of left ≡ values m.1 + came_of edit = h.counted in
-        let all : fields_values (fields_of (set ms n (m.0, u))) + values m.1 ≡ fields_values (fields_of ms) + values u =
-            subst (λ (x : List ℕ × Meaning). fields_values (fields_of (set ms n (m.0, u))) + values x.1 ≡ fields_values (fields_of ms) + values u) (sym read) (fields_values-set ms n m m.0 u lt) in
-        omega arith;
-    deep = go edit h.deep;
-  }
+  counted =
+      let count : values u + went_of left ≡ values m.1 + came_of edit = h.counted in
+      let all : fields_values (fields_of (set ms n (m.0, u))) + values m.1 ≡ fields_values (fields_of ms) + values u =
+      subst (λ (x : List ℕ × Meaning). fields_values (fields_of (set ms n (m.0, u))) + values x.1 ≡ fields_values (fields_of ms) + values u) (sym read) (fields_values-set ms n m m.0 u lt) in
+      omega arith;
+  part =
+      let inner = h.part in
+      let whole : values m.1 ≤ fields_values (fields_of ms) = subst (λ (x : List ℕ × Meaning). values x.1 ≤ fields_values (fields_of ms)) (sym read) (field_values ms n m lt) in
+      omega arith;
+  deep = go edit h.deep;
+}
   where
     go : (edit : Edit) → IsAsDeep edit level m.1 u → IsAsDeep edit (1 + level) (members (fields_of ms)) (members (fields_of (set ms n (m.0, u))))
     go (Add v) d =
@@ -231,20 +257,21 @@ item_added ts n v =
     let count = kids_values-insert ts n v in
     let low = insert_kid_depth ts n v in
     let high = kids_depth-insert ts n v in
-    record { counted = omega arith; deep = (omega arith, omega arith) }
+    record { counted = omega arith; part = omega arith; deep = (omega arith, omega arith) }
 
 pub item_removed : (ts : List Meaning) (n : ℕ) (t : Meaning) → n < length ts → t ≡ get_or ts n t → IsEdited Remove 1 (items (kids_of ts)) (items (kids_of (remove ts n))) (Some t)
 item_removed ts n t lt read =
     let count : kids_values (kids_of (remove ts n)) + values t ≡ kids_values (kids_of ts) = subst (λ x. kids_values (kids_of (remove ts n)) + values x ≡ kids_values (kids_of ts)) (sym read) (kids_values-remove ts n t lt) in
     let high = kids_depth-remove ts n in
-    record { counted = omega arith; deep = omega arith }
+    record { counted = omega arith; part = omega arith; deep = omega arith }
 
 pub item_replaced : (ts : List Meaning) (n : ℕ) (t v : Meaning) → n < length ts → t ≡ get_or ts n t → IsEdited (Replace v) 1 (items (kids_of ts)) (items (kids_of (set ts n v))) (Some t)
 item_replaced ts n t v lt read =
     let count : kids_values (kids_of (set ts n v)) + values t ≡ kids_values (kids_of ts) + values v = subst (λ x. kids_values (kids_of (set ts n v)) + values x ≡ kids_values (kids_of ts) + values v) (sym read) (kids_values-set ts n t v lt) in
     let low = set_kid_depth ts n v lt in
     let high = kids_depth-set ts n v in
-    record { counted = omega arith; deep = (omega arith, omega arith) }
+    let whole : values t ≤ kids_values (kids_of ts) = subst (λ x. values x ≤ kids_values (kids_of ts)) (sym read) (kid_values ts n t lt) in
+    record { counted = omega arith; part = omega arith; deep = (omega arith, omega arith) }
 
 pub member_added : (k : List ℕ) (v : Meaning) (ms : List (List ℕ × Meaning)) (fs : Fields) (left : Option Meaning) → AreSorted ms → left ≡ lookup k (fields_of ms) → fs ≡ put k v (fields_of ms)
     → IsEdited (Add v) 1 (members (fields_of ms)) (members fs) left
@@ -252,15 +279,17 @@ member_added k v ms fs left s was now =
     let count : fields_values fs + went_of left ≡ fields_values (fields_of ms) + values v = rw (was, now) (fields_values-put k v ms s) in
     let low : depth v ≤ fields_depth fs = rw now (put_field_depth k v (fields_of ms)) in
     let high : fields_depth fs ≤ max (fields_depth (fields_of ms)) (depth v) = rw now (fields_depth-put k v (fields_of ms)) in
-    record { counted = omega arith; deep = (omega arith, omega arith) }
+    let whole : went_of left ≤ fields_values (fields_of ms) = rw was (lookup_values k (fields_of ms)) in
+    record { counted = omega arith; part = omega arith; deep = (omega arith, omega arith) }
 
 pub member_replaced : (k : List ℕ) (v : Meaning) (ms : List (List ℕ × Meaning)) (fs : Fields) (left : Option Meaning) → AreSorted ms → left ≡ lookup k (fields_of ms) → fs ≡ put k v (fields_of ms)
     → IsEdited (Replace v) 1 (members (fields_of ms)) (members fs) left
-member_replaced k v ms fs left s was now = let h = member_added k v ms fs left s was now in record { counted = h.counted; deep = h.deep }
+member_replaced k v ms fs left s was now = let h = member_added k v ms fs left s was now in record { counted = h.counted; part = h.part; deep = h.deep }
 
 pub member_removed : (k : List ℕ) (ms : List (List ℕ × Meaning)) (fs : Fields) (left : Option Meaning) → AreSorted ms → left ≡ lookup k (fields_of ms) → fs ≡ fields_without k (fields_of ms)
     → IsEdited Remove 1 (members (fields_of ms)) (members fs) left
 member_removed k ms fs left s was now =
     let count : fields_values fs + went_of left ≡ fields_values (fields_of ms) = rw (was, now) (fields_values-without k ms s) in
     let high : fields_depth fs ≤ fields_depth (fields_of ms) = rw now (fields_depth-without k (fields_of ms)) in
-    record { counted = omega arith; deep = omega arith }
+    let whole : went_of left ≤ fields_values (fields_of ms) = rw was (lookup_values k (fields_of ms)) in
+    record { counted = omega arith; part = omega arith; deep = omega arith }

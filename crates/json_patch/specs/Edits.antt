@@ -1,5 +1,5 @@
 -- A change under the last token of a target location, and what it does to the size of a document.
-use Rattle.std.specs.Prelude.{◌≡◌, ℕ, ◌+◌, ◌≤◌, max, List, Option, Some, None, IsSome, Result, Err}
+use Rattle.std.specs.Prelude.{◌≡◌, ℕ, ◌+◌, ◌≤◌, max, List, [], ◌∷◌, Option, Some, None, IsSome, Result, Ok, Err}
 use Rattle.json_tree.specs.Meaning.{Meaning}
 use Rattle.json_patch.specs.declared.edit.Edit.{Edit}
 use Rattle.json_patch.specs.declared.edit.Edit.TheVariants.{Add, Remove, Replace}
@@ -41,6 +41,12 @@ came_of (Add v) = values v
 came_of Remove = 0
 came_of (Replace v) = values v
 
+-- how many containers stand one inside another where a value comes below so many
+abbrev pub deep_of : Edit → ℕ → ℕ
+deep_of (Add v) level = depth v + level
+deep_of Remove level = 0
+deep_of (Replace v) level = depth v + level
+
 abbrev pub went_of : Option Meaning → ℕ
 went_of None = 0
 went_of (Some v) = values v
@@ -53,4 +59,12 @@ IsAsDeep (Replace v) level old new = (level + depth v ≤ depth new) × (depth n
 
 pub record IsEdited (edit : Edit) (level : ℕ) (old new : Meaning) (left : Option Meaning) : Type 0 where
   pub counted : values new + went_of left ≡ values old + came_of edit
+  pub part : went_of left ≤ values old
   pub deep : IsAsDeep edit level old new
+
+-- the whole document is what a pointer without tokens points to
+abbrev pub edited_at : List (List ℕ) → Edit → Meaning → Result Meaning ApplyCause
+edited_at [] (Add v) t = Ok v
+edited_at [] Remove t = Err NoParent
+edited_at [] (Replace v) t = Ok v
+edited_at (first ∷ rest) edit t = edited first rest edit t

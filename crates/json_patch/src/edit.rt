@@ -1,7 +1,7 @@
-ghost use Rattle.std.specs.Prelude.{◌≡◌, ◌+◌, ◌<◌, ℕ, Ok, IfOk, IfErr, length, ◌∷◌};
+ghost use Rattle.std.specs.Prelude.{◌≡◌, ◌+◌, ◌<◌, ℕ, Ok, IfOk, IfErr, length, [], ◌∷◌, Some};
 ghost use Rattle.json_tree.specs.Meaning.{items, members, kids_of, fields_of};
 ghost use Rattle.json_tree.specs.Pointers.{child_of, pointed};
-ghost use Rattle.json_patch.specs.Edits.{change_of, missing_of, edited, RefusedBy, IsTaken, IsEdited};
+ghost use Rattle.json_patch.specs.Edits.{edited_at, change_of, missing_of, edited, RefusedBy, IsTaken, IsEdited};
 ghost use Rattle.json_patch.specs.Effects.{place_of};
 
 use crate::fault::ApplyCause;
@@ -61,9 +61,40 @@ impl Edit {
     }
 }
 
-/// Makes an edit at the target location of these tokens, and answers the value that left the document.
+/// Makes an edit at a target location, and answers the value that left the document.
+pub fn edit_path(
+    alloc: Global,
+    tree: &mut Tree,
+    path: &[Text],
+    edit: Edit,
+) -> Result<Option<Tree>, Refusal>
+    ensures done { IfOk result (λ _. edited_at path.now edit tree.old ≡ Ok tree.new) }
+    ensures taken { IfOk result (λ left. IsTaken edit left (pointed path.now tree.old)) }
+    ensures size { IfOk result (IsEdited edit (length path.now) tree.old tree.new) }
+    ensures refused { IfErr result (RefusedBy (edited_at path.now edit tree.old)) }
+{
+    match path {
+        [] => edit_root(tree, edit),
+        [first, rest @ ..] => edit_at(alloc, tree, first, rest, edit),
+    }
+}
+
+// Another value takes the place of the whole document.
+fn edit_root(tree: &mut Tree, edit: Edit) -> Result<Option<Tree>, Refusal>
+    ensures done { IfOk result (λ _. edited_at [] edit tree.old ≡ Ok tree.new) }
+    ensures taken { IfOk result (λ left. IsTaken edit left (Some tree.old)) }
+    ensures size { IfOk result (IsEdited edit 0 tree.old tree.new) }
+    ensures refused { IfErr result (RefusedBy (edited_at [] edit tree.old)) }
+{
+    match edit {
+        Edit::Add(value) | Edit::Replace(value) => Ok(Some(mem::replace(tree, value))),
+        Edit::Remove => Err(Refusal::Cause(ApplyCause::NoParent)),
+    }
+}
+
+// Makes an edit at the target location of these tokens.
 #[cycle(edit_at)]
-pub fn edit_at(
+fn edit_at(
     alloc: Global,
     tree: &mut Tree,
     first: &Text,

@@ -1,7 +1,6 @@
 ghost use Rattle.std.specs.Prelude.{◌≡◌};
 
 use base_types::OutOfMemory;
-use json_tree::PointerFault;
 use std::alloc::{AllocError, AllocFailed};
 use thiserror::Error;
 
@@ -18,6 +17,39 @@ pub enum PatchFault {
     BadOperation { index: u32 },
     #[error("out of memory")]
     OutOfMemory,
+}
+
+impl From<AllocError> for PatchFault {
+    ghost use Rattle.json_patch.specs.declared.fault.PatchFault.TheVariants.{OutOfMemory};
+    ghost use Rattle.std.specs.Prelude.{◌≡◌};
+
+    ghost from_gives = { λ _ fault. fault ≡ OutOfMemory };
+
+    fn from(_: AllocError) -> PatchFault {
+        PatchFault::OutOfMemory
+    }
+}
+
+impl<T: Drop> From<AllocFailed<T>> for PatchFault {
+    ghost use Rattle.json_patch.specs.declared.fault.PatchFault.TheVariants.{OutOfMemory};
+    ghost use Rattle.std.specs.Prelude.{◌≡◌};
+
+    ghost from_gives = { λ _ fault. fault ≡ OutOfMemory };
+
+    fn from(_: AllocFailed<T>) -> PatchFault {
+        PatchFault::OutOfMemory
+    }
+}
+
+impl From<OutOfMemory> for PatchFault {
+    ghost use Rattle.json_patch.specs.declared.fault.PatchFault.TheVariants.{OutOfMemory as Refused};
+    ghost use Rattle.std.specs.Prelude.{◌≡◌};
+
+    ghost from_gives = { λ _ fault. fault ≡ Refused };
+
+    fn from(_: OutOfMemory) -> PatchFault {
+        PatchFault::OutOfMemory
+    }
 }
 
 /// Why an operation can't be done. The first of this list that applies is given.

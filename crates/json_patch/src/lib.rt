@@ -1,9 +1,17 @@
 //! JSON Patch (RFC 6902): reading a patch, and applying it to a tree.
 #![tactic(auto)]
 
+mod applying;
 mod edit;
 mod fault;
 mod op;
+mod reading;
+mod size;
 
+pub use applying::apply;
 pub use fault::{ApplyCause, ApplyFault, PatchFault};
 pub use op::{Op, Patch};
+pub use reading::read_patch;
+
+#[cfg(test)]
+mod tests;

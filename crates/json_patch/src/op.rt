@@ -23,7 +23,6 @@ pub struct Patch {
 impl Model for Patch {
     ghost use Rattle.std.specs.Prelude.{List, ◌≤◌, length};
     ghost use Rattle.json_patch.specs.declared.op.Op.{Op};
-
     ghost use Rattle.json_patch.specs.contracts.op.Op as the_op;
     ghost use Rattle.std.specs.Coded.{coded_list};
 

@@ -1,4 +1,5 @@
 pub mod Escapes
+mod Examples
 pub mod Indices
 pub mod Lists
 pub mod Ordered

@@ -23,7 +23,7 @@ edit_below_items-returns-in-Some-clause-done t c =
     let there = item_there c.args.first.now all n child is found.1 read in
     let whole = with_item c.args.first.now all n c.edit_at.new.tree is ∙ ap (λ l. items (kids_of (set l n c.edit_at.new.tree))) (sym c.list.view_is) in
     IfOk-weaker c.edit_at.result (λ left. edited c.args.next.now c.args.after.now c.args.edit child ≡ Ok c.edit_at.new.tree) _
-      (λ left inner. done_below c.args.first.now c.args.next.now c.args.after.now c.args.edit (items (kids_of all)) child c.edit_at.new.tree _ there inner whole) c.edit_at.ensures.done
+    (λ left inner. done_below c.args.first.now c.args.next.now c.args.after.now c.args.edit (items (kids_of all)) child c.edit_at.new.tree _ there inner whole) c.edit_at.ensures.done
 
 pub edit_below_items-returns-in-Some-clause-taken : goal.edit_below_items-returns-in-Some-clause-taken
 edit_below_items-returns-in-Some-clause-taken t c =
@@ -35,7 +35,7 @@ edit_below_items-returns-in-Some-clause-taken t c =
     let read = subst (λ l. child ≡ get_or l n child) c.list.view_is c.index_mut-child.ensures.value in
     let below = pointed_below c.args.first.now c.args.next.now c.args.after.now (items (kids_of all)) child (item_there c.args.first.now all n child is found.1 read) in
     IfOk-weaker c.edit_at.result (λ left. IsTaken c.args.edit left (pointed (c.args.next.now ∷ c.args.after.now) child)) _
-      (λ left inner. subst (IsTaken c.args.edit left) below inner) c.edit_at.ensures.taken
+    (λ left inner. subst (IsTaken c.args.edit left) below inner) c.edit_at.ensures.taken
 
 pub edit_below_items-returns-in-Some-clause-size : goal.edit_below_items-returns-in-Some-clause-size
 edit_below_items-returns-in-Some-clause-size t c =
@@ -44,9 +44,9 @@ edit_below_items-returns-in-Some-clause-size t c =
     let n = c.in-Some.at in
     let within : n < length all = subst (λ l. n < length l) (sym c.list.view_is) c.in-Some.ensures.some.1 in
     IfOk-weaker c.edit_at.result (IsEdited c.args.edit (1 + length c.args.after.now) child c.edit_at.new.tree) _
-      (λ left inner. levelled (λ n. IsEdited c.args.edit n (items (kids_of c.args.list.now)) (items (kids_of (set all c.in-Some.at c.edit_at.new.tree))) left) (length c.args.after.now)
-        (subst (λ l. IsEdited c.args.edit (1 + (1 + length c.args.after.now)) (items (kids_of l)) (items (kids_of (set all c.in-Some.at c.edit_at.new.tree))) left) c.list.view_is
-          (edited_items c.args.edit (1 + length c.args.after.now) all n child c.edit_at.new.tree left within c.index_mut-child.ensures.value inner))) c.edit_at.ensures.size
+    (λ left inner. levelled (λ n. IsEdited c.args.edit n (items (kids_of c.args.list.now)) (items (kids_of (set all c.in-Some.at c.edit_at.new.tree))) left) (length c.args.after.now)
+    (subst (λ l. IsEdited c.args.edit (1 + (1 + length c.args.after.now)) (items (kids_of l)) (items (kids_of (set all c.in-Some.at c.edit_at.new.tree))) left) c.list.view_is
+    (edited_items c.args.edit (1 + length c.args.after.now) all n child c.edit_at.new.tree left within c.index_mut-child.ensures.value inner))) c.edit_at.ensures.size
 
 pub edit_below_items-returns-in-Some-clause-refused : goal.edit_below_items-returns-in-Some-clause-refused
 edit_below_items-returns-in-Some-clause-refused t c =
@@ -58,7 +58,7 @@ edit_below_items-returns-in-Some-clause-refused t c =
     let read = subst (λ l. child ≡ get_or l n child) c.list.view_is c.index_mut-child.ensures.value in
     let there = item_there c.args.first.now all n child is found.1 read in
     IfErr-weaker c.edit_at.result (RefusedBy (edited c.args.next.now c.args.after.now c.args.edit child)) _
-      (λ refusal inner. refused_below c.args.first.now c.args.next.now c.args.after.now c.args.edit (items (kids_of all)) child refusal there inner) c.edit_at.ensures.refused
+    (λ refusal inner. refused_below c.args.first.now c.args.next.now c.args.after.now c.args.edit (items (kids_of all)) child refusal there inner) c.edit_at.ensures.refused
 
 pub edit_below_members-index_mut-member-requires : goal.edit_below_members-index_mut-member-requires
 edit_below_members-index_mut-member-requires t c =
@@ -84,7 +84,7 @@ edit_below_members-returns-in-Ok-clause-done t c =
     let there = subst (λ l. child_of c.args.first.now (members (fields_of l)) ≡ Some c.member.inside.value) c.list.view_is (member_there c.args.first.now all c.in-Ok.at m c.list.invariant found read) in
     let whole = ap (λ l. members (put c.args.first.now c.edit_at.new.tree (fields_of l))) (sym c.list.view_is) ∙ with_member c.args.first.now all c.in-Ok.at m c.edit_at.new.tree c.list.invariant found read in
     IfOk-weaker c.edit_at.result (λ left. edited c.args.next.now c.args.after.now c.args.edit c.member.inside.value ≡ Ok c.edit_at.new.tree) _
-      (λ left inner. done_below c.args.first.now c.args.next.now c.args.after.now c.args.edit (members (fields_of c.args.list.now)) c.member.inside.value c.edit_at.new.tree _ there inner whole) c.edit_at.ensures.done
+    (λ left inner. done_below c.args.first.now c.args.next.now c.args.after.now c.args.edit (members (fields_of c.args.list.now)) c.member.inside.value c.edit_at.new.tree _ there inner whole) c.edit_at.ensures.done
 
 pub edit_below_members-returns-in-Ok-clause-taken : goal.edit_below_members-returns-in-Ok-clause-taken
 edit_below_members-returns-in-Ok-clause-taken t c =
@@ -96,7 +96,7 @@ edit_below_members-returns-in-Ok-clause-taken t c =
     let there = subst (λ l. child_of c.args.first.now (members (fields_of l)) ≡ Some c.member.inside.value) c.list.view_is (member_there c.args.first.now all c.in-Ok.at m c.list.invariant found read) in
     let below = pointed_below c.args.first.now c.args.next.now c.args.after.now (members (fields_of c.args.list.now)) c.member.inside.value there in
     IfOk-weaker c.edit_at.result (λ left. IsTaken c.args.edit left (pointed (c.args.next.now ∷ c.args.after.now) c.member.inside.value)) _
-      (λ left inner. subst (IsTaken c.args.edit left) below inner) c.edit_at.ensures.taken
+    (λ left inner. subst (IsTaken c.args.edit left) below inner) c.edit_at.ensures.taken
 
 pub edit_below_members-returns-in-Ok-clause-size : goal.edit_below_members-returns-in-Ok-clause-size
 edit_below_members-returns-in-Ok-clause-size t c =
@@ -106,9 +106,9 @@ edit_below_members-returns-in-Ok-clause-size t c =
     let read : m ≡ get_or all c.in-Ok.at m = subst (λ x. x ≡ get_or all c.in-Ok.at x) (sym c.member.view_is) c.index_mut-member.ensures.value in
     let within : c.in-Ok.at < length all = named_within all c.as_str.result.now c.in-Ok.at found in
     IfOk-weaker c.edit_at.result (IsEdited c.args.edit (1 + length c.args.after.now) c.member.inside.value c.edit_at.new.tree) _
-      (λ left inner. levelled (λ n. IsEdited c.args.edit n (members (fields_of c.args.list.now)) (members (fields_of (set all c.in-Ok.at (c.member.inside.name, c.edit_at.new.tree)))) left) (length c.args.after.now)
-        (subst (λ l. IsEdited c.args.edit (1 + (1 + length c.args.after.now)) (members (fields_of l)) (members (fields_of (set all c.in-Ok.at (c.member.inside.name, c.edit_at.new.tree)))) left) c.list.view_is
-          (edited_members c.args.edit (1 + length c.args.after.now) all c.in-Ok.at m c.edit_at.new.tree left within read inner))) c.edit_at.ensures.size
+    (λ left inner. levelled (λ n. IsEdited c.args.edit n (members (fields_of c.args.list.now)) (members (fields_of (set all c.in-Ok.at (c.member.inside.name, c.edit_at.new.tree)))) left) (length c.args.after.now)
+    (subst (λ l. IsEdited c.args.edit (1 + (1 + length c.args.after.now)) (members (fields_of l)) (members (fields_of (set all c.in-Ok.at (c.member.inside.name, c.edit_at.new.tree)))) left) c.list.view_is
+    (edited_members c.args.edit (1 + length c.args.after.now) all c.in-Ok.at m c.edit_at.new.tree left within read inner))) c.edit_at.ensures.size
 
 pub edit_below_members-returns-in-Ok-clause-refused : goal.edit_below_members-returns-in-Ok-clause-refused
 edit_below_members-returns-in-Ok-clause-refused t c =
@@ -119,7 +119,7 @@ edit_below_members-returns-in-Ok-clause-refused t c =
     let read : m ≡ get_or all c.in-Ok.at m = subst (λ x. x ≡ get_or all c.in-Ok.at x) (sym c.member.view_is) c.index_mut-member.ensures.value in
     let there = subst (λ l. child_of c.args.first.now (members (fields_of l)) ≡ Some c.member.inside.value) c.list.view_is (member_there c.args.first.now all c.in-Ok.at m c.list.invariant found read) in
     IfErr-weaker c.edit_at.result (RefusedBy (edited c.args.next.now c.args.after.now c.args.edit c.member.inside.value)) _
-      (λ refusal inner. refused_below c.args.first.now c.args.next.now c.args.after.now c.args.edit (members (fields_of c.args.list.now)) c.member.inside.value refusal there inner) c.edit_at.ensures.refused
+    (λ refusal inner. refused_below c.args.first.now c.args.next.now c.args.after.now c.args.edit (members (fields_of c.args.list.now)) c.member.inside.value refusal there inner) c.edit_at.ensures.refused
 
 pub edit_below_members-returns-in-Err-clause-refused : goal.edit_below_members-returns-in-Err-clause-refused
 edit_below_members-returns-in-Err-clause-refused t c =

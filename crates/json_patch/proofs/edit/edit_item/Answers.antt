@@ -15,7 +15,7 @@ returns-in_ok-insert-in-Some-clause-done c =
     let count : c.len.result ≡ length all = grind (arith, c.list.view_is) in
     let place : place_of c.args.token.now (length all) ≡ Some c.in-Some.at = subst (λ n. place_of c.args.token.now n ≡ Some c.in-Some.at) count (sym c.in-Some.ensures) in
     ap (λ (e : Edit). change_of e c.args.token.now (items (kids_of all))) c.in-Add.is ∙ items_added c.args.token.now all c.in-Some.at c.in-Add.value place
-      ∙ ap (λ l. Ok (items (kids_of (insert l c.in-Some.at c.in-Add.value)))) (sym c.list.view_is) ∙ ap (λ l. Ok (items (kids_of l))) (sym c.in_ok-insert-in-Some.ensures.items)
+    ∙ ap (λ l. Ok (items (kids_of (insert l c.in-Some.at c.in-Add.value)))) (sym c.list.view_is) ∙ ap (λ l. Ok (items (kids_of l))) (sym c.in_ok-insert-in-Some.ensures.items)
 
 pub returns-in_ok-insert-in-Some-clause-size : goal.returns-in_ok-insert-in-Some-clause-size
 returns-in_ok-insert-in-Some-clause-size c =
@@ -34,7 +34,7 @@ returns-in-Some-find-clause-done c =
     let found = c.in-Some-find.ensures.some in
     let read = subst (λ l. c.remove.result ≡ get_or l c.in-Some-find.at c.remove.result) c.list.view_is c.remove.ensures.value in
     ap (λ (e : Edit). change_of e c.args.token.now (items (kids_of all))) c.in-Remove.is ∙ items_removed c.args.token.now all c.in-Some-find.at c.remove.result found.0 found.1 read
-      ∙ ap (λ l. Ok (items (kids_of (remove l c.in-Some-find.at)))) (sym c.list.view_is) ∙ ap (λ l. Ok (items (kids_of l))) (sym c.remove.ensures.items)
+    ∙ ap (λ l. Ok (items (kids_of (remove l c.in-Some-find.at)))) (sym c.list.view_is) ∙ ap (λ l. Ok (items (kids_of l))) (sym c.remove.ensures.items)
 
 pub returns-in-Some-find-clause-taken : goal.returns-in-Some-find-clause-taken
 returns-in-Some-find-clause-taken c =
@@ -56,8 +56,8 @@ returns-in-Some-find-2-clause-done c =
     let old = c.index_mut.result.now in
     let read = subst (λ l. old ≡ get_or l c.in-Some-find-2.at old) c.list.view_is c.index_mut.ensures.value in
     ap (λ (e : Edit). change_of e c.args.token.now (items (kids_of all))) c.in-Replace.is ∙ items_replaced c.args.token.now all c.in-Some-find-2.at old c.in-Replace.value found.0 found.1 read
-      ∙ ap (λ l. Ok (items (kids_of (set l c.in-Some-find-2.at c.in-Replace.value)))) (sym c.list.view_is)
-      ∙ ap (λ v. Ok (items (kids_of (set c.list.inside.all.items c.in-Some-find-2.at v)))) (sym c.replace.ensures.after)
+    ∙ ap (λ l. Ok (items (kids_of (set l c.in-Some-find-2.at c.in-Replace.value)))) (sym c.list.view_is)
+    ∙ ap (λ v. Ok (items (kids_of (set c.list.inside.all.items c.in-Some-find-2.at v)))) (sym c.replace.ensures.after)
 
 pub returns-in-Some-find-2-clause-size : goal.returns-in-Some-find-2-clause-size
 returns-in-Some-find-2-clause-size c =

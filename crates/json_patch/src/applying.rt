@@ -1,0 +1,237 @@
+ghost use Rattle.std.specs.Prelude.{◌≡◌, ◌-◌, ◌^◌, min, Ok, IfOk, IfErr};
+ghost use Rattle.std.specs.Option.{ForSome};
+ghost use Rattle.json_tree.specs.Meaning.{Meaning};
+ghost use Rattle.json_patch.specs.Changes.{IsChange, IsWithin, Tells, IsFaultOf};
+ghost use Rattle.json_patch.specs.Edits.{edited_at, came_of, deep_of, went_of, RefusedBy};
+ghost use Rattle.json_patch.specs.Effects.{effect, moved, copied, tested, done};
+ghost use Rattle.json_patch.specs.Patches.{applied};
+ghost use Rattle.json_patch.specs.Targets.{is_proper_prefix};
+
+use crate::edit::{Edit, Refusal, edit_path};
+use crate::fault::{ApplyCause, ApplyFault};
+use crate::op::{Op, Patch};
+use crate::size::{Size, size_of};
+use base_types::{OutOfMemory, Text};
+use json_tree::{Pointer, Tree, copy, get};
+use std::alloc::Global;
+
+/// The most containers that may stand one inside another.
+const MAX_DEPTH: u64 = 127;
+
+/// The most values that a document may have.
+const MAX_VALUES: u64 = 1_000_000;
+
+/// What an operation did to the size of a document. The numbers stop at 2^64 - 1.
+#[derive(Clone, Copy, Debug, PartialEq, Eq)]
+pub struct Change {
+    /// How many values came.
+    pub came: u64,
+    /// How many values left.
+    pub went: u64,
+    /// How many containers stand one inside another where a value came.
+    pub depth: u64,
+}
+
+/// The change of a document that stays as it is.
+const NO_CHANGE: Change = Change {
+    came: 0,
+    went: 0,
+    depth: 0,
+};
+
+/// The operations of a patch in order on a tree, which stays as it is (RFC 6902 section 5). The copy on
+/// which they work is made once, and each operation costs what it touches: the values that it brings,
+/// takes away or compares, and one look into each container on the way.
+pub fn apply(alloc: Global, tree: &Tree, patch: &Patch) -> Result<Tree, ApplyFault>
+    ensures ok { IfOk result (λ made. applied 0 patch.now tree.now ≡ Ok made) }
+    ensures fault { IfErr result (IsFaultOf (applied 0 patch.now tree.now)) }
+{
+    let mut made = match copy(alloc, tree) {
+        Ok(made) => made,
+        Err(OutOfMemory) => return Err(ApplyFault::OutOfMemory),
+    };
+    let ops = patch.as_slice();
+    let mut known = None;
+    for index in 0..ops.len() {
+        match step(alloc, &mut made, known, &ops[index]) {
+            Ok(count) => known = Some(count),
+            Err(Refusal::Cause(cause)) => {
+                let index = index as u32;
+                return Err(ApplyFault::Operation { index, cause });
+            }
+            Err(Refusal::OutOfMemory) => return Err(ApplyFault::OutOfMemory),
+        }
+    }
+    Ok(made)
+}
+
+// One operation with its limits, and how many values the document then has. `known` is that number before
+// it, where the document is known to be within the limits.
+fn step(alloc: Global, tree: &mut Tree, known: Option<u64>, op: &Op) -> Result<u64, Refusal>
+    requires { ForSome known (IsWithin tree.old) }
+    ensures done { IfOk result (λ _. done op.now tree.old ≡ Ok tree.new) }
+    ensures known { IfOk result (IsWithin tree.new) }
+    ensures refused { IfErr result (RefusedBy (done op.now tree.old)) }
+{
+    let change = make(alloc, tree, op)?;
+    let size = match known {
+        Some(count) => size_after(count, change),
+        None => size_of(tree),
+    };
+    if size.depth > MAX_DEPTH {
+        return Err(Refusal::Cause(ApplyCause::Deep));
+    }
+    if size.values > MAX_VALUES {
+        return Err(Refusal::Cause(ApplyCause::Large));
+    }
+    Ok(size.values)
+}
+
+// The size of a document that had so many values within the limits, as far as the limits ask.
+fn size_after(count: u64, change: Change) -> Size
+    ensures { (old new : Meaning) → IsWithin old count → IsChange old new change → Tells new result }
+{
+    Size {
+        values: count
+            .saturating_add(change.came)
+            .saturating_sub(change.went),
+        depth: change.depth,
+    }
+}
+
+fn make(alloc: Global, tree: &mut Tree, op: &Op) -> Result<Change, Refusal>
+    ensures done { IfOk result (λ _. effect op.now tree.old ≡ Ok tree.new) }
+    ensures change { IfOk result (IsChange tree.old tree.new) }
+    ensures refused { IfErr result (RefusedBy (effect op.now tree.old)) }
+{
+    match op {
+        Op::Add { path, value } => {
+            let value = copy(alloc, value)?;
+            change_by(alloc, tree, path.as_slice(), Edit::Add(value))
+        }
+        Op::Remove { path } => change_by(alloc, tree, path.as_slice(), Edit::Remove),
+        Op::Replace { path, value } => {
+            let value = copy(alloc, value)?;
+            change_by(alloc, tree, path.as_slice(), Edit::Replace(value))
+        }
+        Op::Move { from, path } => move_value(alloc, tree, from.as_slice(), path.as_slice()),
+        Op::Copy { from, path } => copy_value(alloc, tree, from, path),
+        Op::Test { path, value } => test_value(tree, path, value),
+    }
+}
+
+fn change_by(alloc: Global, tree: &mut Tree, path: &[Text], edit: Edit) -> Result<Change, Refusal>
+    ensures done { IfOk result (λ _. edited_at path.now edit tree.old ≡ Ok tree.new) }
+    ensures change { IfOk result (IsChange tree.old tree.new) }
+    ensures refused { IfErr result (RefusedBy (edited_at path.now edit tree.old)) }
+{
+    let (came, depth) = coming(&edit, path.len());
+    let left = edit_path(alloc, tree, path, edit)?;
+    Ok(Change {
+        came,
+        went: values_of(&left),
+        depth,
+    })
+}
+
+// How many values an edit brings, and how deep it reaches below so many containers.
+fn coming(edit: &Edit, level: usize) -> (u64, u64)
+    ensures values { result.0 ≡ min (came_of edit.now) (2 ^ 64 - 1) }
+    ensures depth { result.1 ≡ min (deep_of edit.now level) (2 ^ 64 - 1) }
+{
+    match edit {
+        Edit::Add(value) | Edit::Replace(value) => {
+            let size = size_of(value);
+            (size.values, size.depth.saturating_add(level as u64))
+        }
+        Edit::Remove => (0, 0),
+    }
+}
+
+fn values_of(left: &Option<Tree>) -> u64
+    ensures { result ≡ min (went_of left.now) (2 ^ 64 - 1) }
+{
+    match left {
+        Some(value) => size_of(value).values,
+        None => 0,
+    }
+}
+
+// The value is taken out and put in, and not copied. Where it doesn't get deeper its depth isn't asked.
+fn move_value(
+    alloc: Global,
+    tree: &mut Tree,
+    from: &[Text],
+    path: &[Text],
+) -> Result<Change, Refusal>
+    ensures done { IfOk result (λ _. moved from.now path.now tree.old ≡ Ok tree.new) }
+    ensures change { IfOk result (IsChange tree.old tree.new) }
+    ensures refused { IfErr result (RefusedBy (moved from.now path.now tree.old)) }
+{
+    if is_proper_prefix(from, path) {
+        return Err(Refusal::Cause(ApplyCause::IntoItself));
+    }
+    if from.is_empty() {
+        return Ok(NO_CHANGE);
+    }
+    let Some(value) = edit_path(alloc, tree, from, Edit::Remove)? else {
+        unreachable!();
+    };
+    let depth = if path.len() <= from.len() {
+        0
+    } else {
+        size_of(&value).depth.saturating_add(path.len() as u64)
+    };
+    let left = edit_path(alloc, tree, path, Edit::Add(value))?;
+    Ok(Change {
+        came: 0,
+        went: values_of(&left),
+        depth,
+    })
+}
+
+fn is_proper_prefix(from: &[Text], path: &[Text]) -> bool
+    ensures { result ≡ is_proper_prefix from.now path.now }
+{
+    match from {
+        [] => !path.is_empty(),
+        [start, more @ ..] => match path {
+            [] => false,
+            [token, rest @ ..] => start == token && is_proper_prefix(more, rest),
+        },
+    }
+}
+
+fn copy_value(
+    alloc: Global,
+    tree: &mut Tree,
+    from: &Pointer,
+    path: &Pointer,
+) -> Result<Change, Refusal>
+    ensures done { IfOk result (λ _. copied from.now path.now tree.old ≡ Ok tree.new) }
+    ensures change { IfOk result (IsChange tree.old tree.new) }
+    ensures refused { IfErr result (RefusedBy (copied from.now path.now tree.old)) }
+{
+    let value = match get(tree, from) {
+        Some(value) => copy(alloc, value)?,
+        None => return Err(Refusal::Cause(ApplyCause::NoValue)),
+    };
+    change_by(alloc, tree, path.as_slice(), Edit::Add(value))
+}
+
+fn test_value(tree: &Tree, path: &Pointer, value: &Tree) -> Result<Change, Refusal>
+    ensures done { IfOk result (λ _. tested path.now value.now tree.now ≡ Ok tree.now) }
+    ensures change { IfOk result (IsChange tree.now tree.now) }
+    ensures refused { IfErr result (RefusedBy (tested path.now value.now tree.now)) }
+{
+    match get(tree, path) {
+        None => Err(Refusal::Cause(ApplyCause::NoValue)),
+        Some(there) => {
+            if there == value {
+                Ok(NO_CHANGE)
+            } else {
+                Err(Refusal::Cause(ApplyCause::Differs))
+            }
+        }
+    }
+}

@@ -1,0 +1,120 @@
+ghost use Rattle.std.specs.Prelude.{◌≡◌, ℕ, List, Ok, IfOk, IfErr, codes, option_map};
+ghost use Rattle.json_patch.specs.Reading.{text_at, pointer_at, pair_of, op_of, patch_of, IsPatchFault};
+ghost use Rattle.json_tree.specs.Parts.{member_of};
+
+use crate::fault::PatchFault;
+use crate::op::{Op, Patch};
+use base_types::OutOfMemory;
+use json_tree::{Pointer, PointerFault, Tree, copy, read_pointer};
+use std::alloc::Global;
+
+/// The most operations that a patch may have.
+const MAX_OPERATIONS: usize = 10_000;
+
+/// The patch that a JSON value is (RFC 6902 sections 3 and 4).
+pub fn read_patch(alloc: Global, tree: &Tree) -> Result<Patch, PatchFault>
+    ensures ok { IfOk result (λ patch. patch_of tree.now ≡ Ok patch) }
+    ensures fault { IfErr result (IsPatchFault (patch_of tree.now)) }
+{
+    let Some(list) = tree.as_items() else {
+        return Err(PatchFault::NotList);
+    };
+    if list.all.len() > MAX_OPERATIONS {
+        return Err(PatchFault::TooMany);
+    }
+    let mut ops = Vec::with_capacity(alloc, list.all.len())?;
+    for index in 0..list.all.len() {
+        match read_op(alloc, &list.all[index])? {
+            Some(op) => ops.push(op)?,
+            None => {
+                let index = index as u32;
+                return Err(PatchFault::BadOperation { index });
+            }
+        }
+    }
+    Ok(Patch::new(ops))
+}
+
+fn read_op(alloc: Global, tree: &Tree) -> Result<Option<Op>, OutOfMemory>
+    ensures { IfOk result (λ op. op ≡ op_of tree.now) }
+{
+    let Some(name) = text_at(tree, "op") else {
+        return Ok(None);
+    };
+    match name {
+        "add" => match read_path_and_value(alloc, tree)? {
+            Some((path, value)) => Ok(Some(Op::Add { path, value })),
+            None => Ok(None),
+        },
+        "remove" => match read_path(alloc, tree, "path")? {
+            Some(path) => Ok(Some(Op::Remove { path })),
+            None => Ok(None),
+        },
+        "replace" => match read_path_and_value(alloc, tree)? {
+            Some((path, value)) => Ok(Some(Op::Replace { path, value })),
+            None => Ok(None),
+        },
+        "move" => match read_from_and_path(alloc, tree)? {
+            Some((from, path)) => Ok(Some(Op::Move { from, path })),
+            None => Ok(None),
+        },
+        "copy" => match read_from_and_path(alloc, tree)? {
+            Some((from, path)) => Ok(Some(Op::Copy { from, path })),
+            None => Ok(None),
+        },
+        "test" => match read_path_and_value(alloc, tree)? {
+            Some((path, value)) => Ok(Some(Op::Test { path, value })),
+            None => Ok(None),
+        },
+        _ => Ok(None),
+    }
+}
+
+fn read_path_and_value(alloc: Global, tree: &Tree) -> Result<Option<(Pointer, Tree)>, OutOfMemory>
+    ensures { IfOk result (λ both. both ≡ pair_of (pointer_at (codes "path") tree.now) (member_of (codes "value") tree.now)) }
+{
+    let Some(path) = read_path(alloc, tree, "path")? else {
+        return Ok(None);
+    };
+    match tree.member("value") {
+        Some(value) => Ok(Some((path, copy(alloc, value)?))),
+        None => Ok(None),
+    }
+}
+
+fn read_from_and_path(alloc: Global, tree: &Tree) -> Result<Option<(Pointer, Pointer)>, OutOfMemory>
+    ensures { IfOk result (λ both. both ≡ pair_of (pointer_at (codes "from") tree.now) (pointer_at (codes "path") tree.now)) }
+{
+    let Some(from) = read_path(alloc, tree, "from")? else {
+        return Ok(None);
+    };
+    match read_path(alloc, tree, "path")? {
+        Some(path) => Ok(Some((from, path))),
+        None => Ok(None),
+    }
+}
+
+fn read_path(alloc: Global, tree: &Tree, name: &str) -> Result<Option<Pointer>, OutOfMemory>
+    ensures { IfOk result (λ path. path ≡ pointer_at name.now tree.now) }
+{
+    let Some(text) = text_at(tree, name) else {
+        return Ok(None);
+    };
+    match read_pointer(alloc, text) {
+        Ok(path) => Ok(Some(path)),
+        Err(PointerFault::Form) => Ok(None),
+        Err(PointerFault::OutOfMemory) => Err(OutOfMemory),
+    }
+}
+
+fn text_at<'a>(tree: &'a Tree, name: &str) -> Option<&'a str>
+    ensures { option_map (λ text. text.now) result ≡ text_at name.now tree.now }
+{
+    match tree.member(name) {
+        Some(value) => match value.as_text() {
+            Some(text) => Some(text.as_str()),
+            None => None,
+        },
+        None => None,
+    }
+}

@@ -1,0 +1,65 @@
+ghost use Rattle.std.specs.Prelude.{◌≡◌, ◌-◌, ◌^◌, min};
+ghost use Rattle.json_tree.specs.Meaning.{kids_of, fields_of};
+ghost use Rattle.json_patch.specs.Limits.{depth, kids_depth, fields_depth, values, kids_values, fields_values};
+
+use json_tree::{MemberList, Node, Tree, Trees};
+
+/// How large a tree is. The numbers stop at 2^64 - 1.
+#[derive(Clone, Copy, Debug, PartialEq, Eq)]
+pub struct Size {
+    /// How many values there are, the tree itself among them.
+    pub values: u64,
+    /// How many containers stand one inside another.
+    pub depth: u64,
+}
+
+#[cycle(size_of)]
+pub fn size_of(tree: &Tree) -> Size
+    ensures values { result.values ≡ min (values tree.now) (2 ^ 64 - 1) }
+    ensures depth { result.depth ≡ min (depth tree.now) (2 ^ 64 - 1) }
+{
+    let inside = match &tree.node {
+        Node::Null | Node::Flag(_) | Node::Whole(_) | Node::Words(_) => {
+            return Size {
+                values: 1,
+                depth: 0,
+            };
+        }
+        Node::Items(list) => size_of_items(list),
+        Node::Members(list) => size_of_members(list),
+    };
+    Size {
+        values: inside.values.saturating_add(1),
+        depth: inside.depth.saturating_add(1),
+    }
+}
+
+#[cycle(size_of)]
+fn size_of_items(list: &Trees) -> Size
+    ensures values { result.values ≡ min (kids_values (kids_of list.now)) (2 ^ 64 - 1) }
+    ensures depth { result.depth ≡ min (kids_depth (kids_of list.now)) (2 ^ 64 - 1) }
+{
+    let mut values = 0u64;
+    let mut depth = 0u64;
+    for item in &list.all {
+        let size = size_of(item);
+        values = values.saturating_add(size.values);
+        depth = depth.max(size.depth);
+    }
+    Size { values, depth }
+}
+
+#[cycle(size_of)]
+fn size_of_members(list: &MemberList) -> Size
+    ensures values { result.values ≡ min (fields_values (fields_of list.now)) (2 ^ 64 - 1) }
+    ensures depth { result.depth ≡ min (fields_depth (fields_of list.now)) (2 ^ 64 - 1) }
+{
+    let mut values = 0u64;
+    let mut depth = 0u64;
+    for member in &list.all {
+        let size = size_of(&member.value);
+        values = values.saturating_add(size.values);
+        depth = depth.max(size.depth);
+    }
+    Size { values, depth }
+}

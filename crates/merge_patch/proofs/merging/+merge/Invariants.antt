@@ -1,0 +1,25 @@
+use Rattle.std.proofs.Common.{◌≡◌, ◌≤◌, ◌+◌, ◌++◌, length, drop, take}
+use Rattle.std.specs.List.{AllByRecursion}
+use Rattle.json_tree.specs.Meaning.{fields_of}
+use Rattle.json_tree.specs.Size.{nodes, fields_nodes}
+use Rattle.json_tree.specs.Names.{AreSorted}
+use Rattle.merge_patch.specs.Merging.{merged_fields}
+use Rattle.merge_patch.specs.Walking.{AllBelow}
+use Rattle.merge_patch.proofs.merging.+merge.Given as goal
+
+abbrev pub decreases-merge : goal.decreases-merge
+decreases-merge l = nodes l.patch.now
+
+abbrev pub decreases-merge_members : goal.decreases-merge_members
+decreases-merge_members l = fields_nodes (fields_of l.changes.now)
+
+abbrev pub decreases-merge_member : goal.decreases-merge_member
+decreases-merge_member l = nodes l.change.now.1 + 1
+
+abbrev pub invariant-merge_members-loop-change : goal.invariant-merge_members-loop-change
+invariant-merge_members-loop-change l = record {
+  within : l.at ≤ length l.old;
+  merged : fields_of (l.all.items ++ drop l.at l.old) ≡ merged_fields (fields_of l.old) (fields_of (take l.change-index l.change-items));
+  sorted : AreSorted (l.all.items ++ drop l.at l.old);
+  below : AllByRecursion (λ change. AllBelow change.0 l.all.items) (drop l.change-index l.change-items);
+}

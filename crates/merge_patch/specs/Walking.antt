@@ -1,0 +1,30 @@
+-- How far the members of a target stand before a name.
+use Rattle.std.specs.Prelude.{◌≡◌, ℕ, ◌≤◌, ◌<◌, List, [], ◌∷◌, Option, Some, None, length}
+use Rattle.std.specs.List.{AllByRecursion}
+use Rattle.std.specs.Ordering.{nat_cmp}
+use Rattle.std.specs.Cmp.Lexicographic.{slice_cmp}
+use Rattle.std.specs.declared.cmp.Ordering.{Ordering}
+use Rattle.std.specs.declared.cmp.Ordering.TheVariants.{Less}
+use Rattle.json_tree.specs.Meaning.{Meaning}
+use Rattle.json_tree.specs.Names.{names}
+
+-- each of these names is below the name
+abbrev pub AllBelow : List ℕ → List (List ℕ × Meaning) → Type 0
+AllBelow name ms = AllByRecursion (λ k. slice_cmp nat_cmp k name ≡ Less) (names ms)
+
+-- the first of these members isn't below the name
+abbrev pub StartsNotBelow : List ℕ → List (List ℕ × Meaning) → Type 0
+StartsNotBelow name [] = Unit {0}
+StartsNotBelow name (m ∷ ms) = slice_cmp nat_cmp m.0 name ≡ Less → ⊥
+
+-- the value of the first of these members, where it has the name
+abbrev pub IsFirstValue : List ℕ → List (List ℕ × Meaning) → Option Meaning → Type 0
+IsFirstValue name [] value = value ≡ None
+IsFirstValue name (m ∷ ms) None = m.0 ≡ name → ⊥
+IsFirstValue name (m ∷ ms) (Some v) = (m.0 ≡ name) × (m.1 ≡ v)
+
+-- the members behind the first, where its value was taken
+abbrev pub behind : Option Meaning → List (List ℕ × Meaning) → List (List ℕ × Meaning)
+behind None ms = ms
+behind (Some v) [] = []
+behind (Some v) (m ∷ ms) = ms
