@@ -230,3 +230,6 @@ pub fn read_policy(alloc: Global, tree: &Tree) -> Result<Policy, PolicyFault>
     let rules = read_rules(alloc, trees.all.as_slice())?;
     Ok(Policy { omitted, rules })
 }
+
+#[cfg(test)]
+mod tests;
