@@ -1,0 +1,10 @@
+pub mod Clouds
+pub mod Flat
+pub mod Greatest
+pub mod Hidden
+pub mod Keys
+pub mod Least
+pub mod Marks
+pub mod Parts
+pub mod Reach
+pub mod Wide
