@@ -1,5 +1,5 @@
 -- The limits, by counts that are kept from operation to operation.
-use Rattle.std.proofs.Common.{◌≡◌, ℕ, zero, suc, ◌+◌, ◌-◌, ◌^◌, ◌<◌, ◌≤◌, min, max, Bool, true, false, List, [], ◌∷◌, length, Option, Some, None, Result, Ok, Err, option_and_then, ◌⊎◌, inl, inr, refl, sym, ap, subst, ◌∙◌, arith}
+use Rattle.std.proofs.Common.{◌≡◌, ℕ, zero, suc, ◌+◌, ◌-◌, ◌^◌, ◌<◌, ◌≤◌, min, max, Bool, true, false, List, [], ◌∷◌, length, Option, Some, None, Ok, Err, option_and_then, ◌⊎◌, inl, inr, refl, ap, arith}
 use Rattle.std.proofs.lemmas.Bool.{lt-ltb, le-ltb, cases_lt}
 use Rattle.std.specs.Prelude.{bytes_eq, if◌then◌else◌}
 use Rattle.json_tree.specs.Meaning.{Meaning, null, flag, whole, words, items, members, Kids, no_kids, kid, Fields, no_fields, field}
@@ -10,7 +10,6 @@ use Rattle.json_patch.specs.Edits.{IsEdited, went_of}
 use Rattle.json_patch.specs.Limits.{depth, kids_depth, fields_depth, values, within_limits}
 use Rattle.json_patch.specs.declared.edit.Edit.TheVariants.{Add, Remove}
 use Rattle.json_patch.specs.declared.applying.Change.{Change}
-use Rattle.json_patch.specs.declared.fault.ApplyCause.{ApplyCause}
 use Rattle.json_patch.specs.declared.fault.ApplyCause.TheVariants.{Deep, Large}
 use Rattle.json_patch.specs.declared.size.Size.{Size}
 

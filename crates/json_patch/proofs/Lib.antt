@@ -1,3 +1,4 @@
+mod Examples
 pub mod Counting
 pub mod Listing
 pub mod Paths

@@ -1,5 +1,5 @@
 -- A change below a child of a document.
-use Rattle.std.proofs.Common.{◌≡◌, ℕ, zero, suc, ◌+◌, ◌<◌, List, [], ◌∷◌, length, get_or, set, Option, Some, None, Result, Ok, Err, option_map, option_and_then, unwrap_or, refl, sym, ap, subst, ◌∙◌, arith}
+use Rattle.std.proofs.Common.{◌≡◌, ℕ, ◌+◌, ◌<◌, List, ◌∷◌, length, get_or, set, Option, Some, None, Result, Ok, Err, option_map, option_and_then, unwrap_or, refl, sym, ap, subst, ◌∙◌, arith}
 use Rattle.json_tree.specs.Edits.{put}
 use Rattle.json_tree.specs.Meaning.{Meaning, items, members, kids_of, fields_of, kids_list}
 use Rattle.json_tree.specs.Names.{AreSorted}

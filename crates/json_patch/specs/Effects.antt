@@ -1,5 +1,5 @@
 -- What one operation makes of a document (RFC 6902 section 4), or why it can't be done.
-use Rattle.std.specs.Prelude.{ℕ, Bool, List, [], ◌∷◌, length, Option, Some, None, option_map, option_and_then, unwrap_or, Result, Ok, Err, insert, remove, bytes_eq, codes, nat_le, if◌then◌else◌}
+use Rattle.std.specs.Prelude.{ℕ, List, [], ◌∷◌, length, Option, Some, None, option_map, option_and_then, unwrap_or, Result, Ok, Err, insert, remove, bytes_eq, codes, nat_le, if◌then◌else◌}
 use Rattle.json_tree.specs.Edits.{put}
 use Rattle.json_tree.specs.Meaning.{Meaning, null, flag, whole, words, items, members, kids_of, kids_list}
 use Rattle.json_tree.specs.Pointers.{index_of, child_of, pointed}

@@ -1,7 +1,7 @@
 -- One name and value of a patch, and the members on both sides of it.
-use Rattle.std.proofs.Common.{◌≡◌, ℕ, zero, suc, ◌+◌, ◌<◌, ◌≤◌, Bool, true, false, List, [], ◌∷◌, ◌++◌, length, get_or, set, take, drop, Option, Some, None, IsSome, is_some, refl, sym, ap, subst, ◌∙◌, append_assoc, append-nil, length-append, arith, bytes_eq, slice_get}
+use Rattle.std.proofs.Common.{◌≡◌, ℕ, zero, suc, ◌+◌, ◌<◌, Bool, true, false, List, [], ◌∷◌, ◌++◌, length, get_or, take, drop, Option, Some, None, refl, sym, ap, subst, ◌∙◌, append_assoc, length-append, arith}
 use Rattle.std.proofs.lemmas.Bool.{true≢false}
-use Rattle.std.specs.Prelude.{remove, insert, if◌then◌else◌}
+use Rattle.std.specs.Prelude.{remove, if◌then◌else◌}
 use Rattle.std.specs.Ordering.{nat_cmp}
 use Rattle.std.specs.declared.cmp.Ordering.{Ordering}
 use Rattle.std.specs.declared.cmp.Ordering.TheVariants.{Less, Equal, Greater}
@@ -10,11 +10,10 @@ use Rattle.std.specs.List.{AllByRecursion}
 use Rattle.std.specs.List.Sorted.{IsStrictlySortedBy}
 use Rattle.std.proofs.lemmas.List.{take_at, drop_at, set_at, take_more, drop_more, get_or_default}
 use Rattle.json_tree.specs.Edits.{put}
-use Rattle.json_tree.specs.Meaning.{Meaning, Fields, field, fields_of}
+use Rattle.json_tree.specs.Meaning.{Meaning, Fields, fields_of}
 use Rattle.json_tree.specs.Names.{names, AreSorted}
 use Rattle.json_tree.specs.Parts.{lookup, is_null}
 use Rattle.json_tree.specs.Search.{IsNamedAt, IsPlaceFor}
-use Rattle.json_tree.specs.Stored.{fields_without}
 use Rattle.json_tree.proofs.Ordered.{same_name, lookup_found, lookup_absent}
 use Rattle.json_tree.proofs.Placing.{above-below, below-above, put_found, put_absent, without_found, without_absent, sorted_inserted, sorted_removed}
 use Rattle.json_tree.proofs.Removing.{sorted-set}
@@ -97,14 +96,14 @@ put_between name v w None done l s below starts first other made =
     let place = place_between name done l s below starts first in
     let absent : lookup name (fields_of (done ++ l)) ≡ None = lookup_absent (done ++ l) name (length done) place in
     let at : fields_of ((done ++ (name, w) ∷ []) ++ l) ≡ put name w (fields_of (done ++ l)) =
-        ap fields_of (append_assoc done ((name, w) ∷ []) l ∙ (λ i. sym (take_at done l (length done) refl) i ++ (name, w) ∷ sym (drop_at done l (length done) refl) i)) ∙ sym (put_absent name w (done ++ l) (length done) place) in
+    ap fields_of (append_assoc done ((name, w) ∷ []) l ∙ (λ i. sym (take_at done l (length done) refl) i ++ (name, w) ∷ sym (drop_at done l (length done) refl) i)) ∙ sym (put_absent name w (done ++ l) (length done) place) in
     at ∙ ap (λ x. put name x (fields_of (done ++ l))) (made ∙ ap (λ o. merged o v) (sym absent)) ∙ unless_null (is_null v) other _ _
 put_between name v w (Some u) done [] s below starts first other made = absurd (some_none first)
 put_between name v w (Some u) done (m ∷ l) s below starts first other made =
     let named = names_middle name done l m first.0 in
     let found : lookup name (fields_of (done ++ m ∷ l)) ≡ Some u = lookup_found (done ++ m ∷ l) name (length done) m s named ∙ ap Some (ap (λ x. x.1) (get_middle done l m m) ∙ first.1) in
     let at : fields_of ((done ++ (name, w) ∷ []) ++ l) ≡ put name w (fields_of (done ++ m ∷ l)) =
-        ap fields_of (append_assoc done ((name, w) ∷ []) l ∙ sym (set_at done m l (name, w) (length done) refl)) ∙ sym (put_found name w (done ++ m ∷ l) (length done) s named) in
+    ap fields_of (append_assoc done ((name, w) ∷ []) l ∙ sym (set_at done m l (name, w) (length done) refl)) ∙ sym (put_found name w (done ++ m ∷ l) (length done) s named) in
     at ∙ ap (λ x. put name x (fields_of (done ++ m ∷ l))) (made ∙ ap (λ o. merged o v) (sym found)) ∙ unless_null (is_null v) other _ _
 
 pub sorted_dropped : (name : List ℕ) (value : Option Meaning) (done l : List (List ℕ × Meaning)) → AreSorted (done ++ l) → AreSorted (done ++ behind value l)
@@ -116,11 +115,11 @@ pub sorted_put : (name : List ℕ) (w : Meaning) (value : Option Meaning) (done 
     → AreSorted ((done ++ (name, w) ∷ []) ++ behind value l)
 sorted_put name w None done l s below starts first =
     subst AreSorted ((λ i. take_at done l (length done) refl i ++ (name, w) ∷ drop_at done l (length done) refl i) ∙ sym (append_assoc done ((name, w) ∷ []) l))
-      (sorted_inserted name w (done ++ l) (length done) s (place_between name done l s below starts first))
+    (sorted_inserted name w (done ++ l) (length done) s (place_between name done l s below starts first))
 sorted_put name w (Some u) done [] s below starts first = absurd (some_none first)
 sorted_put name w (Some u) done (m ∷ l) s below starts first =
     subst AreSorted (set_at done m l (name, w) (length done) refl ∙ sym (append_assoc done ((name, w) ∷ []) l))
-      (sorted-set (done ++ m ∷ l) (length done) name w (names_middle name done l m first.0) s)
+    (sorted-set (done ++ m ∷ l) (length done) name w (names_middle name done l m first.0) s)
 
 -- the patch, one change after another
 pub merged_fields-snoc : (target : Fields) (cs : List (List ℕ × Meaning)) (c : List ℕ × Meaning) → merged_fields target (fields_of (cs ++ c ∷ [])) ≡ changed c (merged_fields target (fields_of cs))

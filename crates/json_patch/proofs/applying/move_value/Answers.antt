@@ -1,8 +1,6 @@
 use Rattle.std.proofs.Common.{◌≡◌, ◌+◌, ◌-◌, ◌^◌, min, length, Some, refl, sym, ap, subst, ◌∙◌}
 use Rattle.json_tree.specs.Pointers.{pointed}
-use Rattle.json_patch.specs.Changes.{IsChange}
 use Rattle.json_patch.specs.Edits.{IsEdited}
-use Rattle.json_patch.specs.Limits.{depth}
 use Rattle.json_patch.specs.declared.edit.Edit.TheVariants.{Remove}
 use Rattle.json_patch.proofs.Counting.{pointed_depth, moved_level, moved_deeper}
 use Rattle.json_patch.proofs.applying.move_value.Goals.{then-path-from, else-path-from}

@@ -1,5 +1,5 @@
-use Rattle.std.proofs.Common.{◌≡◌, ◌<◌, ◌≤◌, sym, ap, subst, ◌∙◌, arith, rules}
-use Rattle.json_patch.specs.Changes.{IsChange, IsWithin, Tells}
+use Rattle.std.proofs.Common.{◌≤◌, sym, ap, subst, ◌∙◌, rules}
+use Rattle.json_patch.specs.Changes.{IsWithin, Tells}
 use Rattle.json_patch.specs.Effects.{and_then}
 use Rattle.json_patch.specs.Limits.{depth, values, within_limits}
 use Rattle.json_patch.proofs.Counting.{tells_size, too_deep, too_large, fits, small_depth, small_values}

@@ -2,7 +2,6 @@ use Rattle.std.proofs.Common.{◌≡◌, ℕ, List, ◌<◌, ◌∷◌, ◌+◌,
 use Rattle.std.proofs.lemmas.Result.{IfOk-weaker, IfErr-weaker}
 use Rattle.json_tree.specs.Edits.{put}
 use Rattle.json_tree.specs.Meaning.{Meaning, items, members, kids_of, fields_of}
-use Rattle.json_tree.specs.Names.{AreSorted}
 use Rattle.json_tree.specs.Pointers.{index_of, child_of, pointed}
 use Rattle.json_tree.specs.Search.{IsNamedAt, IsPlaceFor}
 use Rattle.json_tree.proofs.Ordered.{named_within, lookup_absent}

@@ -1,10 +1,9 @@
-use Rattle.std.proofs.Common.{◌≡◌, ℕ, ◌<◌, length, get_or, set, Some, None, Ok, Err, refl, sym, ap, subst, ◌∙◌, arith}
+use Rattle.std.proofs.Common.{◌≡◌, ◌<◌, length, get_or, set, Some, None, Ok, refl, sym, ap, subst, ◌∙◌, arith}
 use Rattle.std.specs.Prelude.{insert, remove}
 use Rattle.json_tree.specs.Meaning.{items, kids_of}
-use Rattle.json_patch.specs.Edits.{change_of, IsTaken, IsEdited}
+use Rattle.json_patch.specs.Edits.{change_of}
 use Rattle.json_patch.specs.Effects.{place_of}
 use Rattle.json_patch.specs.declared.edit.Edit.{Edit}
-use Rattle.json_patch.specs.declared.edit.Edit.TheVariants.{Add, Remove, Replace}
 use Rattle.json_patch.proofs.Paths.{items_added, items_not_added, items_removed, items_replaced, item_there}
 use Rattle.json_patch.proofs.Sizes.{item_added, item_removed, item_replaced}
 use Rattle.json_patch.proofs.edit.edit_item.Goals as goal

@@ -1,7 +1,5 @@
-use Rattle.std.proofs.Common.{◌≡◌, Some, sym, ap, subst, ◌∙◌}
-use Rattle.json_tree.specs.Edits.{put}
+use Rattle.std.proofs.Common.{Some}
 use Rattle.json_tree.specs.Meaning.{fields_of}
-use Rattle.json_tree.specs.Parts.{lookup}
 use Rattle.json_patch.proofs.Sizes.{member_added, member_removed, member_replaced}
 use Rattle.json_patch.proofs.edit.edit_member.Goals as goal
 

@@ -1,4 +1,4 @@
-use Rattle.std.proofs.Common.{◌≡◌, ◌≤◌, drop, length}
+use Rattle.std.proofs.Common.{◌≡◌, drop, length}
 use Rattle.json_patch.specs.Reading.{ops_of}
 use Rattle.json_patch.proofs.Listing.{and_these}
 use Rattle.json_patch.proofs.reading.read_patch.Given as goal

@@ -1,5 +1,4 @@
-use Rattle.std.proofs.Common.{◌≡◌, ℕ, List, ◌+◌, ◌<◌, ◌++◌, ◌∷◌, [], length, get_or, drop, take, Less, true, false, option_map, sym, ap, subst, ◌∙◌, arith, rules, nat_cmp}
-use Rattle.std.specs.Cmp.Lexicographic.{slice_cmp}
+use Rattle.std.proofs.Common.{◌≡◌, ℕ, List, ◌+◌, ◌<◌, ◌++◌, ◌∷◌, [], drop, true, false, option_map, sym, ap, subst, ◌∙◌, arith, rules}
 use Rattle.json_tree.specs.Meaning.{Meaning, members, fields_of}
 use Rattle.json_tree.specs.Names.{AreSorted}
 use Rattle.json_tree.specs.Node.{meaning_of}
@@ -7,7 +6,7 @@ use Rattle.json_tree.specs.Parts.{is_null}
 use Rattle.json_tree.specs.Size.{nodes, fields_nodes}
 use Rattle.json_tree.proofs.Printing.{field_smaller}
 use Rattle.merge_patch.specs.Merging.{merged, changed}
-use Rattle.merge_patch.specs.Walking.{AllBelow, StartsNotBelow, IsFirstValue, behind}
+use Rattle.merge_patch.specs.Walking.{AllBelow, StartsNotBelow, IsFirstValue}
 use Rattle.merge_patch.proofs.Steps.{dropped, put_between, sorted_dropped, sorted_put, all_below_snoc, all_below_above, merged_more, later_changes, below_later, below_this}
 use Rattle.merge_patch.proofs.merging.+merge.Goals as goal
 
@@ -32,7 +31,7 @@ merge_member-returns-then-is_null-clause-merged t c =
     let first : IsFirstValue change.0 l value = subst (λ n. IsFirstValue n l value) named c.take_named-next.ensures.value in
     let null : is_null change.1 ≡ true = ap is_null (sym valued) ∙ sym c.is_null.ensures ∙ c.if-is_null.true in
     ap (λ more. fields_of (done ++ more)) c.take_named-next.ensures.next ∙ dropped change.0 change.1 value done l sorted below starts first null
-      ∙ ap (λ ms. changed change (fields_of ms)) c.in_ok-at.ensures.kept
+    ∙ ap (λ ms. changed change (fields_of ms)) c.in_ok-at.ensures.kept
 
 pub merge_member-returns-then-is_null-clause-sorted : goal.merge_member-returns-then-is_null-clause-sorted
 merge_member-returns-then-is_null-clause-sorted t c =
@@ -45,7 +44,7 @@ pub merge_member-returns-then-is_null-clause-below : goal.merge_member-returns-t
 merge_member-returns-then-is_null-clause-below t c = λ name lt.
     let named : c.change.inside.name ≡ c.args.change.now.0 = ap (λ m. m.0) c.change.view_is in
     let below : AllBelow c.args.change.now.0 c.copy_below.new.all.items =
-        subst (λ n. AllBelow n c.copy_below.new.all.items) named (c.in_ok-at.ensures.below (subst (λ n. AllBelow n c.args.all.now.items) (sym named) c.requires.below)) in
+    subst (λ n. AllBelow n c.copy_below.new.all.items) named (c.in_ok-at.ensures.below (subst (λ n. AllBelow n c.args.all.now.items) (sym named) c.requires.below)) in
     all_below_above c.args.change.now.0 name c.copy_below.new.all.items below lt
 
 pub merge_member-merge-requires : goal.merge_member-merge-requires
@@ -71,7 +70,7 @@ merge_member-returns-clause-merged t c =
     let made : w ≡ merged value change.1 = c.in_ok-value.ensures ∙ ap (merged value) valued in
     let pushed : c.push.new.self.items ≡ done ++ (change.0, w) ∷ [] = c.in_ok-push.ensures.items ∙ ap (λ n. done ++ (n, w) ∷ []) same in
     (λ i. fields_of (pushed i ++ c.take_named-next.ensures.next i)) ∙ put_between change.0 change.1 w value done l sorted below starts first other made
-      ∙ ap (λ ms. changed change (fields_of ms)) c.in_ok-at.ensures.kept
+    ∙ ap (λ ms. changed change (fields_of ms)) c.in_ok-at.ensures.kept
 
 pub merge_member-returns-clause-sorted : goal.merge_member-returns-clause-sorted
 merge_member-returns-clause-sorted t c =
@@ -107,7 +106,7 @@ merge_members-merge_member-requires t c =
     let whole = c.deref-change-items.result.now in
     let smaller = field_smaller whole l.change-index c.change-item.result c.loop-change-test.true in
     let small : nodes c.change-item.result.1 + 1 < fields_nodes (fields_of c.args.changes.now) =
-        subst (λ ms. nodes c.change-item.result.1 + 1 < fields_nodes (fields_of ms)) (sym all) (subst (λ (x : List ℕ × Meaning). nodes x.1 + 1 < fields_nodes (fields_of whole)) (sym c.change-item.is) smaller) in
+    subst (λ ms. nodes c.change-item.result.1 + 1 < fields_nodes (fields_of ms)) (sym all) (subst (λ (x : List ℕ × Meaning). nodes x.1 + 1 < fields_nodes (fields_of whole)) (sym c.change-item.is) smaller) in
     (omega arith, (l.invariant.within, (l.invariant.sorted, below_this whole l.all.items l.change-index c.change-item.result c.loop-change-test.true c.change-item.is l.invariant.below)))
 
 pub merge_members-loop-change-preserved : goal.merge_members-loop-change-preserved

@@ -1,4 +1,4 @@
-use Rattle.std.proofs.Common.{◌≡◌, ◌≤◌, ◌<◌, ◌+◌, ◌++◌, ◌∷◌, [], length, get_or, drop, Less, sym, ap, subst, ◌∙◌, arith, nat_cmp}
+use Rattle.std.proofs.Common.{◌≡◌, ◌+◌, ◌++◌, get_or, drop, Less, sym, ap, subst, ◌∙◌, arith, nat_cmp}
 use Rattle.std.specs.Cmp.Lexicographic.{slice_cmp}
 use Rattle.merge_patch.specs.Walking.{AllBelow}
 use Rattle.merge_patch.proofs.Steps.{all_below_snoc, kept_more, same_item}
@@ -11,7 +11,7 @@ loop-next-preserved c =
     let same : m ≡ c.index-old-next-in-loop-next.result = c.in_ok-copy_member.ensures in
     let read : m ≡ get_or c.args.old.now l.next m = subst (λ x. x ≡ get_or c.args.old.now l.next x) (sym same) c.index-old-next-in-loop-next.is in
     let before : slice_cmp nat_cmp m.0 c.args.name.now ≡ Less =
-        subst (λ x. slice_cmp nat_cmp x.0 c.args.name.now ≡ Less) (same_item c.args.old.now l.next c.index-old-next.result m c.loop-next-test.true c.index-old-next.is read) (c.is_before.ensures.0 c.if-is_before.true) in
+    subst (λ x. slice_cmp nat_cmp x.0 c.args.name.now ≡ Less) (same_item c.args.old.now l.next c.index-old-next.result m c.loop-next-test.true c.index-old-next.is read) (c.is_before.ensures.0 c.if-is_before.true) in
     record {
       within = omega arith;
       kept = ap (λ all. all ++ drop (l.next + 1) c.args.old.now) c.in_ok-push.ensures.items ∙ kept_more l.all.items c.args.old.now l.next m c.loop-next-test.true read ∙ l.invariant.kept;
