@@ -2,7 +2,7 @@
 use Rattle.std.specs.Prelude.{◌≡◌, ℕ, ◌⊎◌, ◌++◌, List, codes, decimal}
 use Rattle.base_types.specs.declared.placed.Outcome.{Outcome}
 use Rattle.base_types.specs.declared.placed.Outcome.TheVariants.{Explained, Unexplained}
-use Rattle.verdict_text.specs.Printing.{outcome_text}
+use Rattle.verdict_text.specs.Outcome.{outcome_text}
 use Rattle.kubepast.specs.Command.{Asked, Usage, Judge}
 use Rattle.kubepast.specs.Endings.{Answer, line_of}
 use Rattle.kubepast.specs.Judgement.{IsOutcome}
