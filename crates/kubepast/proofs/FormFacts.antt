@@ -24,11 +24,11 @@ pub nothing_sorted : (ms : List (List ℕ × Meaning)) → ms ≡ [] → AreSort
 nothing_sorted ms is = nothing ms is none_sorted
 
 -- the texts stand where they are looked for
-parts_found : (verb : Verb) (p : Parts) → parts_in (event_tree verb p) ≡ Some p
+pub parts_found : (verb : Verb) (p : Parts) → parts_in (event_tree verb p) ≡ Some p
 parts_found Create p = refl
 parts_found Get p = refl
 
-verb_found : (verb : Verb) (p : Parts) → verb_in (event_tree verb p) ≡ verb
+pub verb_found : (verb : Verb) (p : Parts) → verb_in (event_tree verb p) ≡ verb
 verb_found Create p = refl
 verb_found Get p = refl
 
@@ -52,7 +52,7 @@ no_facts earlier number tree event p t none e =
     let P : Parts → Type 0 = λ x. AreParts x event.received.0 event.staged.0 event.revision in
     none event.received.0 event.staged.0 event.revision (subst P (sym (same_parts earlier number tree event p e t)) e.good)
 
-same_revision : (p : Parts) (r s r' s' : ℤ) (n m : ℕ) → AreParts p r s n → AreParts p r' s' m → n ≡ m
+pub same_revision : (p : Parts) (r s r' s' : ℤ) (n m : ℕ) → AreParts p r s n → AreParts p r' s' m → n ≡ m
 same_revision p r s r' s' n m a b =
     let x = a.in_range in
     let y = b.in_range in
@@ -70,7 +70,7 @@ not_new earlier number tree event verb p received staged revision v t good old e
     old (subst C (sym n_is) (subst B (sym v_is) (subst A (sym p_is) e.new)))
 
 -- one line has one tree
-same_tree : (bytes : List ℕ) (a b : Meaning) → IsTreeOf bytes a → IsTreeOf bytes b → a ≡ b
+pub same_tree : (bytes : List ℕ) (a b : Meaning) → IsTreeOf bytes a → IsTreeOf bytes b → a ≡ b
 same_tree bytes a b x y =
     let value : x.value ≡ y.value = (let both : Some x.value ≡ Some y.value = sym x.reads ∙ y.reads in cc) in
     let both : Some a ≡ Some b = sym x.is ∙ ap (λ d. of_data d) value ∙ y.is in cc

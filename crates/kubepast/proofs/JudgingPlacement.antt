@@ -2,10 +2,12 @@
 use Rattle.std.proofs.Common.{◌≡◌, ℕ, ◌+◌, ◌<◌, ◌≤◌, List, [], ◌∷◌, ◌++◌, length, get_or, take, All, AllPairs, Contains, arith, refl, subst, sym, ◌∙◌, ap}
 use Rattle.std.specs.List.{AllZip}
 use Rattle.std.proofs.lemmas.List.{get_or_default, get_or-take, length-take, take_all, take_more}
-use Rattle.std.proofs.lemmas.List.Elements.{All-nil, All-cons, All-weaker, Contains-append_right}
+use Rattle.std.proofs.lemmas.List.Elements.{All-nil, All-cons, All-weaker, All-contains, Contains-append_right}
 use Rattle.base_types.specs.declared.placed.PlacedLine.{PlacedLine}
+use Rattle.base_types.specs.Placements.{RisesByLine}
 use Rattle.kubepast.specs.declared.event.Event.{Event}
 use Rattle.kubepast.specs.Judgement.{IsLeastPlace, IsLeastPlacement, placed_line}
+use Rattle.kubepast.proofs.SortedLists.{pairs_head, pairs_tail, pairs_cons}
 
 -- the line puts the event at its least place
 pub record IsPlacedAt (events : List Event) (event : Event) (line : PlacedLine) : Type 0 where
@@ -52,10 +54,24 @@ earlier_lines events lines i d rising within placed = All-weaker
     omega (arith, ap (λ (e : Event). e.line) is, ap (λ (l : PlacedLine). l.line) at.2.is))
     lines (beside_right (IsPlacedAt events) (take i events) lines placed)
 
-pub IsLeastPlacement-all : (events : List Event) (lines : List PlacedLine) (i : ℕ) → length events ≤ i → AllZip (IsPlacedAt events) (take i events) lines → IsLeastPlacement events lines
-IsLeastPlacement-all events lines i ended placed =
+-- the lines rise as their events do
+rises_beside : (events xs : List Event) (lines : List PlacedLine) → AllPairs (λ a b. a.line < b.line) xs → AllZip (IsPlacedAt events) xs lines → RisesByLine lines
+rises_beside events xs [] rising placed = λ i j d below within. absurd (omega (arith, within))
+rises_beside events [] (line ∷ lines) rising placed = absurd placed
+rises_beside events (x ∷ xs) (line ∷ lines) rising placed =
+    let above = pairs_head (λ (a b : Event). a.line < b.line) x xs rising in
+    let here = ap (λ (l : PlacedLine). l.line) placed.0.is in
+    pairs_cons (λ (a b : PlacedLine). a.line < b.line) line lines
+    (All-weaker (λ other. (event : Event) × Contains xs event × IsPlacedAt events event other) (λ other. line.line < other.line)
+    (λ other at. let below = All-contains (λ event. x.line < event.line) xs at.0 above at.1 in omega (arith, below, here, ap (λ (l : PlacedLine). l.line) at.2.is))
+    lines (beside_right (IsPlacedAt events) xs lines placed.1))
+    (rises_beside events xs lines (pairs_tail (λ (a b : Event). a.line < b.line) x xs rising) placed.1)
+
+pub IsLeastPlacement-all : (events : List Event) (lines : List PlacedLine) (i : ℕ) → AllPairs (λ a b. a.line < b.line) events → length events ≤ i → AllZip (IsPlacedAt events) (take i events) lines → IsLeastPlacement events lines
+IsLeastPlacement-all events lines i rising ended placed =
     let whole : AllZip (IsPlacedAt events) events lines = subst (λ es. AllZip (IsPlacedAt events) es lines) (take_all i events ended) placed in
     record {
+      rising = rises_beside events events lines rising whole;
       all = All-weaker (λ event. (line : PlacedLine) × Contains lines line × IsPlacedAt events event line) (λ event. (place : ℕ) × IsLeastPlace events event place × Contains lines (placed_line event place))
           (λ event at. (at.2.place, at.2.least, subst (Contains lines) at.2.is at.1)) events (beside_left (IsPlacedAt events) events lines whole);
       only = All-weaker (λ line. (event : Event) × Contains events event × IsPlacedAt events event line) (λ line. (event : Event) × Contains events event × (line.line ≡ event.line))

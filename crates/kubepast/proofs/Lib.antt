@@ -10,6 +10,10 @@ pub mod JudgingPlaces
 pub mod JudgingPrefixes
 pub mod JudgingWindows
 pub mod JudgingWrites
+pub mod OneAnswer
+pub mod OneAnswerLog
+pub mod OneAnswerOutcome
 pub mod RunFacts
 pub mod SetupFacts
+pub mod SortedLists
 pub mod StreamFacts

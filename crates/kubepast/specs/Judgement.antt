@@ -11,6 +11,7 @@ use Rattle.base_types.specs.declared.placed.WriteLine.{WriteLine}
 use Rattle.base_types.specs.declared.placed.WriteLine.TheVariants as write
 use Rattle.base_types.specs.declared.placed.Outcome.{Outcome}
 use Rattle.base_types.specs.declared.placed.Outcome.TheVariants.{Explained, Unexplained}
+use Rattle.base_types.specs.Placements.{RisesByLine}
 use Rattle.kubepast.specs.declared.event.Event.{Event}
 use Rattle.kubepast.specs.declared.event.Verb.{Verb}
 use Rattle.kubepast.specs.declared.event.Verb.TheVariants.{Create, Get}
@@ -90,6 +91,7 @@ placed_line event place = record { line = event.line; answer = placed_answer eve
 
 -- each event with its least place, and nothing else, by line
 pub record IsLeastPlacement (events : List Event) (lines : List PlacedLine) : Type 0 where
+  pub rising : RisesByLine lines
   pub all : All (λ event. (place : ℕ) × IsLeastPlace events event place × Contains lines (placed_line event place)) events
   pub only : All (λ line. (event : Event) × Contains events event × (line.line ≡ event.line)) lines
 

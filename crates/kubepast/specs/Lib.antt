@@ -5,6 +5,7 @@ pub mod Judgement
 pub mod Log
 pub mod Setup
 pub mod Windows
+pub mod OneAnswer
 pub mod Program
 pub mod Reading
 pub mod Statuses

@@ -6,6 +6,7 @@ mod ending;
 mod event;
 mod form;
 mod judging;
+mod law;
 mod log;
 mod run;
 mod setup;

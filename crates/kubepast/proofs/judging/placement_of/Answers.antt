@@ -21,4 +21,4 @@ loop-event-preserved c =
     rw c.in_ok-push.ensures.ok (AllZip-more (IsPlacedAt c.args.events.now) _ _ _ _ _ c.loop-event-test.true c.event-item.is c.loop-event.invariant placed)
 
 pub returns : goal.returns
-returns c = IsLeastPlacement-all _ _ _ c.loop-event-test.false c.loop-event.invariant
+returns c = IsLeastPlacement-all _ _ _ c.requires.form.lines c.loop-event-test.false c.loop-event.invariant
