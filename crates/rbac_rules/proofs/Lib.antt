@@ -1,2 +1,4 @@
+pub mod Accounts
 pub mod Choosing
+pub mod Pairing
 pub mod Texts
