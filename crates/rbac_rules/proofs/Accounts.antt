@@ -1,12 +1,7 @@
--- Subjects, by their kinds and by the names of their users.
-use Rattle.std.proofs.Common.{◌≡◌, ◌≢◌, ℕ, Bool, true, false, List, [], ◌∷◌, ◌++◌, Option, Some, None, Decides, sym, ap, ◌∙◌, codes, bytes_eq, ◌==◌}
+-- The user names of service accounts.
+use Rattle.std.proofs.Common.{◌≡◌, ◌≢◌, ℕ, Bool, false, List, [], ◌∷◌, ◌++◌, Decides, sym, ap, ◌∙◌, codes, bytes_eq}
 use Rattle.std.proofs.lemmas.Slice.Eq.{bytes_eq-Decides}
-use Rattle.json_tree.specs.Meaning.{Meaning}
-use Rattle.json_tree.specs.Parts.{member_of}
-use Rattle.rbac_rules.specs.declared.binding.Subject.{Subject}
-use Rattle.rbac_rules.specs.declared.binding.Subject.TheVariants.{User, Group, ServiceAccount}
-use Rattle.rbac_rules.specs.Forms.{text_at, IsNamespace, IsSubject}
-use Rattle.rbac_rules.specs.Matching.{IsAccount, IsJoined}
+use Rattle.rbac_rules.specs.Matching.{IsJoined}
 
 same_behind : (front xs ys : List ℕ) → front ++ xs ≡ front ++ ys → xs ≡ ys
 same_behind [] xs ys e = e
@@ -28,16 +23,3 @@ told_behind rest behind name r e same = (
 
 pub told_none : (rest name : List ℕ) → ((behind : List ℕ) → rest ≢ 58 ∷ behind) → Decides false (rest ≡ 58 ∷ name)
 told_none rest name none = (λ e. absurd (cc), λ e. absurd (none name e))
-
--- the text begins with an S
-abbrev begins_with_s : Option (List ℕ) → Bool
-begins_with_s None = false
-begins_with_s (Some []) = false
-begins_with_s (Some (b ∷ bs)) = b == 83
-
--- a service account whose namespace isn't in its form
-pub no_account : (home : List ℕ) (tree : Meaning) (subject : Subject) → text_at (codes "kind") tree ≡ Some (codes "ServiceAccount")
-    → ((namespace : List ℕ) → IsNamespace home (member_of (codes "namespace") tree) namespace → ⊥) → IsSubject home tree subject → ⊥
-no_account home tree (User name) kind none is = let differ : false ≡ true = ap begins_with_s (sym is.0 ∙ kind) in cc
-no_account home tree (Group name) kind none is = let differ : false ≡ true = ap begins_with_s (sym is.0 ∙ kind) in cc
-no_account home tree (ServiceAccount namespace name) kind none is = none namespace is.2

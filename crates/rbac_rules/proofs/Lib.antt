@@ -1,4 +1,4 @@
 pub mod Accounts
 pub mod Choosing
-pub mod Pairing
+pub mod Rules
 pub mod Texts

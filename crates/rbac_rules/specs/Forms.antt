@@ -1,8 +1,7 @@
 -- Which trees are a Role or a binding (Kubernetes `rbac.authorization.k8s.io/v1`: Role, ClusterRole, RoleBinding and
--- ClusterRoleBinding). Other members than those named here are ignored, `aggregationRule` among them.
-use Rattle.std.specs.Prelude.{◌≡◌, ◌≢◌, ℕ, Bool, true, false, List, [], Option, Some, None, ◌⊎◌, unwrap_or, bytes_eq, codes, if◌then◌else◌}
-use Rattle.std.specs.List.{AllZip}
-use Rattle.json_tree.specs.Meaning.{Meaning, null, words}
+-- ClusterRoleBinding), and what they hold. Other members than those named here are ignored, `aggregationRule` among them.
+use Rattle.std.specs.Prelude.{ℕ, ◌==◌, Bool, true, false, List, [], ◌∷◌, Option, Some, None, length, unwrap_or, bytes_eq, codes, if◌then◌else◌}
+use Rattle.json_tree.specs.Meaning.{Meaning}
 use Rattle.json_tree.specs.Parts.{member_of, is_null, text_of, items_of, members_of}
 use Rattle.json_tree.specs.Texts.{◌>>=◌, texts_at}
 use Rattle.rbac_rules.specs.declared.role.PolicyRule.{PolicyRule}
@@ -18,48 +17,78 @@ abbrev pub items_or_none : Option Meaning → Option (List Meaning)
 items_or_none None = Some []
 items_or_none (Some tree) = if is_null tree then Some [] else items_of tree
 
-abbrev pub IsObject : Meaning → Type 0
-IsObject tree = members_of tree ≢ None
+-- A rule is an object. Each of its lists may be missing, and is then empty, but not null.
+abbrev pub rule_of : Meaning → Option PolicyRule
+rule_of tree = do
+  _ ← members_of tree
+  api_groups ← texts_at (codes "apiGroups") tree
+  resources ← texts_at (codes "resources") tree
+  verbs ← texts_at (codes "verbs") tree
+  names ← texts_at (codes "resourceNames") tree
+  urls ← texts_at (codes "nonResourceURLs") tree
+  Some (record {
+    api_groups = api_groups;
+    resources = resources;
+    verbs = verbs;
+    resource_names = names;
+    non_resource_urls = urls;
+  })
 
--- A rule is an object. Each of its lists may be missing, and is then empty; one that is null is none.
-pub record IsRule (tree : Meaning) (rule : PolicyRule) : Type 0 where
-  pub object : IsObject tree
-  pub api_groups : texts_at (codes "apiGroups") tree ≡ Some rule.api_groups
-  pub resources : texts_at (codes "resources") tree ≡ Some rule.resources
-  pub verbs : texts_at (codes "verbs") tree ≡ Some rule.verbs
-  pub resource_names : texts_at (codes "resourceNames") tree ≡ Some rule.resource_names
-  pub non_resource_urls : texts_at (codes "nonResourceURLs") tree ≡ Some rule.non_resource_urls
+abbrev pub rules_in : List Meaning → Option (List PolicyRule)
+rules_in [] = Some []
+rules_in (tree ∷ trees) = do
+  rule ← rule_of tree
+  rules ← rules_in trees
+  Some (rule ∷ rules)
 
--- a Role or a ClusterRole with these rules
-pub record IsRole (tree : Meaning) (rules : List PolicyRule) : Type 0 where
-  pub object : IsObject tree
-  pub trees : List Meaning
-  pub listed : items_or_none (member_of (codes "rules") tree) ≡ Some trees
-  pub each : AllZip IsRule trees rules
+-- the rules of a Role or a ClusterRole
+abbrev pub role_of : Meaning → Option (List PolicyRule)
+role_of tree = do
+  _ ← members_of tree
+  trees ← items_or_none (member_of (codes "rules") tree)
+  rules_in trees
 
-abbrev pub IsUnset : Option Meaning → Type 0
-IsUnset member = (member ≡ None) ⊎ ((member ≡ Some null) ⊎ (member ≡ Some (words [])))
+-- the text, or the binding's namespace where it is empty
+abbrev pub or_home : List ℕ → List ℕ → List ℕ
+or_home home text = if length text == 0 then home else text
 
--- the namespace that a service account names, or the binding's where it names none
-abbrev pub IsNamespace : List ℕ → Option Meaning → List ℕ → Type 0
-IsNamespace home member namespace = ((member ≡ Some (words namespace)) × (namespace ≢ [])) ⊎ (IsUnset member × (namespace ≡ home))
+-- The namespace of a service account may be missing, null or empty: then it is the binding's.
+abbrev pub namespace_or : List ℕ → Option Meaning → Option (List ℕ)
+namespace_or home None = Some home
+namespace_or home (Some tree) = if is_null tree then Some home else (text_of tree >>= λ text. Some (or_home home text))
+
+abbrev pub account_of : List ℕ → Meaning → List ℕ → Option Subject
+account_of home tree name = do
+  namespace ← namespace_or home (member_of (codes "namespace") tree)
+  Some (ServiceAccount namespace name)
+
+abbrev pub subject_by : List ℕ → Meaning → List ℕ → List ℕ → Option Subject
+subject_by home tree kind name =
+    if bytes_eq kind (codes "User") then Some (User name)
+    else (if bytes_eq kind (codes "Group") then Some (Group name)
+    else (if bytes_eq kind (codes "ServiceAccount") then account_of home tree name else None))
 
 -- a subject of a binding whose namespace is `home`
-abbrev pub IsSubject : List ℕ → Meaning → Subject → Type 0
-IsSubject home tree (User name) = (text_at (codes "kind") tree ≡ Some (codes "User")) × (text_at (codes "name") tree ≡ Some name)
-IsSubject home tree (Group name) = (text_at (codes "kind") tree ≡ Some (codes "Group")) × (text_at (codes "name") tree ≡ Some name)
-IsSubject home tree (ServiceAccount namespace name) =
-    (text_at (codes "kind") tree ≡ Some (codes "ServiceAccount"))
-    × (text_at (codes "name") tree ≡ Some name)
-    × IsNamespace home (member_of (codes "namespace") tree) namespace
+abbrev pub subject_of : List ℕ → Meaning → Option Subject
+subject_of home tree = do
+  kind ← text_at (codes "kind") tree
+  name ← text_at (codes "name") tree
+  subject_by home tree kind name
+
+abbrev pub subjects_in : List ℕ → List Meaning → Option (List Subject)
+subjects_in home [] = Some []
+subjects_in home (tree ∷ trees) = do
+  subject ← subject_of home tree
+  subjects ← subjects_in home trees
+  Some (subject ∷ subjects)
 
 -- the namespace of a binding, at `/metadata/namespace`; empty where there is none
 abbrev pub home_of : Meaning → List ℕ
 home_of tree = unwrap_or (member_of (codes "metadata") tree >>= text_at (codes "namespace")) []
 
 -- whether a kind of role is ClusterRole
-abbrev pub cluster_by_kind : List ℕ → Option Bool
-cluster_by_kind kind =
+abbrev pub is_cluster_kind : List ℕ → Option Bool
+is_cluster_kind kind =
     if bytes_eq kind (codes "ClusterRole") then Some true
     else (if bytes_eq kind (codes "Role") then Some false else None)
 
@@ -69,12 +98,13 @@ role_ref_of tree = do
   role ← member_of (codes "roleRef") tree
   kind ← text_at (codes "kind") role
   name ← text_at (codes "name") role
-  is_cluster ← cluster_by_kind kind
+  is_cluster ← is_cluster_kind kind
   Some (is_cluster, name)
 
--- a RoleBinding or a ClusterRoleBinding
-pub record IsBinding (tree : Meaning) (binding : Binding) : Type 0 where
-  pub role : role_ref_of tree ≡ Some (binding.role_is_cluster, binding.role)
-  pub trees : List Meaning
-  pub listed : items_or_none (member_of (codes "subjects") tree) ≡ Some trees
-  pub each : AllZip (IsSubject (home_of tree)) trees binding.subjects
+-- A RoleBinding or a ClusterRoleBinding. The object doesn't tell which of them it is, so a Role is accepted in both.
+abbrev pub binding_of : Meaning → Option Binding
+binding_of tree = do
+  role ← role_ref_of tree
+  trees ← items_or_none (member_of (codes "subjects") tree)
+  subjects ← subjects_in (home_of tree) trees
+  Some (record { role_is_cluster = role.0; role = role.1; subjects = subjects })

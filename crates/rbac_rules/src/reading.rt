@@ -1,10 +1,5 @@
-ghost use Rattle.std.specs.Prelude.{◌≡◌, ℕ, Err, IfOk, MatchOption, List, option_map, codes};
-ghost use Rattle.std.specs.List.{AllZip};
-ghost use Rattle.json_tree.specs.Parts.{member_of};
-ghost use Rattle.rbac_rules.specs.Forms.{text_at, home_of, items_or_none, cluster_by_kind, role_ref_of, IsNamespace, IsRule, IsRole, IsSubject, IsBinding};
-ghost use Rattle.rbac_rules.specs.declared.role.PolicyRule.{PolicyRule};
-ghost use Rattle.rbac_rules.specs.declared.binding.Subject.{Subject};
-ghost use Rattle.rbac_rules.specs.declared.binding.Binding.{Binding};
+ghost use Rattle.std.specs.Prelude.{◌≡◌, Some, None, Err, IfOk, option_map};
+ghost use Rattle.rbac_rules.specs.Forms.{text_at, items_or_none, rule_of, rules_in, role_of, namespace_or, account_of, subject_of, subjects_in, home_of, is_cluster_kind, role_ref_of, binding_of};
 
 use crate::binding::{Binding, Subject, Subjects};
 use crate::role::{PolicyRule, PolicyRules};
@@ -51,7 +46,7 @@ fn items_or_none<'a>(member: Option<&'a Tree>) -> Option<&'a [Tree]>
 }
 
 fn read_rule(alloc: Global, tree: &Tree) -> Result<Option<PolicyRule>, OutOfMemory>
-    ensures { IfOk result (λ found. MatchOption found ((rule : PolicyRule) → IsRule tree.now rule → ⊥) (IsRule tree.now)) }
+    ensures { IfOk result (λ found. found ≡ rule_of tree.now) }
 {
     if tree.as_members().is_none() {
         return Ok(None);
@@ -80,38 +75,40 @@ fn read_rule(alloc: Global, tree: &Tree) -> Result<Option<PolicyRule>, OutOfMemo
     }))
 }
 
-fn read_rules(alloc: Global, trees: &[Tree]) -> Result<PolicyRules, RbacFault>
-    ensures rules { IfOk result (AllZip IsRule trees.now) }
-    ensures form { result ≡ Err RbacFault.Form → (rules : List PolicyRule) → AllZip IsRule trees.now rules → ⊥ }
+fn read_rules(alloc: Global, trees: &[Tree]) -> Result<Option<PolicyRules>, OutOfMemory>
+    ensures { IfOk result (λ found. found ≡ rules_in trees.now) }
 {
     let mut rules = PolicyRules::new(alloc);
     for tree in trees {
         let Some(rule) = read_rule(alloc, tree)? else {
-            return Err(RbacFault::Form);
+            return Ok(None);
         };
         rules.push(rule)?;
     }
-    Ok(rules)
+    Ok(Some(rules))
 }
 
 /// Reads the rules of a Role or a ClusterRole. Rules that are missing or null are none; a list within a
 /// rule may be missing, but not null. `aggregationRule` and unknown members are ignored.
 pub fn read_role(alloc: Global, tree: &Tree) -> Result<PolicyRules, RbacFault>
-    ensures rules { IfOk result (IsRole tree.now) }
-    ensures form { result ≡ Err RbacFault.Form → (rules : List PolicyRule) → IsRole tree.now rules → ⊥ }
+    ensures rules { IfOk result (λ rules. role_of tree.now ≡ Some rules) }
+    ensures form { result ≡ Err RbacFault.Form → role_of tree.now ≡ None }
 {
     if tree.as_members().is_none() {
         return Err(RbacFault::Form);
     }
-    match items_or_none(tree.member("rules")) {
-        Some(trees) => read_rules(alloc, trees),
+    let Some(trees) = items_or_none(tree.member("rules")) else {
+        return Err(RbacFault::Form);
+    };
+    match read_rules(alloc, trees)? {
+        Some(rules) => Ok(rules),
         None => Err(RbacFault::Form),
     }
 }
 
 // The namespace of a service account: its own, or that of the binding where it names none.
 fn namespace_of<'a>(member: Option<&'a Tree>, home: &'a str) -> Option<&'a str>
-    ensures { MatchOption result ((namespace : List ℕ) → IsNamespace home.entry.now (option_map (λ tree. tree.now) member.entry) namespace → ⊥) (λ namespace. IsNamespace home.entry.now (option_map (λ tree. tree.now) member.entry) namespace.now) }
+    ensures { option_map (λ text. text.now) result ≡ namespace_or home.entry.now (option_map (λ tree. tree.now) member.entry) }
 {
     let Some(tree) = member else {
         return Some(home);
@@ -119,24 +116,33 @@ fn namespace_of<'a>(member: Option<&'a Tree>, home: &'a str) -> Option<&'a str>
     if tree.is_null() {
         return Some(home);
     }
-    let namespace = tree.as_text()?;
-    if namespace.is_empty() {
-        return Some(home);
-    }
-    Some(namespace.as_str())
+    let namespace = tree.as_text()?.as_str();
+    Some(if namespace.is_empty() {
+        home
+    } else {
+        namespace
+    })
 }
 
-fn read_namespace(alloc: Global, tree: &Tree, home: &str) -> Result<Option<Text>, OutOfMemory>
-    ensures { IfOk result (λ found. MatchOption found ((namespace : List ℕ) → IsNamespace home.now (member_of (codes "namespace") tree.now) namespace → ⊥) (IsNamespace home.now (member_of (codes "namespace") tree.now))) }
+fn read_account(
+    alloc: Global,
+    tree: &Tree,
+    name: &Text,
+    home: &str,
+) -> Result<Option<Subject>, OutOfMemory>
+    ensures { IfOk result (λ found. found ≡ account_of home.now tree.now name.now) }
 {
-    match namespace_of(tree.member("namespace"), home) {
-        Some(namespace) => Ok(Some(Text::from_str(alloc, namespace)?)),
-        None => Ok(None),
-    }
+    let Some(namespace) = namespace_of(tree.member("namespace"), home) else {
+        return Ok(None);
+    };
+    Ok(Some(Subject::ServiceAccount {
+        namespace: Text::from_str(alloc, namespace)?,
+        name: name.clone()?,
+    }))
 }
 
 fn read_subject(alloc: Global, tree: &Tree, home: &str) -> Result<Option<Subject>, OutOfMemory>
-    ensures { IfOk result (λ found. MatchOption found ((subject : Subject) → IsSubject home.now tree.now subject → ⊥) (IsSubject home.now tree.now)) }
+    ensures { IfOk result (λ found. found ≡ subject_of home.now tree.now) }
 {
     let Some(kind) = text_at(tree, "kind") else {
         return Ok(None);
@@ -147,34 +153,31 @@ fn read_subject(alloc: Global, tree: &Tree, home: &str) -> Result<Option<Subject
     match kind.as_str() {
         "User" => Ok(Some(Subject::User(name.clone()?))),
         "Group" => Ok(Some(Subject::Group(name.clone()?))),
-        "ServiceAccount" => match read_namespace(alloc, tree, home)? {
-            Some(namespace) => Ok(Some(Subject::ServiceAccount {
-                namespace,
-                name: name.clone()?,
-            })),
-            None => Ok(None),
-        },
+        "ServiceAccount" => read_account(alloc, tree, name, home),
         _ => Ok(None),
     }
 }
 
-fn read_subjects(alloc: Global, trees: &[Tree], home: &str) -> Result<Subjects, RbacFault>
-    ensures subjects { IfOk result (AllZip (IsSubject home.now) trees.now) }
-    ensures form { result ≡ Err RbacFault.Form → (subjects : List Subject) → AllZip (IsSubject home.now) trees.now subjects → ⊥ }
+fn read_subjects(
+    alloc: Global,
+    trees: &[Tree],
+    home: &str,
+) -> Result<Option<Subjects>, OutOfMemory>
+    ensures { IfOk result (λ found. found ≡ subjects_in home.now trees.now) }
 {
     let mut subjects = Subjects::new(alloc);
     for tree in trees {
         let Some(subject) = read_subject(alloc, tree, home)? else {
-            return Err(RbacFault::Form);
+            return Ok(None);
         };
         subjects.push(subject)?;
     }
-    Ok(subjects)
+    Ok(Some(subjects))
 }
 
 // Whether a kind of role is ClusterRole; none where it is no kind of role.
 fn is_cluster_kind(kind: &str) -> Option<bool>
-    ensures { result ≡ cluster_by_kind kind.now }
+    ensures { result ≡ is_cluster_kind kind.now }
 {
     match kind {
         "ClusterRole" => Some(true),
@@ -183,7 +186,7 @@ fn is_cluster_kind(kind: &str) -> Option<bool>
     }
 }
 
-// Whether the role that a binding names is a ClusterRole, and its name.
+// Whether the role that a binding refers to is a ClusterRole, and its name.
 fn role_ref(tree: &Tree) -> Option<(bool, &Text)>
     ensures { option_map (λ found. (found.0, found.1.now)) result ≡ role_ref_of tree.now }
 {
@@ -209,8 +212,8 @@ fn home_of(tree: &Tree) -> &str
 /// Reads a RoleBinding or a ClusterRoleBinding, whichever it is: a Role is accepted in both. Subjects
 /// that are missing or null are none. Unknown members are ignored.
 pub fn read_binding(alloc: Global, tree: &Tree) -> Result<Binding, RbacFault>
-    ensures binding { IfOk result (IsBinding tree.now) }
-    ensures form { result ≡ Err RbacFault.Form → (binding : Binding) → IsBinding tree.now binding → ⊥ }
+    ensures binding { IfOk result (λ binding. binding_of tree.now ≡ Some binding) }
+    ensures form { result ≡ Err RbacFault.Form → binding_of tree.now ≡ None }
 {
     let Some((role_is_cluster, name)) = role_ref(tree) else {
         return Err(RbacFault::Form);
@@ -218,10 +221,11 @@ pub fn read_binding(alloc: Global, tree: &Tree) -> Result<Binding, RbacFault>
     let Some(trees) = items_or_none(tree.member("subjects")) else {
         return Err(RbacFault::Form);
     };
-    let subjects = read_subjects(alloc, trees, home_of(tree))?;
-    let role = match name.clone() {
-        Ok(role) => role,
-        Err(_) => return Err(RbacFault::OutOfMemory),
+    let Some(subjects) = read_subjects(alloc, trees, home_of(tree))? else {
+        return Err(RbacFault::Form);
+    };
+    let Ok(role) = name.clone() else {
+        return Err(RbacFault::OutOfMemory);
     };
     Ok(Binding {
         role_is_cluster,
