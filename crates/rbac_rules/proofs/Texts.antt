@@ -11,24 +11,24 @@ use Rattle.rbac_rules.specs.Granting.{IsPathTaken, IsResourceNamed, everything, 
 
 pub has_text-Decides : (texts : List (List ℕ)) (text : List ℕ) → Decides (has_text texts text) (Contains texts text)
 has_text-Decides texts text = (
-      λ is. let any = Any-from_list_any (λ item. bytes_eq item text) texts is in
+  λ is. let any = Any-from_list_any (λ item. bytes_eq item text) texts is in
       let same : any.1 ≡ text = (bytes_eq-Decides any.1 text).0 any.4 in
       (any.0, any.2, subst (λ (x : List ℕ). get_or texts any.0 x ≡ x) same any.3),
-      λ among. list_any-from_Any (λ item. bytes_eq item text) texts (among.0, text, among.1, among.2, (bytes_eq-Decides text text).1 refl),
-    )
+  λ among. list_any-from_Any (λ item. bytes_eq item text) texts (among.0, text, among.1, among.2, (bytes_eq-Decides text text).1 refl),
+)
 
 -- an entry other than `*`, of a request without a subresource
 pub whole_named : (attrs : RequestAttrs) (entry name : List ℕ) (r : Bool) → attrs.subresource ≡ [] → entry ≢ codes "*" → name ≡ attrs.resource → r ≡ bytes_eq entry name
     → Decides r (IsResourceNamed attrs entry)
 whole_named attrs entry name r empty other is told = (
-      λ same. resource empty ((bytes_eq-Decides entry name).0 (sym told ∙ same) ∙ is),
-      λ named. elim named [
-        everything e ↦ absurd (other e)
-        | resource _ e ↦ told ∙ (bytes_eq-Decides entry name).1 (e ∙ sym is)
-        | subresource present e ↦ absurd (present empty)
-        | of_each_resource present e ↦ absurd (present empty)
-      ],
-    )
+  λ same. resource empty ((bytes_eq-Decides entry name).0 (sym told ∙ same) ∙ is),
+  λ named. elim named [
+    | everything e ↦ absurd (other e)
+    | resource _ e ↦ told ∙ (bytes_eq-Decides entry name).1 (e ∙ sym is)
+    | subresource present e ↦ absurd (present empty)
+    | of_each_resource present e ↦ absurd (present empty)
+  ],
+)
 
 pub no_items : (xs : List ℕ) → (length xs == 0) ≡ true → xs ≡ []
 no_items [] e = refl
@@ -45,21 +45,21 @@ begins path front =
 -- with a last `*`, and without
 starred : (entry path front : List ℕ) → entry ≡ front ++ codes "*" → Decides (path_matches entry path) (IsPathTaken path entry)
 starred entry path front e = (
-      λ is. let on = (begins path front).0 (front_matches entry front path e ∙ is) in inr (front, on.0, e, on.1),
-      λ taken. elim taken [
-        inl same ↦ sym (front_matches entry front path e) ∙ (begins path front).1 (codes "*", sym same ∙ e)
-        | inr on ↦ sym (front_matches entry on.0 path on.2) ∙ (begins path on.0).1 (on.1, on.3)
-      ],
-    )
+  λ is. let on = (begins path front).0 (front_matches entry front path e ∙ is) in inr (front, on.0, e, on.1),
+  λ taken. elim taken [
+    | inl same ↦ sym (front_matches entry front path e) ∙ (begins path front).1 (codes "*", sym same ∙ e)
+    | inr on ↦ sym (front_matches entry on.0 path on.2) ∙ (begins path on.0).1 (on.1, on.3)
+  ],
+)
 
 plain : (entry path : List ℕ) → ((front : List ℕ) → entry ≢ front ++ codes "*") → Decides (path_matches entry path) (IsPathTaken path entry)
 plain entry path none = (
-      λ is. inl ((bytes_eq-Decides entry path).0 (whole_matches entry path none ∙ is)),
-      λ taken. elim taken [
-        inl same ↦ sym (whole_matches entry path none) ∙ (bytes_eq-Decides entry path).1 same
-        | inr on ↦ absurd (none on.0 on.2)
-      ],
-    )
+  λ is. inl ((bytes_eq-Decides entry path).0 (whole_matches entry path none ∙ is)),
+  λ taken. elim taken [
+    | inl same ↦ sym (whole_matches entry path none) ∙ (bytes_eq-Decides entry path).1 same
+    | inr on ↦ absurd (none on.0 on.2)
+  ],
+)
 
 by_end : (entry path : List ℕ) (ends : Bool) → ends ≡ ends_with nat_eq entry (codes "*") → Decides (path_matches entry path) (IsPathTaken path entry)
 by_end entry path true is = starred entry path (take (length entry - 1) entry) ((ends_is Decides-eqb entry (codes "*") _ refl).0 (sym is))

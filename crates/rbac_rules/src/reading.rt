@@ -158,11 +158,7 @@ fn read_subject(alloc: Global, tree: &Tree, home: &str) -> Result<Option<Subject
     }
 }
 
-fn read_subjects(
-    alloc: Global,
-    trees: &[Tree],
-    home: &str,
-) -> Result<Option<Subjects>, OutOfMemory>
+fn read_subjects(alloc: Global, trees: &[Tree], home: &str) -> Result<Option<Subjects>, OutOfMemory>
     ensures { IfOk result (λ found. found ≡ subjects_in home.now trees.now) }
 {
     let mut subjects = Subjects::new(alloc);

@@ -36,7 +36,8 @@ pub fn subject_matches(subject: &Subject, who: &User) -> bool
         Subject::User(name) => who.name == *name,
         Subject::Group(name) => has_text(&who.groups, name),
         Subject::ServiceAccount { namespace, name } => {
-            !namespace.is_empty() && is_account(who.name.as_str(), namespace.as_str(), name.as_str())
+            !namespace.is_empty()
+                && is_account(who.name.as_str(), namespace.as_str(), name.as_str())
         }
     }
 }
