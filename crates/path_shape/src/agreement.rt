@@ -23,7 +23,14 @@ pub fn agrees(shape: &Shape, old: Option<&Tree>, asked: &Tree, answered: &Tree) 
         asked: Part::root(asked),
         answered: Part::root(answered),
     };
-    start(shape.entries.as_slice(), &Live::none(), None, shape.root, false, spot)
+    start(
+        shape.entries.as_slice(),
+        &Live::none(),
+        None,
+        shape.root,
+        false,
+        spot,
+    )
 }
 
 /// Whether an answered object is the old one but for the marks of a deletion, its finalizers, its generation and
@@ -42,7 +49,14 @@ pub fn keeps(shape: &Shape, old: &Tree, answered: &Tree) -> bool
     let period = Live::in_metadata("deletionGracePeriodSeconds", FieldClass::Owned, &time);
     let finalizers = Live::in_metadata("finalizers", FieldClass::Owned, &period);
     let generation = Live::in_metadata("generation", FieldClass::Owned, &finalizers);
-    start(shape.entries.as_slice(), &generation, None, shape.root, true, spot)
+    start(
+        shape.entries.as_slice(),
+        &generation,
+        None,
+        shape.root,
+        true,
+        spot,
+    )
 }
 
 fn root_of<'a>(tree: Option<&'a Tree>) -> Part<'a>
@@ -80,9 +94,9 @@ fn read_as(unasked: bool, class: FieldClass) -> FieldClass
 
 // Lays the patterns of the entries before those that are there, so that the list lies turned round. An entry for
 // the root gives its class.
-fn start(
-    entries: &[ShapeEntry],
-    live: &Live<'_>,
+fn start<'l>(
+    entries: &'l [ShapeEntry],
+    live: &'l Live<'l>,
     found: Option<FieldClass>,
     root: FieldClass,
     unasked: bool,
@@ -98,7 +112,14 @@ fn start(
         [entry, rest @ ..] => {
             let class = read_as(unasked, entry.class);
             match entry.path.as_slice() {
-                [] => start(rest, &*live, Some(found.unwrap_or(class)), root, unasked, spot),
+                [] => start(
+                    rest,
+                    &*live,
+                    Some(found.unwrap_or(class)),
+                    root,
+                    unasked,
+                    spot,
+                ),
                 [token, behind @ ..] => {
                     let more = Live::linked(token.as_str(), Tail::Tokens(behind), class, &*live);
                     start(rest, &more, found, root, unasked, spot)
@@ -109,7 +130,7 @@ fn start(
 }
 
 // Lays the built-in patterns before the others, and walks.
-fn fits_built_in(live: &Live<'_>, class: FieldClass, unasked: bool, spot: Spot<'_>) -> bool
+fn fits_built_in<'l>(live: &'l Live<'l>, class: FieldClass, unasked: bool, spot: Spot<'_>) -> bool
     ensures { IsTrue result ↔ FitsSpot class (patterns_in false (built_in_before unasked live.now)) spot.entry }
 {
     let defaulted = read_as(unasked, FieldClass::Defaulted);

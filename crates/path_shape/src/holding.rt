@@ -1,10 +1,10 @@
-ghost use Rattle.std.specs.Prelude.{◌≡◌, ◌↔◌, IsTrue, Some, option_map, option_and_then, if◌then◌else◌};
-ghost use Rattle.json_tree.specs.Parts.{lookup};
-ghost use Rattle.json_tree.specs.Meaning.{kids_of, fields_of, flag, whole, words, items, members, Kids, Fields};
+ghost use Rattle.std.specs.Prelude.{◌≡◌, ◌↔◌, IsTrue, false, Some, option_map, if◌then◌else◌};
+ghost use Rattle.json_tree.specs.Parts.{lookup, member_of};
+ghost use Rattle.json_tree.specs.Meaning.{Meaning, kids_of, fields_of, flag, whole, words, items, members, Kids, Fields};
 ghost use Rattle.path_shape.specs.Agreement.{Holds};
-ghost use Rattle.path_shape.specs.Forms.{thin, thin_kids, thin_fields, left_of, is_held_by, is_held_by_child, are_held_in_turn, are_held_by_name};
+ghost use Rattle.path_shape.specs.Forms.{says_nothing, thin, thin_kids, thin_fields, left_of, is_held_by, is_held_by_child, are_held_in_turn};
 ghost use Rattle.path_shape.specs.Walk.{form, whole as tree_of};
-ghost use Rattle.path_shape.specs.Holding.{IsHolding};
+ghost use Rattle.path_shape.specs.Holding.{IsHolding, is_missing, object_or_null};
 
 use crate::part::{Part, is_empty_list, is_silent};
 use base_types::Text;
@@ -33,11 +33,7 @@ pub fn is_held(asked: Part<'_>, answered: Part<'_>) -> bool
 fn is_value_held(asked: &Tree, answered: Part<'_>) -> bool
     ensures { IsTrue result ↔ Holds (form answered.entry) (left_of asked.now) }
 {
-    match holding_of(asked, tree_in(answered)) {
-        Holding::Silent => true,
-        Holding::Held => true,
-        Holding::Missing => false,
-    }
+    !is_missing(holding_of(asked, tree_in(answered)))
 }
 
 fn is_tree_held(asked: &Tree, answered: Part<'_>) -> bool
@@ -80,7 +76,7 @@ fn items_in<'a>(tree: Option<&'a Tree>) -> Option<&'a Trees>
 
 fn members_in<'a>(tree: Option<&'a Tree>) -> Option<&'a MemberList>
     ensures { (ms : Fields) → is_held_by_child (members ms) (option_map (λ t. thin t.now) tree.entry)
-        ≡ is_held_by_child (members ms) (option_map (λ ns. members (thin_fields (fields_of ns.now))) result) }
+        ≡ is_held_by_child (members ms) (option_map members (option_map (λ ns. thin_fields (fields_of ns.now)) result)) }
 {
     match tree {
         None => None,
@@ -93,11 +89,30 @@ fn members_in<'a>(tree: Option<&'a Tree>) -> Option<&'a MemberList>
 
 // The value of a member of an object that may be absent.
 fn value_in<'a>(list: Option<&'a MemberList>, name: &str) -> Option<&'a Tree>
-    ensures { option_map (λ t. t.now) result ≡ option_and_then (λ ns. lookup name.now (fields_of ns.now)) list.entry }
+    ensures { (t : Meaning) → says_nothing t ≡ false → is_held_by_child t (option_map (λ v. thin v.now) result)
+        ≡ is_held_by_child t (member_of name.now (object_or_null (option_map (λ ns. thin_fields (fields_of ns.now)) list.entry))) }
 {
     match list {
         None => None,
-        Some(list) => list.get(name),
+        Some(list) => member_value(list, name),
+    }
+}
+
+fn member_value<'a>(list: &'a MemberList, name: &str) -> Option<&'a Tree>
+    ensures { (t : Meaning) → says_nothing t ≡ false → is_held_by_child t (option_map (λ v. thin v.now) result)
+        ≡ is_held_by_child t (lookup name.now (thin_fields (fields_of list.now))) }
+{
+    let _all = &list.all;
+    list.get(name)
+}
+
+fn is_missing(holding: Holding) -> bool
+    ensures { result ≡ is_missing holding }
+{
+    match holding {
+        Holding::Missing => true,
+        Holding::Silent => false,
+        Holding::Held => false,
     }
 }
 
@@ -179,7 +194,7 @@ fn is_item_held(asked: &Tree, answered: &Tree) -> bool
         (Node::Whole(x), Node::Whole(y)) => *x == *y,
         (Node::Words(x), Node::Words(y)) => *x == *y,
         (Node::Items(x), Node::Items(y)) => are_held_in_turn(x, y),
-        (Node::Members(x), Node::Members(y)) => are_held_by_name(x, y),
+        (Node::Members(x), Node::Members(y)) => !is_missing(members_holding(x, Some(y))),
         _ => false,
     }
 }
@@ -199,24 +214,9 @@ fn are_held_in_turn(asked: &Trees, answered: &Trees) -> bool
     true
 }
 
-// Whether each member that says something is held by the member of that name.
-#[cycle(holdings)]
-fn are_held_by_name(asked: &MemberList, answered: &MemberList) -> bool
-    ensures { result ≡ are_held_by_name (thin_fields (fields_of asked.now)) (members (thin_fields (fields_of answered.now))) }
-{
-    for member in &asked.all {
-        match holding_of(&member.value, answered.get(member.name.as_str())) {
-            Holding::Silent => {}
-            Holding::Held => {}
-            Holding::Missing => return false,
-        }
-    }
-    true
-}
-
 #[cycle(holdings)]
 fn members_holding(asked: &MemberList, answered: Option<&MemberList>) -> Holding
-    ensures { IsHolding (members (thin_fields (fields_of asked.now))) (option_map (λ ns. members (thin_fields (fields_of ns.now))) answered.entry) result }
+    ensures { IsHolding (members (thin_fields (fields_of asked.now))) (option_map members (option_map (λ ns. thin_fields (fields_of ns.now)) answered.entry)) result }
 {
     let mut silent = true;
     for member in &asked.all {

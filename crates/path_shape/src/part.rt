@@ -35,7 +35,7 @@ pub fn is_empty_list(list: &Trees) -> bool
 {
     match list.all.as_slice() {
         [] => true,
-        _ => false,
+        [_, ..] => false,
     }
 }
 

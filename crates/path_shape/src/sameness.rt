@@ -129,5 +129,8 @@ fn are_same_members(x: &MemberList, y: &MemberList) -> bool
             Turn::Differ => return false,
         }
     }
-    are_silent_from(x, i) && are_silent_from(y, j)
+    if !are_silent_from(x, i) {
+        return false;
+    }
+    are_silent_from(y, j)
 }

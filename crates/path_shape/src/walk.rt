@@ -26,13 +26,37 @@ pub fn fits(live: &Live<'_>, forward: bool, class: FieldClass, spot: Spot<'_>) -
             if !fits_open(class, spot) {
                 return false;
             }
-            if !fits_each(spot.old, Part::Absent, Part::Absent, live, forward, class, spot) {
+            if !fits_each(
+                spot.old,
+                Part::Absent,
+                Part::Absent,
+                live,
+                forward,
+                class,
+                spot,
+            ) {
                 return false;
             }
-            if !fits_each(spot.asked, spot.old, Part::Absent, live, forward, class, spot) {
+            if !fits_each(
+                spot.asked,
+                spot.old,
+                Part::Absent,
+                live,
+                forward,
+                class,
+                spot,
+            ) {
                 return false;
             }
-            fits_each(spot.answered, spot.old, spot.asked, live, forward, class, spot)
+            fits_each(
+                spot.answered,
+                spot.old,
+                spot.asked,
+                live,
+                forward,
+                class,
+                spot,
+            )
         }
     }
 }
@@ -142,7 +166,16 @@ fn fits_unless_done(
     if done_too.has_child(token) {
         return true;
     }
-    descend(live, &Live::none(), None, token, forward, class, spot.child(token))
+    let none = Live::none();
+    descend(
+        &*live,
+        &none,
+        None,
+        token,
+        forward,
+        class,
+        spot.child(token),
+    )
 }
 
 fn covers(token: &str, name: &str) -> bool
@@ -163,9 +196,9 @@ fn sooner(forward: bool, found: Option<FieldClass>, class: FieldClass) -> FieldC
 // Goes on to a child whose parts stand at the spot: the patterns that cover its token and go further are laid
 // before those that are kept, and the class of those that end there is found.
 #[cycle(fits)]
-fn descend(
-    live: &Live<'_>,
-    kept: &Live<'_>,
+fn descend<'l>(
+    live: &Live<'l>,
+    kept: &'l Live<'l>,
     found: Option<FieldClass>,
     name: &str,
     forward: bool,
@@ -190,7 +223,12 @@ fn descend(
                     descend(link.others, &*kept, found, name, forward, class, spot)
                 }
                 Tail::Tokens([next, behind @ ..]) => {
-                    let more = Live::linked(next.as_str(), Tail::Tokens(behind), link.class, &*kept);
+                    let more = Live::linked(
+                        next.as_str(),
+                        Tail::Tokens(behind),
+                        link.class,
+                        &*kept,
+                    );
                     descend(link.others, &more, found, name, forward, class, spot)
                 }
             }
