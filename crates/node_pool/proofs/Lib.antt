@@ -1,0 +1,5 @@
+pub mod Fronts
+pub mod Levels
+pub mod Adding
+pub mod Stores
+pub mod Walks
