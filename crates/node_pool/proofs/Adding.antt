@@ -1,7 +1,6 @@
 -- A name or a level is put behind the others.
-use Rattle.std.proofs.Common.{◌≡◌, ◌⊎◌, inl, inr, ℕ, zero, suc, ◌+◌, ◌<◌, ◌≤◌, ◌^◌, Bool, true, false, ◌||◌, List, [], ◌∷◌, ◌++◌, length, map, take, Option, Some, None, slice_get, option_map, refl, sym, ap, subst, ◌∙◌, arith, append_assoc, length-append, bytes_eq, get_or}
-use Rattle.std.specs.Prelude.{if◌then◌else◌, position, fold}
-use Rattle.std.specs.Bool.{Decides}
+use Rattle.std.proofs.Common.{◌≡◌, ℕ, ◌+◌, ◌≤◌, Bool, true, false, ◌||◌, List, [], ◌∷◌, ◌++◌, length, take, Some, slice_get, option_map, refl, sym, ap, subst, ◌∙◌, arith, append_assoc, length-append, bytes_eq, get_or}
+use Rattle.std.specs.Prelude.{if◌then◌else◌, position}
 use Rattle.std.specs.List.{list_any}
 use Rattle.std.proofs.lemmas.Bool.Decides.{Decides-like, same_from_decides}
 use Rattle.std.proofs.lemmas.Slice.Eq.{bytes_eq-Decides}
@@ -9,14 +8,14 @@ use Rattle.std.proofs.lemmas.List.{append-nil, length-take}
 use Rattle.std.proofs.lemmas.List.Quantifiers.{position-Some}
 use Rattle.std.proofs.lemmas.Option.{slice_get-get_or}
 use Rattle.indexmap.specs.IndexSet.{insert_key}
-use Rattle.json_tree.specs.Meaning.{Meaning, null}
+use Rattle.json_tree.specs.Meaning.{Meaning}
 use Rattle.json_tree.specs.Same.{same, same-Decides}
 use Rattle.node_pool.specs.Flat.{Flat, flat_eq, flat_eq-Decides}
-use Rattle.node_pool.specs.Kept.{Kept, AreKept, Grows}
+use Rattle.node_pool.specs.Kept.{AreKept}
 use Rattle.node_pool.specs.Pooled.{AreDistinct}
 use Rattle.node_pool.specs.Subtrees.{with_tree, Begins}
 use Rattle.node_pool.specs.Within.{tree_of, trees_from, IsWithin, AreWithin}
-use Rattle.node_pool.proofs.Fronts.{Begins-refl, Begins-snoc, Begins-longer, length-snoc, AreDistinct-snoc, AreDistinct-take, slice_get-front, slice_get-last}
+use Rattle.node_pool.proofs.Fronts.{Begins-refl, Begins-snoc, length-snoc, AreDistinct-snoc, AreDistinct-take}
 use Rattle.node_pool.proofs.Levels.{Agree-trees, tree_of-agree, IsWithin-more, AreWithin-names, AreWithin-snoc, AreWithin-take, trees_from-names, trees_from-length, trees_from-take, trees_from-snoc, trees_from-at, tree_of-inj}
 
 -- two levels are the same where their trees are

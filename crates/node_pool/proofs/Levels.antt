@@ -1,12 +1,12 @@
 -- The trees of levels stay what they are while names and trees are put behind the others.
-use Rattle.std.proofs.Common.{◌≡◌, ℕ, zero, suc, ◌+◌, ◌<◌, ◌≤◌, List, [], ◌∷◌, ◌++◌, length, get_or, map, take, Some, None, slice_get, option_map, refl, sym, ap, subst, ◌∙◌, arith, append_assoc, length-append}
+use Rattle.std.proofs.Common.{◌≡◌, ℕ, zero, suc, ◌+◌, ◌<◌, ◌≤◌, List, [], ◌∷◌, ◌++◌, length, get_or, map, take, Some, slice_get, option_map, refl, sym, ap, subst, ◌∙◌, arith, append_assoc, length-append}
 use Rattle.std.specs.List.{AllByRecursion}
 use Rattle.std.specs.List.Sorted.{IsStrictlySortedBy}
 use Rattle.std.specs.Ordering.{nat_cmp}
 use Rattle.std.specs.Cmp.Lexicographic.{slice_cmp}
 use Rattle.std.proofs.lemmas.List.{append-nil, get_or_append_left}
 use Rattle.std.proofs.lemmas.Option.{slice_get-get_or}
-use Rattle.json_tree.specs.Meaning.{Meaning, null, flag, whole, words, items, members, kids_of, fields_of}
+use Rattle.json_tree.specs.Meaning.{Meaning, null, items, members, kids_of, fields_of}
 use Rattle.json_tree.proofs.Lists.{items-inj, members-inj}
 use Rattle.node_pool.specs.Flat.{Flat, flat_null, flat_flag, flat_whole, flat_words, flat_items, flat_members}
 use Rattle.node_pool.specs.Pooled.{AreDistinct}

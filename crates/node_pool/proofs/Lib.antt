@@ -3,3 +3,4 @@ pub mod Levels
 pub mod Adding
 pub mod Stores
 pub mod Walks
+pub mod Looks

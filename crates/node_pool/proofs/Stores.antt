@@ -1,10 +1,9 @@
 -- What the functions of a store show of its names and levels.
-use Rattle.std.proofs.Common.{◌≡◌, ℕ, ◌<◌, ◌≤◌, Bool, true, List, [], length, take, Result, Ok, Err, OnOk, OnErr, IfOk, Option, Some, None, IfSome, slice_get, option_map, refl, sym, ap, subst, ◌∙◌, arith, ◌+◌, Bor, option_copied}
+use Rattle.std.proofs.Common.{◌≡◌, ℕ, ◌<◌, ◌≤◌, true, List, [], length, take, Result, Ok, Err, OnOk, OnErr, IfOk, Option, Some, None, IfSome, slice_get, option_map, refl, sym, ap, subst, ◌∙◌, arith, ◌+◌, Bor, option_copied}
 use Rattle.std.proofs.lemmas.List.{append-nil}
 use Rattle.indexmap.specs.IndexSet.{insert_key}
-use Rattle.json_tree.specs.Meaning.{Meaning}
 use Rattle.node_pool.specs.declared.fault.PoolFault.{PoolFault}
-use Rattle.node_pool.specs.declared.fault.PoolFault.TheVariants.{Full, OutOfMemory}
+use Rattle.node_pool.specs.declared.fault.PoolFault.TheVariants.{Full}
 use Rattle.node_pool.specs.Flat.{Flat, flat_eq, flat_eq-Decides}
 use Rattle.node_pool.specs.Kept.{Kept, seen, AreKept, Grows}
 use Rattle.node_pool.specs.Subtrees.{with_tree, Begins}

@@ -1,5 +1,5 @@
 -- The walk through a tree: what stands in the store after some of its parts.
-use Rattle.std.proofs.Common.{◌≡◌, ℕ, zero, suc, ◌+◌, ◌<◌, ◌≤◌, Bool, true, false, List, [], ◌∷◌, ◌++◌, length, get_or, map, take, drop, Some, slice_get, refl, sym, ap, subst, ◌∙◌, arith, append_assoc, length-append}
+use Rattle.std.proofs.Common.{◌≡◌, ℕ, zero, suc, ◌+◌, ◌<◌, ◌≤◌, List, [], ◌∷◌, ◌++◌, length, get_or, map, take, drop, Some, slice_get, refl, sym, ap, subst, ◌∙◌, arith, append_assoc}
 use Rattle.std.specs.Prelude.{fold}
 use Rattle.std.specs.List.{AllByRecursion}
 use Rattle.std.specs.List.Sorted.{IsStrictlySortedBy}
@@ -10,10 +10,9 @@ use Rattle.std.proofs.lemmas.List.Sums.{fold-append}
 use Rattle.std.proofs.lemmas.Option.{get_or_from_slice_get, slice_get_within}
 use Rattle.json_tree.specs.Meaning.{Meaning, null, kids_of, fields_of}
 use Rattle.json_tree.specs.Names.{names, AreSorted}
-use Rattle.node_pool.specs.Flat.{Flat, flat_members}
 use Rattle.node_pool.specs.Kept.{Kept, Grows}
 use Rattle.node_pool.specs.Subtrees.{inside, inside_kids, inside_fields, subtrees, with_tree, interned, Begins}
-use Rattle.node_pool.specs.Within.{name_at, tree_at, name_of, field_at, IsFieldWithin, IsWithin}
+use Rattle.node_pool.specs.Within.{name_at, tree_at, name_of, field_at, IsFieldWithin}
 use Rattle.node_pool.proofs.Fronts.{Begins-refl, Begins-trans, Begins-longer, slice_get-Begins}
 use Rattle.node_pool.proofs.Levels.{Agree-Begins, kids_agree, fields_agree, kids_grow, fields_grow}
 use Rattle.node_pool.proofs.Adding.{with_tree-begins}
@@ -102,8 +101,8 @@ items_step old now new xs ks i n x done lt is grows added at = record {
   added = added ∙ ap (λ l. interned l x) done.added ∙ sym (kids-more old.trees xs i x lt is);
   within = all-snoc (λ k. k < length new.trees) ks n (kids_grow (length now.trees) (length new.trees) ks (Begins-longer now.trees new.trees grows.trees) done.within) (slice_get_within new.trees n x at);
   held = map-append (tree_at new.trees) ks (n ∷ [])
-    ∙ (λ j. earlier j ++ get_or_from_slice_get new.trees n x null at j ∷ [])
-    ∙ sym (take_more xs i x lt ∙ ap (λ y. take i xs ++ y ∷ []) (sym is));
+      ∙ (λ j. earlier j ++ get_or_from_slice_get new.trees n x null at j ∷ [])
+      ∙ sym (take_more xs i x lt ∙ ap (λ y. take i xs ++ y ∷ []) (sym is));
 }
   where
     earlier : map (tree_at new.trees) ks ≡ take i xs
@@ -141,10 +140,10 @@ members_step old now new xs ms i k n x done lt is name grows added at = record {
   grows = Grows-trans old now new done.grows grows;
   added = added ∙ ap (λ l. interned l x.1) done.added ∙ sym (fields-more old.trees xs i x lt is);
   within = all-snoc (IsFieldWithin new.names (length new.trees)) ms (k, n) (fields_grow now.names new.names (length now.trees) (length new.trees) ms (Begins-longer now.names new.names grows.names) (Begins-longer now.trees new.trees grows.trees) done.within)
-    (slice_get_within new.names k x.0 later, slice_get_within new.trees n x.1 at);
+      (slice_get_within new.names k x.0 later, slice_get_within new.trees n x.1 at);
   held = map-append (field_at new.names new.trees) ms ((k, n) ∷ [])
-    ∙ (λ j. earlier j ++ (get_or_from_slice_get new.names k x.0 [] later j, get_or_from_slice_get new.trees n x.1 null at j) ∷ [])
-    ∙ sym (take_more xs i x lt ∙ ap (λ y. take i xs ++ y ∷ []) (sym is));
+      ∙ (λ j. earlier j ++ (get_or_from_slice_get new.names k x.0 [] later j, get_or_from_slice_get new.trees n x.1 null at j) ∷ [])
+      ∙ sym (take_more xs i x lt ∙ ap (λ y. take i xs ++ y ∷ []) (sym is));
 }
   where
     later : slice_get new.names k ≡ Some x.0

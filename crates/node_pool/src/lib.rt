@@ -14,3 +14,5 @@ mod store;
 pub use fault::PoolFault;
 pub use pool::{NodeId, Pool};
 
+#[cfg(test)]
+mod tests;

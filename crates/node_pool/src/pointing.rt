@@ -1,11 +1,12 @@
-ghost use Rattle.std.specs.Prelude.{◌≡◌, ◌<◌, List, length, map, slice_get, option_map, option_and_then, IfSome};
+ghost use Rattle.std.specs.Prelude.{◌≡◌, ◌<◌, length, map, slice_get, option_and_then, IfSome};
+ghost use Rattle.std.specs.List.{AllByRecursion};
 ghost use Rattle.std.specs.List.Sorted.{IsBinarySearchResult, IsSearchInRange, IsStrictlySortedBy};
 ghost use Rattle.std.specs.Ordering.{nat_cmp};
 ghost use Rattle.std.specs.Cmp.Lexicographic.{slice_cmp};
-ghost use Rattle.json_tree.specs.Meaning.{Meaning, fields_of};
+ghost use Rattle.json_tree.specs.Meaning.{fields_of};
 ghost use Rattle.json_tree.specs.Parts.{lookup};
 ghost use Rattle.json_tree.specs.Pointers.{child_of, index_of, pointed as pointed_tree};
-ghost use Rattle.node_pool.specs.Within.{tree_at, field_at, name_of, name_at};
+ghost use Rattle.node_pool.specs.Within.{field_at, name_of, name_at, IsFieldWithin};
 
 use crate::form::Form;
 use crate::store::Store;
@@ -51,8 +52,10 @@ fn item(numbers: &Vec<u32>, token: &str) -> Option<u32>
 
 // The number of the value of the member of a name.
 fn member(store: &Store, numbers: &Vec<(usize, u32)>, name: &str) -> Option<u32>
+    requires within { AllByRecursion (IsFieldWithin store.now.names (length store.now.trees)) numbers.now.items }
     requires sorted { IsStrictlySortedBy (slice_cmp nat_cmp) (map (name_of store.now.names) numbers.now.items) }
-    ensures { (ts : List Meaning) → option_map (tree_at ts) result ≡ lookup name.now (fields_of (map (field_at store.now.names ts) numbers.now.items)) }
+    ensures found { option_and_then (slice_get store.now.trees) result ≡ lookup name.now (fields_of (map (field_at store.now.names store.now.trees) numbers.now.items)) }
+    ensures within { IfSome result (λ n. n < length store.now.trees) }
 {
     match find(store, numbers, name) {
         Ok(at) => Some(numbers[at].1),

@@ -20,15 +20,24 @@ pub fn rebuild(alloc: Global, store: &Store, number: u32) -> Result<Tree, OutOfM
     let Some(level) = store.level(number) else {
         unreachable!();
     };
-    let node = match &level.form {
-        Form::Null => Node::Null,
-        Form::Flag(flag) => Node::Flag(*flag),
-        Form::Whole(whole) => Node::Whole(*whole),
-        Form::Words(text) => Node::Words(text.clone()?),
-        Form::Items(numbers) => Node::Items(rebuild_items(alloc, store, numbers, number)?),
-        Form::Members(numbers) => Node::Members(rebuild_members(alloc, store, numbers, number)?),
-    };
-    Ok(Tree { node })
+    match &level.form {
+        Form::Null => Ok(Tree { node: Node::Null }),
+        Form::Flag(flag) => Ok(Tree {
+            node: Node::Flag(*flag),
+        }),
+        Form::Whole(whole) => Ok(Tree {
+            node: Node::Whole(*whole),
+        }),
+        Form::Words(text) => Ok(Tree {
+            node: Node::Words(text.clone()?),
+        }),
+        Form::Items(numbers) => Ok(Tree {
+            node: Node::Items(rebuild_items(alloc, store, numbers, number)?),
+        }),
+        Form::Members(numbers) => Ok(Tree {
+            node: Node::Members(rebuild_members(alloc, store, numbers, number)?),
+        }),
+    }
 }
 
 // The trees of these numbers, which are all below the bound.

@@ -119,11 +119,7 @@ fn numbered(names: &mut IndexSet<Text>, name: &Text) -> Result<usize, OutOfMemor
 }
 
 // The position of a level, which is put behind the others where it is new and there is room.
-fn inserted(
-    levels: &mut IndexSet<Level>,
-    limit: u32,
-    level: Level,
-) -> Result<u32, PoolFault>
+fn inserted(levels: &mut IndexSet<Level>, limit: u32, level: Level) -> Result<u32, PoolFault>
     requires room { length levels.old.keys ≤ limit }
     ensures keys { OnOk result (levels.new.keys ≡ insert_key flat_eq levels.old.keys level) }
     ensures number { IfOk result (λ n. slice_get levels.new.keys n ≡ Some level) }

@@ -1,4 +1,4 @@
-use Rattle.std.proofs.Common.{◌≡◌, ◌+◌, ◌∙◌, ◌<◌, ℕ, List, Some, ◌∷◌, [], ◌++◌, length, fold, slice_get, sym, ap, subst, Result, Err}
+use Rattle.std.proofs.Common.{◌≡◌, ◌+◌, ◌∙◌, ◌<◌, ℕ, List, Some, length, fold, slice_get, sym, ap, subst, Result, Err}
 use Rattle.std.proofs.lemmas.Result.{err_from_is_err_and}
 use Rattle.json_tree.specs.Meaning.{Meaning, kids_of, fields_of}
 use Rattle.node_pool.specs.declared.fault.PoolFault.TheVariants.{Full}
@@ -55,8 +55,8 @@ add_members-loop-member-preserved t c =
     let done = members_named o l.store now c.deref-member-items.result.now l.numbers.items l.member-index l.invariant n.grows n.trees in
     subst (λ ms. MembersDone o new c.deref-member-items.result.now ms (l.member-index + 1)) (sym c.in_ok-push.ensures.items)
     (members_step o now new c.deref-member-items.result.now l.numbers.items l.member-index c.in_ok-name.name c.in_ok-value.value c.member-item.result done c.loop-member-test.true c.member-item.is
-        (subst (λ (m : List ℕ × Meaning). slice_get now.names c.in_ok-name.name ≡ Some m.0) v n.number) e.grows
-        (subst (λ (m : List ℕ × Meaning). new.trees ≡ interned now.trees m.1) v e.added) (subst (λ (m : List ℕ × Meaning). slice_get new.trees c.in_ok-value.value ≡ Some m.1) v e.number))
+    (subst (λ (m : List ℕ × Meaning). slice_get now.names c.in_ok-name.name ≡ Some m.0) v n.number) e.grows
+    (subst (λ (m : List ℕ × Meaning). new.trees ≡ interned now.trees m.1) v e.added) (subst (λ (m : List ℕ × Meaning). slice_get new.trees c.in_ok-value.value ≡ Some m.1) v e.number))
 
 pub level_of-returns-in_ok-add_members-in-Members-clause-within : goal.level_of-returns-in_ok-add_members-in-Members-clause-within
 level_of-returns-in_ok-add_members-in-Members-clause-within t c =

@@ -1,4 +1,4 @@
-use Rattle.std.proofs.Common.{◌≡◌, ◌∙◌, ap, sym, subst, take, []}
+use Rattle.std.proofs.Common.{◌∙◌, ap, sym, subst, []}
 use Rattle.node_pool.specs.Kept.{AreKept}
 use Rattle.node_pool.specs.Within.{trees_from}
 use Rattle.node_pool.proofs.Adding.{kept-take}

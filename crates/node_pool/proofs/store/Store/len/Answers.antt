@@ -1,4 +1,4 @@
-use Rattle.std.proofs.Common.{◌≡◌, ◌∙◌}
+use Rattle.std.proofs.Common.{◌∙◌}
 use Rattle.node_pool.proofs.Stores.{seen-length, seen-room}
 use Rattle.node_pool.proofs.store.Store.len.Goals as goal
 
