@@ -1,0 +1,5 @@
+pub mod Covered
+pub mod FirstPlaces
+pub mod Joined
+pub mod Quantified
+pub mod Searching
