@@ -9,6 +9,7 @@ use Rattle.base_types.specs.Covers.{Covers}
 use Rattle.base_types.specs.declared.key.ObjectKey.{ObjectKey}
 use Rattle.clouds.specs.declared.span.KeyRevision.{KeyRevision}
 use Rattle.clouds.specs.declared.span.OpaqueSpan.{OpaqueSpan}
+use Rattle.clouds.specs.Hiding.{revision_of}
 use Rattle.clouds.specs.Writes.{Writes}
 
 -- keys by their four parts
@@ -31,7 +32,7 @@ items_at order m key = items_of (get order m key)
 pub record AddsAt {K X : Type 0} (order : K → K → Ordering) (old new : BTreeMap K (List X)) (key : K) (item : X) : Type 0 where
   pub kept : (k : K) (x : X) → Contains (items_at order old k) x → Contains (items_at order new k) x
   pub added : Contains (items_at order new key) item
-  pub only : (k : K) (x : X) → Contains (items_at order new k) x → Contains (items_at order old k) x ⊎ ((is_eq (order k key) ≡ true) × (x ≡ item))
+  pub only : (k : K) (x : X) → Contains (items_at order new k) x → Contains (items_at order old k) x ⊎ ((is_eq (order key k) ≡ true) × (x ≡ item))
 
 -- each span is under each key that it covers, or else under the key's resource
 pub record AreFiled (named : BTreeMap ObjectKey (List OpaqueSpan)) (wide : BTreeMap (List ℕ) (List OpaqueSpan)) (spans : List OpaqueSpan) : Type 0 where
@@ -39,9 +40,6 @@ pub record AreFiled (named : BTreeMap ObjectKey (List OpaqueSpan)) (wide : BTree
   pub among_wide : (resource : List ℕ) (span : OpaqueSpan) → Contains (items_at text_order wide resource) span → Contains spans span
   pub found : (span : OpaqueSpan) (key : ObjectKey) → Contains spans span → Covers span.cover key
       → Contains (items_at key_order named key) span ⊎ Contains (items_at text_order wide key.resource) span
-
-abbrev pub revision_of : ObjectKey → ℕ → KeyRevision
-revision_of key revision = record { key = key; revision = revision }
 
 -- the revisions under a key are its revisions
 pub record AreRecorded (recorded : BTreeMap ObjectKey (List ℕ)) (revisions : List KeyRevision) : Type 0 where

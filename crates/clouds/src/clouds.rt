@@ -1,4 +1,5 @@
-ghost use Rattle.std.specs.Prelude.{◌≡◌, ◌≤◌, ◌↔◌, ℕ, IsTrue, IfOk, IfSome, IfNone, map};
+ghost use Rattle.std.specs.Prelude.{◌≡◌, ◌≤◌, ◌↔◌, ℕ, IsTrue, IfOk, IfSome, IfNone, Any, map};
+ghost use Rattle.std.specs.List.Sorted.{IsNonDecreasing};
 
 use crate::filing::{Filed, all_filed, all_recorded};
 use crate::recorded::{Recorded, latest};
@@ -49,6 +50,7 @@ fn shown<T>(alloc: Global, items: &[T]) -> Result<Vec<Snapshot<T>>, OutOfMemory>
 impl Clouds {
     ghost use Rattle.clouds.specs.Clouds.{IsClouded, MayBeUnrecorded};
     ghost use Rattle.clouds.specs.FirstPlace.{HoldsNowhere, IsLeastPlace};
+    ghost use Rattle.clouds.specs.Hiding.{AreRevisionsOf, ReachesKey};
 
     /// Keeps the spans of the unrecorded writes, and the revisions of the recorded ones, in any order.
     pub fn build(
@@ -67,7 +69,11 @@ impl Clouds {
         })
     }
 
-    fn revisions_of(&self, key: &ObjectKey) -> &[u64] {
+    // The key's revisions, in order.
+    fn revisions_of(&self, key: &ObjectKey) -> &[u64]
+        ensures order { IsNonDecreasing result.now }
+        ensures revisions { AreRevisionsOf self.now.revisions key.now result.now }
+    {
         match self.recorded.get(key) {
             Some(revisions) => revisions.as_slice(),
             None => &[],
@@ -75,7 +81,9 @@ impl Clouds {
     }
 
     // Whether an unrecorded write of the key begins below the place and reaches the revision.
-    fn reaches(&self, key: &ObjectKey, place: u64, revision: u64) -> bool {
+    fn reaches(&self, key: &ObjectKey, place: u64, revision: u64) -> bool
+        ensures { IsTrue result ↔ Any (ReachesKey key.now place revision) self.now.spans }
+    {
         reach(self.filed.named.get(key), key, place, revision)
             || reach(self.filed.wide.get(&key.resource), key, place, revision)
     }

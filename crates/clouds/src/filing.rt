@@ -69,10 +69,15 @@ fn add_span<K: Ord + Drop>(
 ) -> Result<(), OutOfMemory>
     ensures { OnOk result (AddsAt K.cmp spans.old spans.new key span.now) }
 {
-    if let Some(held) = spans.get_mut(&key) {
-        return held.add(alloc, span);
+    match spans.get_mut(&key) {
+        Some(held) => {
+            held.add(alloc, span)?;
+            return Ok(());
+        }
+        None => {
+            let _none = spans.insert(key, Unrecorded::of(alloc, span)?)?;
+        }
     }
-    spans.insert(key, Unrecorded::of(alloc, span)?)?;
     Ok(())
 }
 
@@ -80,29 +85,35 @@ fn file(alloc: Global, filed: &mut Filed, span: &OpaqueSpan) -> Result<(), OutOf
     ensures { OnOk result ((spans : List OpaqueSpan) → AreFiled filed.old.named filed.old.wide spans
         → AreFiled filed.new.named filed.new.wide (spans ++ span.now ∷ [])) }
 {
-    match exact_key(alloc, &span.cover)? {
-        Some(key) => add_span(alloc, &mut filed.named, key, span),
-        None => add_span(
-            alloc,
-            &mut filed.wide,
-            span.cover.resource.clone()?,
-            span,
-        ),
+    if let Some(key) = exact_key(alloc, &span.cover)? {
+        add_span(alloc, &mut filed.named, key, span)?;
+        return Ok(());
     }
+    let resource = span.cover.resource.clone()?;
+    add_span(alloc, &mut filed.wide, resource, span)?;
+    Ok(())
+}
+
+fn file_each(alloc: Global, spans: &[&OpaqueSpan]) -> Result<Filed, OutOfMemory>
+    ensures { IfOk result (λ filed. AreFiled filed.named filed.wide (map (λ span. span.now) spans.now)) }
+{
+    let mut filed = Filed {
+        named: BTreeMap::new(alloc),
+        wide: BTreeMap::new(alloc),
+    };
+    for span in spans {
+        file(alloc, &mut filed, span)?;
+    }
+    Ok(filed)
 }
 
 /// Files all spans.
 pub fn all_filed(alloc: Global, spans: &[OpaqueSpan]) -> Result<Filed, OutOfMemory>
     ensures { IfOk result (λ filed. AreFiled filed.named filed.wide spans.now) }
 {
-    let mut all = Filed {
-        named: BTreeMap::new(alloc),
-        wide: BTreeMap::new(alloc),
-    };
-    for span in &by_cover(alloc, spans)? {
-        file(alloc, &mut all, span)?;
-    }
-    Ok(all)
+    let order = by_cover(alloc, spans)?;
+    let filed = file_each(alloc, &order)?;
+    Ok(filed)
 }
 
 fn add_revision(
@@ -113,10 +124,15 @@ fn add_revision(
     ensures { OnOk result (AddsAt key_order recorded.old recorded.new write.now.key write.now.revision) }
 {
     let revision = write.revision.get();
-    if let Some(revisions) = recorded.get_mut(&write.key) {
-        return revisions.add(revision);
+    match recorded.get_mut(&write.key) {
+        Some(revisions) => {
+            revisions.add(revision)?;
+            return Ok(());
+        }
+        None => {
+            let _none = recorded.insert(write.key.clone()?, Recorded::of(alloc, revision)?)?;
+        }
     }
-    recorded.insert(write.key.clone()?, Recorded::of(alloc, revision)?)?;
     Ok(())
 }
 
@@ -128,6 +144,19 @@ fn by_revision(alloc: Global, writes: &[KeyRevision]) -> Result<Vec<&KeyRevision
     Ok(order)
 }
 
+fn record_each(
+    alloc: Global,
+    writes: &[&KeyRevision],
+) -> Result<BTreeMap<ObjectKey, Recorded>, OutOfMemory>
+    ensures { IfOk result (λ recorded. AreRecorded recorded (map (λ write. write.now) writes.now)) }
+{
+    let mut recorded = BTreeMap::new(alloc);
+    for write in writes {
+        add_revision(alloc, &mut recorded, write)?;
+    }
+    Ok(recorded)
+}
+
 /// Keeps each key's revisions.
 pub fn all_recorded(
     alloc: Global,
@@ -135,9 +164,7 @@ pub fn all_recorded(
 ) -> Result<BTreeMap<ObjectKey, Recorded>, OutOfMemory>
     ensures { IfOk result (λ recorded. AreRecorded recorded writes.now) }
 {
-    let mut recorded = BTreeMap::new(alloc);
-    for write in &by_revision(alloc, writes)? {
-        add_revision(alloc, &mut recorded, write)?;
-    }
+    let order = by_revision(alloc, writes)?;
+    let recorded = record_each(alloc, &order)?;
     Ok(recorded)
 }

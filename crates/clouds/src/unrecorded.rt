@@ -111,7 +111,10 @@ pub fn first_place(
     requires range { low ≤ high }
     ensures { IsFirstPlace (λ place. Any (HidesKey revisions.now key.now place) (items_of (option_copied spans.entry))) low high result }
 {
-    spans?.first_place(key, revisions, low, high)
+    match spans {
+        Some(spans) => spans.first_place(key, revisions, low, high),
+        None => None,
+    }
 }
 
 /// The lesser of two places, where there are any.
