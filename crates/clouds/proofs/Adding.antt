@@ -53,9 +53,9 @@ AddsAt-updates {K} {X} order laws old new key items item updates grows = record 
   added = subst (λ l. Contains l item) (sym (ap items_of updates.1)) grows.added;
   only = λ k x among. ⊎_elim
       (λ tied. ⊎_elim
-        (λ before. inl (subst (λ l. Contains l x) (alike k tied) before))
-        (λ is. inr (tied, is))
-        (grows.only x (subst (λ l. Contains l x) (here k tied) among)))
+      (λ before. inl (subst (λ l. Contains l x) (alike k tied) before))
+      (λ is. inr (tied, is))
+      (grows.only x (subst (λ l. Contains l x) (here k tied) among)))
       (λ apart. inl (subst (λ l. Contains l x) (there k apart) among))
       (cases_Bool (is_eq (order key k)));
 }
@@ -73,7 +73,7 @@ AddsAt-updates {K} {X} order laws old new key items item updates grows = record 
 pub key_order_total : IsTotalOrder key_order
 key_order_total = then_total (on_total (λ (k : ObjectKey). k.group) nat_list_cmp_total)
     (then_total (on_total (λ (k : ObjectKey). k.resource) nat_list_cmp_total)
-      (then_total (on_total (λ (k : ObjectKey). k.namespace) nat_list_cmp_total) (on_total (λ (k : ObjectKey). k.name) nat_list_cmp_total)))
+    (then_total (on_total (λ (k : ObjectKey). k.namespace) nat_list_cmp_total) (on_total (λ (k : ObjectKey). k.name) nat_list_cmp_total)))
 
 equal_is : (o : Ordering) → is_eq o ≡ true → o ≡ Equal
 equal_is Less other = cc

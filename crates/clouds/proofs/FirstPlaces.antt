@@ -82,7 +82,7 @@ AreBehind-more marks revisions low index d behind none = λ place j e from withi
     let hides_here : Hides revisions place (get_or marks index d) = subst (λ (mark : Mark). Hides revisions place mark) is hides in
     let begun : (get_or marks index d).low < place = hides_here.0 in
     absurd (none (Any-at (Hides revisions ((get_or marks index d).low + 1)) marks index d (omega arith)
-      (hides_before revisions place ((get_or marks index d).low + 1) (get_or marks index d) (omega arith) (omega arith) hides_here))))
+    (hides_before revisions place ((get_or marks index d).low + 1) (get_or marks index d) (omega arith) (omega arith) hides_here))))
     (λ other. omega arith)
     (cases_eq j index)
 
@@ -148,4 +148,4 @@ next_later marks later revisions low high n i d cut are parts behind within belo
     let is = at_later marks later n i d cut in
     subst (λ (mark : Mark). IsLeastPlace (λ place. Any (Hides revisions place) marks) low high (mark.low + 1)) (sym is)
     (IsLeastPlace-next marks revisions low high n (n + i) d are parts behind (omega arith) within
-      (subst (λ (mark : Mark). mark.low < high) is below) (subst (λ (mark : Mark). Any (Hides revisions (mark.low + 1)) marks) is holds))
+    (subst (λ (mark : Mark). mark.low < high) is below) (subst (λ (mark : Mark). Any (Hides revisions (mark.low + 1)) marks) is holds))

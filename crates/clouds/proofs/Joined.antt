@@ -25,9 +25,9 @@ IsFirstPlace-more revisions key low high parts i part a b within is first next =
     let Q : ℕ → Type 0 = λ n. Any (HidesKey revisions key n) part in
     subst (λ spans. IsFirstPlace (λ n. Any (HidesKey revisions key n) spans) low high (earlier_of a b)) (sym (joined_more parts i part within is))
     (IsFirstPlace-same (Either P Q) (λ n. Any (HidesKey revisions key n) (joined (take i parts) ++ part)) low high (earlier_of a b)
-      (λ n either. ⊎_elim (Any-append_left (HidesKey revisions key n) (joined (take i parts)) part) (Any-append_right (HidesKey revisions key n) (joined (take i parts)) part) either)
-      (λ n any. Any-append_cases (HidesKey revisions key n) (joined (take i parts)) part any)
-      (IsFirstPlace-either P Q low high a b first next))
+    (λ n either. ⊎_elim (Any-append_left (HidesKey revisions key n) (joined (take i parts)) part) (Any-append_right (HidesKey revisions key n) (joined (take i parts)) part) either)
+    (λ n any. Any-append_cases (HidesKey revisions key n) (joined (take i parts)) part any)
+    (IsFirstPlace-either P Q low high a b first next))
 
 pub IsFirstPlace-all : (revisions : List ℕ) (key : ObjectKey) (low high : ℕ) (parts : List (List OpaqueSpan)) (i : ℕ) (place : Option ℕ) → length parts ≤ i
     → IsFirstPlace (λ n. Any (HidesKey revisions key n) (joined (take i parts))) low high place → IsFirstPlace (λ n. Any (HidesKey revisions key n) (joined parts)) low high place

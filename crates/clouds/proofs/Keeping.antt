@@ -101,9 +101,9 @@ AreRecorded-permuted recorded given order same all = record {
 pub AreRevisionsOf-at : (recorded : BTreeMap ObjectKey (List ℕ)) (given : List KeyRevision) (key : ObjectKey) (revisions : List ℕ) → AreRecorded recorded given
     → items_at key_order recorded key ≡ revisions → AreRevisionsOf given key revisions
 AreRevisionsOf-at recorded given key revisions all is = λ n. (
-    (λ among. all.among key n (subst (λ l. Contains l n) (sym is) among)),
-    (λ among. subst (λ l. Contains l n) is (all.found (revision_of key n) among)),
-  )
+  (λ among. all.among key n (subst (λ l. Contains l n) (sym is) among)),
+  (λ among. subst (λ l. Contains l n) is (all.found (revision_of key n) among)),
+)
 
 -- what holds of some span that covers the key is found under the key or under its resource
 pub Any-filed : (named : BTreeMap ObjectKey (List OpaqueSpan)) (wide : BTreeMap (List ℕ) (List OpaqueSpan)) (spans : List OpaqueSpan) (key : ObjectKey) (P : OpaqueSpan → Type 0)
@@ -157,9 +157,9 @@ first_clouded named wide spans given revisions key low high a b filed are first_
     let Q : ℕ → Type 0 = λ n. Any (HidesKey revisions key n) (items_at text_order wide key.resource) in
     IsFirstPlace-same (Either P Q) (λ n. Any (IsHiddenBy given key n) spans) low high (earlier_of a b)
     (λ n either. Any-weaker (HidesKey revisions key n) (IsHiddenBy given key n) spans (λ span hides. IsHiddenBy-key given revisions key n span are hides)
-      (Any-given named wide spans key (HidesKey revisions key n) filed either))
+    (Any-given named wide spans key (HidesKey revisions key n) filed either))
     (λ n any. Any-filed named wide spans key (HidesKey revisions key n) filed (λ span hides. hides.0)
-      (Any-weaker (IsHiddenBy given key n) (HidesKey revisions key n) spans (λ span hidden. HidesKey-hidden given revisions key n span are hidden) any))
+    (Any-weaker (IsHiddenBy given key n) (HidesKey revisions key n) spans (λ span hidden. HidesKey-hidden given revisions key n span are hidden) any))
     (IsFirstPlace-either P Q low high a b first_named first_wide)
 
 -- the two clauses of a first place

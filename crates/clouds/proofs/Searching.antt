@@ -58,9 +58,9 @@ pub latest_from_unseen : (revisions : List ℕ) (place latest high : ℕ) → Is
 latest_from_unseen revisions place latest high is unseen = ⊎_elim
     (λ (none : latest ≡ 0). omega arith)
     (λ (among : Contains revisions latest). ⊎_elim
-      (λ (behind : high < latest). let later : place < latest = unseen latest among behind in let bound = is.bound in absurd (omega arith))
-      (λ (reached : latest ≤ high). reached)
-      (cases_lt high latest))
+    (λ (behind : high < latest). let later : place < latest = unseen latest among behind in let bound = is.bound in absurd (omega arith))
+    (λ (reached : latest ≤ high). reached)
+    (cases_lt high latest))
     is.among
 
 abbrev pub begins_below : ℕ → Mark → Bool

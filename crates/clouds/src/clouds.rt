@@ -106,7 +106,13 @@ impl Clouds {
         let revisions = self.revisions_of(key);
         earlier(
             first_place(self.filed.named.get(key), key, revisions, low, high),
-            first_place(self.filed.wide.get(&key.resource), key, revisions, low, high),
+            first_place(
+                self.filed.wide.get(&key.resource),
+                key,
+                revisions,
+                low,
+                high,
+            ),
         )
     }
 
@@ -117,3 +123,6 @@ impl Clouds {
         self.reaches(key, revision.get(), revision.get())
     }
 }
+
+#[cfg(test)]
+mod tests;

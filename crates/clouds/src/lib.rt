@@ -1,7 +1,6 @@
 //! What unrecorded writes hide: of which objects nothing is known at a place of the history.
 #![tactic(auto)]
 
-
 mod clouds;
 mod cover;
 mod filing;
@@ -9,7 +8,6 @@ mod mark;
 mod recorded;
 mod span;
 mod unrecorded;
-
 
 pub use clouds::Clouds;
 pub use span::{KeyRevision, KeyRevisions, OpaqueSpan, OpaqueSpans};

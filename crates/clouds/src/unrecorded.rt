@@ -85,12 +85,7 @@ fn some_reaches(parts: &[CoverSpans], key: &ObjectKey, place: u64, revision: u64
 }
 
 /// Whether some span of the key begins below the place and reaches the revision, where there are any.
-pub fn reach(
-    spans: Option<&Unrecorded>,
-    key: &ObjectKey,
-    place: u64,
-    revision: u64,
-) -> bool
+pub fn reach(spans: Option<&Unrecorded>, key: &ObjectKey, place: u64, revision: u64) -> bool
     ensures { IsTrue result ↔ Any (ReachesKey key.now place revision) (items_of (option_copied spans.entry)) }
 {
     match spans {

@@ -15,8 +15,7 @@ pub returns : goal.returns
 returns c =
     let parted = IsPartitionedBy-ltb (λ (mark : Mark). mark.low) c.args.marks.now c.args.place c.requires.rising in
     let parts = IsPartitionPoint-from_clause (begins_below c.args.place) _ _ c.partition_point-begun.ensures.partitioned parted (λ a r q k. search rules) in
-    let bound = c.partition_point-begun.ensures.bound in
-    (
+    let bound = c.partition_point-begun.ensures.bound in (
       (λ yes. reaches_from _ _ _ _ _ c.requires parts (omega arith) bound (leb-true _ _ yes)),
       (λ any. le-leb _ _ (reaches_upto _ _ _ _ _ c.requires parts (omega arith) bound any)),
     )

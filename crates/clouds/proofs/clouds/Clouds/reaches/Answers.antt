@@ -19,7 +19,7 @@ returns-else-reach c =
     rw (← c.self.view_is) (
       (λ yes. Any-given _ _ _ c.args.key.now (ReachesKey c.args.key.now c.args.place c.args.revision) c.self.invariant.filed (inr (wide.0 yes))),
       (λ any. ⊎_elim
-      (λ there. absurd (both_ways _ c.if-reach.false (named.1 there)))
-      (λ there. wide.1 there)
-      (Any-filed _ _ _ c.args.key.now (ReachesKey c.args.key.now c.args.place c.args.revision) c.self.invariant.filed (λ span reaches. reaches.0) any)),
+          (λ there. absurd (both_ways _ c.if-reach.false (named.1 there)))
+          (λ there. wide.1 there)
+          (Any-filed _ _ _ c.args.key.now (ReachesKey c.args.key.now c.args.place c.args.revision) c.self.invariant.filed (λ span reaches. reaches.0) any)),
     )

@@ -12,6 +12,6 @@ returns-then-covers c =
 
 pub returns-else-covers : goal.returns-else-covers
 returns-else-covers c = rw (← c.self.view_is) (
-    (λ yes. absurd (both_ways _ c.if-covers.false yes)),
-    (λ any. absurd (both_ways _ c.if-covers.false (c.covers.ensures.1 (reach_covers _ _ _ _ _ any)))),
-  )
+  (λ yes. absurd (both_ways _ c.if-covers.false yes)),
+  (λ any. absurd (both_ways _ c.if-covers.false (c.covers.ensures.1 (reach_covers _ _ _ _ _ any)))),
+)
