@@ -1,6 +1,6 @@
 -- From the marks of one cover to its spans.
-use Rattle.std.proofs.Common.{◌≡◌, ℕ, ◌+◌, ◌<◌, ◌≤◌, List, [], ◌∷◌, ◌++◌, length, get_or, map, set, Option, refl, sym, ◌∙◌, subst, ap, append_assoc, arith}
-use Rattle.std.specs.List.{Any, Contains, flat_map}
+use Rattle.std.proofs.Common.{◌≡◌, ℕ, List, [], ◌∷◌, ◌++◌, Option, refl, ◌∙◌, ap}
+use Rattle.std.specs.List.{Any}
 use Rattle.std.proofs.lemmas.List.{map-append}
 use Rattle.base_types.proofs.Quantifiers.{Any-map, Any-unmap, Any-weaker}
 use Rattle.base_types.specs.Covers.{Covers}

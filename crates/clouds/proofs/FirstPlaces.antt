@@ -1,6 +1,6 @@
 -- The first place that some mark hides, and the first place of one of two kinds.
-use Rattle.std.proofs.Common.{◌≡◌, ℕ, ◌+◌, ◌-◌, ◌<◌, ◌≤◌, ◌⊎◌, ⊎_elim, inl, inr, List, length, get_or, drop, Option, Some, None, refl, sym, ◌∙◌, subst, ap, min, arith}
-use Rattle.std.specs.List.{Any, Contains}
+use Rattle.std.proofs.Common.{◌≡◌, ℕ, ◌+◌, ◌<◌, ◌≤◌, ◌⊎◌, ⊎_elim, inl, inr, List, length, get_or, drop, Option, Some, None, sym, ◌∙◌, subst, ap, min, arith}
+use Rattle.std.specs.List.{Any}
 use Rattle.std.proofs.lemmas.Bool.{cases_eq, cases_lt, ltb-false, ltb-true}
 use Rattle.std.proofs.lemmas.List.{get_or-drop, get_or_default}
 use Rattle.base_types.proofs.Quantifiers.{Any-at}

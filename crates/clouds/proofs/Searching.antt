@@ -1,5 +1,5 @@
 -- Where a search among revisions or marks in order ends.
-use Rattle.std.proofs.Common.{◌≡◌, ℕ, ◌+◌, ◌-◌, ◌<◌, ◌≤◌, ⊎_elim, inl, inr, Bool, true, false, ltb, leb, List, [], ◌∷◌, ◌++◌, length, get_or, max, refl, sym, ◌∙◌, subst, ap, arith}
+use Rattle.std.proofs.Common.{◌≡◌, ℕ, ◌-◌, ◌<◌, ◌≤◌, ⊎_elim, inl, inr, Bool, true, false, ltb, leb, List, [], ◌∷◌, ◌++◌, length, get_or, max, refl, sym, ◌∙◌, subst, ap, arith}
 use Rattle.std.specs.List.{Any, Contains, insert}
 use Rattle.std.specs.List.Sorted.{IsNonDecreasing, IsPartitionPoint}
 use Rattle.std.proofs.lemmas.Bool.{cases_lt, leb-false, leb-true, ltb-false, ltb-true}

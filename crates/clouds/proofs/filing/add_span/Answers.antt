@@ -1,4 +1,4 @@
-use Rattle.std.proofs.Common.{◌≡◌, [], ◌∷◌, ap, rules, subst, sym}
+use Rattle.std.proofs.Common.{◌≡◌, [], ap, rules, subst, sym}
 use Rattle.clouds.specs.Kept.{items_at, items_of}
 use Rattle.clouds.proofs.Adding.{AddsAt-updates, Grows, Grows-push}
 use Rattle.clouds.proofs.filing.add_span.Goals as goal

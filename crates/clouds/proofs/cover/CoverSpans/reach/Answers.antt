@@ -1,4 +1,4 @@
-use Rattle.std.proofs.lemmas.Bool.{both_ways, false≢true}
+use Rattle.std.proofs.lemmas.Bool.{both_ways}
 use Rattle.clouds.proofs.Covered.{reach_covers, reach_from_marks, reach_of_marks}
 use Rattle.clouds.proofs.cover.CoverSpans.reach.Goals as goal
 

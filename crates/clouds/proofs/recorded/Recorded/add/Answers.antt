@@ -1,6 +1,5 @@
-use Rattle.std.proofs.Common.{ℕ, rules, arith}
-use Rattle.std.proofs.lemmas.Bool.{leb-false, leb-true}
-use Rattle.std.proofs.lemmas.List.Sorted.{IsNonDecreasingBy-insert, IsPartitionPoint-from_clause, IsPartitionedBy-leb, IsPermutation-insert}
+use Rattle.std.proofs.Common.{ℕ, rules}
+use Rattle.std.proofs.lemmas.List.Sorted.{IsPartitionPoint-from_clause, IsPartitionedBy-leb, IsPermutation-insert}
 use Rattle.clouds.proofs.Searching.{insert_in_order, is_upto}
 use Rattle.clouds.proofs.recorded.Recorded.add.Goals as goal
 

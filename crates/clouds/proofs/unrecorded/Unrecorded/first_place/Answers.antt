@@ -1,5 +1,3 @@
-use Rattle.std.proofs.Common.{◌≡◌, ◌+◌, List, []}
-use Rattle.clouds.specs.Hiding.{HidesKey}
 use Rattle.clouds.proofs.Joined.{IsFirstPlace-all, IsFirstPlace-more}
 use Rattle.clouds.proofs.unrecorded.Unrecorded.first_place.Goals as goal
 
