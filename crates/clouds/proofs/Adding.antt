@@ -1,0 +1,96 @@
+-- Maps of lists, to which one item after another is added.
+use Rattle.std.proofs.Common.{◌≡◌, ℕ, zero, suc, ◌<◌, ◌⊎◌, ⊎_elim, inl, inr, true, false, Some, List, [], ◌∷◌, ◌++◌, length, get_or, refl, sym, ◌∙◌, subst, ap, arith}
+use Rattle.std.specs.BTreeMap.{BTreeMap, Updates, get}
+use Rattle.std.specs.Cmp.{IsTotalOrder}
+use Rattle.std.specs.HashMap.Eq.{lookup_congr}
+use Rattle.std.specs.List.{Contains}
+use Rattle.std.specs.List.Sorted.{IsPermutation}
+use Rattle.std.specs.Ordering.{eq_by_cmp, is_eq, ordering_then}
+use Rattle.std.specs.declared.cmp.Ordering.{Ordering}
+use Rattle.std.specs.declared.cmp.Ordering.TheVariants.{Equal, Greater, Less}
+use Rattle.std.proofs.lemmas.Bool.{cases_Bool, cond-false, cond-true}
+use Rattle.std.proofs.lemmas.Cmp.{eq_by_cmp_equiv, nat_list_cmp_total, on_total, then_total}
+use Rattle.std.proofs.lemmas.List.Elements.{Contains-append_left, Contains-push, Contains-push_cases}
+use Rattle.std.proofs.lemmas.List.Sorted.{Contains-permutation, IsPermutation-sym}
+use Rattle.std.proofs.lemmas.Map.Lookups.{exact_bytes}
+use Rattle.base_types.specs.declared.key.ObjectKey.{ObjectKey}
+use Rattle.clouds.specs.Kept.{AddsAt, items_at, items_of, key_order, text_order}
+
+-- a list has one item more
+pub record Grows {X : Type 0} (old new : List X) (item : X) : Type 0 where
+  pub kept : (x : X) → Contains old x → Contains new x
+  pub added : Contains new item
+  pub only : (x : X) → Contains new x → Contains old x ⊎ (x ≡ item)
+
+pub Grows-push : {X : Type 0} (xs : List X) (x : X) → Grows xs (xs ++ x ∷ []) x
+Grows-push xs x = record {
+  kept = λ y among. Contains-append_left xs (x ∷ []) y among;
+  added = Contains-push xs x;
+  only = λ y among. ⊎_elim inl (λ is. inr (sym is)) (Contains-push_cases xs x y among);
+}
+
+Contains-cons_cases : {X : Type 0} (x y : X) (xs : List X) → Contains (x ∷ xs) y → (x ≡ y) ⊎ Contains xs y
+Contains-cons_cases {X} x y xs among = go among.0 among.1 among.2
+  where
+    go : (k : ℕ) → k < length (x ∷ xs) → get_or (x ∷ xs) k y ≡ y → (x ≡ y) ⊎ Contains xs y
+    go zero within is = inl is
+    go (suc k) within is = inr (k, omega arith, is)
+
+pub Grows-permuted : {X : Type 0} (xs ys : List X) (x : X) → IsPermutation (x ∷ xs) ys → Grows xs ys x
+Grows-permuted xs ys x same = record {
+  kept = λ y among. Contains-permutation (x ∷ xs) ys y same (suc among.0, (let within = among.1 in omega arith), among.2);
+  added = Contains-permutation (x ∷ xs) ys x same (0, omega arith, refl);
+  only = λ y among. ⊎_elim (λ is. inr (sym is)) inl (Contains-cons_cases x y xs (Contains-permutation ys (x ∷ xs) y (IsPermutation-sym (x ∷ xs) ys same) among));
+}
+
+pub AddsAt-updates : {K X : Type 0} (order : K → K → Ordering) (laws : IsTotalOrder order) (old new : BTreeMap K (List X)) (key : K) (items : List X) (item : X)
+    → Updates order old new key (Some items) → Grows (items_at order old key) items item → AddsAt order old new key item
+AddsAt-updates {K} {X} order laws old new key items item updates grows = record {
+  kept = λ k x among. ⊎_elim
+      (λ tied. subst (λ l. Contains l x) (sym (here k tied)) (grows.kept x (subst (λ l. Contains l x) (sym (alike k tied)) among)))
+      (λ apart. subst (λ l. Contains l x) (sym (there k apart)) among)
+      (cases_Bool (is_eq (order key k)));
+  added = subst (λ l. Contains l item) (sym (ap items_of updates.1)) grows.added;
+  only = λ k x among. ⊎_elim
+      (λ tied. ⊎_elim
+      (λ before. inl (subst (λ l. Contains l x) (alike k tied) before))
+      (λ is. inr (tied, is))
+      (grows.only x (subst (λ l. Contains l x) (here k tied) among)))
+      (λ apart. inl (subst (λ l. Contains l x) (there k apart) among))
+      (cases_Bool (is_eq (order key k)));
+}
+  where
+    here : (k : K) → is_eq (order key k) ≡ true → items_at order new k ≡ items
+    here k tied = ap items_of (updates.0 k ∙ cond-true (is_eq (order key k)) (Some items) (get order old k) tied)
+
+    there : (k : K) → is_eq (order key k) ≡ false → items_at order new k ≡ items_at order old k
+    there k apart = ap items_of (updates.0 k ∙ cond-false (is_eq (order key k)) (Some items) (get order old k) apart)
+
+    alike : (k : K) → is_eq (order key k) ≡ true → items_at order old key ≡ items_at order old k
+    alike k tied = ap items_of (lookup_congr (eq_by_cmp order) (eq_by_cmp_equiv laws).congr old.entries key k tied)
+
+-- keys are ordered, and equal keys are one
+pub key_order_total : IsTotalOrder key_order
+key_order_total = then_total (on_total (λ (k : ObjectKey). k.group) nat_list_cmp_total)
+    (then_total (on_total (λ (k : ObjectKey). k.resource) nat_list_cmp_total)
+    (then_total (on_total (λ (k : ObjectKey). k.namespace) nat_list_cmp_total) (on_total (λ (k : ObjectKey). k.name) nat_list_cmp_total)))
+
+equal_is : (o : Ordering) → is_eq o ≡ true → o ≡ Equal
+equal_is Less other = cc
+equal_is Equal same = refl
+equal_is Greater other = cc
+
+then_parts : (a b : Ordering) → ordering_then a b ≡ Equal → (a ≡ Equal) × (b ≡ Equal)
+then_parts Less b other = cc
+then_parts Equal b is = (refl, is)
+then_parts Greater b other = cc
+
+pub same_key : (a b : ObjectKey) → a.group ≡ b.group → a.resource ≡ b.resource → a.namespace ≡ b.namespace → a.name ≡ b.name → a ≡ b
+same_key a b group resource namespace name = rw (group, resource, namespace, name) refl
+
+pub same_key_from : (a b : ObjectKey) → is_eq (key_order a b) ≡ true → a ≡ b
+same_key_from a b tied =
+    let groups = then_parts (text_order a.group b.group) _ (equal_is (key_order a b) tied) in
+    let resources = then_parts (text_order a.resource b.resource) _ groups.1 in
+    let rest = then_parts (text_order a.namespace b.namespace) (text_order a.name b.name) resources.1 in
+    same_key a b (exact_bytes a.group b.group groups.0) (exact_bytes a.resource b.resource resources.0) (exact_bytes a.namespace b.namespace rest.0) (exact_bytes a.name b.name rest.1)

@@ -1,0 +1,13 @@
+//! What unrecorded writes hide: of which objects nothing is known at a place of the history.
+#![tactic(auto)]
+
+mod clouds;
+mod cover;
+mod filing;
+mod mark;
+mod recorded;
+mod span;
+mod unrecorded;
+
+pub use clouds::Clouds;
+pub use span::{KeyRevision, KeyRevisions, OpaqueSpan, OpaqueSpans};

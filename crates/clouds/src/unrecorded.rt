@@ -1,0 +1,124 @@
+ghost use Rattle.std.specs.Prelude.{◌≡◌, ◌≤◌, ◌↔◌, [], ◌∷◌, ◌++◌, IsTrue, IfOk, OnOk, Any};
+ghost use Rattle.std.specs.List.Sorted.{IsNonDecreasing};
+ghost use Rattle.clouds.specs.FirstPlace.{IsFirstPlace, earlier_of};
+ghost use Rattle.clouds.specs.Kept.{items_of};
+ghost use Rattle.std.specs.Option.{option_copied};
+ghost use Rattle.clouds.specs.Hiding.{HidesKey, ReachesKey};
+
+use crate::cover::CoverSpans;
+use crate::span::OpaqueSpan;
+use base_types::{ObjectKey, OutOfMemory};
+use std::alloc::Global;
+use std::marker::Model;
+
+/// Unrecorded writes, those of one cover together where they come one after another in order.
+#[derive(Drop)]
+pub struct Unrecorded {
+    parts: Vec<CoverSpans>,
+}
+
+impl Model for Unrecorded {
+    ghost use Rattle.std.specs.Prelude.{List};
+    ghost use Rattle.std.specs.List.{flat_map};
+    ghost use Rattle.clouds.specs.declared.span.OpaqueSpan.{OpaqueSpan};
+
+    ghost Value = { List OpaqueSpan };
+
+    ghost view = { λ u. flat_map (λ part. part) u.parts.items };
+}
+
+impl Unrecorded {
+    pub fn of(alloc: Global, span: &OpaqueSpan) -> Result<Unrecorded, OutOfMemory>
+        ensures { IfOk result (λ made. made ≡ span.now ∷ []) }
+    {
+        let mut parts = Vec::new(alloc);
+        parts.push(CoverSpans::of(alloc, span)?)?;
+        Ok(Unrecorded { parts })
+    }
+
+    pub fn add(&mut self, alloc: Global, span: &OpaqueSpan) -> Result<(), OutOfMemory>
+        ensures { OnOk result (self.new ≡ self.old ++ span.now ∷ []) }
+    {
+        let count = self.parts.len();
+        if count > 0 {
+            let last = &mut self.parts[count - 1];
+            if last.take(span)? {
+                return Ok(());
+            }
+        }
+        self.parts.push(CoverSpans::of(alloc, span)?)?;
+        Ok(())
+    }
+
+    /// Whether some span of the key begins below the place and reaches the revision.
+    pub fn reach(&self, key: &ObjectKey, place: u64, revision: u64) -> bool
+        ensures { IsTrue result ↔ Any (ReachesKey key.now place revision) self.now }
+    {
+        some_reaches(&self.parts, key, place, revision)
+    }
+
+    /// The least place from `low` to `high` at which some span hides the key, which has these revisions.
+    pub fn first_place(
+        &self,
+        key: &ObjectKey,
+        revisions: &[u64],
+        low: u64,
+        high: u64,
+    ) -> Option<u64>
+        requires order { IsNonDecreasing revisions.now }
+        requires range { low ≤ high }
+        ensures { IsFirstPlace (λ place. Any (HidesKey revisions.now key.now place) self.now) low high result }
+    {
+        let mut first = None;
+        for part in &self.parts {
+            first = earlier(first, part.first_place(key, revisions, low, high));
+        }
+        first
+    }
+}
+
+// Whether that holds of a span of some part.
+fn some_reaches(parts: &[CoverSpans], key: &ObjectKey, place: u64, revision: u64) -> bool
+    ensures { IsTrue result ↔ Any (λ part. Any (ReachesKey key.now place revision) part) parts.now }
+{
+    parts.iter().any(|part| part.reach(key, place, revision))
+}
+
+/// Whether some span of the key begins below the place and reaches the revision, where there are any.
+pub fn reach(spans: Option<&Unrecorded>, key: &ObjectKey, place: u64, revision: u64) -> bool
+    ensures { IsTrue result ↔ Any (ReachesKey key.now place revision) (items_of (option_copied spans.entry)) }
+{
+    match spans {
+        Some(spans) => spans.reach(key, place, revision),
+        None => false,
+    }
+}
+
+/// The least place from `low` to `high` at which some span hides the key, where there are any.
+pub fn first_place(
+    spans: Option<&Unrecorded>,
+    key: &ObjectKey,
+    revisions: &[u64],
+    low: u64,
+    high: u64,
+) -> Option<u64>
+    requires order { IsNonDecreasing revisions.now }
+    requires range { low ≤ high }
+    ensures { IsFirstPlace (λ place. Any (HidesKey revisions.now key.now place) (items_of (option_copied spans.entry))) low high result }
+{
+    match spans {
+        Some(spans) => spans.first_place(key, revisions, low, high),
+        None => None,
+    }
+}
+
+/// The lesser of two places, where there are any.
+pub fn earlier(a: Option<u64>, b: Option<u64>) -> Option<u64>
+    ensures { result ≡ earlier_of a b }
+{
+    match (a, b) {
+        (Some(a), Some(b)) => Some(a.min(b)),
+        (Some(a), None) => Some(a),
+        (None, b) => b,
+    }
+}
