@@ -1,7 +1,6 @@
 -- The patterns with which the walk begins are those of the shape.
-use Rattle.std.proofs.Common.{◌≡◌, ℕ, zero, suc, ◌<◌, ◌≤◌, Bool, true, false, ◌||◌, IsTrue, List, [], ◌∷◌, ◌++◌, length, get_or, take, drop, ◌-◌, map, reverse, Option, Some, None, IfSome, refl, sym, ap, subst, ◌∙◌, arith, append-nil, append_assoc}
-use Rattle.std.specs.Prelude.{option_map, option_and_then, is_some, unwrap_or, nat_lt, if◌then◌else◌, ◌↔◌, codes}
-use Rattle.std.specs.Borrow.{Bor}
+use Rattle.std.proofs.Common.{◌≡◌, ℕ, ◌<◌, ◌≤◌, Bool, true, false, ◌||◌, IsTrue, List, [], ◌∷◌, ◌++◌, length, get_or, take, drop, ◌-◌, map, reverse, Option, Some, None, IfSome, refl, sym, ap, subst, ◌∙◌, arith, append_assoc}
+use Rattle.std.specs.Prelude.{option_map, option_and_then, is_some, unwrap_or, if◌then◌else◌, ◌↔◌, codes}
 use Rattle.std.proofs.lemmas.List.{reverse-append, reverse-reverse, map-append}
 use Rattle.std.proofs.Math.Seq.{take-length}
 use Rattle.json_tree.specs.Meaning.{Meaning, null, flag, whole, words, items, members, no_fields, Fields, field}
@@ -10,12 +9,12 @@ use Rattle.path_shape.specs.declared.shape.FieldClass.TheVariants.{Asked, Defaul
 use Rattle.path_shape.specs.declared.shape.ShapeEntry.{ShapeEntry}
 use Rattle.path_shape.specs.declared.shape.Shape.{Shape}
 use Rattle.path_shape.specs.declared.spot.Spot.{Spot}
-use Rattle.path_shape.specs.Forms.{says_nothing, has_no_fields, thin_root, thin_fields, left_root, child_in, at}
+use Rattle.path_shape.specs.Forms.{has_no_fields, thin_root, thin_fields, left_root, child_in, at}
 use Rattle.path_shape.specs.Patterns.{Pattern, matches, goes_past, longer, longest, class_or, class_at, is_open, built_in, pattern_of, patterns_of, unasked, unasked_pattern, released, unasked_patterns}
-use Rattle.path_shape.specs.Agreement.{kind, FitsOpen, FitsHere, FitsAt, Fits, Agrees, Keeps}
+use Rattle.path_shape.specs.Agreement.{kind, FitsOpen, FitsHere, Fits, Agrees, Keeps}
 use Rattle.path_shape.specs.Walk.{form, Going, pattern_from, patterns_in, FitsSpot}
 use Rattle.path_shape.specs.Beginning.{read_as, root_found, root_class, laid, started, built_in_before, metadata_before}
-use Rattle.path_shape.proofs.ClassLemmas.{Found, lt_true, lt_false, longer_keeps, longest_some, first_or, first_or-none, first_or-assoc, turned, is_open-append, or_true}
+use Rattle.path_shape.proofs.ClassLemmas.{Found, lt_true, lt_false, longer_keeps, longest_some, first_or, first_or-none, turned, is_open-append, or_true}
 
 -- the patterns that have a token
 abbrev pub nonempty : List Pattern → List Going

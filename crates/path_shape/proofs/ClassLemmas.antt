@@ -1,11 +1,11 @@
 -- The patterns that go past one more token, and the class of a path behind it.
-use Rattle.std.proofs.Common.{◌≡◌, ℕ, zero, suc, ◌+◌, ◌<◌, ◌≤◌, Bool, true, false, ◌&&◌, ◌||◌, List, [], ◌∷◌, ◌++◌, length, map, reverse, Option, Some, None, IfSome, refl, sym, ap, subst, ◌∙◌, arith, append_assoc, append-nil, ltb}
+use Rattle.std.proofs.Common.{◌≡◌, ℕ, suc, ◌<◌, ◌≤◌, Bool, true, false, ◌&&◌, ◌||◌, List, [], ◌∷◌, ◌++◌, length, map, reverse, Option, Some, None, IfSome, refl, sym, ap, ◌∙◌, arith, append_assoc, append-nil}
 use Rattle.std.specs.Prelude.{option_map, unwrap_or, nat_lt, not, if◌then◌else◌}
-use Rattle.std.proofs.lemmas.Bool.{false≢true, ltb-true, ltb-false}
+use Rattle.std.proofs.lemmas.Bool.{ltb-true, ltb-false}
 use Rattle.std.proofs.lemmas.List.{reverse-append, reverse-reverse, map-append}
 use Rattle.path_shape.specs.declared.shape.FieldClass.{FieldClass}
 use Rattle.path_shape.specs.Patterns.{Pattern, covers, matches, goes_past, longer, longest, class_or, class_at, is_open}
-use Rattle.path_shape.specs.Walk.{Going, pattern_from, in_order, patterns_in, goes_on, narrow, pushed, sooner, ends, found_in}
+use Rattle.path_shape.specs.Walk.{Going, pattern_from, in_order, patterns_in, goes_on, narrow, pushed, ends, found_in}
 
 abbrev pub Found : Type 0
 Found = ℕ × FieldClass

@@ -1,19 +1,18 @@
 -- Thin forms: what is left of members and items.
 use Rattle.std.proofs.Common.{◌≡◌, ℕ, zero, suc, ◌+◌, ◌<◌, Bool, true, false, List, [], ◌∷◌, length, get_or, drop, Option, Some, None, refl, sym, ap, subst, ◌∙◌, arith, add-one, drop-cons, bytes_eq}
 use Rattle.std.specs.Prelude.{option_and_then, option_map, if◌then◌else◌}
-use Rattle.std.specs.Ordering.{nat_cmp, is_eq, ordering_reverse}
+use Rattle.std.specs.Ordering.{nat_cmp, ordering_reverse}
 use Rattle.std.specs.declared.cmp.Ordering.TheVariants.{Less, Greater}
 use Rattle.std.specs.Cmp.Lexicographic.{slice_cmp, nat_list_cmp_total}
 use Rattle.std.specs.List.{AllByRecursion}
 use Rattle.std.specs.List.Sorted.{IsStrictlySortedBy}
-use Rattle.std.proofs.lemmas.Bool.{false≢true}
 use Rattle.json_tree.specs.Meaning.{Meaning, null, flag, whole, words, items, members, Kids, no_kids, kid, Fields, no_fields, field, kids_of, fields_of}
 use Rattle.json_tree.specs.Names.{names, AreSorted}
 use Rattle.json_tree.specs.Parts.{lookup}
 use Rattle.json_tree.specs.Pointers.{child_of, kid_at, index_of}
 use Rattle.std.proofs.lemmas.Slice.Eq.{bytes_eq-Decides}
 use Rattle.json_tree.proofs.Ordered.{bytes_eq-Greater}
-use Rattle.path_shape.specs.Forms.{says_nothing, has_no_kids, has_no_fields, thin, thin_kids, thin_fields, left_of, child_in}
+use Rattle.path_shape.specs.Forms.{says_nothing, has_no_kids, thin, thin_kids, thin_fields, left_of, child_in}
 
 abbrev pub Entry : Type 0
 Entry = List ℕ × Meaning

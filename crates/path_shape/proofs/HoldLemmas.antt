@@ -1,15 +1,13 @@
 -- What an answer holds of what is asked.
-use Rattle.std.proofs.Common.{◌≡◌, ℕ, zero, suc, ◌+◌, ◌<◌, ◌≤◌, Bool, true, false, ◌&&◌, List, [], ◌∷◌, length, get_or, drop, take, Option, Some, None, refl, sym, ap, subst, ◌∙◌, arith, add-one, drop-cons}
+use Rattle.std.proofs.Common.{◌≡◌, ℕ, zero, suc, ◌+◌, ◌<◌, ◌≤◌, Bool, true, false, ◌&&◌, List, [], ◌∷◌, length, get_or, drop, Option, Some, None, refl, sym, ap, subst, ◌∙◌, arith}
 use Rattle.std.specs.Prelude.{option_and_then, option_map, if◌then◌else◌, is_some}
 use Rattle.std.specs.Borrow.{Bor}
 use Rattle.path_shape.proofs.FormLemmas.{silent_step, loud_step}
 use Rattle.std.proofs.lemmas.Bool.{false≢true}
-use Rattle.json_tree.specs.Meaning.{Meaning, null, flag, whole, words, items, members, Kids, no_kids, kid, Fields, no_fields, field, kids_of, fields_of}
-use Rattle.json_tree.specs.Parts.{lookup, member_of}
-use Rattle.path_shape.specs.Forms.{says_nothing, has_no_kids, has_no_fields, thin, thin_kids, thin_fields, left_of, is_held_by, is_held_by_child, is_some_and, are_held_in_turn, are_held_by_name}
-use Rattle.path_shape.specs.declared.holding.Holding.{Holding}
-use Rattle.path_shape.specs.declared.holding.Holding.TheVariants.{Silent, Held, Missing}
-use Rattle.path_shape.specs.Holding.{IsHolding, is_missing, object_or_null}
+use Rattle.json_tree.specs.Meaning.{Meaning, null, flag, whole, words, items, members, no_kids, kid, Fields, no_fields, field, kids_of, fields_of}
+use Rattle.json_tree.specs.Parts.{member_of}
+use Rattle.path_shape.specs.Forms.{says_nothing, has_no_fields, thin, thin_kids, thin_fields, left_of, is_held_by, is_held_by_child, are_held_in_turn, are_held_by_name}
+use Rattle.path_shape.specs.Holding.{object_or_null}
 
 -- where nothing is answered, nothing that says something is held
 pub silent_holds_none : (t u : Meaning) → says_nothing t ≡ false → says_nothing u ≡ true → is_held_by t u ≡ false

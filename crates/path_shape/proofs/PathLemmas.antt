@@ -1,9 +1,7 @@
 -- Agreement at every path, one token at a time.
 use Rattle.std.proofs.Common.{◌≡◌, ℕ, ◌⊎◌, inl, inr, Bool, true, false, IsTrue, IsSome, List, [], ◌∷◌, ◌++◌, map, Option, Some, None, refl, sym, ap, subst, ◌∙◌, rules}
-use Rattle.std.specs.Prelude.{option_and_then, unwrap_or, not, ⊤}
-use Rattle.std.proofs.lemmas.Bool.{false≢true}
+use Rattle.std.specs.Prelude.{unwrap_or, not}
 use Rattle.json_tree.specs.Meaning.{Meaning}
-use Rattle.json_tree.specs.Pointers.{child_of}
 use Rattle.path_shape.specs.declared.shape.FieldClass.{FieldClass}
 use Rattle.path_shape.specs.declared.shape.FieldClass.TheVariants.{Asked, Defaulted, Owned, Kept}
 use Rattle.path_shape.specs.declared.part.Part.{Part}
@@ -11,7 +9,7 @@ use Rattle.path_shape.specs.declared.part.Part.TheVariants.{Absent, Member, Item
 use Rattle.path_shape.specs.declared.spot.Spot.{Spot}
 use Rattle.path_shape.specs.Forms.{child_in, at}
 use Rattle.path_shape.specs.Patterns.{Pattern, class_at, is_open}
-use Rattle.path_shape.specs.Agreement.{FitsClosed, FitsOpen, FitsHere, FitsAt, Fits}
+use Rattle.path_shape.specs.Agreement.{FitsOpen, FitsHere, FitsAt, Fits}
 use Rattle.path_shape.specs.Walk.{form, whole, Going, pattern_from, in_order, patterns_in, narrow, pushed, found_in, FitsSpot, FitsUnder, IsDone}
 use Rattle.path_shape.proofs.FormLemmas.{left_none, child_none}
 use Rattle.path_shape.proofs.ClassLemmas.{class_at-down, is_open-down, class_at-root, some_open, pushed_patterns, found_class}

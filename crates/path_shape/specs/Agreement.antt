@@ -4,7 +4,7 @@ use Rattle.json_tree.specs.Meaning.{Meaning, null, flag, whole, words, items, me
 use Rattle.path_shape.specs.declared.shape.FieldClass.{FieldClass}
 use Rattle.path_shape.specs.declared.shape.FieldClass.TheVariants.{Asked, Defaulted, Owned, Kept}
 use Rattle.path_shape.specs.declared.shape.Shape.{Shape}
-use Rattle.path_shape.specs.Forms.{thin_root, child_in, at, is_held_by, is_held_by_child}
+use Rattle.path_shape.specs.Forms.{thin_root, at, is_held_by}
 use Rattle.path_shape.specs.Patterns.{Pattern, class_at, is_open, patterns_of, unasked, unasked_patterns}
 
 -- the kind of a tree: object, list, or the scalar itself

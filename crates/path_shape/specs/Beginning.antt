@@ -1,5 +1,5 @@
 -- The patterns with which the walk begins: those of the entries laid one before the other, the built-in ones last.
-use Rattle.std.specs.Prelude.{ℕ, Bool, true, false, List, [], ◌∷◌, codes, Option, Some, None, unwrap_or}
+use Rattle.std.specs.Prelude.{ℕ, Bool, true, false, List, [], ◌∷◌, codes, Option, Some, unwrap_or}
 use Rattle.path_shape.specs.declared.shape.FieldClass.{FieldClass}
 use Rattle.path_shape.specs.declared.shape.FieldClass.TheVariants.{Defaulted, Owned, Kept}
 use Rattle.path_shape.specs.declared.shape.ShapeEntry.{ShapeEntry}

@@ -1,6 +1,5 @@
 -- What the list of patterns on the stack means.
 use Rattle.std.specs.Prelude.{ℕ, List, [], ◌∷◌, Option, Some, None}
-use Rattle.path_shape.specs.declared.shape.FieldClass.{FieldClass}
 use Rattle.path_shape.specs.declared.live.Tail.{Tail}
 use Rattle.path_shape.specs.declared.live.Tail.TheVariants.{Tokens, Name}
 

@@ -1,6 +1,6 @@
 -- What the walk over the trees keeps, and what it means.
-use Rattle.std.specs.Prelude.{◌≡◌, ℕ, ◌⊎◌, Bool, true, false, not, IsTrue, IsSome, List, [], ◌∷◌, reverse, map, Option, Some, None, unwrap_or, if◌then◌else◌}
-use Rattle.json_tree.specs.Meaning.{Meaning, null, flag, whole as number, words, items, members, no_kids, no_fields, Fields, fields_of}
+use Rattle.std.specs.Prelude.{ℕ, ◌⊎◌, Bool, true, false, IsSome, List, [], ◌∷◌, reverse, map, Option, Some, None, if◌then◌else◌}
+use Rattle.json_tree.specs.Meaning.{Meaning, null, flag, whole as number, words, items, members, no_kids, no_fields}
 use Rattle.path_shape.specs.declared.part.Part.{Part}
 use Rattle.path_shape.specs.declared.part.Part.TheVariants.{Absent, Member, Item}
 use Rattle.path_shape.specs.declared.shape.FieldClass.{FieldClass}

@@ -1,4 +1,4 @@
-use Rattle.std.proofs.Common.{◌≡◌, ◌-◌, ◌<◌, List, [], ◌∷◌, take, drop, length, arith, Some, sym, ap, ◌∙◌}
+use Rattle.std.proofs.Common.{◌≡◌, ◌-◌, [], ◌∷◌, take, drop, length, arith, Some, sym, ap, ◌∙◌}
 use Rattle.std.specs.Prelude.{false, unwrap_or}
 use Rattle.path_shape.specs.Walk.{patterns_in}
 use Rattle.path_shape.specs.Beginning.{root_class, started, built_in_before}

@@ -1,4 +1,4 @@
-use Rattle.std.proofs.Common.{◌≡◌, Bool, false, IsTrue, List, Option, Some, None, refl, subst, ◌∙◌}
+use Rattle.std.proofs.Common.{◌≡◌, false, IsTrue, List, Option, Some, None, refl, subst, ◌∙◌}
 use Rattle.std.specs.Prelude.{option_map, option_and_then, is_some, ◌↔◌}
 use Rattle.std.specs.Borrow.{Bor}
 use Rattle.json_tree.specs.Meaning.{Meaning}

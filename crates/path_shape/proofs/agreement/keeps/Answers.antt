@@ -1,4 +1,4 @@
-use Rattle.std.proofs.Common.{◌≡◌, true, false, IsTrue, List, None, refl, ap, subst, ◌∙◌}
+use Rattle.std.proofs.Common.{true, false, IsTrue, List, None, refl, ap, subst, ◌∙◌}
 use Rattle.std.specs.Prelude.{codes, ◌↔◌}
 use Rattle.path_shape.specs.declared.shape.FieldClass.TheVariants.{Owned}
 use Rattle.path_shape.specs.declared.shape.ShapeEntry.{ShapeEntry}

@@ -1,6 +1,6 @@
-use Rattle.std.proofs.Common.{◌≡◌, ◌≤◌, length, true, false, refl, sym, ap, subst, ◌∙◌, arith}
+use Rattle.std.proofs.Common.{◌≡◌, length, true, false, sym, ap, subst, ◌∙◌, arith}
 use Rattle.std.specs.Prelude.{option_map}
-use Rattle.json_tree.specs.Meaning.{Meaning, kids_of, fields_of, members, no_fields}
+use Rattle.json_tree.specs.Meaning.{fields_of, members, no_fields}
 use Rattle.json_tree.specs.Parts.{member_of}
 use Rattle.path_shape.specs.Forms.{thin, thin_fields, has_no_fields, is_held_by_child}
 use Rattle.path_shape.specs.Holding.{object_or_null}

@@ -1,4 +1,4 @@
-use Rattle.std.proofs.Common.{◌≡◌, ◌+◌, drop}
+use Rattle.std.proofs.Common.{◌≡◌, drop}
 use Rattle.path_shape.specs.Reading.{entries_from}
 use Rattle.path_shape.proofs.EntryLemmas.{behind}
 use Rattle.path_shape.proofs.reading.read_entries.Given as goal

@@ -1,6 +1,5 @@
-use Rattle.std.proofs.Common.{◌≡◌, ℕ, ◌+◌, ◌<◌, ◌≤◌, ◌^◌, List, [], ◌∷◌, inl, inr, length, Some, refl, sym, ap, subst, ◌∙◌, arith}
+use Rattle.std.proofs.Common.{◌≡◌, ℕ, ◌<◌, ◌≤◌, ◌^◌, List, ◌∷◌, inr, length, refl, sym, ap, subst, ◌∙◌, arith}
 use Rattle.std.proofs.lemmas.Bool.{false≢true}
-use Rattle.json_tree.specs.Pointers.{index_of}
 use Rattle.path_shape.specs.Tails.{tokens_of, none_or}
 use Rattle.path_shape.specs.Walk.{Going, IsDone}
 use Rattle.path_shape.proofs.Measures.{weight, steps-top}
