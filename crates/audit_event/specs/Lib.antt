@@ -2,6 +2,7 @@ pub mod Bodies
 pub mod Decisions
 pub mod Events
 pub mod Headings
+pub mod Keeping
 pub mod Levels
 pub mod Members
 pub mod Numbers
