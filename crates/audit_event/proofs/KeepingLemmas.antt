@@ -1,10 +1,10 @@
 -- The events that a log keeps, event after event.
-use Rattle.std.proofs.Common.{◌≡◌, ℕ, zero, suc, ◌+◌, ◌-◌, ◌^◌, ◌<◌, List, [], ◌∷◌, ◌++◌, length, get_or, map, slice_get, Option, Some, None, Result, Ok, Err, Bool, true, false, ◌||◌, refl, sym, ap, subst, ◌∙◌, ◌⊎◌, inl, inr, arith, length-append, true≢false}
+use Rattle.std.proofs.Common.{◌≡◌, ℕ, zero, suc, ◌+◌, ◌-◌, ◌^◌, ◌<◌, ◌≤◌, List, [], ◌∷◌, ◌++◌, length, get_or, map, slice_get, Option, Some, None, Result, Ok, Err, Bool, true, false, ◌||◌, refl, sym, ap, subst, ◌∙◌, ◌⊎◌, inl, inr, arith, length-append, true≢false}
 use Rattle.std.specs.List.{All, AllPairs, Contains, list_any}
 use Rattle.std.proofs.Math.ListN.{get_or-append}
 use Rattle.std.proofs.Math.Seq.{get_or-append_seam}
 use Rattle.std.proofs.lemmas.Bool.{cases_lt}
-use Rattle.std.proofs.lemmas.List.Elements.{All-nil, All-cons, Contains-get_or}
+use Rattle.std.proofs.lemmas.List.Elements.{All-nil, All-cons, All-push, Contains-get_or}
 use Rattle.audit_event.specs.declared.event.Event.{Event}
 use Rattle.audit_event.specs.declared.seen.Admitted.{Admitted}
 use Rattle.audit_event.specs.declared.seen.Admitted.TheVariants.{Fresh, Repeat}
@@ -17,15 +17,15 @@ pairs_push : {X : Type 0} (R : X → X → Type 0) (xs : List X) (y : X) → All
 pairs_push R xs y pairs last i j d below within =
     let long = length-append xs (y ∷ []) in
     elim (cases_lt j (length xs)) [
-      inl inside ↦ (
-      let first : get_or (xs ++ y ∷ []) i d ≡ get_or xs i d = get_or-append xs (y ∷ []) d i (omega arith) in
-      let second : get_or (xs ++ y ∷ []) j d ≡ get_or xs j d = get_or-append xs (y ∷ []) d j inside in
-      subst (λ a. R a (get_or (xs ++ y ∷ []) j d)) (sym first) (subst (λ b. R (get_or xs i d) b) (sym second) (pairs i j d below inside)))
-    | inr past ↦ (
-      let end : j ≡ length xs = omega arith in
-      let first : get_or (xs ++ y ∷ []) i d ≡ get_or xs i d = get_or-append xs (y ∷ []) d i (omega arith) in
-      let second : get_or (xs ++ y ∷ []) j d ≡ y = ap (λ n. get_or (xs ++ y ∷ []) n d) end ∙ get_or-append_seam xs y [] d in
-      subst (λ a. R a (get_or (xs ++ y ∷ []) j d)) (sym first) (subst (λ b. R (get_or xs i d) b) (sym second) (last i d (omega arith))))
+      | inl inside ↦ (
+          let first : get_or (xs ++ y ∷ []) i d ≡ get_or xs i d = get_or-append xs (y ∷ []) d i (omega arith) in
+          let second : get_or (xs ++ y ∷ []) j d ≡ get_or xs j d = get_or-append xs (y ∷ []) d j inside in
+          subst (λ a. R a (get_or (xs ++ y ∷ []) j d)) (sym first) (subst (λ b. R (get_or xs i d) b) (sym second) (pairs i j d below inside)))
+      | inr past ↦ (
+          let end : j ≡ length xs = omega arith in
+          let first : get_or (xs ++ y ∷ []) i d ≡ get_or xs i d = get_or-append xs (y ∷ []) d i (omega arith) in
+          let second : get_or (xs ++ y ∷ []) j d ≡ y = ap (λ n. get_or (xs ++ y ∷ []) n d) end ∙ get_or-append_seam xs y [] d in
+          subst (λ a. R a (get_or (xs ++ y ∷ []) j d)) (sym first) (subst (λ b. R (get_or xs i d) b) (sym second) (last i d (omega arith))))
     ]
 
 kept_push : (kept : List Event) (event : Event) → AreKept kept → All (λ other. other.line < event.line) kept → length kept < 2 ^ 32 - 1
@@ -81,3 +81,18 @@ judged kept event found at answer after within is one judges same = by answer ju
     by (Ok Repeat) judges = ((found, was, judges), same)
     by (Err (Differs line)) judges = ((found, was, judges.0, judges.1), same)
     by (Err OutOfMemory) judges = absurd judges
+
+-- after an event whose line is below a number, all kept lines are below it where they were
+pub lines_below : (number : ℕ) (kept : List Event) (event : Event) (answer : Result Admitted SeenFault) (after : List Event) → Admits kept event answer after
+    → event.line < number → All (λ other. other.line < number) kept → All (λ other. other.line < number) after
+lines_below number kept event (Ok Fresh) after admits below all = subst (All (λ (other : Event). other.line < number)) (sym admits.1) (All-push (λ (other : Event). other.line < number) kept event all below)
+lines_below number kept event (Ok Repeat) after admits below all = subst (All (λ (other : Event). other.line < number)) (sym admits.1) all
+lines_below number kept event (Err (Differs line)) after admits below all = subst (All (λ (other : Event). other.line < number)) (sym admits.1) all
+lines_below number kept event (Err OutOfMemory) after admits below all = subst (All (λ (other : Event). other.line < number)) (sym admits) all
+
+-- at most one event more is kept
+pub one_more : (kept : List Event) (event : Event) (answer : Result Admitted SeenFault) (after : List Event) → Admits kept event answer after → length after ≤ length kept + 1
+one_more kept event (Ok Fresh) after admits = let long = length-append kept (event ∷ []) in let same = ap length admits.1 in omega arith
+one_more kept event (Ok Repeat) after admits = let same = ap length admits.1 in omega arith
+one_more kept event (Err (Differs line)) after admits = let same = ap length admits.1 in omega arith
+one_more kept event (Err OutOfMemory) after admits = let same = ap length admits in omega arith

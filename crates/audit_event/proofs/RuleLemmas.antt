@@ -53,8 +53,8 @@ pub kept_more : (low : ℕ) (code : Malformed) (value : Data) (heading : Data �
 kept_more low code value heading kept here other above below =
     let within : rank other ≤ rank code = omega arith in
     elim (eq-or-lt_of_le within) [
-      inr less ↦ kept other above less
-    | inl same ↦ (let is : code ≡ other = sym (ruled-rank code) ∙ ap ruled (sym same) ∙ ruled-rank other in subst (λ rule. Keeps heading rule value) is here)
+      | inr less ↦ kept other above less
+      | inl same ↦ (let is : code ≡ other = sym (ruled-rank code) ∙ ap ruled (sym same) ∙ ruled-rank other in subst (λ rule. Keeps heading rule value) is here)
     ]
 
 -- of two stretches of rules the first is kept, and the second is broken
@@ -62,8 +62,8 @@ pub broken_later : (low high : ℕ) (code : Malformed) (value : Data) (heading :
 broken_later low high code value heading kept breaks = record {
   broken = breaks.broken;
   earlier = λ other above below. elim (cases_lt (rank other) high) [
-    inl less ↦ kept other above less
-  | inr more ↦ breaks.earlier other more below
+    | inl less ↦ kept other above less
+    | inr more ↦ breaks.earlier other more below
   ];
 }
 

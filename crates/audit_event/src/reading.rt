@@ -167,7 +167,13 @@ fn assemble(
     ensures cause { IfErr result (λ fault. fault ≡ EventFault.OutOfMemory) }
 {
     let response = read_body(alloc, present(value, "responseObject"))?;
-    let status = read_status(alloc, value, recording.stage, parties.code, response.is_kept())?;
+    let status = read_status(
+        alloc,
+        value,
+        recording.stage,
+        parties.code,
+        response.is_kept(),
+    )?;
     Ok(Event {
         line,
         level: recording.level,
@@ -235,3 +241,6 @@ pub fn read_event(alloc: Global, line: &Line) -> Result<Event, EventFault>
     };
     read_value(alloc, &value, line.number)
 }
+
+#[cfg(test)]
+mod tests;

@@ -129,9 +129,7 @@ fn has_same_request(a: &Event, b: &Event) -> bool
 fn has_same_answer(a: &Event, b: &Event) -> bool
     ensures { IsTrue result ↔ SameAnswer a.now b.now }
 {
-    a.status == b.status
-        && is_same_body(&a.response, &b.response)
-        && a.decision == b.decision
+    a.status == b.status && is_same_body(&a.response, &b.response) && a.decision == b.decision
 }
 
 // Whether two events are equal in all fields but the line.
@@ -226,3 +224,6 @@ impl Seen {
         Events::from_vec(kept)
     }
 }
+
+#[cfg(test)]
+mod tests;

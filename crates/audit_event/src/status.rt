@@ -110,5 +110,9 @@ pub(crate) fn read_status(
 {
     let response = present(value, "responseObject");
     let status = present(value, "responseStatus");
-    read_with(alloc, answered_code(stage, code), source_of(is_kept, response, status))
+    read_with(
+        alloc,
+        answered_code(stage, code),
+        source_of(is_kept, response, status),
+    )
 }
