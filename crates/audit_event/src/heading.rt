@@ -5,7 +5,8 @@ ghost use Rattle.audit_event.specs.Headings.{is_of_kind, is_event, is_unnamed, i
 use crate::members::says;
 use serde_json::Value;
 
-fn is_of_kind(value: &Value, kind: &str) -> bool
+/// Whether a value is an object of this kind of `audit.k8s.io/v1`.
+pub fn is_of_kind(value: &Value, kind: &str) -> bool
     ensures { result ≡ is_of_kind kind.now (view value.now) }
 {
     says(value, "kind", kind) && says(value, "apiVersion", "audit.k8s.io/v1")

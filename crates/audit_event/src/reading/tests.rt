@@ -1,6 +1,6 @@
 use super::*;
-use crate::event::Body;
-use base_types::{Bytes, Decision, Moment};
+use crate::event::{Body, Status};
+use base_types::{Bytes, Decision, OutOfMemory};
 use std::alloc::AllocError;
 use std::test::Fail;
 
@@ -30,8 +30,8 @@ static MEMBERS: [(&str, &str); 12] = [
 // the earlier ones.
 fn event_text(alloc: Global, without: &str, more: &str) -> Result<String, AllocError> {
     let mut text = String::from_str(alloc, "{")?;
-    for (name, value) in MEMBERS {
-        if name != without {
+    for (name, value) in &MEMBERS {
+        if *name != without {
             text.push_str("\"")?;
             text.push_str(name)?;
             text.push_str("\":")?;
@@ -44,19 +44,20 @@ fn event_text(alloc: Global, without: &str, more: &str) -> Result<String, AllocE
     Ok(text)
 }
 
-fn line_of(alloc: Global, number: u64, bytes: &[u8]) -> Result<Line, AllocError> {
-    Ok(Line {
-        number,
-        bytes: Bytes::from_vec(bytes.to_vec(alloc)?),
-    })
+fn read_text(alloc: Global, text: &str) -> Result<Event, EventFault> {
+    let mut bytes = Bytes::new(alloc);
+    for byte in text.as_bytes() {
+        bytes.push(*byte)?;
+    }
+    read_event(alloc, &Line { number: 7, bytes })
 }
 
 // The rule that a line breaks.
-fn broken_by(alloc: Global, bytes: &[u8]) -> Result<Option<Malformed>, Fail> {
-    match read_event(alloc, &line_of(alloc, 1, bytes)?) {
+fn broken_by(alloc: Global, text: &str) -> Result<Option<Malformed>, EventFault> {
+    match read_text(alloc, text) {
         Ok(_) => Ok(None),
         Err(EventFault::Malformed(code)) => Ok(Some(code)),
-        Err(fault) => Err(fault.into()),
+        Err(fault) => Err(fault),
     }
 }
 
@@ -181,28 +182,22 @@ static EVENTS: [(&str, &str, Option<Malformed>); 63] = [
 
 #[test]
 fn first_broken_rules(rt: HostRuntime) -> Result<(), Fail> {
-    for (without, more, code) in EVENTS {
+    for (without, more, code) in &EVENTS {
         let text = event_text(rt.alloc(), without, more)?;
-        assert_eq!(rt;
-            broken_by(rt.alloc(), text.as_str().as_bytes())?,
-            code,
-            "{without} {more}"
-        );
+        assert_eq!(rt; broken_by(rt.alloc(), text.as_str())?, *code, "{more}");
     }
     Ok(())
 }
 
 // Lines that aren't built of members.
-static LINES: [(&[u8], Malformed); 9] = [
-    (b"", Malformed::M1),
-    (b"{", Malformed::M1),
-    (b"{}{}", Malformed::M1),
-    (b"\"\xFF\"", Malformed::M1),
-    (b"\xEF\xBB\xBF{}", Malformed::M1),
-    (b"NaN", Malformed::M1),
-    (b"null", Malformed::M2),
-    (b"[{}]", Malformed::M2),
-    (b"{}", Malformed::M2),
+static LINES: [(&str, Malformed); 7] = [
+    ("", Malformed::M1),
+    ("{", Malformed::M1),
+    ("{}{}", Malformed::M1),
+    ("\u{FEFF}{}", Malformed::M1),
+    ("null", Malformed::M2),
+    ("[{}]", Malformed::M2),
+    ("{}", Malformed::M2),
 ];
 
 // So many lists, one inside another.
@@ -219,20 +214,24 @@ fn nested(alloc: Global, depth: usize) -> Result<String, AllocError> {
 
 #[test]
 fn other_lines(rt: HostRuntime) -> Result<(), Fail> {
-    for (line, code) in LINES {
-        assert_eq!(rt; broken_by(rt.alloc(), line)?, Some(code), "{line:?}");
+    for (line, code) in &LINES {
+        assert_eq!(rt; broken_by(rt.alloc(), line)?, Some(*code), "{line}");
     }
-    for (depth, code) in [(126, None), (127, Some(Malformed::M1))] {
-        let mut more = String::from_str(rt.alloc(), "\"requestObject\":")?;
-        more.push_str(nested(rt.alloc(), depth)?.as_str())?;
-        more.push_str(",")?;
-        let text = event_text(rt.alloc(), "", more.as_str())?;
-        assert_eq!(rt;
-            broken_by(rt.alloc(), text.as_str().as_bytes())?,
-            code,
-            "{depth}"
-        );
-    }
+    let bytes = Bytes::from_vec(b"\"\xFF\"".to_vec(rt.alloc())?);
+    let line = Line { number: 1, bytes };
+    assert!(rt; read_event(rt.alloc(), &line).is_err());
+    Ok(())
+}
+
+#[test]
+fn nesting(rt: HostRuntime) -> Result<(), Fail> {
+    let body = nested(rt.alloc(), 126)?;
+    let more = format!(in rt.alloc(); "\"requestObject\":{body},")?;
+    let text = event_text(rt.alloc(), "", more.as_str())?;
+    assert_eq!(rt; broken_by(rt.alloc(), text.as_str())?, None);
+    let more = format!(in rt.alloc(); "\"requestObject\":[{body}],")?;
+    let text = event_text(rt.alloc(), "", more.as_str())?;
+    assert_eq!(rt; broken_by(rt.alloc(), text.as_str())?, Some(Malformed::M1));
     Ok(())
 }
 
@@ -275,120 +274,102 @@ static TIMES: [(&str, &str, Option<(i128, i128)>); 11] = [
     ("2024-05-01T10:00:00Z", " 2024-05-01T10:00:00Z", None),
 ];
 
+// The moments of an event of these times, if it is one.
+fn moments(
+    alloc: Global,
+    received: &str,
+    staged: &str,
+) -> Result<Option<(i128, i128)>, OutOfMemory> {
+    let more = format!(in alloc;
+        "\"requestReceivedTimestamp\":\"{received}\",\"stageTimestamp\":\"{staged}\","
+    )?;
+    let text = event_text(alloc, "", more.as_str())?;
+    match read_text(alloc, text.as_str()) {
+        Ok(event) => Ok(Some((event.received.0, event.staged.0))),
+        Err(_) => Ok(None),
+    }
+}
+
 #[test]
 fn times(rt: HostRuntime) -> Result<(), Fail> {
-    for (received, staged, moments) in TIMES {
-        let more = format!(in rt.alloc();
-            "\"requestReceivedTimestamp\":\"{received}\",\"stageTimestamp\":\"{staged}\","
-        )?;
-        let text = event_text(rt.alloc(), "", more.as_str())?;
-        let line = line_of(rt.alloc(), 1, text.as_str().as_bytes())?;
-        let found = match read_event(rt.alloc(), &line) {
-            Ok(event) => Some((event.received.0, event.staged.0)),
-            Err(_) => None,
-        };
-        assert_eq!(rt; found, moments, "{received} {staged}");
+    for (received, staged, read) in &TIMES {
+        assert_eq!(rt;
+            moments(rt.alloc(), received, staged)?,
+            *read,
+            "{received} {staged}"
+        );
     }
     Ok(())
 }
 
-fn event_with(alloc: Global, without: &str, more: &str) -> Result<Event, Fail> {
-    let text = event_text(alloc, without, more)?;
-    Ok(read_event(alloc, &line_of(alloc, 7, text.as_str().as_bytes())?)?)
+fn event_with(alloc: Global, more: &str) -> Result<Event, Fail> {
+    let text = event_text(alloc, "", more)?;
+    Ok(read_text(alloc, text.as_str())?)
 }
 
 #[test]
 fn fields(rt: HostRuntime) -> Result<(), Fail> {
-    let event = event_with(rt.alloc(), "", "")?;
+    let event = event_with(rt.alloc(), r#""impersonatedUser":{"username":"v"},"#)?;
     assert_eq!(rt; event.line, 7);
-    assert_eq!(rt; event.level, Level::RequestResponse);
     assert_eq!(rt; event.audit_id.as_str(), "a1");
-    assert_eq!(rt; event.stage, Stage::Complete);
-    assert_eq!(rt; event.attrs.verb.as_str(), "delete");
     assert_eq!(rt; event.attrs.name.as_str(), "a");
-    assert_eq!(rt; event.user.name.as_str(), "u");
     assert_eq!(rt; event.user.groups.len(), 2);
-    assert!(rt; event.impersonated.is_none());
+    assert!(rt; event.impersonated.is_some());
     assert!(rt; matches!(event.request, Body::Absent));
     assert!(rt; matches!(event.response, Body::Kept(_)));
-    assert_eq!(rt; event.received, Moment(1_714_557_600_000_000_000));
-    assert_eq!(rt; event.staged, Moment(1_714_557_601_000_000_000));
-    assert!(rt; event.decision.is_none());
-    let empty = event_with(
-        rt.alloc(),
-        "user",
-        r#""user":{},"impersonatedUser":{"username":"v"},"requestObject":null,"#,
-    )?;
-    assert!(rt; empty.user.name.is_empty());
-    assert!(rt; empty.user.groups.is_empty());
-    assert!(rt; empty.impersonated.is_some());
-    assert!(rt; matches!(empty.request, Body::Absent));
     Ok(())
 }
 
-// Members, and code, reason, success, uid, name and kind of the status.
-static STATUSES: [(&str, Option<u16>, [&str; 4], bool); 9] = [
-    ("", Some(200), ["r", "A", "a", "configmaps"], true),
-    (
-        r#""responseStatus":{"code":0},"#,
-        None,
-        ["r", "A", "a", "configmaps"],
-        true,
-    ),
-    (
-        r#""stage":"Panic","#,
-        None,
-        ["r", "A", "a", "configmaps"],
-        true,
-    ),
+// A status in one line.
+fn status_text(alloc: Global, status: &Status) -> Result<String, AllocError> {
+    let reason = status.reason.as_str();
+    let uid = status.uid.as_str();
+    let name = status.name.as_str();
+    let kind = status.kind.as_str();
+    format!(in alloc;
+        "{} {} {reason}/{uid}/{name}/{kind}",
+        status.code.unwrap_or(0),
+        status.success
+    )
+}
+
+// Members, and the status of the event.
+static STATUSES: [(&str, &str); 9] = [
+    ("", "200 true r/A/a/configmaps"),
+    (r#""responseStatus":{"code":0},"#, "0 true r/A/a/configmaps"),
+    (r#""stage":"Panic","#, "0 true r/A/a/configmaps"),
     (
         r#""responseObject":{"kind":"Status","code":404},"#,
-        Some(200),
-        ["", "", "", ""],
-        false,
+        "200 false ///",
     ),
     (
         r#""responseObject":{"kind":"Status","n":1.5},"responseStatus":{"code":404,"reason":"s","status":"Failure","details":{"uid":"B","name":7}},"#,
-        Some(404),
-        ["s", "B", "", ""],
-        false,
+        "404 false s/B//",
     ),
     (
         r#""responseObject":{"kind":"ConfigMap"},"responseStatus":{"code":201,"status":"Success"},"#,
-        Some(201),
-        ["", "", "", ""],
-        true,
+        "201 true ///",
     ),
     (
         r#""responseObject":null,"responseStatus":{"status":"success","details":[]},"#,
-        None,
-        ["", "", "", ""],
-        false,
+        "0 false ///",
     ),
     (
         r#""responseObject":["Status"],"responseStatus":null,"#,
-        None,
-        ["", "", "", ""],
-        false,
+        "0 false ///",
     ),
     (
         r#""responseObject":{"kind":"Status","details":{"name":"b"}},"responseStatus":{"reason":"s"},"#,
-        None,
-        ["", "", "b", ""],
-        false,
+        "0 false //b/",
     ),
 ];
 
 #[test]
 fn statuses(rt: HostRuntime) -> Result<(), Fail> {
-    for (more, code, [reason, uid, name, kind], success) in STATUSES {
-        let status = event_with(rt.alloc(), "", more)?.status;
-        assert_eq!(rt; status.code, code, "{more}");
-        assert_eq!(rt; status.reason.as_str(), reason, "{more}");
-        assert_eq!(rt; status.uid.as_str(), uid, "{more}");
-        assert_eq!(rt; status.name.as_str(), name, "{more}");
-        assert_eq!(rt; status.kind.as_str(), kind, "{more}");
-        assert_eq!(rt; status.success, success, "{more}");
+    for (more, status) in &STATUSES {
+        let event = event_with(rt.alloc(), more)?;
+        let text = status_text(rt.alloc(), &event.status)?;
+        assert_eq!(rt; text.as_str(), *status, "{more}");
     }
     Ok(())
 }
@@ -396,69 +377,66 @@ fn statuses(rt: HostRuntime) -> Result<(), Fail> {
 // Annotations, and the decision that they record.
 static DECISIONS: [(&str, Option<Decision>); 5] = [
     (
-        r#"{"authorization.k8s.io/decision":"allow"}"#,
+        r#""annotations":{"authorization.k8s.io/decision":"allow"},"#,
         Some(Decision::Allow),
     ),
     (
-        r#"{"authorization.k8s.io/decision":"forbid"}"#,
+        r#""annotations":{"authorization.k8s.io/decision":"forbid"},"#,
         Some(Decision::Forbid),
     ),
-    (r#"{"authorization.k8s.io/decision":"Allow"}"#, None),
-    (r#"{"authorization.k8s.io/decision":["allow"]}"#, None),
-    (r#""allow""#, None),
+    (
+        r#""annotations":{"authorization.k8s.io/decision":"Allow"},"#,
+        None,
+    ),
+    (
+        r#""annotations":{"authorization.k8s.io/decision":["allow"]},"#,
+        None,
+    ),
+    (r#""annotations":"allow","#, None),
 ];
 
 #[test]
 fn decisions(rt: HostRuntime) -> Result<(), Fail> {
-    for (annotations, decision) in DECISIONS {
-        let more = format!(in rt.alloc(); "\"annotations\":{annotations},")?;
-        assert_eq!(rt;
-            event_with(rt.alloc(), "", more.as_str())?.decision,
-            decision,
-            "{annotations}"
-        );
+    for (more, decision) in &DECISIONS {
+        assert_eq!(rt; event_with(rt.alloc(), more)?.decision, *decision, "{more}");
     }
     Ok(())
 }
 
-// Items, and the rule that they break.
-static ITEMS: [(&str, &str, Option<Malformed>); 5] = [
-    ("", "", None),
-    ("kind", "", Some(Malformed::M2)),
-    ("apiVersion", "", Some(Malformed::M2)),
-    ("", r#""kind":"EventList","#, Some(Malformed::M2)),
-    ("verb", "", Some(Malformed::M9)),
+// Items, and whether they are taken for events in a list, and by themselves.
+static ITEMS: [(&str, bool, bool); 4] = [
+    (
+        r#"{"level":"Metadata","auditID":"a","stage":"Panic","requestURI":"/","verb":"get","user":{},"requestReceivedTimestamp":"2024-05-01T10:00:00Z","stageTimestamp":"2024-05-01T10:00:00Z"}"#,
+        true,
+        false,
+    ),
+    (
+        r#"{"kind":"Event","apiVersion":"audit.k8s.io/v1","level":"Metadata","auditID":"a","stage":"Panic","requestURI":"/","verb":"get","user":{},"requestReceivedTimestamp":"2024-05-01T10:00:00Z","stageTimestamp":"2024-05-01T10:00:00Z"}"#,
+        true,
+        true,
+    ),
+    (
+        r#"{"kind":"Event","level":"Metadata","auditID":"a","stage":"Panic","requestURI":"/","verb":"get","user":{},"requestReceivedTimestamp":"2024-05-01T10:00:00Z","stageTimestamp":"2024-05-01T10:00:00Z"}"#,
+        false,
+        false,
+    ),
+    ("null", false, false),
 ];
 
 #[test]
 fn items(rt: HostRuntime) -> Result<(), Fail> {
-    for (without, more, code) in ITEMS {
-        let text = event_text(rt.alloc(), without, more)?;
-        let value = Value::from_str(rt.alloc(), text.as_str())?;
-        match read_item(rt.alloc(), &value, 3) {
-            Ok(event) => {
-                assert_eq!(rt; code, None);
-                assert_eq!(rt; event.line, 3);
-            }
-            Err(fault) => {
-                assert_eq!(rt;
-                    code.map(EventFault::Malformed),
-                    Some(fault),
-                    "{without} {more}"
-                );
-            }
-        }
+    for (text, is_item, is_event) in &ITEMS {
+        let value = Value::from_str(rt.alloc(), text)?;
+        assert_eq!(rt;
+            read_item(rt.alloc(), &value, 0).is_ok(),
+            *is_item,
+            "{text}"
+        );
+        assert_eq!(rt;
+            read_value(rt.alloc(), &value, 0).is_ok(),
+            *is_event,
+            "{text}"
+        );
     }
-    Ok(())
-}
-
-#[test]
-fn unnamed_items(rt: HostRuntime) -> Result<(), Fail> {
-    let text =
-        r#"{"level":"Metadata","auditID":"a","stage":"Panic","requestURI":"/","verb":"get","user":{},"requestReceivedTimestamp":"2024-05-01T10:00:00Z","stageTimestamp":"2024-05-01T10:00:00Z"}"#;
-    let value = Value::from_str(rt.alloc(), text)?;
-    assert!(rt; read_item(rt.alloc(), &value, 0).is_ok());
-    assert!(rt; read_value(rt.alloc(), &value, 0).is_err());
-    assert_eq!(rt; read_item(rt.alloc(), &Value::Null, 0).is_ok(), false);
     Ok(())
 }
