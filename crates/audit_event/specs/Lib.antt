@@ -1,0 +1,12 @@
+pub mod Bodies
+pub mod Decisions
+pub mod Events
+pub mod Headings
+pub mod Keeping
+pub mod Levels
+pub mod Members
+pub mod Numbers
+pub mod Rules
+pub mod Statuses
+pub mod Times
+pub mod Users

@@ -1,0 +1,39 @@
+-- When a request was received and when the event's stage was reached.
+use Rattle.std.specs.Prelude.{ℕ, ◌^◌, ℤ, pos, neg_ℤ, ◌≤ℤ◌, int_lt, List, Option, Some, None, option_and_then, option_map, codes, if◌then◌else◌}
+use Rattle.std.specs.Result.{result_ok}
+use Rattle.serde_json.specs.Data.{Data}
+use Rattle.jiff_fmt.specs.Temporal.{parse_timestamp}
+use Rattle.base_types.specs.declared.revision.Moment.{Moment}
+use Rattle.audit_event.specs.declared.times.Times.{Times}
+use Rattle.audit_event.specs.Members.{text_at}
+use Rattle.json_tree.specs.Texts.{◌>>=◌}
+
+-- the instant of a text that `jiff` reads as a timestamp, in nanoseconds
+abbrev pub instant_of : List ℕ → Option ℤ
+instant_of text = result_ok (parse_timestamp text)
+
+abbrev pub moment : ℤ → Moment
+moment instant = record { 0 = instant }
+
+abbrev pub moment_at : List ℕ → Data → Option Moment
+moment_at name value = option_map moment (option_and_then instant_of (text_at name value))
+
+-- no stage lies before the receipt
+abbrev pub in_turn : Moment → Moment → Option Times
+in_turn received staged = if int_lt staged.0 received.0 then None else Some (record { received = received; staged = staged })
+
+abbrev pub times_in : Data → Option Times
+times_in value = do
+  received ← moment_at (codes "requestReceivedTimestamp") value
+  staged ← moment_at (codes "stageTimestamp") value
+  in_turn received staged
+
+-- the moments that an event may have
+pub record IsMoment (instant : ℤ) : Type 0 where
+  pub low : neg_ℤ (pos (2 ^ 100)) ≤ℤ instant
+  pub high : instant ≤ℤ pos (2 ^ 100)
+
+pub record AreSound (received staged : ℤ) : Type 0 where
+  pub receipt : IsMoment received
+  pub stage : IsMoment staged
+  pub rising : received ≤ℤ staged

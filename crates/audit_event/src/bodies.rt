@@ -1,0 +1,32 @@
+ghost use Rattle.std.specs.Prelude.{◌≡◌, IfOk, option_map};
+ghost use Rattle.serde_json.specs.View.{view};
+ghost use Rattle.audit_event.specs.Bodies.{body_of, is_kept, IsSoundBody};
+
+use crate::event::Body;
+use base_types::OutOfMemory;
+use json_tree::{TreeFault, from_value};
+use serde_json::Value;
+use std::alloc::Global;
+
+impl Body {
+    pub(crate) fn is_kept(&self) -> bool
+        ensures { result ≡ is_kept self.now }
+    {
+        matches!(self, Body::Kept(_))
+    }
+}
+
+/// The body that a member records, which is there and not null.
+pub(crate) fn read_body(alloc: Global, member: Option<&Value>) -> Result<Body, OutOfMemory>
+    ensures body { IfOk result (λ body. body ≡ body_of (option_map (λ value. view value.now) member.entry)) }
+    ensures sound { IfOk result IsSoundBody }
+{
+    let Some(value) = member else {
+        return Ok(Body::Absent);
+    };
+    match from_value(alloc, value) {
+        Ok(tree) => Ok(Body::Kept(tree)),
+        Err(TreeFault::Fraction) => Ok(Body::Unread),
+        Err(TreeFault::OutOfMemory) => Err(OutOfMemory),
+    }
+}

@@ -1,0 +1,108 @@
+use base_types::OutOfMemory;
+use std::alloc::{AllocError, AllocFailed};
+use thiserror::Error;
+
+/// The rules of audit events, in the order in which they are judged.
+#[derive(Clone, Copy, Debug, PartialEq, Eq, PartialOrd, Ord, Error)]
+pub enum Malformed {
+    /// The line isn't one JSON text in UTF-8.
+    #[error("M1")]
+    M1,
+    /// It isn't an object with `kind` `Event` and `apiVersion` `audit.k8s.io/v1`.
+    #[error("M2")]
+    M2,
+    /// `level` isn't `Metadata`, `Request` or `RequestResponse`.
+    #[error("M3")]
+    M3,
+    /// `stage` isn't `RequestReceived`, `ResponseStarted`, `ResponseComplete` or `Panic`.
+    #[error("M4")]
+    M4,
+    /// `requestReceivedTimestamp` or `stageTimestamp` is no timestamp, or the stage is before the receipt.
+    #[error("M5")]
+    M5,
+    /// A number outside the bodies isn't whole or not in -2^63 to 2^64 - 1.
+    #[error("M6")]
+    M6,
+    /// `auditID` isn't a text with at least one byte.
+    #[error("M7")]
+    M7,
+    /// `requestURI` isn't a text.
+    #[error("M8")]
+    M8,
+    /// `verb` isn't a text with at least one byte, or the URI has no attributes.
+    #[error("M9")]
+    M9,
+    /// `user` or `impersonatedUser` isn't of the form of a UserInfo.
+    #[error("M10")]
+    M10,
+    /// `responseStatus` isn't an object, or its `code` isn't a whole number from 0 to 999.
+    #[error("M11")]
+    M11,
+    /// The event differs from an earlier one of its audit ID and stage.
+    #[error("M12")]
+    M12,
+}
+
+/// Why a line or a JSON value is no event.
+#[derive(Clone, Copy, Debug, PartialEq, Eq, Error)]
+pub enum EventFault {
+    /// The first rule that it breaks.
+    #[error("the event breaks {0}")]
+    Malformed(Malformed),
+    #[error("out of memory")]
+    OutOfMemory,
+}
+
+impl From<OutOfMemory> for EventFault {
+    ghost use Rattle.audit_event.specs.declared.fault.EventFault.TheVariants.{OutOfMemory as Refused};
+    ghost use Rattle.std.specs.Prelude.{◌≡◌};
+
+    ghost from_gives = { λ _ fault. fault ≡ Refused };
+
+    fn from(_: OutOfMemory) -> EventFault {
+        EventFault::OutOfMemory
+    }
+}
+
+/// Why an event isn't admitted.
+#[derive(Clone, Copy, Debug, PartialEq, Eq, Error)]
+pub enum SeenFault {
+    /// It differs from the event of its audit ID and stage that was admitted in this line.
+    #[error("the event differs from that of line {line}")]
+    Differs { line: u64 },
+    #[error("out of memory")]
+    OutOfMemory,
+}
+
+impl From<OutOfMemory> for SeenFault {
+    ghost use Rattle.audit_event.specs.declared.fault.SeenFault.TheVariants.{OutOfMemory as Refused};
+    ghost use Rattle.std.specs.Prelude.{◌≡◌};
+
+    ghost from_gives = { λ _ fault. fault ≡ Refused };
+
+    fn from(_: OutOfMemory) -> SeenFault {
+        SeenFault::OutOfMemory
+    }
+}
+
+impl From<AllocError> for SeenFault {
+    ghost use Rattle.audit_event.specs.declared.fault.SeenFault.TheVariants.{OutOfMemory};
+    ghost use Rattle.std.specs.Prelude.{◌≡◌};
+
+    ghost from_gives = { λ _ fault. fault ≡ OutOfMemory };
+
+    fn from(_: AllocError) -> SeenFault {
+        SeenFault::OutOfMemory
+    }
+}
+
+impl<T: Drop> From<AllocFailed<T>> for SeenFault {
+    ghost use Rattle.audit_event.specs.declared.fault.SeenFault.TheVariants.{OutOfMemory};
+    ghost use Rattle.std.specs.Prelude.{◌≡◌};
+
+    ghost from_gives = { λ _ fault. fault ≡ OutOfMemory };
+
+    fn from(_: AllocFailed<T>) -> SeenFault {
+        SeenFault::OutOfMemory
+    }
+}

@@ -1,0 +1,246 @@
+ghost use Rattle.std.specs.Prelude.{◌≡◌, ℕ, Some, IfOk, IfErr, OnOk, true};
+ghost use Rattle.serde_json.specs.View.{view};
+ghost use Rattle.request_attrs.specs.Attributes.{attributes};
+ghost use Rattle.request_attrs.specs.Refusals.{IsReadable};
+ghost use Rattle.audit_event.specs.Events.{HasFieldsOf, IsRequestOf, IsEventOf, IsEventOfLine, IsCauseFrom, IsCause, IsLineCause, IsUnreadable, IsSound, fault_for};
+ghost use Rattle.audit_event.specs.Headings.{is_event, is_item};
+ghost use Rattle.audit_event.specs.Levels.{level_in, stage_in};
+ghost use Rattle.audit_event.specs.Numbers.{has_whole_numbers};
+ghost use Rattle.audit_event.specs.Rules.{audit_id_in};
+ghost use Rattle.audit_event.specs.Statuses.{code_in};
+ghost use Rattle.audit_event.specs.Times.{times_in, AreSound};
+ghost use Rattle.audit_event.specs.Users.{users_in};
+
+use crate::bodies::read_body;
+use crate::decision::decision_of;
+use crate::event::Event;
+use crate::fault::{EventFault, Malformed};
+use crate::heading::{is_event, is_item};
+use crate::level::{level_of, stage_of};
+use crate::members::{filled_at, present, text_at};
+use crate::numbers::has_whole_numbers;
+use crate::status::{read_status, status_code};
+use crate::times::{Times, times_of};
+use crate::user::read_users;
+use base_types::{Level, RequestAttrs, Stage, Text, User};
+use line_reader::Line;
+use request_attrs::{UriFault, attrs_of};
+use serde_json::Value;
+use std::alloc::Global;
+
+// What is recorded of when and how much.
+#[derive(Clone, Copy)]
+struct Recording {
+    level: Level,
+    stage: Stage,
+    times: Times,
+}
+
+// Reads what the rules from `M3` to `M6` are about.
+fn read_recording(value: &Value) -> Result<Recording, EventFault>
+    ensures level { IfOk result (λ found. level_in (view value.now) ≡ Some found.level) }
+    ensures stage { IfOk result (λ found. stage_in (view value.now) ≡ Some found.stage) }
+    ensures times { IfOk result (λ found. times_in (view value.now) ≡ Some found.times) }
+    ensures sound { IfOk result (λ found. AreSound found.times.received.0 found.times.staged.0) }
+    ensures numbers { OnOk result (has_whole_numbers (view value.now) ≡ true) }
+    ensures cause { IfErr result (IsCauseFrom 3 (view value.now)) }
+{
+    let Some(level) = level_of(value) else {
+        return Err(EventFault::Malformed(Malformed::M3));
+    };
+    let Some(stage) = stage_of(value) else {
+        return Err(EventFault::Malformed(Malformed::M4));
+    };
+    let Some(times) = times_of(value) else {
+        return Err(EventFault::Malformed(Malformed::M5));
+    };
+    if !has_whole_numbers(value) {
+        return Err(EventFault::Malformed(Malformed::M6));
+    }
+    Ok(Recording {
+        level,
+        stage,
+        times,
+    })
+}
+
+// A URI without attributes breaks `M9`.
+fn fault_of(fault: UriFault) -> EventFault
+    ensures { result ≡ fault_for fault }
+{
+    match fault {
+        UriFault::NoSlash | UriFault::BadEscape | UriFault::NotText => {
+            EventFault::Malformed(Malformed::M9)
+        }
+        UriFault::OutOfMemory => EventFault::OutOfMemory,
+    }
+}
+
+// The attributes of a verb and a URI.
+fn read_attrs(alloc: Global, verb: &str, uri: &str) -> Result<RequestAttrs, EventFault>
+    ensures attributes { IfOk result (λ attrs. attrs ≡ attributes verb.now uri.now) }
+    ensures readable { OnOk result (IsReadable uri.now) }
+    ensures cause { IfErr result (IsUnreadable uri.now) }
+{
+    let verb = Text::from_str(alloc, verb)?;
+    let uri = Text::from_str(alloc, uri)?;
+    match attrs_of(alloc, &verb, &uri) {
+        Ok(attrs) => Ok(attrs),
+        Err(fault) => Err(fault_of(fault)),
+    }
+}
+
+// Which request it was.
+#[derive(Drop)]
+struct Request {
+    audit_id: Text,
+    attrs: RequestAttrs,
+}
+
+// Reads what the rules from `M7` to `M9` are about.
+fn read_request(alloc: Global, value: &Value) -> Result<Request, EventFault>
+    ensures audit_id { IfOk result (λ found. audit_id_in (view value.now) ≡ Some found.audit_id) }
+    ensures attrs { IfOk result (λ found. IsRequestOf (view value.now) found.attrs) }
+    ensures cause { IfErr result (IsCauseFrom 7 (view value.now)) }
+{
+    let Some(audit_id) = filled_at(value, "auditID") else {
+        return Err(EventFault::Malformed(Malformed::M7));
+    };
+    let Some(uri) = text_at(value, "requestURI") else {
+        return Err(EventFault::Malformed(Malformed::M8));
+    };
+    let Some(verb) = filled_at(value, "verb") else {
+        return Err(EventFault::Malformed(Malformed::M9));
+    };
+    let attrs = read_attrs(alloc, verb, uri)?;
+    let audit_id = Text::from_str(alloc, audit_id)?;
+    Ok(Request { audit_id, attrs })
+}
+
+// Who made the request, and how it was answered.
+#[derive(Drop)]
+struct Parties {
+    user: User,
+    impersonated: Option<User>,
+    code: Option<u16>,
+}
+
+// Reads what the rules `M10` and `M11` are about.
+fn read_parties(alloc: Global, value: &Value) -> Result<Parties, EventFault>
+    ensures users { IfOk result (λ found. users_in (view value.now) ≡ Some (found.user, found.impersonated)) }
+    ensures code { IfOk result (λ found. code_in (view value.now) ≡ Some found.code) }
+    ensures cause { IfErr result (IsCauseFrom 10 (view value.now)) }
+{
+    let Some((user, impersonated)) = read_users(alloc, value)? else {
+        return Err(EventFault::Malformed(Malformed::M10));
+    };
+    let Some(code) = status_code(value) else {
+        return Err(EventFault::Malformed(Malformed::M11));
+    };
+    Ok(Parties {
+        user,
+        impersonated,
+        code,
+    })
+}
+
+// The event of its parts, with what no rule is about.
+fn assemble(
+    alloc: Global,
+    value: &Value,
+    line: u64,
+    recording: Recording,
+    request: Request,
+    parties: Parties,
+) -> Result<Event, EventFault>
+    requires level { level_in (view value.now) ≡ Some recording.level }
+    requires stage { stage_in (view value.now) ≡ Some recording.stage }
+    requires times { times_in (view value.now) ≡ Some recording.times }
+    requires sound { AreSound recording.times.received.0 recording.times.staged.0 }
+    requires numbers { has_whole_numbers (view value.now) ≡ true }
+    requires audit_id { audit_id_in (view value.now) ≡ Some request.audit_id }
+    requires attrs { IsRequestOf (view value.now) request.attrs }
+    requires users { users_in (view value.now) ≡ Some (parties.user, parties.impersonated) }
+    requires code { code_in (view value.now) ≡ Some parties.code }
+    ensures fields { IfOk result (HasFieldsOf (view value.now) line) }
+    ensures sound { IfOk result IsSound }
+    ensures cause { IfErr result (λ fault. fault ≡ EventFault.OutOfMemory) }
+{
+    let response = read_body(alloc, present(value, "responseObject"))?;
+    let status = read_status(
+        alloc,
+        value,
+        recording.stage,
+        parties.code,
+        response.is_kept(),
+    )?;
+    Ok(Event {
+        line,
+        level: recording.level,
+        audit_id: request.audit_id,
+        stage: recording.stage,
+        attrs: request.attrs,
+        user: parties.user,
+        impersonated: parties.impersonated,
+        status,
+        request: read_body(alloc, present(value, "requestObject"))?,
+        response,
+        received: recording.times.received,
+        staged: recording.times.staged,
+        decision: decision_of(value),
+    })
+}
+
+// The event of a value whose heading is right.
+fn read_fields(alloc: Global, value: &Value, line: u64) -> Result<Event, EventFault>
+    ensures fields { IfOk result (HasFieldsOf (view value.now) line) }
+    ensures sound { IfOk result IsSound }
+    ensures cause { IfErr result (IsCauseFrom 3 (view value.now)) }
+{
+    let recording = read_recording(value)?;
+    let request = read_request(alloc, value)?;
+    let parties = read_parties(alloc, value)?;
+    assemble(alloc, value, line, recording, request, parties)
+}
+
+/// The event of a JSON value, or the first rule from `M2` on that it breaks. Unknown members are ignored.
+pub fn read_value(alloc: Global, value: &Value, line: u64) -> Result<Event, EventFault>
+    ensures event { IfOk result (IsEventOf is_event (view value.now) line) }
+    ensures sound { IfOk result IsSound }
+    ensures cause { IfErr result (IsCause is_event (view value.now)) }
+{
+    if !is_event(value) {
+        return Err(EventFault::Malformed(Malformed::M2));
+    }
+    read_fields(alloc, value, line)
+}
+
+/// The event of an item of an EventList, or the first rule from `M2` on that it breaks. An item without
+/// `kind` and `apiVersion` is taken for an event.
+pub fn read_item(alloc: Global, value: &Value, line: u64) -> Result<Event, EventFault>
+    ensures event { IfOk result (IsEventOf is_item (view value.now) line) }
+    ensures sound { IfOk result IsSound }
+    ensures cause { IfErr result (IsCause is_item (view value.now)) }
+{
+    if !is_item(value) {
+        return Err(EventFault::Malformed(Malformed::M2));
+    }
+    read_fields(alloc, value, line)
+}
+
+/// The event of a line, or the first rule that it breaks. An EventList breaks `M2`.
+pub fn read_event(alloc: Global, line: &Line) -> Result<Event, EventFault>
+    ensures event { IfOk result (IsEventOfLine line.now.bytes line.now.number) }
+    ensures sound { IfOk result IsSound }
+    ensures cause { IfErr result (IsLineCause line.now.bytes) }
+{
+    let value = match Value::from_slice(alloc, line.bytes.as_slice()) {
+        Ok(value) => value,
+        Err(fault) if fault.is_memory() => return Err(EventFault::OutOfMemory),
+        Err(_) => return Err(EventFault::Malformed(Malformed::M1)),
+    };
+    read_value(alloc, &value, line.number)
+}
+
+#[cfg(test)]
+mod tests;
