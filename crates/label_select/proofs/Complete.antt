@@ -48,9 +48,9 @@ Ends tail = (tail ≡ []) ⊎ ((m : ℕ) × (rest : List ℕ) × (tail ≡ space
 
 ends_stop : (class : Class) (tail : List ℕ) → is_in_class class 32 ≡ false → is_in_class class 44 ≡ false → Ends tail → Stops class tail
 ends_stop class tail space comma ends = elim ends [
-      inl none ↦ subst (Stops class) (sym none) tt
-      | inr some ↦ subst (Stops class) (sym some.2) (spaces_stop class 44 some.0 some.1 space comma)
-    ]
+  | inl none ↦ subst (Stops class) (sym none) tt
+  | inr some ↦ subst (Stops class) (sym some.2) (spaces_stop class 44 some.0 some.1 space comma)
+]
 
 -- the end of the text, or a comma
 abbrev IsEnd : List ℕ → Type 0
@@ -58,15 +58,15 @@ IsEnd text = (text ≡ []) ⊎ ((rest : List ℕ) × (text ≡ 44 ∷ rest))
 
 ends_by : (tail : List ℕ) → Ends tail → IsEnd (behind Space tail)
 ends_by tail ends = elim ends [
-      inl none ↦ inl (ap (behind Space) none)
-      | inr some ↦ inr (some.1, ap (behind Space) some.2 ∙ behind-spaces some.0 (44 ∷ some.1))
-    ]
+  | inl none ↦ inl (ap (behind Space) none)
+  | inr some ↦ inr (some.1, ap (behind Space) some.2 ∙ behind-spaces some.0 (44 ∷ some.1))
+]
 
 end_stops : (class : Class) (text : List ℕ) → is_in_class class 44 ≡ false → IsEnd text → Stops class text
 end_stops class text comma end = elim end [
-      inl none ↦ subst (Stops class) (sym none) tt
-      | inr some ↦ subst (Stops class) (sym some.1) comma
-    ]
+  | inl none ↦ subst (Stops class) (sym none) tt
+  | inr some ↦ subst (Stops class) (sym some.1) comma
+]
 
 -- a value, and what is behind it
 value_word : (n : ℕ) (value rest : List ℕ) → IsValue value → value ≢ [] → Stops Value rest → value_at (spaces n ++ (value ++ rest)) ≡ (value, rest)
@@ -148,9 +148,9 @@ begins_after_equal : (n : ℕ) (value tail : List ℕ) → IsValue value → End
 begins_after_equal (suc n) value tail all ends = refl
 begins_after_equal zero (b ∷ value) tail all ends = byte_differs Value b 61 refl (first_passes (is_in_class Value) b value all)
 begins_after_equal zero [] tail all ends = elim ends [
-      inl none ↦ subst (NotFirst 61) (sym none) tt
-      | inr some ↦ subst (NotFirst 61) (sym some.2) (comma_first some.0 some.1)
-    ]
+  | inl none ↦ subst (NotFirst 61) (sym none) tt
+  | inr some ↦ subst (NotFirst 61) (sym some.2) (comma_first some.0 some.1)
+]
 
 pub record TestFound (test : Test) (text tail : List ℕ) : Type 0 where
   pub left : List ℕ
@@ -164,9 +164,9 @@ is_by m n value tail all ends =
     let parts = value_before n value tail all ends in record {
       left = parts.0;
       found =
-        ap (λ o. test_by o text) (behind-spaces m (61 ∷ rest))
-        ∙ choose_none (after (codes "==") (61 ∷ rest)) _ _ (no_equals rest (begins_after_equal n value tail all ends))
-        ∙ ap (λ (p : List ℕ × List ℕ). Some (Is p.0, p.1)) parts.1;
+          ap (λ o. test_by o text) (behind-spaces m (61 ∷ rest))
+          ∙ choose_none (after (codes "==") (61 ∷ rest)) _ _ (no_equals rest (begins_after_equal n value tail all ends))
+          ∙ ap (λ (p : List ℕ × List ℕ). Some (Is p.0, p.1)) parts.1;
       is_left = parts.2;
     }
 
@@ -211,22 +211,22 @@ not_in_by m n values items tail spelled =
 
 exists_by : (tail operator : List ℕ) → behind Space tail ≡ operator → IsEnd operator → test_at tail ≡ Some (Exists, tail)
 exists_by tail operator is end = ap (λ o. test_by o tail) is ∙ elim end [
-      inl none ↦ ap (λ o. test_by o tail) none
-      | inr some ↦ ap (λ o. test_by o tail) some.1
-    ]
+  | inl none ↦ ap (λ o. test_by o tail) none
+  | inr some ↦ ap (λ o. test_by o tail) some.1
+]
 
 test_complete : (test : Test) (text tail : List ℕ) → SpellsTest test text → Ends tail → TestFound test (text ++ tail) tail
 test_complete Exists text tail spelled ends =
     subst (λ l. TestFound Exists (l ++ tail) tail) (sym spelled) (record { left = tail; found = exists_by tail (behind Space tail) refl (ends_by tail ends); is_left = inl refl })
 test_complete Missing text tail spelled ends = absurd spelled
 test_complete (Is value) text tail spelled ends = elim spelled [
-      inl one ↦
-        let whole : text ++ tail ≡ spaces one.0 ++ (61 ∷ (spaces one.1 ++ (value ++ tail))) = ap (λ l. l ++ tail) one.2 ∙ simp append_assoc in
-        subst (λ l. TestFound (Is value) l tail) (sym whole) (is_by one.0 one.1 value tail one.3 ends)
-      | inr two ↦
-        let whole : text ++ tail ≡ spaces two.0 ++ (61 ∷ (61 ∷ (spaces two.1 ++ (value ++ tail)))) = ap (λ l. l ++ tail) two.2 ∙ simp append_assoc in
-        subst (λ l. TestFound (Is value) l tail) (sym whole) (is_by_two two.0 two.1 value tail two.3 ends)
-    ]
+  | inl one ↦
+      let whole : text ++ tail ≡ spaces one.0 ++ (61 ∷ (spaces one.1 ++ (value ++ tail))) = ap (λ l. l ++ tail) one.2 ∙ simp append_assoc in
+      subst (λ l. TestFound (Is value) l tail) (sym whole) (is_by one.0 one.1 value tail one.3 ends)
+  | inr two ↦
+      let whole : text ++ tail ≡ spaces two.0 ++ (61 ∷ (61 ∷ (spaces two.1 ++ (value ++ tail)))) = ap (λ l. l ++ tail) two.2 ∙ simp append_assoc in
+      subst (λ l. TestFound (Is value) l tail) (sym whole) (is_by_two two.0 two.1 value tail two.3 ends)
+]
 test_complete (IsNot value) text tail spelled ends =
     let whole : text ++ tail ≡ spaces spelled.0 ++ (33 ∷ (61 ∷ (spaces spelled.1 ++ (value ++ tail)))) = ap (λ l. l ++ tail) spelled.2 ∙ simp append_assoc in
     subst (λ l. TestFound (IsNot value) l tail) (sym whole) (is_not_by spelled.0 spelled.1 value tail spelled.3 ends)
@@ -250,9 +250,9 @@ test_stops : (test : Test) (text tail : List ℕ) → SpellsTest test text → E
 test_stops Exists text tail spelled ends = subst (λ l. Stops Key (l ++ tail)) (sym spelled) (ends_stop Key tail refl refl ends)
 test_stops Missing text tail spelled ends = absurd spelled
 test_stops (Is value) text tail spelled ends = elim spelled [
-      inl one ↦ value_stops [] 61 value text tail refl one
-      | inr two ↦ value_stops (61 ∷ []) 61 value text tail refl two
-    ]
+  | inl one ↦ value_stops [] 61 value text tail refl one
+  | inr two ↦ value_stops (61 ∷ []) 61 value text tail refl two
+]
 test_stops (IsNot value) text tail spelled ends = value_stops (61 ∷ []) 33 value text tail refl spelled
 test_stops (In values) text tail spelled ends = list_stops (codes "in") values text tail spelled
 test_stops (NotIn values) text tail spelled ends = list_stops (codes "notin") values text tail spelled
@@ -290,10 +290,10 @@ missing_complete key text tail is spelled ends =
     behind-spaces spelled.0 (key ++ tail) ∙ behind-stopped Space (key ++ tail) (not_space (key ++ tail) (word_first Key 32 key tail refl is.bytes is.some)) in record {
       left = tail;
       found =
-        ap requirement_at whole
-        ∙ ap (λ o. choose o (λ rest. key_at (behind Space rest) >>= λ key. Some (requirement_by key.0 (Missing, key.1))) (key_at (33 ∷ (spaces spelled.0 ++ (key ++ tail))) >>= λ key. test_at key.1 >>= λ test. Some (requirement_by key.0 test))) (after-append (codes "!") (spaces spelled.0 ++ (key ++ tail)))
-        ∙ ap (λ l. key_at l >>= λ key. Some (requirement_by key.0 (Missing, key.1))) begun
-        ∙ ap (λ o. o >>= λ key. Some (requirement_by key.0 (Missing, key.1))) (key_complete key tail is (ends_stop Key tail refl refl ends));
+          ap requirement_at whole
+          ∙ ap (λ o. choose o (λ rest. key_at (behind Space rest) >>= λ key. Some (requirement_by key.0 (Missing, key.1))) (key_at (33 ∷ (spaces spelled.0 ++ (key ++ tail))) >>= λ key. test_at key.1 >>= λ test. Some (requirement_by key.0 test))) (after-append (codes "!") (spaces spelled.0 ++ (key ++ tail)))
+          ∙ ap (λ l. key_at l >>= λ key. Some (requirement_by key.0 (Missing, key.1))) begun
+          ∙ ap (λ o. o >>= λ key. Some (requirement_by key.0 (Missing, key.1))) (key_complete key tail is (ends_stop Key tail refl refl ends));
       is_left = inl refl;
     }
 
@@ -304,10 +304,10 @@ tested_complete key test text tail is spelled ends =
     let parts = test_complete test spelled.0 tail spelled.2 ends in record {
       left = parts.left;
       found =
-        ap requirement_at whole
-        ∙ choose_none (after (codes "!") (key ++ rest)) _ _ (no_mark (key ++ rest) (word_first Key 33 key rest refl is.bytes is.some))
-        ∙ ap (λ o. o >>= λ key. test_at key.1 >>= λ test. Some (requirement_by key.0 test)) (key_complete key rest is (test_stops test spelled.0 tail spelled.2 ends))
-        ∙ ap (λ o. o >>= λ test. Some (requirement_by key test)) parts.found;
+          ap requirement_at whole
+          ∙ choose_none (after (codes "!") (key ++ rest)) _ _ (no_mark (key ++ rest) (word_first Key 33 key rest refl is.bytes is.some))
+          ∙ ap (λ o. o >>= λ key. test_at key.1 >>= λ test. Some (requirement_by key.0 test)) (key_complete key rest is (test_stops test spelled.0 tail spelled.2 ends))
+          ∙ ap (λ o. o >>= λ test. Some (requirement_by key test)) parts.found;
       is_left = parts.is_left;
     }
 
@@ -358,9 +358,9 @@ joined_filled requirement left others filled = rw filled refl
 
 left_comma : (m : ℕ) (rest left : List ℕ) → IsLeft (spaces m ++ (44 ∷ rest)) left → (behind Space left ≡ 44 ∷ rest) × (left ≢ [])
 left_comma m rest left is = elim is [
-      inl same ↦ (ap (behind Space) same ∙ behind-spaces m (44 ∷ rest), λ e. no_spaces m rest (sym same ∙ e))
-      | inr gone ↦ (let at = gone ∙ behind-spaces m (44 ∷ rest) in (ap (behind Space) at, λ e. let none : 44 ∷ rest ≡ [] = sym at ∙ e in absurd (cc)))
-    ]
+  | inl same ↦ (ap (behind Space) same ∙ behind-spaces m (44 ∷ rest), λ e. no_spaces m rest (sym same ∙ e))
+  | inr gone ↦ (let at = gone ∙ behind-spaces m (44 ∷ rest) in (ap (behind Space) at, λ e. let none : 44 ∷ rest ≡ [] = sym at ∙ e in absurd (cc)))
+]
 
 other_requirements : (n m k : ℕ) (requirement : Requirement) (others : List Requirement) (text rest : List ℕ) → RequirementFound requirement text (spaces m ++ (44 ∷ (spaces k ++ rest))) → Stops Space rest
     → selector_in n rest ≡ Some others → selector_in (suc n) text ≡ Some (requirement ∷ others)

@@ -21,7 +21,7 @@ pub cut : (class : Class) (text : List ℕ) → text ≡ front class text ++ beh
 cut class [] = refl
 cut class (b ∷ rest) =
     elim (is_in_class class b) as (λ v. b ∷ rest ≡ (if v then b ∷ front class rest else []) ++ (if v then behind class rest else b ∷ rest)) [
-      true ↦ ap (λ l. b ∷ l) (cut class rest)
+      | true ↦ ap (λ l. b ∷ l) (cut class rest)
       | false ↦ refl
     ]
 

@@ -85,9 +85,9 @@ values_step n text found below false is e =
     ((after (codes ",") (behind Space (value_at text).1) >>= λ next. values_in n next) >>= λ others. Some ((value_at text).0 ∷ others.0, others.1)) (Some found) e
     (λ left closed made. subst (ValuesSound text) (same_some ((value_at text).0 ∷ [], left) found made) (last_value text left is closed))
     (λ none made.
-      let others = bind_some (after (codes ",") (behind Space (value_at text).1) >>= λ next. values_in n next) (λ others. Some ((value_at text).0 ∷ others.0, others.1)) found made in
-      let next = bind_some (after (codes ",") (behind Space (value_at text).1)) (λ next. values_in n next) others.0 others.1 in
-      subst (ValuesSound text) (same_some ((value_at text).0 ∷ others.0.0, others.0.1) found others.2) (more_values text next.0 others.0 is next.1 (below next.0 others.0 next.2)))
+    let others = bind_some (after (codes ",") (behind Space (value_at text).1) >>= λ next. values_in n next) (λ others. Some ((value_at text).0 ∷ others.0, others.1)) found made in
+    let next = bind_some (after (codes ",") (behind Space (value_at text).1)) (λ next. values_in n next) others.0 others.1 in
+    subst (ValuesSound text) (same_some ((value_at text).0 ∷ others.0.0, others.0.1) found others.2) (more_values text next.0 others.0 is next.1 (below next.0 others.0 next.2)))
 
 pub values_sound : (n : ℕ) (text : List ℕ) (found : List (List ℕ) × List ℕ) → values_in n text ≡ Some found → ValuesSound text found
 values_sound zero text found e = absurd (cc)
@@ -155,24 +155,24 @@ test_sound text found stops e =
     let operator = behind Space text in
     choose_cases (TestSound text found) (after (codes "==") operator) _ _ (Some found) e
     (λ rest at made. let parts = value_found (codes "==") text rest at in
-      subst (TestSound text) (same_some (Is (value_at rest).0, (value_at rest).1) found made) (record { first = parts.0; cut = parts.1; spelled = inr parts.2 }))
+    subst (TestSound text) (same_some (Is (value_at rest).0, (value_at rest).1) found made) (record { first = parts.0; cut = parts.1; spelled = inr parts.2 }))
     (λ none e1. choose_cases (TestSound text found) (after (codes "=") operator) _ _ (Some found) e1
-      (λ rest at made. let parts = value_found (codes "=") text rest at in
-        subst (TestSound text) (same_some (Is (value_at rest).0, (value_at rest).1) found made) (record { first = parts.0; cut = parts.1; spelled = inl parts.2 }))
-      (λ none e2. choose_cases (TestSound text found) (after (codes "!=") operator) _ _ (Some found) e2
-        (λ rest at made. let parts = value_found (codes "!=") text rest at in
-          subst (TestSound text) (same_some (IsNot (value_at rest).0, (value_at rest).1) found made) (record { first = parts.0; cut = parts.1; spelled = parts.2 }))
-        (λ none e3. choose_cases (TestSound text found) (after (codes "in") operator) _ _ (Some found) e3
-          (λ rest at made.
-            let list = bind_some (list_at rest) (λ list. Some (In list.0, list.1)) found made in
-            let parts = list_found 105 (110 ∷ []) text rest list.0 refl stops at list.1 in
-            subst (TestSound text) (same_some (In list.0.0, list.0.1) found list.2) (record { first = parts.0; cut = parts.1; spelled = parts.2 }))
-          (λ none e4. choose_cases (TestSound text found) (after (codes "notin") operator) _ _ (Some found) e4
-            (λ rest at made.
-              let list = bind_some (list_at rest) (λ list. Some (NotIn list.0, list.1)) found made in
-              let parts = list_found 110 (111 ∷ 116 ∷ 105 ∷ 110 ∷ []) text rest list.0 refl stops at list.1 in
-              subst (TestSound text) (same_some (NotIn list.0.0, list.0.1) found list.2) (record { first = parts.0; cut = parts.1; spelled = parts.2 }))
-            (λ none e5. subst (TestSound text) (same_some (Exists, text) found e5) (record { first = []; cut = refl; spelled = refl }))))))
+    (λ rest at made. let parts = value_found (codes "=") text rest at in
+    subst (TestSound text) (same_some (Is (value_at rest).0, (value_at rest).1) found made) (record { first = parts.0; cut = parts.1; spelled = inl parts.2 }))
+    (λ none e2. choose_cases (TestSound text found) (after (codes "!=") operator) _ _ (Some found) e2
+    (λ rest at made. let parts = value_found (codes "!=") text rest at in
+    subst (TestSound text) (same_some (IsNot (value_at rest).0, (value_at rest).1) found made) (record { first = parts.0; cut = parts.1; spelled = parts.2 }))
+    (λ none e3. choose_cases (TestSound text found) (after (codes "in") operator) _ _ (Some found) e3
+    (λ rest at made.
+    let list = bind_some (list_at rest) (λ list. Some (In list.0, list.1)) found made in
+    let parts = list_found 105 (110 ∷ []) text rest list.0 refl stops at list.1 in
+    subst (TestSound text) (same_some (In list.0.0, list.0.1) found list.2) (record { first = parts.0; cut = parts.1; spelled = parts.2 }))
+    (λ none e4. choose_cases (TestSound text found) (after (codes "notin") operator) _ _ (Some found) e4
+    (λ rest at made.
+    let list = bind_some (list_at rest) (λ list. Some (NotIn list.0, list.1)) found made in
+    let parts = list_found 110 (111 ∷ 116 ∷ 105 ∷ 110 ∷ []) text rest list.0 refl stops at list.1 in
+    subst (TestSound text) (same_some (NotIn list.0.0, list.0.1) found list.2) (record { first = parts.0; cut = parts.1; spelled = parts.2 }))
+    (λ none e5. subst (TestSound text) (same_some (Exists, text) found e5) (record { first = []; cut = refl; spelled = refl }))))))
 
 spells_by : (key : List ℕ) (test : Test) (first : List ℕ) → SpellsTest test first → SpellsBy key test (key ++ first)
 spells_by key Missing first spelled = absurd spelled
@@ -209,12 +209,12 @@ pub requirement_sound : (text : List ℕ) (found : Requirement × List ℕ) → 
 requirement_sound text found e =
     choose_cases (RequirementSound text found) (after (codes "!") text) _ _ (Some found) e
     (λ rest at made.
-      let key = bind_some (key_at (behind Space rest)) (λ key. Some (requirement_by key.0 (Missing, key.1))) found made in
-      subst (RequirementSound text) (same_some (requirement_by key.0.0 (Missing, key.0.1)) found key.2) (missing_sound text rest key.0 at key.1))
+    let key = bind_some (key_at (behind Space rest)) (λ key. Some (requirement_by key.0 (Missing, key.1))) found made in
+    subst (RequirementSound text) (same_some (requirement_by key.0.0 (Missing, key.0.1)) found key.2) (missing_sound text rest key.0 at key.1))
     (λ none made.
-      let key = bind_some (key_at text) (λ key. test_at key.1 >>= λ test. Some (requirement_by key.0 test)) found made in
-      let test = bind_some (test_at key.0.1) (λ test. Some (requirement_by key.0.0 test)) found key.2 in
-      subst (RequirementSound text) (same_some (requirement_by key.0.0 test.0) found test.2) (tested_sound text key.0 test.0 key.1 test.1))
+    let key = bind_some (key_at text) (λ key. test_at key.1 >>= λ test. Some (requirement_by key.0 test)) found made in
+    let test = bind_some (test_at key.0.1) (λ test. Some (requirement_by key.0.0 test)) found key.2 in
+    subst (RequirementSound text) (same_some (requirement_by key.0.0 test.0) found test.2) (tested_sound text key.0 test.0 key.1 test.1))
 
 empty_is : (text : List ℕ) → is_empty text ≡ true → text ≡ []
 empty_is [] e = refl
