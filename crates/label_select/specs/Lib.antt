@@ -1,0 +1,4 @@
+pub mod Bytes
+pub mod Grammar
+pub mod Meeting
+pub mod Readings
