@@ -76,7 +76,7 @@ new_step same view xs i item keys after all within at unseen perm before =
     ∙ along same view xs i item keys within at
     ∙ ap (λ b. not b && are_new same (λ y. same y (view item) || seen_in same view keys y) (map view (drop (i + 1) xs))) unseen
     ∙ new_congr same (λ y. same y (view item) || seen_in same view keys y) (seen_in same view after) (map view (drop (i + 1) xs))
-        (λ y. list_any-IsPermutation (λ key. same y (view key)) (item ∷ keys) after perm)
+    (λ y. list_any-IsPermutation (λ key. same y (view key)) (item ∷ keys) after perm)
 
 -- an item that was seen
 pub seen_step : {K X : Type 0} (same : X → X → Bool) (view : K → X) (xs : List K) (i : ℕ) (item : K) (keys : List K) (all : Bool) → i < length xs → item ≡ get_or xs i item

@@ -21,13 +21,13 @@ is_whole_at start list = not list.rest && nat_le start list.revision
 -- a checkpoint by its number
 abbrev pub checkpoint_of : ℕ → List Tracked → ℕ → Meaning → Option Checkpoint
 checkpoint_of start resources number tree = if is_form (codes "group" ∷ codes "resource" ∷ codes "namespace" ∷ codes "list" ∷ []) tree then (do
-    group ← text_at (codes "group") tree
-    resource ← text_at (codes "resource") tree
-    namespace ← text_at (codes "namespace") tree
-    tracked ← tracked_as resources group resource
-    value ← member_of (codes "list") tree
-    list ← list_of tracked [] namespace value
-    if (is_no_text namespace || tracked.namespaced) && is_whole_at start list
+  group ← text_at (codes "group") tree
+  resource ← text_at (codes "resource") tree
+  namespace ← text_at (codes "namespace") tree
+  tracked ← tracked_as resources group resource
+  value ← member_of (codes "list") tree
+  list ← list_of tracked [] namespace value
+  if (is_no_text namespace || tracked.namespaced) && is_whole_at start list
       then Some (record {
         name = codes "checkpoint:" ++ decimal number;
         group = group;
@@ -37,7 +37,7 @@ checkpoint_of start resources number tree = if is_form (codes "group" ∷ codes 
         items = list.items;
       })
       else None)
-  else None
+    else None
 
 -- the checkpoints from the one of this number on
 abbrev pub checkpoints_from : ℕ → List Tracked → ℕ → List Meaning → Option (List Checkpoint)

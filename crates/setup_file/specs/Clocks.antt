@@ -13,11 +13,11 @@ time_of tree = text_of tree >>= moment_of
 
 abbrev pub start_of : Meaning → Option Start
 start_of tree = if is_form (codes "revision" ∷ codes "time" ∷ []) tree then (do
-    revision ← revision_at (codes "revision") tree
-    value ← member_of (codes "time") tree
-    time ← time_of value
-    Some (record { revision = revision; time = time }))
-  else None
+  revision ← revision_at (codes "revision") tree
+  value ← member_of (codes "time") tree
+  time ← time_of value
+  Some (record { revision = revision; time = time }))
+    else None
 
 -- a log without an end, or one that doesn't end before it begins
 abbrev pub until_of : Moment → Option Meaning → Option (Option Moment)

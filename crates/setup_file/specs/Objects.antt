@@ -53,10 +53,10 @@ object_of tracked name namespace tree = do
   revision ← revision_at (codes "resourceVersion") metadata
   own_namespace ← namespace_in tracked metadata
   if is_of_kind tracked tree && is_under name own_name && is_in_namespace tracked namespace own_namespace
-    then Some (record {
-      key = record { group = tracked.group; resource = tracked.resource; namespace = own_namespace; name = own_name };
-      revision = revision;
-      uid = uid;
-      tree = stored tree;
-    })
-    else None
+      then Some (record {
+        key = record { group = tracked.group; resource = tracked.resource; namespace = own_namespace; name = own_name };
+        revision = revision;
+        uid = uid;
+        tree = stored tree;
+      })
+      else None

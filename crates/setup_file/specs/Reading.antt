@@ -83,8 +83,8 @@ resources_at tree = do
   trees ← or_breaks S8 (chained (member_of (codes "resources") tree) items_of)
   entries ← or_breaks S8 (entries_in trees)
   unless_breaks S9 (are_apart entries)
-    (unless_breaks S10 (list_all has_shape trees)
-    (or_breaks S11 (tracked_in trees)))
+      (unless_breaks S10 (list_all has_shape trees)
+      (or_breaks S11 (tracked_in trees)))
 
 abbrev pub snapshot_at : ℕ → List Tracked → Meaning → Result (List SnapshotObject) SetupRule
 snapshot_at start resources tree = do
@@ -100,7 +100,7 @@ setup_with tree = do
   snapshot ← snapshot_at clocks.start resources tree
   authorization ← or_breaks S14 (authorization_of tree)
   checkpoints ← unless_breaks S14 (is_authorized resources snapshot authorization)
-    (or_breaks S15 (checkpoints_of clocks.start resources (member_of (codes "checkpoints") tree)))
+      (or_breaks S15 (checkpoints_of clocks.start resources (member_of (codes "checkpoints") tree)))
   Ok (record {
     start = clocks.start;
     start_time = clocks.start_time;

@@ -31,16 +31,16 @@ merges_of (Some tree) = text_of tree >>= merges_as
 -- an entry, its shapes and subresources aside
 abbrev pub entry_of : Meaning → Option Entry
 entry_of tree = if is_form entry_members tree then (do
-    group ← text_at (codes "group") tree
-    version ← filled_at (codes "version") tree
-    resource ← filled_at (codes "resource") tree
-    kind ← filled_at (codes "kind") tree
-    list_kind ← filled_at (codes "listKind") tree
-    value ← member_of (codes "namespaced") tree
-    namespaced ← flag_of value
-    merges ← merges_of (member_of (codes "objectPatch") tree)
-    Some (record { group = group; version = version; resource = resource; kind = kind; list_kind = list_kind; namespaced = namespaced; merges = merges }))
-  else None
+  group ← text_at (codes "group") tree
+  version ← filled_at (codes "version") tree
+  resource ← filled_at (codes "resource") tree
+  kind ← filled_at (codes "kind") tree
+  list_kind ← filled_at (codes "listKind") tree
+  value ← member_of (codes "namespaced") tree
+  namespaced ← flag_of value
+  merges ← merges_of (member_of (codes "objectPatch") tree)
+  Some (record { group = group; version = version; resource = resource; kind = kind; list_kind = list_kind; namespaced = namespaced; merges = merges }))
+    else None
 
 abbrev pub entries_in : List Meaning → Option (List Entry)
 entries_in [] = Some []
@@ -72,12 +72,12 @@ effect_as name = if bytes_eq name (codes "same") then Some true else (if bytes_e
 
 abbrev pub subresource_of : Meaning → Option Subresource
 subresource_of tree = if is_form (codes "name" ∷ codes "effect" ∷ codes "shapes" ∷ []) tree then (do
-    name ← text_at (codes "name") tree
-    effect ← text_at (codes "effect") tree
-    same ← effect_as effect
-    shape ← shape_at Kept tree
-    Some (record { name = name; same = same; shape = shape }))
-  else None
+  name ← text_at (codes "name") tree
+  effect ← text_at (codes "effect") tree
+  same ← effect_as effect
+  shape ← shape_at Kept tree
+  Some (record { name = name; same = same; shape = shape }))
+    else None
 
 abbrev pub subresources_in : List Meaning → Option (List Subresource)
 subresources_in [] = Some []

@@ -30,22 +30,22 @@ snapshot_object_of tracked tree = do
   revision ← revision_at (codes "resourceVersion") metadata
   namespace ← own_namespace tracked metadata
   if may_be_kind tracked tree
-    then Some (record {
-      key = record { group = tracked.group; resource = tracked.resource; namespace = namespace; name = name };
-      revision = revision;
-      uid = uid;
-      tree = stored tree;
-    })
-    else None
+      then Some (record {
+        key = record { group = tracked.group; resource = tracked.resource; namespace = namespace; name = name };
+        revision = revision;
+        uid = uid;
+        tree = stored tree;
+      })
+      else None
 
 abbrev pub snapshot_entry_of : List Tracked → Meaning → Option SnapshotObject
 snapshot_entry_of resources tree = if is_form (codes "group" ∷ codes "resource" ∷ codes "object" ∷ []) tree then (do
-    group ← text_at (codes "group") tree
-    resource ← text_at (codes "resource") tree
-    tracked ← tracked_as resources group resource
-    object ← member_of (codes "object") tree
-    snapshot_object_of tracked object)
-  else None
+  group ← text_at (codes "group") tree
+  resource ← text_at (codes "resource") tree
+  tracked ← tracked_as resources group resource
+  object ← member_of (codes "object") tree
+  snapshot_object_of tracked object)
+    else None
 
 abbrev pub snapshot_in : List Tracked → List Meaning → Option (List SnapshotObject)
 snapshot_in resources [] = Some []

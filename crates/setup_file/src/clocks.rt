@@ -80,7 +80,10 @@ fn nanos_of(member: Option<&Tree>) -> Option<u64>
 pub fn read_clocks(tree: &Tree) -> Result<Clocks, SetupRule>
     ensures { result ≡ clocks_of tree.now }
 {
-    let start = tree.member("start").and_then(start_of).ok_or(SetupRule::S4)?;
+    let start = tree
+        .member("start")
+        .and_then(start_of)
+        .ok_or(SetupRule::S4)?;
     let until = until_of(start.time, tree.member("until")).ok_or(SetupRule::S5)?;
     let slack = nanos_of(tree.member("slackNanos")).ok_or(SetupRule::S6)?;
     let lag = nanos_of(tree.member("lagNanos")).ok_or(SetupRule::S6)?;

@@ -23,3 +23,6 @@ pub use setup::{
     Checkpoint, Checkpoints, Setup, Snapshot, SnapshotObject, Subresource, Subresources, Tracked,
     TrackedList,
 };
+
+#[cfg(test)]
+mod tests;

@@ -138,7 +138,12 @@ fn setup_with(alloc: Global, tree: &Tree) -> Result<Setup, SetupFault>
     let Some(authorization) = read_authorization(alloc, tree)? else {
         return Err(SetupFault::Rule(SetupRule::S14));
     };
-    if !is_authorized(alloc, resources.as_slice(), snapshot.as_slice(), &authorization)? {
+    if !is_authorized(
+        alloc,
+        resources.as_slice(),
+        snapshot.as_slice(),
+        &authorization,
+    )? {
         return Err(SetupFault::Rule(SetupRule::S14));
     }
     let given = tree.member("checkpoints");

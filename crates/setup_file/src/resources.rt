@@ -305,7 +305,6 @@ pub fn read_resources(alloc: Global, tree: &Tree) -> Result<TrackedList, SetupFa
 pub fn tracked_as<'a>(resources: &'a [Tracked], group: &str, resource: &str) -> Option<&'a Tracked>
     ensures { option_map (λ tracked. tracked.now) result ≡ tracked_as resources.now group.now resource.now }
 {
-    resources
-        .iter()
-        .find(|tracked| tracked.group.as_str() == group && tracked.resource.as_str() == resource)
+    resources.iter().find(|tracked| tracked.group.as_str() == group
+        && tracked.resource.as_str() == resource)
 }

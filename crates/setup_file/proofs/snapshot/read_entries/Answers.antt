@@ -7,4 +7,4 @@ pub loop-tree-preserved : goal.loop-tree-preserved
 loop-tree-preserved c =
     rw c.in_ok-push.ensures.ok
     (gathered (snapshot_entry_of c.args.resources.now) (snapshot_in c.args.resources.now) (λ x xs. refl) _ c.args.trees.now c.loop-tree.tree-index c.tree-item.result c.loop-tree.objects c.in-Some.object c.loop-tree-test.true c.tree-item.is
-        (sym c.in_ok-object.ensures ∙ c.in-Some.is) c.loop-tree.invariant)
+    (sym c.in_ok-object.ensures ∙ c.in-Some.is) c.loop-tree.invariant)
