@@ -1,0 +1,4 @@
+pub mod Gathered
+pub mod Mapped
+pub mod RevisionTexts
+pub mod Seen

@@ -1,0 +1,6 @@
+use Rattle.std.proofs.Common.{inl}
+use Rattle.std.proofs.lemmas.Result.{IfOk-weaker}
+use Rattle.setup_file.proofs.reading.read_setup.Goals as goal
+
+pub returns-clause-setup : goal.returns-clause-setup
+returns-clause-setup c = IfOk-weaker c.setup_of.result _ _ (λ setup e. inl (c.in_ok-tree.tree, c.in_ok-tree.ensures.tree, e)) c.setup_of.ensures.setup

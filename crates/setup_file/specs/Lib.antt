@@ -1,0 +1,11 @@
+pub mod Authorization
+pub mod Checkpoints
+pub mod Clocks
+pub mod Distinct
+pub mod Forms
+pub mod Lists
+pub mod Objects
+pub mod Reading
+pub mod Resources
+pub mod Snapshots
+pub mod Steps

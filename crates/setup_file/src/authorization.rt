@@ -1,0 +1,150 @@
+ghost use Rattle.std.specs.Prelude.{◌≡◌, IfOk, option_map, is_some, codes};
+ghost use Rattle.std.specs.List.{list_all};
+ghost use Rattle.rbac_rules.specs.Forms.{role_of, binding_of};
+ghost use Rattle.setup_file.specs.Authorization.{authorize_of, groups_or, authorization_of, rbac_group, is_rbac, is_readable, has_rbac, is_authorized, rbac_resources};
+ghost use Rattle.setup_file.specs.Resources.{tracked_as};
+
+use crate::resources::tracked_as;
+use crate::setup::{SnapshotObject, Tracked};
+use base_types::{OutOfMemory, Text, Texts};
+use json_tree::Tree;
+use rbac_rules::{RbacFault, read_binding, read_role};
+use std::alloc::Global;
+
+/// Whether recorded decisions are judged, the groups that pass RBAC, and those that aren't judged.
+#[derive(Debug, Drop)]
+pub struct Authorization {
+    pub authorize: bool,
+    pub bypass: Texts,
+    pub skip: Texts,
+}
+
+const RBAC_GROUP: &str = "rbac.authorization.k8s.io";
+
+fn authorize_of(member: Option<&Tree>) -> Option<bool>
+    ensures { result ≡ authorize_of (option_map (λ tree. tree.now) member.entry) }
+{
+    match member {
+        Some(tree) => tree.as_flag(),
+        None => Some(false),
+    }
+}
+
+// The groups of a member, or the one group that needn't be said.
+fn groups_or(
+    alloc: Global,
+    usual: &str,
+    member: Option<&Tree>,
+) -> Result<Option<Texts>, OutOfMemory>
+    ensures { IfOk result (λ found. found ≡ groups_or usual.now (option_map (λ tree. tree.now) member.entry)) }
+{
+    let Some(tree) = member else {
+        let mut groups = Texts::new(alloc);
+        groups.push(Text::from_str(alloc, usual)?)?;
+        return Ok(Some(groups));
+    };
+    tree.to_texts(alloc)
+}
+
+/// Reads what a setup says of authorisation.
+pub fn read_authorization(alloc: Global, tree: &Tree) -> Result<Option<Authorization>, OutOfMemory>
+    ensures { IfOk result (λ found. found ≡ authorization_of tree.now) }
+{
+    let Some(authorize) = authorize_of(tree.member("authorize")) else {
+        return Ok(None);
+    };
+    let Some(bypass) = groups_or(alloc, "system:masters", tree.member("bypassGroups"))? else {
+        return Ok(None);
+    };
+    let Some(skip) = groups_or(alloc, "system:nodes", tree.member("skipGroups"))? else {
+        return Ok(None);
+    };
+    Ok(Some(Authorization {
+        authorize,
+        bypass,
+        skip,
+    }))
+}
+
+fn is_rbac(object: &SnapshotObject, resource: &str) -> bool
+    ensures { result ≡ is_rbac resource.now object.now }
+{
+    object.key.group.as_str() == RBAC_GROUP && object.key.resource.as_str() == resource
+}
+
+fn is_role(alloc: Global, tree: &Tree) -> Result<bool, OutOfMemory>
+    ensures { IfOk result (λ is. is ≡ is_some (role_of tree.now)) }
+{
+    match read_role(alloc, tree) {
+        Ok(_) => Ok(true),
+        Err(RbacFault::Form) => Ok(false),
+        Err(RbacFault::OutOfMemory) => Err(OutOfMemory),
+    }
+}
+
+fn is_binding(alloc: Global, tree: &Tree) -> Result<bool, OutOfMemory>
+    ensures { IfOk result (λ is. is ≡ is_some (binding_of tree.now)) }
+{
+    match read_binding(alloc, tree) {
+        Ok(_) => Ok(true),
+        Err(RbacFault::Form) => Ok(false),
+        Err(RbacFault::OutOfMemory) => Err(OutOfMemory),
+    }
+}
+
+fn is_readable(alloc: Global, object: &SnapshotObject) -> Result<bool, OutOfMemory>
+    ensures { IfOk result (λ is. is ≡ is_readable object.now) }
+{
+    if is_rbac(object, "roles") || is_rbac(object, "clusterroles") {
+        return is_role(alloc, &object.tree);
+    }
+    if is_rbac(object, "rolebindings") || is_rbac(object, "clusterrolebindings") {
+        return is_binding(alloc, &object.tree);
+    }
+    Ok(true)
+}
+
+fn are_readable(alloc: Global, objects: &[SnapshotObject]) -> Result<bool, OutOfMemory>
+    ensures { IfOk result (λ are. are ≡ list_all is_readable objects.now) }
+{
+    for object in objects {
+        if !is_readable(alloc, object)? {
+            return Ok(false);
+        }
+    }
+    Ok(true)
+}
+
+fn has_rbac_resource(resources: &[Tracked], resource: &str) -> bool
+    ensures { result ≡ is_some (tracked_as resources.now rbac_group resource.now) }
+{
+    tracked_as(resources, RBAC_GROUP, resource).is_some()
+}
+
+fn has_rbac_resources(resources: &[Tracked]) -> bool
+    ensures { result ≡ list_all (λ resource. is_some (tracked_as resources.now rbac_group resource)) rbac_resources }
+{
+    has_rbac_resource(resources, "roles")
+        && has_rbac_resource(resources, "clusterroles")
+        && has_rbac_resource(resources, "rolebindings")
+        && has_rbac_resource(resources, "clusterrolebindings")
+}
+
+/// Whether what RBAC needs is there, where decisions are judged: its four resources are tracked, and the
+/// roles and bindings of the snapshot are readable.
+pub fn is_authorized(
+    alloc: Global,
+    resources: &[Tracked],
+    snapshot: &[SnapshotObject],
+    authorization: &Authorization,
+) -> Result<bool, OutOfMemory>
+    ensures { IfOk result (λ is. is ≡ is_authorized resources.now snapshot.now authorization.now) }
+{
+    if !authorization.authorize {
+        return Ok(true);
+    }
+    if !has_rbac_resources(resources) {
+        return Ok(false);
+    }
+    are_readable(alloc, snapshot)
+}

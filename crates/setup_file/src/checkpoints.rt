@@ -1,0 +1,117 @@
+ghost use Rattle.std.specs.Prelude.{◌≡◌, ◌≤◌, ◌||◌, ◌&&◌, ◌++◌, length, IfOk, option_map, codes, decimal};
+ghost use Rattle.setup_file.specs.Checkpoints.{is_no_text, is_whole_at, checkpoint_of, checkpoints_from, few_checkpoints, checkpoints_of};
+
+use crate::form::{is_form, text_at};
+use crate::lists::{ListRead, read_list};
+use crate::resources::tracked_as;
+use crate::setup::{Checkpoint, Checkpoints, Tracked};
+use base_types::{OutOfMemory, Revision, Text};
+use json_tree::Tree;
+use std::alloc::Global;
+
+/// The most checkpoints that a setup may have.
+const MOST_CHECKPOINTS: usize = 10_000;
+
+// The list is whole, and it isn't older than the log.
+fn is_whole_at(start: Revision, list: &ListRead) -> bool
+    ensures { result ≡ is_whole_at start list.now }
+{
+    !list.rest && start.get() <= list.revision.get()
+}
+
+// Whether a list is one that a checkpoint may have.
+fn is_fit(namespace: &Text, tracked: &Tracked, start: Revision, list: &ListRead) -> bool
+    ensures { result ≡ ((is_no_text namespace.now || tracked.now.namespaced) && is_whole_at start list.now) }
+{
+    (namespace.is_empty() || tracked.namespaced) && is_whole_at(start, list)
+}
+
+fn name_of(alloc: Global, number: usize) -> Result<Text, OutOfMemory>
+    ensures { IfOk result (λ name. name ≡ codes "checkpoint:" ++ decimal number) }
+{
+    Ok(Text::from_string(format!(in alloc; "checkpoint:{number}")?))
+}
+
+fn read_checkpoint(
+    alloc: Global,
+    start: Revision,
+    resources: &[Tracked],
+    number: usize,
+    tree: &Tree,
+) -> Result<Option<Checkpoint>, OutOfMemory>
+    ensures { IfOk result (λ found. found ≡ checkpoint_of start resources.now number tree.now) }
+{
+    if !is_form(&["group", "resource", "namespace", "list"], tree) {
+        return Ok(None);
+    }
+    let Some(group) = text_at(tree, "group") else {
+        return Ok(None);
+    };
+    let Some(resource) = text_at(tree, "resource") else {
+        return Ok(None);
+    };
+    let Some(namespace) = text_at(tree, "namespace") else {
+        return Ok(None);
+    };
+    let Some(tracked) = tracked_as(resources, group.as_str(), resource.as_str()) else {
+        return Ok(None);
+    };
+    let Some(value) = tree.member("list") else {
+        return Ok(None);
+    };
+    let Some(list) = read_list(alloc, tracked, &Text::new(alloc), namespace, value)? else {
+        return Ok(None);
+    };
+    if !is_fit(namespace, tracked, start, &list) {
+        return Ok(None);
+    }
+    Ok(Some(Checkpoint {
+        name: name_of(alloc, number)?,
+        group: group.clone()?,
+        resource: resource.clone()?,
+        namespace: namespace.clone()?,
+        revision: list.revision,
+        items: list.items,
+    }))
+}
+
+fn read_entries(
+    alloc: Global,
+    start: Revision,
+    resources: &[Tracked],
+    trees: &[Tree],
+) -> Result<Option<Checkpoints>, OutOfMemory>
+    requires { length trees.now ≤ 10_000 }
+    ensures { IfOk result (λ found. found ≡ checkpoints_from start resources.now 1 trees.now) }
+{
+    let mut checkpoints = Checkpoints::new(alloc);
+    for (i, tree) in trees.iter().enumerate() {
+        let Some(checkpoint) = read_checkpoint(alloc, start, resources, i + 1, tree)? else {
+            return Ok(None);
+        };
+        checkpoints.push(checkpoint)?;
+    }
+    Ok(Some(checkpoints))
+}
+
+/// Reads the checkpoints of a setup, at most 10,000: whole lists of tracked resources, at the start or
+/// later.
+pub fn read_checkpoints(
+    alloc: Global,
+    start: Revision,
+    resources: &[Tracked],
+    member: Option<&Tree>,
+) -> Result<Option<Checkpoints>, OutOfMemory>
+    ensures { IfOk result (λ found. found ≡ checkpoints_of start resources.now (option_map (λ tree. tree.now) member.entry)) }
+{
+    let Some(list) = member else {
+        return Ok(Some(Checkpoints::new(alloc)));
+    };
+    let Some(trees) = list.as_items() else {
+        return Ok(None);
+    };
+    if trees.all.len() > MOST_CHECKPOINTS {
+        return Ok(None);
+    }
+    read_entries(alloc, start, resources, trees.all.as_slice())
+}

@@ -1,0 +1,58 @@
+ghost use Rattle.std.specs.Prelude.{◌≡◌, ◌==◌, IfOk, map, bytes_eq};
+ghost use Rattle.setup_file.specs.Distinct.{are_distinct, pair_eq, key_eq};
+
+use base_types::{ObjectKey, OutOfMemory, Revision, Text};
+use std::alloc::Global;
+use std::collections::HashSet;
+
+/// Whether no two texts are equal.
+pub fn are_texts_distinct(alloc: Global, texts: &[&Text]) -> Result<bool, OutOfMemory>
+    ensures { IfOk result (λ are. are ≡ are_distinct bytes_eq (map (λ text. text.now) texts.now)) }
+{
+    let mut seen = HashSet::new(alloc);
+    for text in texts {
+        if !seen.insert(*text)? {
+            return Ok(false);
+        }
+    }
+    Ok(true)
+}
+
+/// Whether no two pairs of texts are equal.
+pub fn are_pairs_distinct(alloc: Global, pairs: &[(&Text, &Text)]) -> Result<bool, OutOfMemory>
+    ensures { IfOk result (λ are. are ≡ are_distinct pair_eq (map (λ pair. (pair.0.now, pair.1.now)) pairs.now)) }
+{
+    let mut seen = HashSet::new(alloc);
+    for pair in pairs {
+        if !seen.insert(*pair)? {
+            return Ok(false);
+        }
+    }
+    Ok(true)
+}
+
+/// Whether no two keys are equal.
+pub fn are_keys_distinct(alloc: Global, keys: &[&ObjectKey]) -> Result<bool, OutOfMemory>
+    ensures { IfOk result (λ are. are ≡ are_distinct key_eq (map (λ key. key.now) keys.now)) }
+{
+    let mut seen = HashSet::new(alloc);
+    for key in keys {
+        if !seen.insert(*key)? {
+            return Ok(false);
+        }
+    }
+    Ok(true)
+}
+
+/// Whether no two revisions are equal.
+pub fn are_revisions_distinct(alloc: Global, revisions: &[&Revision]) -> Result<bool, OutOfMemory>
+    ensures { IfOk result (λ are. are ≡ are_distinct (λ a b. a == b) (map (λ revision. revision.now) revisions.now)) }
+{
+    let mut seen = HashSet::new(alloc);
+    for revision in revisions {
+        if !seen.insert(*revision)? {
+            return Ok(false);
+        }
+    }
+    Ok(true)
+}

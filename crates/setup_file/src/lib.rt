@@ -1,0 +1,28 @@
+//! The setup: what an auditor says of a cluster before its log is judged.
+#![tactic(auto)]
+
+mod authorization;
+mod checkpoints;
+mod clocks;
+mod distinct;
+mod fault;
+mod form;
+mod lists;
+mod objects;
+mod reading;
+mod resources;
+mod setup;
+mod snapshot;
+
+pub use fault::{SetupFault, SetupRule};
+pub use form::{canonical, moment};
+pub use lists::{ListRead, read_list};
+pub use objects::read_object;
+pub use reading::read_setup;
+pub use setup::{
+    Checkpoint, Checkpoints, Setup, Snapshot, SnapshotObject, Subresource, Subresources, Tracked,
+    TrackedList,
+};
+
+#[cfg(test)]
+mod tests;

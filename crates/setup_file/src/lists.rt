@@ -1,0 +1,116 @@
+ghost use Rattle.std.specs.Prelude.{◌≡◌, IfOk, option_map};
+ghost use Rattle.json_tree.specs.Parts.{member_of};
+ghost use Rattle.setup_file.specs.Lists.{items_or_none, objects_in, is_blank, goes_on, list_with, list_of};
+
+use crate::form::revision_at;
+use crate::objects::{has_text_at, read_object};
+use crate::setup::{Snapshot, Tracked};
+use base_types::{OutOfMemory, Revision, Text};
+use json_tree::Tree;
+use std::alloc::Global;
+
+/// A list of objects as it was answered, whole or a page of it.
+#[derive(Debug, Drop)]
+pub struct ListRead {
+    /// The revision at which the list was read, its `metadata.resourceVersion`.
+    pub revision: Revision,
+    /// Whether more pages follow: its `metadata.continue` isn't absent, null or empty.
+    pub rest: bool,
+    pub items: Snapshot,
+}
+
+// The items of a list, which may be null or absent.
+fn items_or_none<'a>(member: Option<&'a Tree>) -> Option<&'a [Tree]>
+    ensures { option_map (λ trees. trees.now) result ≡ items_or_none (option_map (λ tree. tree.now) member.entry) }
+{
+    match member {
+        None => Some(&[]),
+        Some(tree) if tree.is_null() => Some(&[]),
+        Some(tree) => Some(tree.as_items()?.all.as_slice()),
+    }
+}
+
+fn read_objects(
+    alloc: Global,
+    tracked: &Tracked,
+    name: &Text,
+    namespace: &Text,
+    trees: &[Tree],
+) -> Result<Option<Snapshot>, OutOfMemory>
+    ensures { IfOk result (λ found. found ≡ objects_in tracked.now name.now namespace.now trees.now) }
+{
+    let mut objects = Snapshot::new(alloc);
+    for tree in trees {
+        let Some(object) = read_object(alloc, tracked, name, namespace, tree)? else {
+            return Ok(None);
+        };
+        objects.push(object)?;
+    }
+    Ok(Some(objects))
+}
+
+fn is_blank(text: Option<&Text>) -> bool
+    ensures { result ≡ is_blank (option_map (λ text. text.now) text.entry) }
+{
+    match text {
+        Some(text) => text.is_empty(),
+        None => false,
+    }
+}
+
+fn goes_on(member: Option<&Tree>) -> bool
+    ensures { result ≡ goes_on (option_map (λ tree. tree.now) member.entry) }
+{
+    match member {
+        None => false,
+        Some(tree) => !tree.is_null() && !is_blank(tree.as_text()),
+    }
+}
+
+fn list_with(
+    alloc: Global,
+    tracked: &Tracked,
+    name: &Text,
+    namespace: &Text,
+    metadata: &Tree,
+    tree: &Tree,
+) -> Result<Option<ListRead>, OutOfMemory>
+    ensures { IfOk result (λ found. found ≡ list_with tracked.now name.now namespace.now metadata.now tree.now) }
+{
+    let Some(revision) = revision_at(metadata, "resourceVersion") else {
+        return Ok(None);
+    };
+    let Some(trees) = items_or_none(tree.member("items")) else {
+        return Ok(None);
+    };
+    let Some(items) = read_objects(alloc, tracked, name, namespace, trees)? else {
+        return Ok(None);
+    };
+    let rest = goes_on(metadata.member("continue"));
+    Ok(Some(ListRead {
+        revision,
+        rest,
+        items,
+    }))
+}
+
+/// Reads the answer to a list request (Kubernetes API concepts, "Collections") that a tree is, under a
+/// path with this name and namespace, of which an empty text is none. Each item is an object of the
+/// resource.
+pub fn read_list(
+    alloc: Global,
+    tracked: &Tracked,
+    name: &Text,
+    namespace: &Text,
+    tree: &Tree,
+) -> Result<Option<ListRead>, OutOfMemory>
+    ensures { IfOk result (λ found. found ≡ list_of tracked.now name.now namespace.now tree.now) }
+{
+    let Some(metadata) = tree.member("metadata") else {
+        return Ok(None);
+    };
+    if !has_text_at(tree, "kind", tracked.list_kind.as_str()) {
+        return Ok(None);
+    }
+    list_with(alloc, tracked, name, namespace, metadata, tree)
+}

@@ -1,0 +1,310 @@
+ghost use Rattle.std.specs.Prelude.{◌≡◌, IfOk, IfErr, option_map, option_and_then, codes};
+ghost use Rattle.std.specs.List.{list_all};
+ghost use Rattle.json_tree.specs.Parts.{member_of, flag_of};
+ghost use Rattle.setup_file.specs.Resources.{merges_as, merges_of, entry_of, entries_in, are_apart, shape_or_root, shape_at, has_shape, effect_as, subresource_of, subresources_in, are_named_apart, subresources_or_none, tracked_of, tracked_in, tracked_as};
+ghost use Rattle.setup_file.specs.Reading.{resources_at};
+ghost use Rattle.setup_file.specs.Steps.{IsCause};
+
+use crate::distinct::{are_pairs_distinct, are_texts_distinct};
+use crate::fault::{SetupFault, SetupRule};
+use crate::form::{filled_at, is_form, text_at};
+use crate::setup::{Subresource, Subresources, Tracked, TrackedList};
+use base_types::{OutOfMemory, Text};
+use json_tree::Tree;
+use path_shape::{FieldClass, Shape, ShapeEntries, ShapeFault};
+use std::alloc::Global;
+
+/// An entry of `resources`, its shapes and subresources aside.
+#[derive(Debug, Drop)]
+pub struct Entry {
+    pub group: Text,
+    pub version: Text,
+    pub resource: Text,
+    pub kind: Text,
+    pub list_kind: Text,
+    pub namespaced: bool,
+    pub merges: bool,
+}
+
+const ENTRY_MEMBERS: [&str; 9] = [
+    "group",
+    "version",
+    "resource",
+    "kind",
+    "listKind",
+    "namespaced",
+    "objectPatch",
+    "shapes",
+    "subresources",
+];
+
+fn merges_as(name: &str) -> Option<bool>
+    ensures { result ≡ merges_as name.now }
+{
+    match name {
+        "merge" => Some(true),
+        "recorded" => Some(false),
+        _ => None,
+    }
+}
+
+fn merges_of(member: Option<&Tree>) -> Option<bool>
+    ensures { result ≡ merges_of (option_map (λ tree. tree.now) member.entry) }
+{
+    match member {
+        Some(tree) => merges_as(tree.as_text()?.as_str()),
+        None => Some(false),
+    }
+}
+
+fn namespaced_of(tree: &Tree) -> Option<bool>
+    ensures { result ≡ option_and_then flag_of (member_of (codes "namespaced") tree.now) }
+{
+    tree.member("namespaced")?.as_flag()
+}
+
+fn read_entry(tree: &Tree) -> Result<Option<Entry>, OutOfMemory>
+    ensures { IfOk result (λ found. found ≡ entry_of tree.now) }
+{
+    if !is_form(&ENTRY_MEMBERS, tree) {
+        return Ok(None);
+    }
+    let Some(group) = text_at(tree, "group") else {
+        return Ok(None);
+    };
+    let Some(version) = filled_at(tree, "version") else {
+        return Ok(None);
+    };
+    let Some(resource) = filled_at(tree, "resource") else {
+        return Ok(None);
+    };
+    let Some(kind) = filled_at(tree, "kind") else {
+        return Ok(None);
+    };
+    let Some(list_kind) = filled_at(tree, "listKind") else {
+        return Ok(None);
+    };
+    let Some(namespaced) = namespaced_of(tree) else {
+        return Ok(None);
+    };
+    let Some(merges) = merges_of(tree.member("objectPatch")) else {
+        return Ok(None);
+    };
+    Ok(Some(Entry {
+        group: group.clone()?,
+        version: version.clone()?,
+        resource: resource.clone()?,
+        kind: kind.clone()?,
+        list_kind: list_kind.clone()?,
+        namespaced,
+        merges,
+    }))
+}
+
+fn read_entries(alloc: Global, trees: &[Tree]) -> Result<Option<Vec<Entry>>, OutOfMemory>
+    ensures { IfOk result (λ found. option_map (λ entries. entries.items) found ≡ entries_in trees.now) }
+{
+    let mut entries = Vec::new(alloc);
+    for tree in trees {
+        let Some(entry) = read_entry(tree)? else {
+            return Ok(None);
+        };
+        entries.push(entry)?;
+    }
+    Ok(Some(entries))
+}
+
+// Whether no two entries have one group and resource, or one group and kind.
+fn are_apart(alloc: Global, entries: &[Entry]) -> Result<bool, OutOfMemory>
+    ensures { IfOk result (λ are. are ≡ are_apart entries.now) }
+{
+    let mut resources = Vec::with_capacity(alloc, entries.len())?;
+    let mut kinds = Vec::with_capacity(alloc, entries.len())?;
+    for entry in entries {
+        resources.push((&entry.group, &entry.resource))?;
+        kinds.push((&entry.group, &entry.kind))?;
+    }
+    Ok(are_pairs_distinct(alloc, &resources)? && are_pairs_distinct(alloc, &kinds)?)
+}
+
+fn shape_or_root(
+    alloc: Global,
+    root: FieldClass,
+    member: Option<&Tree>,
+) -> Result<Option<Shape>, OutOfMemory>
+    ensures { IfOk result (λ found. found ≡ shape_or_root root (option_map (λ tree. tree.now) member.entry)) }
+{
+    let Some(list) = member else {
+        let entries = ShapeEntries::new(alloc);
+        return Ok(Some(Shape { root, entries }));
+    };
+    match Shape::read(alloc, list, root) {
+        Ok(shape) => Ok(Some(shape)),
+        Err(ShapeFault::OutOfMemory) => Err(OutOfMemory),
+        Err(_) => Ok(None),
+    }
+}
+
+fn shape_at(alloc: Global, root: FieldClass, tree: &Tree) -> Result<Option<Shape>, OutOfMemory>
+    ensures { IfOk result (λ found. found ≡ shape_at root tree.now) }
+{
+    shape_or_root(alloc, root, tree.member("shapes"))
+}
+
+// Whether the shape of each entry is in its form.
+fn have_shapes(alloc: Global, trees: &[Tree]) -> Result<bool, OutOfMemory>
+    ensures { IfOk result (λ have. have ≡ list_all has_shape trees.now) }
+{
+    for tree in trees {
+        if shape_at(alloc, FieldClass::Asked, tree)?.is_none() {
+            return Ok(false);
+        }
+    }
+    Ok(true)
+}
+
+fn effect_as(name: &str) -> Option<bool>
+    ensures { result ≡ effect_as name.now }
+{
+    match name {
+        "same" => Some(true),
+        "none" => Some(false),
+        _ => None,
+    }
+}
+
+fn read_subresource(alloc: Global, tree: &Tree) -> Result<Option<Subresource>, OutOfMemory>
+    ensures { IfOk result (λ found. found ≡ subresource_of tree.now) }
+{
+    if !is_form(&["name", "effect", "shapes"], tree) {
+        return Ok(None);
+    }
+    let Some(name) = text_at(tree, "name") else {
+        return Ok(None);
+    };
+    let Some(effect) = text_at(tree, "effect") else {
+        return Ok(None);
+    };
+    let Some(same) = effect_as(effect.as_str()) else {
+        return Ok(None);
+    };
+    let Some(shape) = shape_at(alloc, FieldClass::Kept, tree)? else {
+        return Ok(None);
+    };
+    let name = name.clone()?;
+    Ok(Some(Subresource { name, same, shape }))
+}
+
+fn read_subresources(alloc: Global, trees: &[Tree]) -> Result<Option<Subresources>, OutOfMemory>
+    ensures { IfOk result (λ found. found ≡ subresources_in trees.now) }
+{
+    let mut subresources = Subresources::new(alloc);
+    for tree in trees {
+        let Some(subresource) = read_subresource(alloc, tree)? else {
+            return Ok(None);
+        };
+        subresources.push(subresource)?;
+    }
+    Ok(Some(subresources))
+}
+
+fn are_named_apart(alloc: Global, subresources: &[Subresource]) -> Result<bool, OutOfMemory>
+    ensures { IfOk result (λ are. are ≡ are_named_apart subresources.now) }
+{
+    let mut names = Vec::with_capacity(alloc, subresources.len())?;
+    for subresource in subresources {
+        names.push(&subresource.name)?;
+    }
+    are_texts_distinct(alloc, &names)
+}
+
+fn subresources_or_none(
+    alloc: Global,
+    member: Option<&Tree>,
+) -> Result<Option<Subresources>, OutOfMemory>
+    ensures { IfOk result (λ found. found ≡ subresources_or_none (option_map (λ tree. tree.now) member.entry)) }
+{
+    let Some(list) = member else {
+        return Ok(Some(Subresources::new(alloc)));
+    };
+    let Some(trees) = list.as_items() else {
+        return Ok(None);
+    };
+    let Some(subresources) = read_subresources(alloc, trees.all.as_slice())? else {
+        return Ok(None);
+    };
+    if !are_named_apart(alloc, subresources.as_slice())? {
+        return Ok(None);
+    }
+    Ok(Some(subresources))
+}
+
+fn read_tracked(alloc: Global, tree: &Tree) -> Result<Option<Tracked>, OutOfMemory>
+    ensures { IfOk result (λ found. found ≡ tracked_of tree.now) }
+{
+    let Some(entry) = read_entry(tree)? else {
+        return Ok(None);
+    };
+    let Some(shape) = shape_at(alloc, FieldClass::Asked, tree)? else {
+        return Ok(None);
+    };
+    let Some(subresources) = subresources_or_none(alloc, tree.member("subresources"))? else {
+        return Ok(None);
+    };
+    Ok(Some(Tracked {
+        group: entry.group,
+        version: entry.version,
+        resource: entry.resource,
+        kind: entry.kind,
+        list_kind: entry.list_kind,
+        namespaced: entry.namespaced,
+        merges: entry.merges,
+        shape,
+        subresources,
+    }))
+}
+
+fn read_all_tracked(alloc: Global, trees: &[Tree]) -> Result<Option<TrackedList>, OutOfMemory>
+    ensures { IfOk result (λ found. found ≡ tracked_in trees.now) }
+{
+    let mut resources = TrackedList::new(alloc);
+    for tree in trees {
+        let Some(tracked) = read_tracked(alloc, tree)? else {
+            return Ok(None);
+        };
+        resources.push(tracked)?;
+    }
+    Ok(Some(resources))
+}
+
+/// The resources of a setup. All entries are in their form before any two are compared, and so on.
+pub fn read_resources(alloc: Global, tree: &Tree) -> Result<TrackedList, SetupFault>
+    ensures resources { IfOk result (λ resources. resources_at tree.now ≡ Ok resources) }
+    ensures cause { IfErr result (IsCause (resources_at tree.now)) }
+{
+    let Some(list) = tree.member("resources").and_then(Tree::as_items) else {
+        return Err(SetupFault::Rule(SetupRule::S8));
+    };
+    let trees = list.all.as_slice();
+    let Some(entries) = read_entries(alloc, trees)? else {
+        return Err(SetupFault::Rule(SetupRule::S8));
+    };
+    if !are_apart(alloc, &entries)? {
+        return Err(SetupFault::Rule(SetupRule::S9));
+    }
+    if !have_shapes(alloc, trees)? {
+        return Err(SetupFault::Rule(SetupRule::S10));
+    }
+    match read_all_tracked(alloc, trees)? {
+        Some(resources) => Ok(resources),
+        None => Err(SetupFault::Rule(SetupRule::S11)),
+    }
+}
+
+/// The tracked resource of this group and resource type.
+pub fn tracked_as<'a>(resources: &'a [Tracked], group: &str, resource: &str) -> Option<&'a Tracked>
+    ensures { option_map (λ tracked. tracked.now) result ≡ tracked_as resources.now group.now resource.now }
+{
+    resources.iter().find(|tracked| tracked.group.as_str() == group
+        && tracked.resource.as_str() == resource)
+}

@@ -1,0 +1,185 @@
+ghost use Rattle.std.specs.Prelude.{◌≡◌, ◌==◌, IfOk, IfErr, map, option_map, bytes_eq, nat_le};
+ghost use Rattle.std.specs.List.{list_all};
+ghost use Rattle.setup_file.specs.Distinct.{are_distinct, key_eq};
+ghost use Rattle.setup_file.specs.Snapshots.{own_namespace, may_be_kind, snapshot_object_of, snapshot_entry_of, snapshot_in, are_at_start};
+ghost use Rattle.setup_file.specs.Reading.{snapshot_at};
+ghost use Rattle.setup_file.specs.Steps.{IsCause};
+
+use crate::distinct::{are_keys_distinct, are_revisions_distinct, are_texts_distinct};
+use crate::fault::{SetupFault, SetupRule};
+use crate::form::{filled_at, is_form, revision_at, text_at};
+use crate::objects::{has_no, has_text_at, key_of};
+use crate::resources::tracked_as;
+use crate::setup::{Snapshot, SnapshotObject, Tracked};
+use base_types::{OutOfMemory, Revision};
+use json_tree::{Tree, copy, stored_form};
+use std::alloc::Global;
+
+// The namespace of an object: one of a namespaced resource has one, and one of a cluster-wide resource none.
+fn own_namespace<'a>(tracked: &Tracked, metadata: &'a Tree) -> Option<&'a str>
+    ensures { option_map (λ text. text.now) result ≡ own_namespace tracked.now metadata.now }
+{
+    if tracked.namespaced {
+        return Some(filled_at(metadata, "namespace")?.as_str());
+    }
+    match filled_at(metadata, "namespace") {
+        Some(_) => None,
+        None => Some(""),
+    }
+}
+
+// `kind` may be absent.
+fn may_be_kind(tracked: &Tracked, tree: &Tree) -> bool
+    ensures { result ≡ may_be_kind tracked.now tree.now }
+{
+    has_no(tree, "kind") || has_text_at(tree, "kind", tracked.kind.as_str())
+}
+
+fn read_object(
+    alloc: Global,
+    tracked: &Tracked,
+    tree: &Tree,
+) -> Result<Option<SnapshotObject>, OutOfMemory>
+    ensures { IfOk result (λ found. found ≡ snapshot_object_of tracked.now tree.now) }
+{
+    let Some(metadata) = tree.member("metadata") else {
+        return Ok(None);
+    };
+    let Some(name) = filled_at(metadata, "name") else {
+        return Ok(None);
+    };
+    let Some(uid) = filled_at(metadata, "uid") else {
+        return Ok(None);
+    };
+    let Some(revision) = revision_at(metadata, "resourceVersion") else {
+        return Ok(None);
+    };
+    let Some(namespace) = own_namespace(tracked, metadata) else {
+        return Ok(None);
+    };
+    if !may_be_kind(tracked, tree) {
+        return Ok(None);
+    }
+    Ok(Some(SnapshotObject {
+        key: key_of(alloc, tracked, namespace, name)?,
+        revision,
+        uid: uid.clone()?,
+        tree: stored_form(copy(alloc, tree)?),
+    }))
+}
+
+fn read_entry(
+    alloc: Global,
+    resources: &[Tracked],
+    tree: &Tree,
+) -> Result<Option<SnapshotObject>, OutOfMemory>
+    ensures { IfOk result (λ found. found ≡ snapshot_entry_of resources.now tree.now) }
+{
+    if !is_form(&["group", "resource", "object"], tree) {
+        return Ok(None);
+    }
+    let Some(group) = text_at(tree, "group") else {
+        return Ok(None);
+    };
+    let Some(resource) = text_at(tree, "resource") else {
+        return Ok(None);
+    };
+    let Some(tracked) = tracked_as(resources, group.as_str(), resource.as_str()) else {
+        return Ok(None);
+    };
+    let Some(object) = tree.member("object") else {
+        return Ok(None);
+    };
+    read_object(alloc, tracked, object)
+}
+
+fn read_entries(
+    alloc: Global,
+    resources: &[Tracked],
+    trees: &[Tree],
+) -> Result<Option<Snapshot>, OutOfMemory>
+    ensures { IfOk result (λ found. found ≡ snapshot_in resources.now trees.now) }
+{
+    let mut objects = Snapshot::new(alloc);
+    for tree in trees {
+        let Some(object) = read_entry(alloc, resources, tree)? else {
+            return Ok(None);
+        };
+        objects.push(object)?;
+    }
+    Ok(Some(objects))
+}
+
+fn have_distinct_keys(alloc: Global, objects: &[SnapshotObject]) -> Result<bool, OutOfMemory>
+    ensures { IfOk result (λ have. have ≡ are_distinct key_eq (map (λ object. object.key) objects.now)) }
+{
+    let mut keys = Vec::with_capacity(alloc, objects.len())?;
+    for object in objects {
+        keys.push(&object.key)?;
+    }
+    are_keys_distinct(alloc, &keys)
+}
+
+fn have_distinct_uids(alloc: Global, objects: &[SnapshotObject]) -> Result<bool, OutOfMemory>
+    ensures { IfOk result (λ have. have ≡ are_distinct bytes_eq (map (λ object. object.uid) objects.now)) }
+{
+    let mut uids = Vec::with_capacity(alloc, objects.len())?;
+    for object in objects {
+        uids.push(&object.uid)?;
+    }
+    are_texts_distinct(alloc, &uids)
+}
+
+fn have_distinct_revisions(alloc: Global, objects: &[SnapshotObject]) -> Result<bool, OutOfMemory>
+    ensures { IfOk result (λ have. have ≡ are_distinct (λ a b. a == b) (map (λ object. object.revision) objects.now)) }
+{
+    let mut revisions = Vec::with_capacity(alloc, objects.len())?;
+    for object in objects {
+        revisions.push(&object.revision)?;
+    }
+    are_revisions_distinct(alloc, &revisions)
+}
+
+fn are_below(start: Revision, objects: &[SnapshotObject]) -> bool
+    ensures { result ≡ list_all (λ object. nat_le object.revision start) objects.now }
+{
+    objects
+        .iter()
+        .all(|object| object.revision.get() <= start.get())
+}
+
+// Whether no two objects have one key, uid or revision, and none is above the start.
+fn are_at_start(
+    alloc: Global,
+    start: Revision,
+    objects: &[SnapshotObject],
+) -> Result<bool, OutOfMemory>
+    ensures { IfOk result (λ are. are ≡ are_at_start start objects.now) }
+{
+    let keys = have_distinct_keys(alloc, objects)?;
+    let uids = have_distinct_uids(alloc, objects)?;
+    let revisions = have_distinct_revisions(alloc, objects)?;
+    Ok(keys && uids && revisions && are_below(start, objects))
+}
+
+/// The objects that were there at the start.
+pub fn read_snapshot(
+    alloc: Global,
+    start: Revision,
+    resources: &[Tracked],
+    tree: &Tree,
+) -> Result<Snapshot, SetupFault>
+    ensures snapshot { IfOk result (λ snapshot. snapshot_at start resources.now tree.now ≡ Ok snapshot) }
+    ensures cause { IfErr result (IsCause (snapshot_at start resources.now tree.now)) }
+{
+    let Some(list) = tree.member("snapshot").and_then(Tree::as_items) else {
+        return Err(SetupFault::Rule(SetupRule::S12));
+    };
+    let Some(objects) = read_entries(alloc, resources, list.all.as_slice())? else {
+        return Err(SetupFault::Rule(SetupRule::S12));
+    };
+    if !are_at_start(alloc, start, objects.as_slice())? {
+        return Err(SetupFault::Rule(SetupRule::S13));
+    }
+    Ok(objects)
+}
