@@ -1,0 +1,26 @@
+-- What was answered to all places of a list, in order, holds of the list item by item.
+use Rattle.std.proofs.Common.{◌≡◌, ℕ, suc, ◌+◌, ◌<◌, List, [], ◌∷◌, length, get_or, map, Ok, Some, IfOk, slice_get, refl, sym, ap, subst, ◌∙◌, arith}
+use Rattle.std.specs.List.{AllZip, range_with_len}
+use Rattle.std.proofs.lemmas.Option.{slice_get-get_or, same_Some}
+use Rattle.std.specs.declared.result.Result.{Result}
+
+-- where the call for a place gives a value, it is right for the item that stands there
+abbrev pub AnswersPlace : {X Y E : Type 0} → (X → Y → Type 0) → List X → ℕ → Result Y E → Type 0
+AnswersPlace {X} P xs place answer = IfOk answer (λ y. (x : X) × (slice_get xs place ≡ Some x) × P x y)
+
+module _ {X Y : Type 0} (E : Type 0) (P : X → Y → Type 0) where
+  -- from a place on
+  gathered_from : (xs : List X) (a : ℕ) (rest : List X) (ys : List Y) → ((k : ℕ) (d : X) → k < length rest → slice_get xs (a + k) ≡ Some (get_or rest k d))
+      → AllZip (AnswersPlace {E = E} P xs) (range_with_len a (length rest)) (map Ok ys) → AllZip P rest ys
+  gathered_from xs a [] [] stands each = tt
+  gathered_from xs a [] (y ∷ ys) stands each = absurd each
+  gathered_from xs a (x ∷ rest) [] stands each = absurd each
+  gathered_from xs a (x ∷ rest) (y ∷ ys) stands each =
+      let first : slice_get xs a ≡ Some x = (let here : a ≡ a + 0 = omega arith in ap (slice_get xs) here ∙ stands 0 x (omega arith)) in
+      let same : each.0.0 ≡ x = same_Some each.0.0 x (sym each.0.1 ∙ first) in
+      let next = λ (k : ℕ) (d : X) (below : k < length rest).
+      let step : a + 1 + k ≡ a + suc k = omega arith in ap (slice_get xs) step ∙ stands (suc k) d (omega arith) in
+      (subst (λ z. P z y) same each.0.2, gathered_from xs (a + 1) rest ys next each.1)
+
+  pub gathered : (xs : List X) (ys : List Y) → AllZip (AnswersPlace {E = E} P xs) (range_with_len 0 (length xs)) (map Ok ys) → AllZip P xs ys
+  gathered xs ys each = gathered_from xs 0 xs ys (λ k d below. let here : 0 + k ≡ k = omega arith in ap (slice_get xs) here ∙ slice_get-get_or xs k d below) each

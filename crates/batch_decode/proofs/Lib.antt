@@ -1,0 +1,4 @@
+pub mod Gathering
+pub mod LexSizes
+pub mod ListLemmas
+pub mod Sizes

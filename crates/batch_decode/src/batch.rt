@@ -1,0 +1,43 @@
+ghost use Rattle.std.specs.Prelude.{◌≡◌, ℕ, ◌<◌, ◌^◌, length, Some, IfOk, slice_get};
+ghost use Rattle.std.specs.List.{AllZip};
+ghost use Rattle.line_reader.specs.declared.line.Line.{Line};
+ghost use Rattle.batch_decode.specs.Batches.{IsDecodedLine};
+
+use crate::decoded::{Decoded, DecodedList};
+use crate::line::decode_line;
+use base_types::OutOfMemory;
+use judge_pool::Gate;
+use line_reader::Line;
+use rayon::prelude::*;
+use std::alloc::Global;
+use std::marker::Sync;
+use std::thread::Threads;
+
+/// What each line holds, in their order. Several threads decode them; each line's index enters the gate
+/// before the line is decoded.
+pub fn decode_all<R: Threads + Sync, G: Gate>(
+    rt: &R,
+    alloc: Global,
+    lines: &[Line],
+    gate: &G,
+) -> Result<DecodedList, OutOfMemory>
+    requires { length lines.now < 2 ^ 32 }
+    ensures { IfOk result (AllZip IsDecodedLine lines.now) }
+{
+    let gathered: Result<Vec<Decoded>, OutOfMemory> = (0..lines.len() as u32)
+        .into_par_iter()
+        .map(
+            |index: u32| -> Result<Decoded, OutOfMemory>
+                requires { index < length lines.now }
+                ensures { IfOk result (λ decoded. (line : Line) × (slice_get lines.entry.now index ≡ Some line) × IsDecodedLine line decoded) }
+            {
+                gate.enter(index);
+                decode_line(alloc, &lines[index as usize])
+            },
+        )
+        .collect(rt, alloc)?;
+    Ok(DecodedList::from_vec(gathered?))
+}
+
+#[cfg(test)]
+mod tests;
