@@ -1,5 +1,7 @@
 -- The members of a query that pass a test, as a loop over the query finds them.
 use Rattle.std.proofs.Common.{◌≡◌, ℕ, zero, suc, ◌+◌, ◌<◌, ◌≤◌, Bool, true, false, cond, List, [], ◌∷◌, ◌++◌, length, get_or, take, drop, filter, Option, Some, None, refl, sym, ap, subst, ◌∙◌, arith}
+use Rattle.std.specs.Prelude.{option_map, is_some}
+use Rattle.std.proofs.lemmas.Bool.{false≢true}
 use Rattle.std.proofs.lemmas.List.{append-nil, take_more, take-append-drop}
 use Rattle.std.proofs.lemmas.List.Elements.{filter-append}
 use Rattle.base_types.specs.declared.request.Pair.{Pair}
@@ -43,3 +45,19 @@ one p xs i o le found = ap one_at_most (ap (filter p) (sym (take-whole i xs le))
     alone : (o : Option Pair) → one_at_most (some_list o) ≡ Some o
     alone None = refl
     alone (Some x) = refl
+
+-- the same where the loop holds what it found as something else, as a reference
+pub held : {X : Type 0} (p : Pair → Bool) (xs : List Pair) (i : ℕ) (x : Pair) (o o' : Option X) (f : X → Pair) → i < length xs → x ≡ get_or xs i x → p x ≡ false → o' ≡ o
+    → filter p (take i xs) ≡ some_list (option_map f o) → filter p (take (i + 1) xs) ≡ some_list (option_map f o')
+held p xs i x o o' f lt is other same before = still p xs (some_list (option_map f o')) i x lt is other (before ∙ ap (λ o. some_list (option_map f o)) (sym same))
+
+pub held_first : {X : Type 0} (p : Pair → Bool) (xs : List Pair) (i : ℕ) (x : Pair) (o o' : Option X) (y : X) (f : X → Pair) → i < length xs → x ≡ get_or xs i x → p x ≡ true → is_some o ≡ false → o' ≡ Some y → f y ≡ x
+    → filter p (take i xs) ≡ some_list (option_map f o) → filter p (take (i + 1) xs) ≡ some_list (option_map f o')
+held_first p xs i x None o' y f lt is passes none same now before =
+    found_first p xs i x lt is passes before ∙ ap (λ z. z ∷ []) (sym now) ∙ sym (ap (λ o. some_list (option_map f o)) same)
+held_first p xs i x (Some z) o' y f lt is passes none same now before = absurd (false≢true (sym none))
+
+pub held_several : {X : Type 0} (p : Pair → Bool) (xs : List Pair) (i : ℕ) (x : Pair) (o : Option X) (f : X → Pair) → i < length xs → x ≡ get_or xs i x → p x ≡ true → is_some o ≡ true
+    → filter p (take i xs) ≡ some_list (option_map f o) → None ≡ one_at_most (filter p xs)
+held_several p xs i x None f lt is passes some before = absurd (false≢true some)
+held_several p xs i x (Some y) f lt is passes some before = sym (several p xs i x (f y) lt is passes before)

@@ -22,9 +22,14 @@ pub enum Answer {
         created: bool,
     },
     /// A write that removed the object of this uid.
-    Removed { key: ObjectKey, uid: Text },
+    Removed {
+        key: ObjectKey,
+        uid: Text,
+    },
     /// A write of which the log doesn't tell what it made.
-    Opaque { cover: Cover },
+    Opaque {
+        cover: Cover,
+    },
     /// A read that was answered by this object.
     Saw {
         key: ObjectKey,
@@ -33,11 +38,17 @@ pub enum Answer {
         tree: Tree,
     },
     /// `404 NotFound`: there was no object.
-    SawNone { key: ObjectKey },
+    SawNone {
+        key: ObjectKey,
+    },
     /// `409 AlreadyExists`: there was some object.
-    SawSome { key: ObjectKey },
+    SawSome {
+        key: ObjectKey,
+    },
     /// `409 Conflict`: the object didn't meet the request's preconditions.
-    SawOther { key: ObjectKey },
+    SawOther {
+        key: ObjectKey,
+    },
     /// A read of a list.
     Listed {
         group: Text,

@@ -4,16 +4,14 @@ ghost use Rattle.answer_class.specs.Lists.{list_namespace};
 ghost use Rattle.answer_class.specs.Classes.{key_named, path_key, saw, listed, got, gathered, read_by, read_class, tells_kind, may_miss, is_missing, asked_name, is_taken, tells_conflict, is_conflict, conflict_class, taken_class, refused_class, is_outside, is_out_of_sight, later_class, deleted_uid, ended_uid, removed_uid, removed, is_made_by, made, made_class, is_hidden_by, is_hidden, is_dry, is_idle, succeeded_class, tracked_class, class_of};
 
 use crate::answer::Answer;
-use crate::bodies::{
-    answered_object, asks_dry, body_member, filled_at, is_ended, is_finalizing,
-};
+use crate::bodies::{answered_object, asks_dry, body_member, filled_at, is_ended, is_finalizing};
 use crate::conditions::{has_conditions, tracked_conditions};
 use crate::covers::{cover_of, is_create};
 use crate::lists::{Extent, answered_list, extent_of, is_odd, is_old_list};
 use crate::request::{
-    Effect, Verb, effect_of, first_value, has_filled, is_code, is_completing, is_done, is_elsewhere,
-    is_full, is_nothing, is_open, is_own, is_read, is_unknown, is_write, succeeds, tracked_of,
-    verb_of,
+    Effect, Verb, effect_of, first_value, has_filled, is_code, is_completing, is_done,
+    is_elsewhere, is_full, is_nothing, is_open, is_own, is_read, is_unknown, is_write, succeeds,
+    tracked_of, verb_of,
 };
 use crate::times::{is_before, is_early, is_late};
 use audit_event::{Event, Status};
@@ -40,11 +38,7 @@ fn key_named(
 }
 
 // The path's namespace, and none for a cluster-wide resource.
-fn namespace_of(
-    alloc: Global,
-    tracked: &Tracked,
-    attrs: &RequestAttrs,
-) -> Result<Text, OutOfMemory>
+fn namespace_of(alloc: Global, tracked: &Tracked, attrs: &RequestAttrs) -> Result<Text, OutOfMemory>
     ensures { IfOk result (λ namespace. namespace ≡ list_namespace tracked.now attrs.now) }
 {
     if tracked.namespaced {

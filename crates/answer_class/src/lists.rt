@@ -57,11 +57,7 @@ fn selected(alloc: Global, text: &str) -> Result<Extent, OutOfMemory>
 }
 
 /// Whether a list that was answered is whole, where `rest` tells if more pages follow.
-pub fn extent_of(
-    alloc: Global,
-    attrs: &RequestAttrs,
-    rest: bool,
-) -> Result<Extent, OutOfMemory>
+pub fn extent_of(alloc: Global, attrs: &RequestAttrs, rest: bool) -> Result<Extent, OutOfMemory>
     ensures { IfOk result (λ extent. extent ≡ extent_of attrs.now rest) }
 {
     if rest || has_filled(attrs, "fieldSelector") || has_filled(attrs, "continue") {
@@ -113,9 +109,7 @@ pub fn is_odd(value: Option<&Text>) -> bool
     ensures { result ≡ is_odd (option_map (λ text. text.now) value.entry) }
 {
     match value {
-        Some(text) => {
-            !text.is_empty() && text.as_str() != "0" && canonical(text).is_none()
-        }
+        Some(text) => { !text.is_empty() && text.as_str() != "0" && canonical(text).is_none() }
         None => false,
     }
 }

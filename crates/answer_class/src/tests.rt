@@ -8,7 +8,8 @@ use std::test::Fail;
 
 // Configmaps, whose patches that are objects are merge patches, and pods with two subresources. The log begins behind
 // revision 10 at 10:00, and ends at 11:00.
-const SETUP: &str = r#"{"kind":"PastSetup","version":1,"start":{"revision":"10","time":"2024-05-01T10:00:00Z"},
+const SETUP: &str =
+    r#"{"kind":"PastSetup","version":1,"start":{"revision":"10","time":"2024-05-01T10:00:00Z"},
     "until":"2024-05-01T11:00:00Z","policy":{"apiVersion":"audit.k8s.io/v1","kind":"Policy","rules":[]},
     "snapshot":[],"resources":[
     {"group":"","version":"v1","resource":"configmaps","kind":"ConfigMap","listKind":"ConfigMapList",
@@ -17,26 +18,47 @@ const SETUP: &str = r#"{"kind":"PastSetup","version":1,"start":{"revision":"10",
         "subresources":[{"name":"status","effect":"same"},{"name":"log","effect":"none"}]}]}"#;
 
 const C: &str = "/api/v1/namespaces/d/configmaps";
+
 const A: &str = "/api/v1/namespaces/d/configmaps/a";
+
 const P: &str = "/api/v1/namespaces/d/pods/a";
 
 const NOTHING: &str = "null";
-const OBJECT: &str = r#"{"metadata":{"name":"a","namespace":"d","uid":"A","resourceVersion":"11"}}"#;
+
+const OBJECT: &str =
+    r#"{"metadata":{"name":"a","namespace":"d","uid":"A","resourceVersion":"11"}}"#;
+
 const OLD: &str = r#"{"metadata":{"name":"a","namespace":"d","uid":"A","resourceVersion":"10"}}"#;
+
 const ENDED: &str = r#"{"metadata":{"name":"a","namespace":"d","uid":"A","resourceVersion":"11",
     "deletionTimestamp":"2024-05-01T10:00:03Z","deletionGracePeriodSeconds":0}}"#;
-const FINALIZING: &str = r#"{"metadata":{"name":"a","namespace":"d","uid":"A","resourceVersion":"11",
+
+const FINALIZING: &str =
+    r#"{"metadata":{"name":"a","namespace":"d","uid":"A","resourceVersion":"11",
     "deletionTimestamp":"2024-05-01T10:00:03Z","finalizers":["x/y"]}}"#;
+
 const SUCCESS: &str = r#"{"kind":"Status","status":"Success","details":{"name":"a","uid":"A"}}"#;
+
 const NO_UID: &str = r#"{"kind":"Status","status":"Success","details":{"name":"a"}}"#;
-const NOT_FOUND: &str = r#"{"kind":"Status","reason":"NotFound","details":{"name":"a","kind":"configmaps"}}"#;
-const OTHER_KIND: &str = r#"{"kind":"Status","reason":"NotFound","details":{"name":"a","kind":"secrets"}}"#;
+
+const NOT_FOUND: &str =
+    r#"{"kind":"Status","reason":"NotFound","details":{"name":"a","kind":"configmaps"}}"#;
+
+const OTHER_KIND: &str =
+    r#"{"kind":"Status","reason":"NotFound","details":{"name":"a","kind":"secrets"}}"#;
+
 const EXISTS: &str = r#"{"kind":"Status","reason":"AlreadyExists","details":{"name":"a"}}"#;
+
 const CONFLICT: &str = r#"{"kind":"Status","reason":"Conflict","details":{"name":"a"}}"#;
+
 const PUT: &str = r#"{"metadata":{"name":"a","resourceVersion":"11"}}"#;
+
 const NEW: &str = r#"{"metadata":{"name":"a"}}"#;
+
 const LIST: &str = r#"{"kind":"ConfigMapList","metadata":{"resourceVersion":"12"},"items":[]}"#;
+
 const OLD_LIST: &str = r#"{"kind":"ConfigMapList","metadata":{"resourceVersion":"9"},"items":[]}"#;
+
 const TABLE: &str = r#"{"kind":"Table","metadata":{"resourceVersion":"12"},"rows":[]}"#;
 
 // The event of a request, received and answered at these times of one day.
@@ -53,7 +75,8 @@ fn event(
         r#"{{"level":"RequestResponse","auditID":"a","stage":"ResponseComplete","requestURI":"{uri}",
         "verb":"{verb}","user":{{"username":"u"}},"responseStatus":{{"code":{code}}},"requestObject":{body},
         "responseObject":{answer},"requestReceivedTimestamp":"2024-05-01T{received}Z",
-        "stageTimestamp":"2024-05-01T{staged}Z"}}"#)?;
+        "stageTimestamp":"2024-05-01T{staged}Z"}}"#
+    )?;
     let value = Value::from_str(alloc, text.as_str())?;
     Ok(read_item(alloc, &value, 1)?)
 }
@@ -76,8 +99,11 @@ fn word(answer: &Answer) -> &'static str {
 }
 
 const WITHIN: (&str, &str) = ("10:00:01", "10:00:02");
+
 const EARLY: (&str, &str) = ("09:59:59", "10:00:02");
+
 const BEFORE: (&str, &str) = ("09:59:58", "09:59:59");
+
 const LATE: (&str, &str) = ("10:59:59", "11:00:01");
 
 /// Each class with an event that is in it, beside one that just misses it.
@@ -100,8 +126,20 @@ fn each_class_is_told(rt: HostRuntime) -> Result<(), Fail> {
         (("get", secret, NOTHING), WITHIN, 200, OBJECT, "aside"),
         (("create", dry, NEW), WITHIN, 201, OBJECT, "free"),
         (("create", wet, NEW), WITHIN, 201, OBJECT, "created"),
-        (("delete", A, r#"{"dryRun":["All"]}"#), WITHIN, 200, SUCCESS, "free"),
-        (("delete", A, r#"{"dryRun":[]}"#), WITHIN, 200, SUCCESS, "removed"),
+        (
+            ("delete", A, r#"{"dryRun":["All"]}"#),
+            WITHIN,
+            200,
+            SUCCESS,
+            "free",
+        ),
+        (
+            ("delete", A, r#"{"dryRun":[]}"#),
+            WITHIN,
+            200,
+            SUCCESS,
+            "removed",
+        ),
         (("watch", C, NOTHING), WITHIN, 200, LIST, "free"),
         (("get", log, NOTHING), WITHIN, 200, NOTHING, "free"),
         (("get", exec, NOTHING), WITHIN, 200, NOTHING, "aside"),
@@ -110,7 +148,13 @@ fn each_class_is_told(rt: HostRuntime) -> Result<(), Fail> {
         (("create", C, NEW), WITHIN, 499, NOTHING, "free"),
         (("create", C, NEW), LATE, 201, OBJECT, "opaque"),
         (("create", elsewhere, NEW), WITHIN, 201, OBJECT, "opaque"),
-        (("deletecollection", C, NOTHING), WITHIN, 200, LIST, "opaque"),
+        (
+            ("deletecollection", C, NOTHING),
+            WITHIN,
+            200,
+            LIST,
+            "opaque",
+        ),
         (("patch", exec, NOTHING), WITHIN, 200, NOTHING, "opaque"),
         (("create", C, NEW), WITHIN, 202, OBJECT, "made"),
         (("create", C, NEW), EARLY, 201, OBJECT, "created"),
@@ -133,7 +177,13 @@ fn each_class_is_told(rt: HostRuntime) -> Result<(), Fail> {
         (("get", A, NOTHING), WITHIN, 404, NOT_FOUND, "none"),
         (("get", A, NOTHING), WITHIN, 404, OTHER_KIND, "free"),
         (("create", C, NEW), WITHIN, 409, EXISTS, "some"),
-        (("create", C, r#"{"metadata":{"name":"b"}}"#), WITHIN, 409, EXISTS, "free"),
+        (
+            ("create", C, r#"{"metadata":{"name":"b"}}"#),
+            WITHIN,
+            409,
+            EXISTS,
+            "free",
+        ),
         (("update", A, PUT), WITHIN, 409, CONFLICT, "other"),
         (("patch", A, PUT), WITHIN, 409, CONFLICT, "other"),
         (("patch", P, PUT), WITHIN, 409, CONFLICT, "free"),
@@ -174,7 +224,12 @@ fn conditions_are_read(rt: HostRuntime) -> Result<(), Fail> {
     for (request, revision, has_uid) in table {
         let event = event(rt.alloc(), request, WITHIN, 200, NOTHING)?;
         let found = conditions_of(rt.alloc(), &setup, &event)?;
-        assert_eq!(rt; found.revision.map(|revision| revision.get()), revision, "of {}", request.2);
+        assert_eq!(rt;
+            found.revision.map(|revision| revision.get()),
+            revision,
+            "of {}",
+            request.2
+        );
         assert_eq!(rt; found.uid.is_some(), has_uid, "of {}", request.2);
     }
     Ok(())

@@ -5,4 +5,4 @@ use Rattle.answer_class.proofs.Filled.{some_list}
 use Rattle.answer_class.proofs.lists.one_at_most.Given as goal
 
 abbrev pub invariant-loop-pair : goal.invariant-loop-pair
-invariant-loop-pair l = filter (is_filled (codes "labelSelector")) (take l.pair-index l.pair-items) ≡ some_list (option_map (λ pair. pair.now) l.found)
+invariant-loop-pair l = filter (is_filled (codes "labelSelector")) (take l.pair-index l.pairs) ≡ some_list (option_map (λ pair. pair.now) l.found)
