@@ -1,13 +1,13 @@
 -- What the bodies of an event say (Kubernetes API, `meta/v1`, ObjectMeta, DeleteOptions and Preconditions).
-use Rattle.std.specs.Prelude.{ℕ, ℤ, pos, ◌&&◌, ◌||◌, Bool, true, false, not, List, [], ◌∷◌, Option, Some, None, codes, int_lt, is_some}
+use Rattle.std.specs.Prelude.{ℕ, ℤ, pos, ◌&&◌, ◌||◌, Bool, false, not, List, Option, Some, None, codes, int_lt, is_some}
 use Rattle.json_tree.specs.Meaning.{Meaning}
-use Rattle.json_tree.specs.Parts.{member_of, is_null, whole_of, items_of, members_of, text_of}
+use Rattle.json_tree.specs.Parts.{member_of, is_null, whole_of, items_of, members_of}
 use Rattle.json_tree.specs.Texts.{◌>>=◌}
 use Rattle.base_types.specs.declared.request.RequestAttrs.{RequestAttrs}
 use Rattle.audit_event.specs.declared.event.Body.{Body}
 use Rattle.audit_event.specs.declared.event.Body.TheVariants.{Absent, Kept, Unread}
 use Rattle.audit_event.specs.declared.event.Event.{Event}
-use Rattle.setup_file.specs.Forms.{text_at, filled_at, revision_at}
+use Rattle.setup_file.specs.Forms.{text_at}
 use Rattle.setup_file.specs.Objects.{object_of}
 use Rattle.setup_file.specs.declared.setup.SnapshotObject.{SnapshotObject}
 use Rattle.setup_file.specs.declared.setup.Tracked.{Tracked}

@@ -20,7 +20,7 @@
 --   18  listed: a list that was answered by a list of objects
 --   19  aside: a read that was answered by something else, as a Table
 --   20  free: every other event
-use Rattle.std.specs.Prelude.{ℕ, ◌&&◌, ◌||◌, Bool, true, false, not, List, [], ◌∷◌, Option, Some, None, codes, bytes_eq, nat_lt, if◌then◌else◌}
+use Rattle.std.specs.Prelude.{ℕ, ◌&&◌, ◌||◌, Bool, true, false, not, List, [], Option, Some, None, codes, bytes_eq, nat_lt, if◌then◌else◌}
 use Rattle.json_tree.specs.Meaning.{Meaning}
 use Rattle.json_tree.specs.Parts.{member_of}
 use Rattle.json_tree.specs.Texts.{◌>>=◌}
@@ -33,7 +33,7 @@ use Rattle.setup_file.specs.declared.lists.ListRead.{ListRead}
 use Rattle.setup_file.specs.declared.setup.Setup.{Setup}
 use Rattle.setup_file.specs.declared.setup.SnapshotObject.{SnapshotObject}
 use Rattle.setup_file.specs.declared.setup.Tracked.{Tracked}
-use Rattle.answer_class.specs.Bodies.{kept, is_finalizing, is_ended, answered_object, asks_dry, is_merge}
+use Rattle.answer_class.specs.Bodies.{kept, is_finalizing, is_ended, answered_object, asks_dry}
 use Rattle.answer_class.specs.Conditions.{tracked_conditions, has_conditions}
 use Rattle.answer_class.specs.Covers.{is_create, cover_of}
 use Rattle.answer_class.specs.Lists.{extent_of, list_namespace, answered_list, is_odd, is_old_list}

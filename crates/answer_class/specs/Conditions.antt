@@ -1,5 +1,5 @@
 -- The preconditions of a request (Kubernetes API concepts, "Resource versions"; `meta/v1`, Preconditions).
-use Rattle.std.specs.Prelude.{ℕ, ◌||◌, Bool, false, List, Option, Some, None, codes, is_some, if◌then◌else◌}
+use Rattle.std.specs.Prelude.{◌||◌, Bool, Option, Some, None, codes, is_some, if◌then◌else◌}
 use Rattle.json_tree.specs.Meaning.{Meaning}
 use Rattle.json_tree.specs.Parts.{member_of}
 use Rattle.json_tree.specs.Texts.{◌>>=◌}

@@ -1,5 +1,5 @@
 -- Which objects a list with a label selector has (Kubernetes "Labels and Selectors").
-use Rattle.std.specs.Prelude.{ℕ, Bool, true, List, Option, Some, None, codes}
+use Rattle.std.specs.Prelude.{Bool, true, List, Option, Some, None, codes}
 use Rattle.json_tree.specs.Meaning.{Meaning}
 use Rattle.label_select.specs.Meeting.{matches}
 use Rattle.label_select.specs.declared.selector.Requirement.{Requirement}

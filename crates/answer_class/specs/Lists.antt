@@ -1,7 +1,6 @@
 -- Answers to list requests (Kubernetes API concepts, "Retrieving large results sets in chunks"; "Field Selectors";
 -- "Labels and Selectors").
-use Rattle.std.specs.Prelude.{ℕ, ◌&&◌, ◌||◌, Bool, true, false, not, List, [], ◌∷◌, Option, Some, None, map, filter, codes, bytes_eq, is_some, nat_lt, if◌then◌else◌}
-use Rattle.json_tree.specs.Meaning.{Meaning}
+use Rattle.std.specs.Prelude.{ℕ, ◌&&◌, ◌||◌, Bool, true, false, not, List, [], ◌∷◌, Option, Some, None, filter, codes, bytes_eq, is_some, nat_lt, if◌then◌else◌}
 use Rattle.json_tree.specs.Parts.{member_of}
 use Rattle.json_tree.specs.Texts.{◌>>=◌}
 use Rattle.label_select.specs.Readings.{selector_of}
@@ -15,7 +14,7 @@ use Rattle.setup_file.specs.declared.lists.ListRead.{ListRead}
 use Rattle.setup_file.specs.declared.setup.Setup.{Setup}
 use Rattle.setup_file.specs.declared.setup.Tracked.{Tracked}
 use Rattle.answer_class.specs.Bodies.{kept}
-use Rattle.answer_class.specs.Requests.{is_empty, is_filled, has_filled, first_value, verb_of}
+use Rattle.answer_class.specs.Requests.{is_empty, is_filled, has_filled, first_value}
 use Rattle.answer_class.specs.declared.lists.Extent.{Extent}
 use Rattle.answer_class.specs.declared.request.Verb.{Verb}
 use Rattle.answer_class.specs.declared.request.Verb.TheVariants.{Create, Update, Patch, Delete, DeleteCollection, Get, Listing, Other}

@@ -7,7 +7,6 @@ use Rattle.base_types.specs.declared.request.Pair.{Pair}
 use Rattle.base_types.specs.declared.request.RequestAttrs.{RequestAttrs}
 use Rattle.base_types.specs.declared.request.Stage.{Stage}
 use Rattle.base_types.specs.declared.request.Stage.TheVariants.{Received, Started, Complete, Panic}
-use Rattle.audit_event.specs.declared.event.Event.{Event}
 use Rattle.setup_file.specs.Resources.{tracked_as}
 use Rattle.setup_file.specs.declared.setup.Setup.{Setup}
 use Rattle.setup_file.specs.declared.setup.Subresource.{Subresource}
