@@ -17,13 +17,41 @@ const SETUP: &str =
     {"group":"","version":"v1","resource":"pods","kind":"Pod","listKind":"PodList","namespaced":true,
         "subresources":[{"name":"status","effect":"same"},{"name":"log","effect":"none"}]}]}"#;
 
-const C: &str = "/api/v1/namespaces/d/configmaps";
+const MAPS: &str = "/api/v1/namespaces/d/configmaps";
 
-const A: &str = "/api/v1/namespaces/d/configmaps/a";
+const MAP: &str = "/api/v1/namespaces/d/configmaps/a";
 
-const P: &str = "/api/v1/namespaces/d/pods/a";
+const POD: &str = "/api/v1/namespaces/d/pods/a";
+
+const SECRET: &str = "/api/v1/namespaces/d/secrets/a";
+
+const DRY: &str = "/api/v1/namespaces/d/configmaps?dryRun=All";
+
+const WET: &str = "/api/v1/namespaces/d/configmaps?dryRun=";
+
+const LOG: &str = "/api/v1/namespaces/d/pods/p/log";
+
+const EXEC: &str = "/api/v1/namespaces/d/pods/p/exec";
+
+const ELSEWHERE: &str = "/api/v2/namespaces/d/configmaps";
+
+const ODD: &str = "/api/v1/namespaces/d/configmaps/a?resourceVersion=x";
+
+const EXACT: &str = "/api/v1/namespaces/d/configmaps?resourceVersion=9";
+
+const PAGE: &str = "/api/v1/namespaces/d/configmaps?continue=t";
+
+const FIELD: &str = "/api/v1/namespaces/d/configmaps?fieldSelector=x%3D1";
+
+const LABEL: &str = "/api/v1/namespaces/d/configmaps?labelSelector=app%3Dw";
+
+const LABELS: &str = "/api/v1/namespaces/d/configmaps?labelSelector=app&labelSelector=web";
 
 const NOTHING: &str = "null";
+
+const ALL_DRY: &str = r#"{"dryRun":["All"]}"#;
+
+const NONE_DRY: &str = r#"{"dryRun":[]}"#;
 
 const OBJECT: &str =
     r#"{"metadata":{"name":"a","namespace":"d","uid":"A","resourceVersion":"11"}}"#;
@@ -54,6 +82,12 @@ const CONFLICT: &str = r#"{"kind":"Status","reason":"Conflict","details":{"name"
 const PUT: &str = r#"{"metadata":{"name":"a","resourceVersion":"11"}}"#;
 
 const NEW: &str = r#"{"metadata":{"name":"a"}}"#;
+
+const OTHER: &str = r#"{"metadata":{"name":"b"}}"#;
+
+const ODD_PUT: &str = r#"{"metadata":{"resourceVersion":"011","uid":""}}"#;
+
+const OPTIONS: &str = r#"{"preconditions":{"resourceVersion":"11","uid":"A"}}"#;
 
 const LIST: &str = r#"{"kind":"ConfigMapList","metadata":{"resourceVersion":"12"},"items":[]}"#;
 
@@ -106,150 +140,119 @@ const BEFORE: (&str, &str) = ("09:59:58", "09:59:59");
 
 const LATE: (&str, &str) = ("10:59:59", "11:00:01");
 
-/// Each class with an event that is in it, beside one that just misses it.
+// The verb, the path and the body of a request, when it was received and answered, with which code and body, and the
+// class of that: each class beside what just misses it.
+static CLASSES: [((&str, &str, &str), (&str, &str), u16, &str, &str); 50] = [
+    (("get", SECRET, NOTHING), WITHIN, 200, OBJECT, "aside"),
+    (("create", DRY, NEW), WITHIN, 201, OBJECT, "free"),
+    (("create", WET, NEW), WITHIN, 201, OBJECT, "created"),
+    (("delete", MAP, ALL_DRY), WITHIN, 200, SUCCESS, "free"),
+    (("delete", MAP, NONE_DRY), WITHIN, 200, SUCCESS, "removed"),
+    (("watch", MAPS, NOTHING), WITHIN, 200, LIST, "free"),
+    (("get", LOG, NOTHING), WITHIN, 200, NOTHING, "free"),
+    (("get", EXEC, NOTHING), WITHIN, 200, NOTHING, "aside"),
+    (("create", MAPS, NEW), BEFORE, 500, NOTHING, "aside"),
+    (("create", MAPS, NEW), EARLY, 500, NOTHING, "opaque"),
+    (("create", MAPS, NEW), WITHIN, 499, NOTHING, "free"),
+    (("create", MAPS, NEW), LATE, 201, OBJECT, "opaque"),
+    (("create", ELSEWHERE, NEW), WITHIN, 201, OBJECT, "opaque"),
+    (
+        ("deletecollection", MAPS, NOTHING),
+        WITHIN,
+        200,
+        LIST,
+        "opaque",
+    ),
+    (("patch", EXEC, NOTHING), WITHIN, 200, NOTHING, "opaque"),
+    (("create", MAPS, NEW), WITHIN, 202, OBJECT, "made"),
+    (("create", MAPS, NEW), EARLY, 201, OBJECT, "created"),
+    (("create", MAPS, NEW), EARLY, 201, OLD, "aside"),
+    (("create", MAPS, NEW), WITHIN, 203, OBJECT, "opaque"),
+    (("update", MAP, PUT), WITHIN, 200, FINALIZING, "made"),
+    (("update", MAP, PUT), WITHIN, 200, ENDED, "removed"),
+    (("update", MAP, PUT), EARLY, 200, ENDED, "opaque"),
+    (("delete", MAP, NOTHING), WITHIN, 200, FINALIZING, "made"),
+    (("delete", MAP, NOTHING), WITHIN, 200, ENDED, "removed"),
+    (("delete", MAP, NOTHING), WITHIN, 200, SUCCESS, "removed"),
+    (("delete", MAP, NOTHING), EARLY, 200, SUCCESS, "opaque"),
+    (("delete", MAP, NOTHING), WITHIN, 200, NO_UID, "opaque"),
+    (("get", MAP, NOTHING), EARLY, 200, OBJECT, "aside"),
+    (("get", MAP, NOTHING), LATE, 404, NOT_FOUND, "aside"),
+    (("get", ODD, NOTHING), WITHIN, 200, OBJECT, "aside"),
+    (("list", EXACT, NOTHING), WITHIN, 200, OLD_LIST, "aside"),
+    (("list", PAGE, NOTHING), WITHIN, 200, OLD_LIST, "aside"),
+    (("list", MAPS, NOTHING), WITHIN, 200, OLD_LIST, "whole"),
+    (("get", MAP, NOTHING), WITHIN, 404, NOT_FOUND, "none"),
+    (("get", MAP, NOTHING), WITHIN, 404, OTHER_KIND, "free"),
+    (("create", MAPS, NEW), WITHIN, 409, EXISTS, "some"),
+    (("create", MAPS, OTHER), WITHIN, 409, EXISTS, "free"),
+    (("update", MAP, PUT), WITHIN, 409, CONFLICT, "other"),
+    (("patch", MAP, PUT), WITHIN, 409, CONFLICT, "other"),
+    (("patch", POD, PUT), WITHIN, 409, CONFLICT, "free"),
+    (("update", MAP, NEW), WITHIN, 409, CONFLICT, "free"),
+    (("get", MAP, NOTHING), WITHIN, 200, OBJECT, "saw"),
+    (("get", MAP, NOTHING), WITHIN, 200, TABLE, "aside"),
+    (("list", MAPS, NOTHING), WITHIN, 200, LIST, "whole"),
+    (("list", LABEL, NOTHING), WITHIN, 200, LIST, "whole"),
+    (("list", LABELS, NOTHING), WITHIN, 200, LIST, "listed"),
+    (("list", FIELD, NOTHING), WITHIN, 200, LIST, "listed"),
+    (("list", PAGE, NOTHING), WITHIN, 200, LIST, "listed"),
+    (("list", MAPS, NOTHING), WITHIN, 200, TABLE, "aside"),
+    (("list", MAPS, NOTHING), WITHIN, 403, NOTHING, "free"),
+];
+
 #[test]
 fn each_class_is_told(rt: HostRuntime) -> Result<(), Fail> {
     let setup = read_setup(rt.alloc(), SETUP.as_bytes())?;
-    let secret = "/api/v1/namespaces/d/secrets/a";
-    let dry = "/api/v1/namespaces/d/configmaps?dryRun=All";
-    let wet = "/api/v1/namespaces/d/configmaps?dryRun=";
-    let log = "/api/v1/namespaces/d/pods/p/log";
-    let exec = "/api/v1/namespaces/d/pods/p/exec";
-    let elsewhere = "/api/v2/namespaces/d/configmaps";
-    let odd = "/api/v1/namespaces/d/configmaps/a?resourceVersion=x";
-    let exact = "/api/v1/namespaces/d/configmaps?resourceVersion=9";
-    let page = "/api/v1/namespaces/d/configmaps?continue=t";
-    let field = "/api/v1/namespaces/d/configmaps?fieldSelector=x%3D1";
-    let label = "/api/v1/namespaces/d/configmaps?labelSelector=app";
-    let labels = "/api/v1/namespaces/d/configmaps?labelSelector=app&labelSelector=web";
-    let table = [
-        (("get", secret, NOTHING), WITHIN, 200, OBJECT, "aside"),
-        (("create", dry, NEW), WITHIN, 201, OBJECT, "free"),
-        (("create", wet, NEW), WITHIN, 201, OBJECT, "created"),
-        (
-            ("delete", A, r#"{"dryRun":["All"]}"#),
-            WITHIN,
-            200,
-            SUCCESS,
-            "free",
-        ),
-        (
-            ("delete", A, r#"{"dryRun":[]}"#),
-            WITHIN,
-            200,
-            SUCCESS,
-            "removed",
-        ),
-        (("watch", C, NOTHING), WITHIN, 200, LIST, "free"),
-        (("get", log, NOTHING), WITHIN, 200, NOTHING, "free"),
-        (("get", exec, NOTHING), WITHIN, 200, NOTHING, "aside"),
-        (("create", C, NEW), BEFORE, 500, NOTHING, "aside"),
-        (("create", C, NEW), EARLY, 500, NOTHING, "opaque"),
-        (("create", C, NEW), WITHIN, 499, NOTHING, "free"),
-        (("create", C, NEW), LATE, 201, OBJECT, "opaque"),
-        (("create", elsewhere, NEW), WITHIN, 201, OBJECT, "opaque"),
-        (
-            ("deletecollection", C, NOTHING),
-            WITHIN,
-            200,
-            LIST,
-            "opaque",
-        ),
-        (("patch", exec, NOTHING), WITHIN, 200, NOTHING, "opaque"),
-        (("create", C, NEW), WITHIN, 202, OBJECT, "made"),
-        (("create", C, NEW), EARLY, 201, OBJECT, "created"),
-        (("create", C, NEW), EARLY, 201, OLD, "aside"),
-        (("create", C, NEW), WITHIN, 203, OBJECT, "opaque"),
-        (("update", A, PUT), WITHIN, 200, FINALIZING, "made"),
-        (("update", A, PUT), WITHIN, 200, ENDED, "removed"),
-        (("update", A, PUT), EARLY, 200, ENDED, "opaque"),
-        (("delete", A, NOTHING), WITHIN, 200, FINALIZING, "made"),
-        (("delete", A, NOTHING), WITHIN, 200, ENDED, "removed"),
-        (("delete", A, NOTHING), WITHIN, 200, SUCCESS, "removed"),
-        (("delete", A, NOTHING), EARLY, 200, SUCCESS, "opaque"),
-        (("delete", A, NOTHING), WITHIN, 200, NO_UID, "opaque"),
-        (("get", A, NOTHING), EARLY, 200, OBJECT, "aside"),
-        (("get", A, NOTHING), LATE, 404, NOT_FOUND, "aside"),
-        (("get", odd, NOTHING), WITHIN, 200, OBJECT, "aside"),
-        (("list", exact, NOTHING), WITHIN, 200, OLD_LIST, "aside"),
-        (("list", page, NOTHING), WITHIN, 200, OLD_LIST, "aside"),
-        (("list", C, NOTHING), WITHIN, 200, OLD_LIST, "whole"),
-        (("get", A, NOTHING), WITHIN, 404, NOT_FOUND, "none"),
-        (("get", A, NOTHING), WITHIN, 404, OTHER_KIND, "free"),
-        (("create", C, NEW), WITHIN, 409, EXISTS, "some"),
-        (
-            ("create", C, r#"{"metadata":{"name":"b"}}"#),
-            WITHIN,
-            409,
-            EXISTS,
-            "free",
-        ),
-        (("update", A, PUT), WITHIN, 409, CONFLICT, "other"),
-        (("patch", A, PUT), WITHIN, 409, CONFLICT, "other"),
-        (("patch", P, PUT), WITHIN, 409, CONFLICT, "free"),
-        (("update", A, NEW), WITHIN, 409, CONFLICT, "free"),
-        (("get", A, NOTHING), WITHIN, 200, OBJECT, "saw"),
-        (("get", A, NOTHING), WITHIN, 200, TABLE, "aside"),
-        (("list", C, NOTHING), WITHIN, 200, LIST, "whole"),
-        (("list", label, NOTHING), WITHIN, 200, LIST, "whole"),
-        (("list", labels, NOTHING), WITHIN, 200, LIST, "listed"),
-        (("list", field, NOTHING), WITHIN, 200, LIST, "listed"),
-        (("list", page, NOTHING), WITHIN, 200, LIST, "listed"),
-        (("list", C, NOTHING), WITHIN, 200, TABLE, "aside"),
-        (("list", C, NOTHING), WITHIN, 403, NOTHING, "free"),
-    ];
-    for (request, times, code, answer, class) in table {
-        let event = event(rt.alloc(), request, times, code, answer)?;
+    for (request, times, code, answer, class) in &CLASSES {
+        let event = event(rt.alloc(), *request, *times, *code, answer)?;
         let found = class_of(rt.alloc(), &setup, &event)?;
-        assert_eq!(rt; word(&found), class, "of {answer}");
+        assert_eq!(rt; word(&found), *class, "of {answer}");
     }
     Ok(())
 }
+
+// A request, the revision that it asks for, and whether it asks for a uid.
+static CONDITIONS: [((&str, &str, &str), Option<u64>, bool); 7] = [
+    (("update", MAP, PUT), Some(11), false),
+    (("patch", MAP, PUT), Some(11), false),
+    (("patch", POD, PUT), None, false),
+    (("create", MAP, PUT), None, false),
+    (("update", MAP, ODD_PUT), None, false),
+    (("delete", MAP, OPTIONS), Some(11), true),
+    (("update", MAP, OPTIONS), None, false),
+];
 
 /// The conditions of an update, of a merge patch and of a delete, and of no other request.
 #[test]
 fn conditions_are_read(rt: HostRuntime) -> Result<(), Fail> {
     let setup = read_setup(rt.alloc(), SETUP.as_bytes())?;
-    let odd = r#"{"metadata":{"resourceVersion":"011","uid":""}}"#;
-    let options = r#"{"preconditions":{"resourceVersion":"11","uid":"A"}}"#;
-    let table = [
-        (("update", A, PUT), Some(11), false),
-        (("patch", A, PUT), Some(11), false),
-        (("patch", P, PUT), None, false),
-        (("create", A, PUT), None, false),
-        (("update", A, odd), None, false),
-        (("delete", A, options), Some(11), true),
-        (("update", A, options), None, false),
-    ];
-    for (request, revision, has_uid) in table {
-        let event = event(rt.alloc(), request, WITHIN, 200, NOTHING)?;
+    for (request, revision, has_uid) in &CONDITIONS {
+        let event = event(rt.alloc(), *request, WITHIN, 200, NOTHING)?;
         let found = conditions_of(rt.alloc(), &setup, &event)?;
-        assert_eq!(rt;
-            found.revision.map(|revision| revision.get()),
-            revision,
-            "of {}",
-            request.2
-        );
-        assert_eq!(rt; found.uid.is_some(), has_uid, "of {}", request.2);
+        assert_eq!(rt; found.revision.map(|revision| revision.get()), *revision);
+        assert_eq!(rt; found.uid.is_some(), *has_uid);
     }
     Ok(())
 }
+
+// An object, and whether it has the label `app=w`.
+static LABELLED: [(&str, bool); 3] = [
+    (r#"{"metadata":{"labels":{"app":"w"}}}"#, true),
+    (r#"{"metadata":{"labels":{"app":"v"}}}"#, false),
+    (r#"{"metadata":{"annotations":{"app":"w"}}}"#, false),
+];
 
 /// The objects of a list with the selector `app=w`.
 #[test]
 fn labels_are_selected(rt: HostRuntime) -> Result<(), Fail> {
     let setup = read_setup(rt.alloc(), SETUP.as_bytes())?;
-    let uri = "/api/v1/namespaces/d/configmaps?labelSelector=app%3Dw";
-    let event = event(rt.alloc(), ("list", uri, NOTHING), WITHIN, 200, LIST)?;
+    let event = event(rt.alloc(), ("list", LABEL, NOTHING), WITHIN, 200, LIST)?;
     let answer = class_of(rt.alloc(), &setup, &event)?;
-    let table = [
-        (r#"{"metadata":{"labels":{"app":"w"}}}"#, true),
-        (r#"{"metadata":{"labels":{"app":"v"}}}"#, false),
-        (r#"{"metadata":{"annotations":{"app":"w"}}}"#, false),
-    ];
-    for (text, is) in table {
-        let tree = from_value(rt.alloc(), &Value::from_str(rt.alloc(), text)?)?;
-        assert_eq!(rt; listable(&answer, &tree), is, "of {text}");
+    for (text, is_listed) in &LABELLED {
+        let value = Value::from_str(rt.alloc(), text)?;
+        let tree = from_value(rt.alloc(), &value)?;
+        assert_eq!(rt; listable(&answer, &tree), *is_listed);
     }
     Ok(())
 }
