@@ -1,4 +1,4 @@
-ghost use Rattle.std.specs.Prelude.{◌≡◌, IfOk, option_map, option_and_then, codes};
+ghost use Rattle.std.specs.Prelude.{◌≡◌, IfOk, option_map, option_and_then};
 ghost use Rattle.json_tree.specs.Parts.{member_of};
 ghost use Rattle.setup_file.specs.Forms.{non_empty, text_at, filled_at, revision_at};
 ghost use Rattle.answer_class.specs.Bodies.{kept, has_items, is_positive, is_there, metadata_at, is_deleted, is_finalizing, is_ended, answered_object, asks_dry, is_apply, is_merge_body, is_merge};

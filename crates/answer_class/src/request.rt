@@ -1,7 +1,6 @@
 ghost use Rattle.std.specs.Prelude.{◌≡◌, option_map, find, bytes_eq};
-ghost use Rattle.std.specs.List.{list_any};
 ghost use Rattle.setup_file.specs.Resources.{is_resource, tracked_as};
-ghost use Rattle.answer_class.specs.Requests.{verb_of, is_write, is_read, is_completing, is_full, tracked_of, is_elsewhere, effect_by, effect_of, is_own, is_nothing, is_unknown, has_query, is_filled, has_filled, first_value, code_within, succeeds, is_code, is_done, is_open};
+ghost use Rattle.answer_class.specs.Requests.{verb_of, is_write, is_read, is_completing, is_full, tracked_of, is_elsewhere, effect_of, is_own, is_nothing, is_unknown, has_query, is_filled, has_filled, first_value, code_within, succeeds, is_code, is_done, is_open};
 
 use base_types::{Level, Pair, RequestAttrs, Stage, Text};
 use setup_file::{Setup, Subresource, Tracked};
