@@ -1,0 +1,163 @@
+ghost use Rattle.std.specs.Prelude.{◌≡◌, IfOk, option_map, option_and_then};
+ghost use Rattle.json_tree.specs.Parts.{member_of};
+ghost use Rattle.setup_file.specs.Forms.{non_empty, text_at, filled_at, revision_at};
+ghost use Rattle.answer_class.specs.Bodies.{kept, has_items, is_positive, is_there, metadata_at, is_deleted, is_finalizing, is_ended, answered_object, asks_dry, is_apply, is_merge_body, is_merge};
+
+use crate::request::{Verb, has_query};
+use audit_event::{Body, Event};
+use base_types::{OutOfMemory, RequestAttrs, Revision, Text};
+use json_tree::Tree;
+use setup_file::{SnapshotObject, Tracked, canonical, read_object};
+use std::alloc::Global;
+
+pub fn kept(body: &Body) -> Option<&Tree>
+    ensures { option_map (λ tree. tree.now) result ≡ kept body.now }
+{
+    match body {
+        Body::Kept(tree) => Some(tree),
+        _ => None,
+    }
+}
+
+fn has_items(member: Option<&Tree>) -> bool
+    ensures { result ≡ has_items (option_map (λ tree. tree.now) member.entry) }
+{
+    match member {
+        Some(tree) => match tree.as_items() {
+            Some(items) => !items.all.is_empty(),
+            None => false,
+        },
+        None => false,
+    }
+}
+
+fn is_positive(member: Option<&Tree>) -> bool
+    ensures { result ≡ is_positive (option_map (λ tree. tree.now) member.entry) }
+{
+    match member {
+        Some(tree) => match tree.as_whole() {
+            Some(number) => 0 < number,
+            None => false,
+        },
+        None => false,
+    }
+}
+
+fn is_there(member: Option<&Tree>) -> bool
+    ensures { result ≡ is_there (option_map (λ tree. tree.now) member.entry) }
+{
+    match member {
+        Some(tree) => !tree.is_null(),
+        None => false,
+    }
+}
+
+/// A member of an object's `metadata`.
+pub fn metadata_at<'a>(tree: &'a Tree, name: &str) -> Option<&'a Tree>
+    ensures { option_map (λ tree. tree.now) result ≡ metadata_at name.now tree.now }
+{
+    tree.member("metadata")?.member(name)
+}
+
+fn is_deleted(tree: &Tree) -> bool
+    ensures { result ≡ is_deleted tree.now }
+{
+    is_there(metadata_at(tree, "deletionTimestamp"))
+}
+
+/// Whether an object was deleted and still waits for finalizers, or for its grace period.
+pub fn is_finalizing(tree: &Tree) -> bool
+    ensures { result ≡ is_finalizing tree.now }
+{
+    is_deleted(tree)
+        && (has_items(metadata_at(tree, "finalizers"))
+            || is_positive(metadata_at(tree, "deletionGracePeriodSeconds")))
+}
+
+/// Whether an object was deleted and waits for nothing more.
+pub fn is_ended(tree: &Tree) -> bool
+    ensures { result ≡ is_ended tree.now }
+{
+    is_deleted(tree) && !is_finalizing(tree)
+}
+
+/// The object that the answer is, under the request's path.
+pub fn answered_object(
+    alloc: Global,
+    tracked: &Tracked,
+    event: &Event,
+) -> Result<Option<SnapshotObject>, OutOfMemory>
+    ensures { IfOk result (λ found. found ≡ answered_object tracked.now event.now) }
+{
+    let attrs = &event.attrs;
+    match kept(&event.response) {
+        Some(tree) => read_object(alloc, tracked, &attrs.name, &attrs.namespace, tree),
+        None => Ok(None),
+    }
+}
+
+// A member of a body that was kept.
+pub fn body_member<'a>(body: &'a Body, name: &str) -> Option<&'a Tree>
+    ensures { option_map (λ tree. tree.now) result ≡ option_and_then (member_of name.now) (kept body.now) }
+{
+    kept(body)?.member(name)
+}
+
+/// Whether a deletion asks for a dry run in its body.
+pub fn asks_dry(verb: Verb, request: &Body) -> bool
+    ensures { result ≡ asks_dry verb request.now }
+{
+    match verb {
+        Verb::Delete | Verb::DeleteCollection => has_items(body_member(request, "dryRun")),
+        _ => false,
+    }
+}
+
+pub fn text_at<'a>(tree: &'a Tree, name: &str) -> Option<&'a Text>
+    ensures { option_map (λ text. text.now) result ≡ text_at name.now tree.now }
+{
+    tree.member(name)?.as_text()
+}
+
+fn non_empty(text: &Text) -> Option<&Text>
+    ensures { option_map (λ text. text.now) result ≡ non_empty text.now }
+{
+    if text.is_empty() { None } else { Some(text) }
+}
+
+/// The text of a member, where it has at least one byte.
+pub fn filled_at<'a>(tree: &'a Tree, name: &str) -> Option<&'a Text>
+    ensures { option_map (λ text. text.now) result ≡ filled_at name.now tree.now }
+{
+    non_empty(text_at(tree, name)?)
+}
+
+pub fn revision_at(tree: &Tree, name: &str) -> Option<Revision>
+    ensures { result ≡ revision_at name.now tree.now }
+{
+    canonical(text_at(tree, name)?)
+}
+
+fn is_apply(attrs: &RequestAttrs, body: &Tree) -> bool
+    ensures { result ≡ is_apply attrs.now body.now }
+{
+    text_at(body, "apiVersion").is_some()
+        && text_at(body, "kind").is_some()
+        && has_query(attrs, "fieldManager")
+}
+
+fn is_merge_body(tracked: &Tracked, attrs: &RequestAttrs, body: Option<&Tree>) -> bool
+    ensures { result ≡ is_merge_body tracked.now attrs.now (option_map (λ tree. tree.now) body.entry) }
+{
+    match body {
+        Some(body) => body.as_members().is_some() && !is_apply(attrs, body) && tracked.merges,
+        None => false,
+    }
+}
+
+/// Whether the body of a patch is a merge patch (RFC 7386).
+pub fn is_merge(tracked: &Tracked, event: &Event) -> bool
+    ensures { result ≡ is_merge tracked.now event.now }
+{
+    is_merge_body(tracked, &event.attrs, kept(&event.request))
+}

@@ -1,0 +1,75 @@
+ghost use Rattle.std.specs.Prelude.{◌≡◌, IfOk, option_map};
+ghost use Rattle.answer_class.specs.Covers.{is_create, created_name, cover_name, cover_namespace, cover_of};
+
+use crate::bodies::{body_member, filled_at};
+use crate::request::{Verb, verb_of};
+use audit_event::Event;
+use base_types::{Cover, CoverName, OutOfMemory, RequestAttrs, Text};
+use json_tree::Tree;
+use setup_file::Tracked;
+use std::alloc::Global;
+
+pub fn is_create(verb: Verb) -> bool
+    ensures { result ≡ is_create verb }
+{
+    matches!(verb, Verb::Create)
+}
+
+// The names that an object may have which is to be created with this metadata.
+fn created_name(metadata: Option<&Tree>) -> Result<CoverName, OutOfMemory>
+    ensures { IfOk result (λ name. name ≡ created_name (option_map (λ tree. tree.now) metadata.entry)) }
+{
+    let Some(metadata) = metadata else {
+        return Ok(CoverName::Any);
+    };
+    if let Some(name) = filled_at(metadata, "name") {
+        return Ok(CoverName::Exact(name.clone()?));
+    }
+    match filled_at(metadata, "generateName") {
+        Some(front) => Ok(CoverName::Prefix(front.clone()?)),
+        None => Ok(CoverName::Any),
+    }
+}
+
+fn cover_name(event: &Event) -> Result<CoverName, OutOfMemory>
+    ensures { IfOk result (λ name. name ≡ cover_name event.now) }
+{
+    let attrs = &event.attrs;
+    if !attrs.name.is_empty() {
+        return Ok(CoverName::Exact(attrs.name.clone()?));
+    }
+    if is_create(verb_of(attrs.verb.as_str())) {
+        return created_name(body_member(&event.request, "metadata"));
+    }
+    Ok(CoverName::Any)
+}
+
+fn cover_namespace(
+    alloc: Global,
+    tracked: &Tracked,
+    attrs: &RequestAttrs,
+) -> Result<Option<Text>, OutOfMemory>
+    ensures { IfOk result (λ namespace. namespace ≡ cover_namespace tracked.now attrs.now) }
+{
+    if !tracked.namespaced {
+        return Ok(Some(Text::new(alloc)));
+    }
+    if attrs.namespace.is_empty() {
+        return Ok(None);
+    }
+    Ok(Some(attrs.namespace.clone()?))
+}
+
+/// The objects that a write may have changed of which the log doesn't tell what it made.
+pub fn cover_of(alloc: Global, tracked: &Tracked, event: &Event) -> Result<Cover, OutOfMemory>
+    ensures { IfOk result (λ cover. cover ≡ cover_of tracked.now event.now) }
+{
+    let attrs = &event.attrs;
+    Ok(Cover {
+        group: attrs.group.clone()?,
+        resource: attrs.resource.clone()?,
+        namespace: cover_namespace(alloc, tracked, attrs)?,
+        name: cover_name(event)?,
+        creates: is_create(verb_of(attrs.verb.as_str())),
+    })
+}

@@ -1,0 +1,21 @@
+//! What an audit event says of the cluster: a write and its revision, a removal, a write that isn't recorded, what a
+//! read saw, or nothing.
+#![tactic(auto)]
+
+mod answer;
+mod bodies;
+mod classes;
+mod conditions;
+mod covers;
+mod labels;
+mod lists;
+mod request;
+mod times;
+
+pub use answer::{Answer, Item, Items};
+pub use classes::class_of;
+pub use conditions::{Conditions, conditions_of};
+pub use labels::listable;
+
+#[cfg(test)]
+mod tests;

@@ -1,0 +1,138 @@
+ghost use Rattle.std.specs.Prelude.{◌≡◌, IfOk, option_map, filter, codes};
+ghost use Rattle.answer_class.specs.Lists.{not_whole, one_at_most, selected, extent_of, answered_list, answered_at, asks_revision, is_odd, is_below, is_old_list};
+ghost use Rattle.answer_class.specs.Requests.{is_filled};
+ghost use Rattle.label_select.specs.Readings.{selector_of};
+
+use crate::bodies::{body_member, kept, revision_at};
+use crate::request::{Verb, first_value, has_filled, is_filled};
+use audit_event::Event;
+use base_types::{OutOfMemory, Pair, RequestAttrs, Revision, Text};
+use label_select::{Selector, SelectorFault, read_selector};
+use setup_file::{ListRead, Setup, Tracked, canonical, read_list};
+use std::alloc::Global;
+
+/// Whether a list is all that there is, and which labels it asked for.
+#[derive(Debug, Drop)]
+pub struct Extent {
+    pub whole: bool,
+    pub selector: Option<Selector>,
+}
+
+fn not_whole() -> Extent
+    ensures { result ≡ not_whole }
+{
+    Extent {
+        whole: false,
+        selector: None,
+    }
+}
+
+// The only label selector of a query that isn't empty, or none; nothing where there are several.
+fn one_at_most(pairs: &[Pair]) -> Option<Option<&Pair>>
+    ensures { option_map (λ found. option_map (λ pair. pair.now) found) result ≡ one_at_most (filter (is_filled (codes "labelSelector")) pairs.now) }
+{
+    let mut found: Option<&Pair> = None;
+    for pair in pairs {
+        if is_filled(pair, "labelSelector") {
+            if found.is_some() {
+                return None;
+            }
+            found = Some(pair);
+        }
+    }
+    Some(found)
+}
+
+fn selected(alloc: Global, text: &str) -> Result<Extent, OutOfMemory>
+    ensures { IfOk result (λ extent. extent ≡ selected (selector_of text.now)) }
+{
+    match read_selector(alloc, text) {
+        Ok(selector) => Ok(Extent {
+            whole: true,
+            selector: Some(selector),
+        }),
+        Err(SelectorFault::Form) => Ok(not_whole()),
+        Err(SelectorFault::OutOfMemory) => Err(OutOfMemory),
+    }
+}
+
+/// Whether a list that was answered is whole, where `rest` tells if more pages follow.
+pub fn extent_of(alloc: Global, attrs: &RequestAttrs, rest: bool) -> Result<Extent, OutOfMemory>
+    ensures { IfOk result (λ extent. extent ≡ extent_of attrs.now rest) }
+{
+    if rest || has_filled(attrs, "fieldSelector") || has_filled(attrs, "continue") {
+        return Ok(not_whole());
+    }
+    match one_at_most(attrs.query.as_slice()) {
+        None => Ok(not_whole()),
+        Some(None) => Ok(Extent {
+            whole: true,
+            selector: None,
+        }),
+        Some(Some(pair)) => selected(alloc, pair.value.as_str()),
+    }
+}
+
+/// The list that the answer is, under the request's path.
+pub fn answered_list(
+    alloc: Global,
+    tracked: &Tracked,
+    event: &Event,
+) -> Result<Option<ListRead>, OutOfMemory>
+    ensures { IfOk result (λ found. found ≡ answered_list tracked.now event.now) }
+{
+    let attrs = &event.attrs;
+    match kept(&event.response) {
+        Some(tree) => read_list(alloc, tracked, &attrs.name, &attrs.namespace, tree),
+        None => Ok(None),
+    }
+}
+
+// The revision at which the answer was read.
+fn answered_at(event: &Event) -> Option<Revision>
+    ensures { result ≡ answered_at event.now }
+{
+    revision_at(body_member(&event.response, "metadata")?, "resourceVersion")
+}
+
+fn asks_revision(value: Option<&Text>) -> bool
+    ensures { result ≡ asks_revision (option_map (λ text. text.now) value.entry) }
+{
+    match value {
+        Some(text) => canonical(text).is_some(),
+        None => false,
+    }
+}
+
+/// Whether a `resourceVersion` is neither empty nor `0` nor a revision.
+pub fn is_odd(value: Option<&Text>) -> bool
+    ensures { result ≡ is_odd (option_map (λ text. text.now) value.entry) }
+{
+    match value {
+        Some(text) => { !text.is_empty() && text.as_str() != "0" && canonical(text).is_none() }
+        None => false,
+    }
+}
+
+fn is_below(start: Revision, revision: Option<Revision>) -> bool
+    ensures { result ≡ is_below start revision }
+{
+    match revision {
+        Some(revision) => revision.get() < start.get(),
+        None => false,
+    }
+}
+
+/// Whether a token or a revision takes a list to a revision below the start.
+pub fn is_old_list(setup: &Setup, verb: Verb, event: &Event) -> bool
+    ensures { result ≡ is_old_list setup.now verb event.now }
+{
+    match verb {
+        Verb::Listing => {
+            (has_filled(&event.attrs, "continue")
+                || asks_revision(first_value(&event.attrs, "resourceVersion")))
+                && is_below(setup.start, answered_at(event))
+        }
+        _ => false,
+    }
+}
