@@ -196,7 +196,8 @@ fn usual_members(rt: HostRuntime) -> Result<(), Fail> {
     assert_eq!(rt; setup.start.get(), 10);
     assert_eq!(rt; setup.start_time.0, 1_714_557_600_000_000_000);
     assert!(rt; setup.until.is_none() && !setup.authorize);
-    assert_eq!(rt; setup.slack + setup.lag, 0);
+    assert_eq!(rt; setup.slack, 0);
+    assert_eq!(rt; setup.lag, 0);
     assert_eq!(rt; setup.bypass.len(), 1);
     assert_eq!(rt; setup.skip.len(), 1);
     assert_eq!(rt; setup.skip.as_slice()[0].as_str(), "system:nodes");
