@@ -243,16 +243,25 @@ static LABELLED: [(&str, bool); 3] = [
     (r#"{"metadata":{"annotations":{"app":"w"}}}"#, false),
 ];
 
-/// The objects of a list with the selector `app=w`.
+// The answer to a list with the selector `app=w`.
+fn selected_list(alloc: Global) -> Result<Answer, Fail> {
+    let setup = read_setup(alloc, SETUP.as_bytes())?;
+    let event = event(alloc, ("list", LABEL, NOTHING), WITHIN, 200, LIST)?;
+    Ok(class_of(alloc, &setup, &event)?)
+}
+
+fn is_selected(alloc: Global, answer: &Answer, text: &str) -> Result<bool, Fail> {
+    let value = Value::from_str(alloc, text)?;
+    let tree = from_value(alloc, &value)?;
+    Ok(listable(answer, &tree))
+}
+
+/// The objects of a list with a selector.
 #[test]
 fn labels_are_selected(rt: HostRuntime) -> Result<(), Fail> {
-    let setup = read_setup(rt.alloc(), SETUP.as_bytes())?;
-    let event = event(rt.alloc(), ("list", LABEL, NOTHING), WITHIN, 200, LIST)?;
-    let answer = class_of(rt.alloc(), &setup, &event)?;
+    let answer = selected_list(rt.alloc())?;
     for (text, is_listed) in &LABELLED {
-        let value = Value::from_str(rt.alloc(), text)?;
-        let tree = from_value(rt.alloc(), &value)?;
-        assert_eq!(rt; listable(&answer, &tree), *is_listed);
+        assert_eq!(rt; is_selected(rt.alloc(), &answer, *text)?, *is_listed);
     }
     Ok(())
 }
