@@ -1,0 +1,5 @@
+pub mod Flat
+pub mod Kept
+pub mod Pooled
+pub mod Subtrees
+pub mod Within

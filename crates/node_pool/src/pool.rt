@@ -1,0 +1,116 @@
+ghost use Rattle.std.specs.Prelude.{◌≡◌, ◌<◌, ◌≤◌, ◌↔◌, [], Some, Err, length, slice_get, option_and_then, OnOk, OnErr, IfOk, IfSome, IsTrue};
+ghost use Rattle.json_tree.specs.Pointers.{pointed as pointed_tree};
+ghost use Rattle.node_pool.specs.Pooled.{AreDistinct};
+ghost use Rattle.node_pool.specs.Subtrees.{interned};
+
+use crate::comparing::equals;
+use crate::fault::PoolFault;
+use crate::interning::add;
+use crate::pointing::pointed;
+use crate::rebuilding::rebuild;
+use crate::store::Store;
+use base_types::OutOfMemory;
+use json_tree::{Pointer, Tree};
+use std::alloc::Global;
+use std::marker::Model;
+
+/// The number of a tree in its pool, from 0.
+#[derive(Clone, Copy, Debug, PartialEq, Eq)]
+pub struct NodeId(pub u32);
+
+/// Trees of which each stands once, so that two numbers are equal exactly where their trees are. Contracts see a
+/// pool as the list of its trees and its limit.
+#[derive(Drop)]
+pub struct Pool {
+    alloc: Global,
+    store: Store,
+}
+
+impl Model for Pool {
+    ghost use Rattle.node_pool.specs.Pooled.{Pooled, coded_pooled};
+
+    ghost Value = { Pooled };
+
+    ghost coded = { coded_pooled };
+
+    ghost view = { λ p. record { limit = p.store.limit; trees = p.store.trees } };
+}
+
+impl Pool {
+    /// A pool without trees that may hold `limit` of them.
+    pub fn new(alloc: Global, limit: u32) -> Result<Pool, OutOfMemory>
+        ensures limit { IfOk result (λ pool. pool.limit ≡ limit) }
+        ensures trees { IfOk result (λ pool. pool.trees ≡ []) }
+    {
+        Ok(Pool {
+            alloc,
+            store: Store::new(alloc, limit),
+        })
+    }
+
+    /// How many trees the pool holds. Every number is below it.
+    pub fn len(&self) -> u32
+        ensures len { result ≡ length self.now.trees }
+        ensures distinct { AreDistinct self.now.trees }
+        ensures room { length self.now.trees ≤ self.now.limit }
+    {
+        self.store.len()
+    }
+
+    /// The number of a tree. The tree and each value within it that the pool lacks are put behind the others; after a
+    /// refusal the pool is as before.
+    pub fn intern(&mut self, tree: &Tree) -> Result<NodeId, PoolFault>
+        ensures added { OnOk result (self.new.trees ≡ interned self.old.trees tree.now) }
+        ensures number { IfOk result (λ node. slice_get self.new.trees node.0 ≡ Some tree.now) }
+        ensures fits { OnOk result (length (interned self.old.trees tree.now) ≤ self.old.limit) }
+        ensures full { result ≡ Err PoolFault.Full → self.old.limit < length (interned self.old.trees tree.now) }
+        ensures refused { OnErr result (self.new ≡ self.old) }
+        ensures limit { self.new.limit ≡ self.old.limit }
+    {
+        let alloc = self.alloc;
+        let before = self.store.len();
+        match add(alloc, &mut self.store, tree) {
+            Ok(number) => Ok(NodeId(number)),
+            Err(fault) => {
+                self.store.cut(before);
+                Err(fault)
+            }
+        }
+    }
+
+    /// A copy of the tree of a number.
+    pub fn tree(&self, node: NodeId) -> Result<Tree, OutOfMemory>
+        requires { node.0 < length self.now.trees }
+        ensures { IfOk result (λ tree. slice_get self.now.trees node.0 ≡ Some tree) }
+    {
+        rebuild(self.alloc, &self.store, node.0)
+    }
+
+    /// Whether two numbers have one tree, which their comparison tells.
+    pub fn same(&self, a: NodeId, b: NodeId) -> bool
+        requires a { a.0 < length self.now.trees }
+        requires b { b.0 < length self.now.trees }
+        ensures numbers { IsTrue result ↔ (a ≡ b) }
+        ensures trees { IsTrue result ↔ (slice_get self.now.trees a.0 ≡ slice_get self.now.trees b.0) }
+    {
+        let _len = self.len();
+        a.0 == b.0
+    }
+
+    /// Whether the tree of a number is this tree.
+    pub fn equals(&self, node: NodeId, tree: &Tree) -> bool
+        requires { node.0 < length self.now.trees }
+        ensures { IsTrue result ↔ (slice_get self.now.trees node.0 ≡ Some tree.now) }
+    {
+        equals(&self.store, node.0, tree)
+    }
+
+    /// The number of what a pointer identifies within the tree of a number (RFC 6901 section 4).
+    pub fn at(&self, node: NodeId, pointer: &Pointer) -> Option<NodeId>
+        requires { node.0 < length self.now.trees }
+        ensures found { option_and_then (λ at. slice_get self.now.trees at.0) result ≡ option_and_then (pointed_tree pointer.now) (slice_get self.now.trees node.0) }
+        ensures within { IfSome result (λ at. at.0 < length self.now.trees) }
+    {
+        Some(NodeId(pointed(&self.store, node.0, pointer)?))
+    }
+}

@@ -1,0 +1,9 @@
+pub mod BeginLemmas
+pub mod ClassLemmas
+pub mod EntryLemmas
+pub mod FormLemmas
+pub mod HoldLemmas
+pub mod Measures
+pub mod PathLemmas
+pub mod SameLemmas
+pub mod WalkLemmas

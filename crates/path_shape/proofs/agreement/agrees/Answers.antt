@@ -1,0 +1,27 @@
+use Rattle.std.proofs.Common.{◌≡◌, Bool, false, IsTrue, List, Option, Some, None, refl, subst, ◌∙◌}
+use Rattle.std.specs.Prelude.{option_map, option_and_then, is_some, ◌↔◌}
+use Rattle.std.specs.Borrow.{Bor}
+use Rattle.json_tree.specs.Meaning.{Meaning}
+use Rattle.path_shape.specs.declared.shape.ShapeEntry.{ShapeEntry}
+use Rattle.path_shape.specs.declared.spot.Spot.{Spot}
+use Rattle.path_shape.specs.Forms.{left_root}
+use Rattle.path_shape.specs.Walk.{patterns_in, FitsSpot}
+use Rattle.path_shape.specs.Beginning.{root_class, started, built_in_before}
+use Rattle.path_shape.proofs.BeginLemmas.{agrees_begun}
+use Rattle.path_shape.proofs.agreement.agrees.Goals as goal
+
+there : (o : Option (Bor Meaning)) → is_some o ≡ is_some (option_map (λ t. t.now) o)
+there None = refl
+there (Some t) = refl
+
+then_now : (o : Option (Bor Meaning)) → option_and_then (λ t. left_root t.now) o ≡ option_and_then left_root (option_map (λ t. t.now) o)
+then_now None = refl
+then_now (Some t) = refl
+
+pub returns : goal.returns
+returns c =
+    let spot : Spot = record { had = c.is_some.result; old = c.root_of.result; asked = c.root.result; answered = c.root-2.result } in
+    let P = λ (es : List ShapeEntry). IsTrue c.start.result ↔ FitsSpot (root_class false es None c.args.shape.now.root) (patterns_in false (built_in_before false (started false es c.none.result))) spot in
+    let walked = subst P c.as_slice.ensures c.start.ensures in
+    let same = agrees_begun c.args.shape.now c.none.result spot (option_map (λ t. t.now) c.args.old) c.args.asked.now c.args.answered.now c.none.ensures (c.is_some.ensures ∙ there c.args.old) (c.root_of.ensures ∙ then_now c.args.old) c.root.ensures c.root-2.ensures in
+    (λ is. same.0 (walked.0 is), λ h. walked.1 (same.1 h))

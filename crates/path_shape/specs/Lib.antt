@@ -1,0 +1,9 @@
+pub mod Agreement
+pub mod Beginning
+pub mod Forms
+pub mod Holding
+pub mod Merge
+pub mod Patterns
+pub mod Reading
+pub mod Tails
+pub mod Walk

@@ -1,0 +1,4 @@
+pub mod Accounts
+pub mod Choosing
+pub mod Rules
+pub mod Texts
