@@ -1,0 +1,69 @@
+-- From what is kept to what is known.
+use Rattle.std.proofs.Common.{◌≡◌, ◌≢◌, ℕ, ◌<◌, ◌≤◌, ◌⊎◌, ⊎_elim, List, length, get_or, refl, sym, ◌∙◌, subst, ap, arith}
+use Rattle.std.specs.BTreeMap.{BTreeMap}
+use Rattle.std.specs.List.{AllPairs, Contains}
+use Rattle.std.proofs.lemmas.Bool.{cases_order}
+use Rattle.std.proofs.lemmas.List.{get_or_default}
+use Rattle.base_types.specs.declared.key.ObjectKey.{ObjectKey}
+use Rattle.clouds.specs.Kept.{items_at}
+use Rattle.rbac_timeline.specs.declared.history.Gap.{Gap}
+use Rattle.rbac_timeline.specs.declared.history.Stored.{Stored}
+use Rattle.rbac_timeline.specs.declared.version.RbacEnd.{RbacEnd}
+use Rattle.rbac_timeline.specs.declared.version.RbacVersion.{RbacVersion}
+use Rattle.rbac_timeline.specs.Index.{key_order}
+use Rattle.rbac_timeline.specs.Kept.{AreGaps, AreStored, IsLatestStored, gap_of, stored_of}
+use Rattle.rbac_timeline.specs.States.{IsEndOf, IsLatestVersion, NoneUpto}
+
+pub latest_version : (histories : BTreeMap ObjectKey (List Stored)) (versions : List RbacVersion) (key : ObjectKey) (place : ℕ) (stored : Stored) → AreStored histories versions
+    → IsLatestStored (items_at key_order histories key) place stored → (version : RbacVersion) × IsLatestVersion versions key place version × (stored ≡ stored_of version)
+latest_version histories versions key place stored are latest =
+    let found = are.among key stored latest.among in
+    let version = found.0 in
+    let same : stored.revision ≡ version.revision = ap (λ (s : Stored). s.revision) found.3 in
+    let upto = latest.upto in
+    (version, record {
+      known = found.1;
+      of_key = found.2;
+      upto = omega arith;
+      latest = λ other among of_key other_upto.
+          let there = subst (λ k. Contains (items_at key_order histories k) (stored_of other)) of_key (are.found other among) in
+          let bound : other.revision ≤ stored.revision = latest.latest (stored_of other) there other_upto in
+          omega arith;
+    }, found.3)
+
+pub no_version : (histories : BTreeMap ObjectKey (List Stored)) (versions : List RbacVersion) (key : ObjectKey) (place : ℕ) → AreStored histories versions
+    → ((stored : Stored) → Contains (items_at key_order histories key) stored → place < stored.revision) → NoneUpto versions key place
+no_version histories versions key place are none = λ version among of_key.
+    none (stored_of version) (subst (λ k. Contains (items_at key_order histories k) (stored_of version)) of_key (are.found version among))
+
+-- a version has one removal
+pub one_end : (ends : List RbacEnd) → AllPairs (λ a b. (a.key ≡ b.key) × (a.last ≡ b.last) → ⊥) ends → (version : RbacVersion) (a b : RbacEnd) → IsEndOf ends version a → IsEndOf ends version b → a ≡ b
+one_end ends distinct version a b is_a is_b =
+    let key : a.key ≡ b.key = is_a.of_key ∙ sym is_b.of_key in
+    let last : a.last ≡ b.last = is_a.of_last ∙ sym is_b.of_last in
+    let in_a = is_a.known in
+    let in_b = is_b.known in
+    let b_there : get_or ends in_b.0 a ≡ b = get_or_default ends in_b.0 a b in_b.1 ∙ in_b.2 in
+    ⊎_elim
+    (λ same. sym in_a.2 ∙ ap (λ k. get_or ends k a) same ∙ b_there)
+    (λ apart. ⊎_elim
+      (λ before. absurd (distinct in_a.0 in_b.0 a before in_b.1
+        (ap (λ (e : RbacEnd). e.key) in_a.2 ∙ key ∙ sym (ap (λ (e : RbacEnd). e.key) b_there), ap (λ (e : RbacEnd). e.last) in_a.2 ∙ last ∙ sym (ap (λ (e : RbacEnd). e.last) b_there))))
+      (λ behind. absurd (distinct in_b.0 in_a.0 a behind in_a.1
+        (ap (λ (e : RbacEnd). e.key) b_there ∙ sym key ∙ sym (ap (λ (e : RbacEnd). e.key) in_a.2), ap (λ (e : RbacEnd). e.last) b_there ∙ sym last ∙ sym (ap (λ (e : RbacEnd). e.last) in_a.2))))
+      apart)
+    (cases_order in_a.0 in_b.0)
+
+-- the removal that is kept behind a version is its removal
+pub end_kept : (gaps : BTreeMap ObjectKey (List Gap)) (ends : List RbacEnd) (key : ObjectKey) (gap : Gap) (version : RbacVersion) → AreGaps gaps ends → version.key ≡ key
+    → Contains (items_at key_order gaps key) gap → gap.last ≡ version.revision → (end : RbacEnd) × IsEndOf ends version end × (gap ≡ gap_of end)
+end_kept gaps ends key gap version are of_key among last =
+    let found = are.among key gap among in
+    let end = found.0 in
+    let same : gap.last ≡ end.last = ap (λ (g : Gap). g.last) found.3 in
+    (end, record { known = found.1; of_key = found.2 ∙ sym of_key; of_last = sym same ∙ last }, found.3)
+
+pub no_end : (gaps : BTreeMap ObjectKey (List Gap)) (ends : List RbacEnd) (key : ObjectKey) (version : RbacVersion) → AreGaps gaps ends → version.key ≡ key
+    → ((gap : Gap) → Contains (items_at key_order gaps key) gap → gap.last ≢ version.revision) → (end : RbacEnd) → IsEndOf ends version end → ⊥
+no_end gaps ends key version are of_key none end is =
+    none (gap_of end) (subst (λ k. Contains (items_at key_order gaps k) (gap_of end)) (is.of_key ∙ of_key) (are.found end is.known)) is.of_last

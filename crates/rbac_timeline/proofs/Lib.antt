@@ -1,0 +1,6 @@
+pub mod Choosing
+pub mod Deciding
+pub mod Extremes
+pub mod Granting
+pub mod Holding
+pub mod Ordered

@@ -1,0 +1,9 @@
+pub mod Choices
+pub mod Decisions
+pub mod Extents
+pub mod Index
+pub mod Kept
+pub mod Kinds
+pub mod Known
+pub mod Sound
+pub mod States

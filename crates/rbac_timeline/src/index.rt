@@ -1,0 +1,168 @@
+use crate::kind::{Kind, kind_of_key};
+use crate::version::{RbacContent, RbacVersion};
+use base_types::{ObjectKey, OutOfMemory, Text};
+use rbac_rules::{Binding, Subject};
+use std::alloc::Global;
+use std::collections::BTreeMap;
+
+/// Keys in order, each once.
+#[derive(Drop)]
+pub struct Keys {
+    keys: Vec<ObjectKey>,
+}
+
+impl Keys {
+    // Puts a key behind the others, unless it is the last.
+    fn add(&mut self, key: &ObjectKey) -> Result<(), OutOfMemory> {
+        if let Some(last) = self.keys.last() {
+            if last == key {
+                return Ok(());
+            }
+        }
+        self.keys.push(key.clone()?)?;
+        Ok(())
+    }
+
+    pub fn as_slice(&self) -> &[ObjectKey] {
+        self.keys.as_slice()
+    }
+}
+
+type ByText = BTreeMap<Text, Keys>;
+
+fn add_under(
+    alloc: Global,
+    index: &mut ByText,
+    text: &Text,
+    key: &ObjectKey,
+) -> Result<(), OutOfMemory> {
+    match index.get_mut(text) {
+        Some(keys) => {
+            keys.add(key)?;
+            return Ok(());
+        }
+        None => {
+            let mut keys = Keys {
+                keys: Vec::new(alloc),
+            };
+            keys.add(key)?;
+            let _none = index.insert(text.clone()?, keys)?;
+        }
+    }
+    Ok(())
+}
+
+fn found<'a>(index: &'a ByText, text: &Text) -> &'a [ObjectKey] {
+    match index.get(text) {
+        Some(keys) => keys.as_slice(),
+        None => &[],
+    }
+}
+
+/// The bindings by the subjects that their versions name.
+#[derive(Drop)]
+pub struct Index {
+    users: ByText,
+    groups: ByText,
+    accounts: BTreeMap<Text, ByText>,
+    // By the users that service accounts are.
+    account_users: ByText,
+}
+
+/// The binding that a version holds, where it can be read.
+pub fn readable<'a>(key: &ObjectKey, content: &'a RbacContent) -> Option<&'a Binding> {
+    let RbacContent::Bound(binding) = content else {
+        return None;
+    };
+    match kind_of_key(key) {
+        Some(Kind::RoleBinding) => Some(binding),
+        Some(Kind::ClusterRoleBinding) if binding.role_is_cluster => Some(binding),
+        _ => None,
+    }
+}
+
+fn account_user(alloc: Global, namespace: &Text, name: &Text) -> Result<Text, OutOfMemory> {
+    let mut user = String::from_str(alloc, "system:serviceaccount:")?;
+    user.push_str(namespace.as_str())?;
+    user.push(':')?;
+    user.push_str(name.as_str())?;
+    Ok(Text::from_string(user))
+}
+
+impl Index {
+    fn add_account(
+        &mut self,
+        alloc: Global,
+        namespace: &Text,
+        name: &Text,
+        key: &ObjectKey,
+    ) -> Result<(), OutOfMemory> {
+        match self.accounts.get_mut(namespace) {
+            Some(names) => {
+                add_under(alloc, names, name, key)?;
+                return Ok(());
+            }
+            None => {
+                let mut names = BTreeMap::new(alloc);
+                add_under(alloc, &mut names, name, key)?;
+                let _none = self.accounts.insert(namespace.clone()?, names)?;
+            }
+        }
+        Ok(())
+    }
+
+    fn add(&mut self, alloc: Global, subject: &Subject, key: &ObjectKey) -> Result<(), OutOfMemory> {
+        match subject {
+            Subject::User(name) => add_under(alloc, &mut self.users, name, key)?,
+            Subject::Group(name) => add_under(alloc, &mut self.groups, name, key)?,
+            Subject::ServiceAccount { namespace, name } => {
+                self.add_account(alloc, namespace, name, key)?;
+                let user = account_user(alloc, namespace, name)?;
+                add_under(alloc, &mut self.account_users, &user, key)?;
+            }
+        }
+        Ok(())
+    }
+
+    /// Of versions that come by key.
+    pub fn of(alloc: Global, versions: &[RbacVersion]) -> Result<Index, OutOfMemory> {
+        let mut index = Index {
+            users: BTreeMap::new(alloc),
+            groups: BTreeMap::new(alloc),
+            accounts: BTreeMap::new(alloc),
+            account_users: BTreeMap::new(alloc),
+        };
+        for version in versions {
+            if let Some(binding) = readable(&version.key, &version.content) {
+                for subject in &binding.subjects {
+                    index.add(alloc, subject, &version.key)?;
+                }
+            }
+        }
+        Ok(index)
+    }
+
+    pub fn by_user(&self, name: &Text) -> &[ObjectKey] {
+        found(&self.users, name)
+    }
+
+    pub fn by_group(&self, name: &Text) -> &[ObjectKey] {
+        found(&self.groups, name)
+    }
+
+    /// By a user that may be a service account.
+    pub fn by_account_user(&self, name: &Text) -> &[ObjectKey] {
+        found(&self.account_users, name)
+    }
+
+    pub fn by_subject(&self, subject: &Subject) -> &[ObjectKey] {
+        match subject {
+            Subject::User(name) => self.by_user(name),
+            Subject::Group(name) => self.by_group(name),
+            Subject::ServiceAccount { namespace, name } => match self.accounts.get(namespace) {
+                Some(names) => found(names, name),
+                None => &[],
+            },
+        }
+    }
+}

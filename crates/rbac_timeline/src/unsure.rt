@@ -1,0 +1,96 @@
+use crate::index::readable;
+use crate::kind::{Kind, kind_of, kind_of_key};
+use crate::version::RbacVersion;
+use base_types::{CoverName, ObjectKey, OutOfMemory, RequestAttrs, Text, exact_key};
+use clouds::{Clouds, OpaqueSpan};
+use std::alloc::Global;
+
+/// The create of a binding whose name isn't known.
+#[derive(Drop)]
+pub struct Nameless {
+    pub kind: Kind,
+    /// None for any namespace.
+    pub namespace: Option<Text>,
+    /// It may be there above this place.
+    pub low: u64,
+}
+
+impl Nameless {
+    /// Whether such a binding may grant the request.
+    pub fn reaches(&self, attrs: &RequestAttrs) -> bool {
+        if self.kind == Kind::ClusterRoleBinding {
+            return true;
+        }
+        if !attrs.is_resource {
+            return false;
+        }
+        match &self.namespace {
+            Some(namespace) => attrs.namespace == *namespace,
+            None => true,
+        }
+    }
+}
+
+fn is_binding(kind: Option<Kind>) -> bool {
+    matches!(kind, Some(Kind::RoleBinding) | Some(Kind::ClusterRoleBinding))
+}
+
+fn nameless(span: &OpaqueSpan) -> Result<Option<Nameless>, OutOfMemory> {
+    let Some(kind) = kind_of(&span.cover.group, &span.cover.resource) else {
+        return Ok(None);
+    };
+    if !is_binding(Some(kind)) || !span.cover.creates {
+        return Ok(None);
+    }
+    if let CoverName::Exact(_) = &span.cover.name {
+        return Ok(None);
+    }
+    Ok(Some(Nameless {
+        kind,
+        namespace: span.cover.namespace.clone()?,
+        low: span.low,
+    }))
+}
+
+/// The creates of bindings whose names aren't known.
+pub fn all_nameless(alloc: Global, spans: &[OpaqueSpan]) -> Result<Vec<Nameless>, OutOfMemory> {
+    let mut all = Vec::new(alloc);
+    for span in spans {
+        if let Some(nameless) = nameless(span)? {
+            all.push(nameless)?;
+        }
+    }
+    Ok(all)
+}
+
+// Whether a binding of this key is clouded somewhere, or this version of it can't be read.
+fn may_be_unsure(clouds: &Clouds, version: &RbacVersion) -> bool {
+    is_binding(kind_of_key(&version.key))
+        && (readable(&version.key, &version.content).is_none()
+            || clouds.meets(&version.key, 0, u64::MAX).is_some())
+}
+
+/// The keys of bindings that may be clouded or unreadable somewhere; a key may come twice.
+pub fn unsure_keys(
+    alloc: Global,
+    versions: &[RbacVersion],
+    spans: &[OpaqueSpan],
+    clouds: &Clouds,
+) -> Result<Vec<ObjectKey>, OutOfMemory> {
+    let mut keys = Vec::new(alloc);
+    for version in versions {
+        if may_be_unsure(clouds, version) {
+            keys.push(version.key.clone()?)?;
+        }
+    }
+    for span in spans {
+        if is_binding(kind_of(&span.cover.group, &span.cover.resource)) {
+            if let Some(key) = exact_key(alloc, &span.cover)? {
+                keys.push(key)?;
+            }
+        }
+    }
+    keys.sort()?;
+    keys.dedup();
+    Ok(keys)
+}
