@@ -88,7 +88,7 @@ pub ordered_end : (known : Known) → AreSound known.versions known.ends → (ve
 ordered_end known sound version end is = (All-contains (IsSoundEnd known.versions) known.ends end sound.sound_ends is.known).ordered
 
 -- whether the version is there for certain
-decide_certain : (known : Known) (place : ℕ) (version : RbacVersion) → ((end : RbacEnd) × IsEndOf known.ends version end × (end.low ≤ place)) ⊎ IsCertain known place version
+pub decide_certain : (known : Known) (place : ℕ) (version : RbacVersion) → ((end : RbacEnd) × IsEndOf known.ends version end × (end.low ≤ place)) ⊎ IsCertain known place version
 decide_certain known place version = ⊎_elim
     (λ any. inl (any.1, is_end known version any.1 (any.0, any.2, any.3) any.4.0 any.4.1, any.4.2))
     (λ none. inr (λ end is. ⊎_elim
@@ -98,7 +98,7 @@ decide_certain known place version = ⊎_elim
     (decide_any (BeganBy version place) (λ end. decide_end version end end.low place) known.ends)
 
 -- whether it may be there
-decide_there : (known : Known) (place : ℕ) (version : RbacVersion) → ((end : RbacEnd) × IsEndOf known.ends version end × (end.high ≤ place)) ⊎ IsNotGone known place version
+pub decide_there : (known : Known) (place : ℕ) (version : RbacVersion) → ((end : RbacEnd) × IsEndOf known.ends version end × (end.high ≤ place)) ⊎ IsNotGone known place version
 decide_there known place version = ⊎_elim
     (λ any. inl (any.1, is_end known version any.1 (any.0, any.2, any.3) any.4.0 any.4.1, any.4.2))
     (λ none. inr (λ end is. ⊎_elim

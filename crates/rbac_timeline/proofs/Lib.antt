@@ -1,4 +1,5 @@
 pub mod Choosing
+pub mod Contents
 pub mod Deciding
 pub mod Extremes
 pub mod Granting

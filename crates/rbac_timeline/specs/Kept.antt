@@ -1,5 +1,5 @@
 -- How versions and removals are kept by key.
-use Rattle.std.specs.Prelude.{◌≡◌, ◌<◌, ◌≤◌, ℕ, Bool, true, false, List, Option, Some, None, Any, Contains, ◌&&◌, not, if◌then◌else◌}
+use Rattle.std.specs.Prelude.{◌≡◌, ◌<◌, ◌≤◌, ℕ, List, Any, Contains, if◌then◌else◌}
 use Rattle.std.specs.BTreeMap.{BTreeMap}
 use Rattle.base_types.specs.declared.key.ObjectKey.{ObjectKey}
 use Rattle.base_types.specs.declared.request.RequestAttrs.{RequestAttrs}
@@ -11,8 +11,6 @@ use Rattle.rbac_timeline.specs.declared.history.Content.{Content}
 use Rattle.rbac_timeline.specs.declared.history.Content.TheVariants.{Rules, Bound as BoundTo, Unreadable as Unread}
 use Rattle.rbac_timeline.specs.declared.history.Gap.{Gap}
 use Rattle.rbac_timeline.specs.declared.history.Stored.{Stored}
-use Rattle.rbac_timeline.specs.declared.kind.Kind.{Kind}
-use Rattle.rbac_timeline.specs.declared.kind.Kind.TheVariants.{Role as RoleKind, ClusterRole, RoleBinding, ClusterRoleBinding}
 use Rattle.rbac_timeline.specs.declared.version.RbacContent.{RbacContent}
 use Rattle.rbac_timeline.specs.declared.version.RbacContent.TheVariants.{Role, Bound, Unreadable}
 use Rattle.rbac_timeline.specs.declared.version.RbacEnd.{RbacEnd}
@@ -20,22 +18,16 @@ use Rattle.rbac_timeline.specs.declared.version.RbacVersion.{RbacVersion}
 use Rattle.rbac_timeline.specs.declared.way.Way.{Way}
 use Rattle.rbac_timeline.specs.Extents.{MayGrantByKey, MayGrantByRole, MustGrantByKey, MustGrantByRole, bindings_in, roles_in}
 use Rattle.rbac_timeline.specs.Index.{key_order}
-use Rattle.rbac_timeline.specs.Kinds.{IsKeyOf, IsReached, kind_of_key, role_key}
+use Rattle.rbac_timeline.specs.Kinds.{IsKeyOf, IsReached, is_cluster_binding, kind_of_key, role_key}
 use Rattle.rbac_timeline.specs.Known.{Known, writes_of}
 use Rattle.rbac_timeline.specs.Sound.{AreSound}
-
-abbrev pub is_cluster_binding : Option Kind → Bool
-is_cluster_binding None = false
-is_cluster_binding (Some RoleKind) = false
-is_cluster_binding (Some ClusterRole) = false
-is_cluster_binding (Some RoleBinding) = false
-is_cluster_binding (Some ClusterRoleBinding) = true
 
 -- what a version holds, a binding with the key of the role that it names
 abbrev pub content_of : ObjectKey → RbacContent → Content
 content_of key (Role rules) = Rules rules
 content_of key (Bound binding) =
-    if is_cluster_binding (kind_of_key key) && not binding.role_is_cluster then Unread else BoundTo binding (role_key key binding)
+    if is_cluster_binding (kind_of_key key) then (if binding.role_is_cluster then BoundTo binding (role_key key binding) else Unread)
+    else BoundTo binding (role_key key binding)
 content_of key Unreadable = Unread
 
 abbrev pub stored_of : RbacVersion → Stored

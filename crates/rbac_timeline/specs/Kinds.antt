@@ -6,11 +6,10 @@ use Rattle.base_types.specs.declared.key.CoverName.{CoverName}
 use Rattle.base_types.specs.declared.key.CoverName.TheVariants.{Exact, Prefix, Any}
 use Rattle.base_types.specs.declared.request.RequestAttrs.{RequestAttrs}
 use Rattle.rbac_rules.specs.declared.binding.Binding.{Binding}
-use Rattle.rbac_rules.specs.declared.role.PolicyRule.{PolicyRule}
 use Rattle.rbac_timeline.specs.declared.kind.Kind.{Kind}
 use Rattle.rbac_timeline.specs.declared.kind.Kind.TheVariants.{Role as RoleKind, ClusterRole, RoleBinding, ClusterRoleBinding}
 use Rattle.rbac_timeline.specs.declared.version.RbacContent.{RbacContent}
-use Rattle.rbac_timeline.specs.declared.version.RbacContent.TheVariants.{Role, Bound, Unreadable}
+use Rattle.rbac_timeline.specs.declared.version.RbacContent.TheVariants.{Bound}
 
 abbrev pub rbac_group : List ℕ
 rbac_group = codes "rbac.authorization.k8s.io"
@@ -47,11 +46,13 @@ IsReachedBy _ key attrs = ⊥
 abbrev pub IsReached : ObjectKey → RequestAttrs → Type 0
 IsReached key attrs = IsReachedBy (kind_of_key key) key attrs
 
--- the rules of a role, where it can be read
-abbrev pub rules_in : RbacContent → Option (List PolicyRule)
-rules_in (Role rules) = Some rules
-rules_in (Bound binding) = None
-rules_in Unreadable = None
+-- whether the kind is that of cluster role bindings
+abbrev pub is_cluster_binding : Option Kind → Bool
+is_cluster_binding None = false
+is_cluster_binding (Some RoleKind) = false
+is_cluster_binding (Some ClusterRole) = false
+is_cluster_binding (Some RoleBinding) = false
+is_cluster_binding (Some ClusterRoleBinding) = true
 
 -- A ClusterRoleBinding can't name a Role.
 abbrev pub IsBindingOf : ObjectKey → RbacContent → Binding → Type 0

@@ -2,7 +2,7 @@ ghost use Rattle.std.specs.Prelude.{◌≡◌, ◌≢◌, ◌<◌, [], ◌∷◌
 ghost use Rattle.std.specs.List.Sorted.{IsPermutation};
 ghost use Rattle.clouds.specs.Kept.{AddsAt};
 
-use crate::kind::{Kind, kind_of_key, role_key};
+use crate::kind::{is_cluster_binding, kind_of_key, role_key};
 use crate::version::{RbacContent, RbacEnd, RbacVersion, RbacVersions};
 use base_types::{ObjectKey, OutOfMemory};
 use rbac_rules::{Binding, PolicyRules};
@@ -159,7 +159,7 @@ fn content_of(
     match content {
         RbacContent::Role(rules) => Ok(Content::Rules(rules)),
         RbacContent::Bound(binding) => {
-            if kind_of_key(key) == Some(Kind::ClusterRoleBinding) && !binding.role_is_cluster {
+            if is_cluster_binding(kind_of_key(key)) && !binding.role_is_cluster {
                 return Ok(Content::Unreadable);
             }
             let role = role_key(alloc, key, &binding)?;

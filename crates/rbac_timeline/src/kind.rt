@@ -1,5 +1,5 @@
 ghost use Rattle.std.specs.Prelude.{◌≡◌, ◌↔◌, IsTrue, IfOk};
-ghost use Rattle.rbac_timeline.specs.Kinds.{IsReached, kind_of, kind_of_key, role_key};
+ghost use Rattle.rbac_timeline.specs.Kinds.{IsReached, is_cluster_binding, kind_of, kind_of_key, role_key};
 
 use base_types::{ObjectKey, OutOfMemory, RequestAttrs, Text};
 use rbac_rules::Binding;
@@ -30,6 +30,13 @@ pub fn kind_of(group: &Text, resource: &Text) -> Option<Kind>
         "clusterrolebindings" => Some(Kind::ClusterRoleBinding),
         _ => None,
     }
+}
+
+/// Whether the kind is that of cluster role bindings.
+pub fn is_cluster_binding(kind: Option<Kind>) -> bool
+    ensures { result ≡ is_cluster_binding kind }
+{
+    matches!(kind, Some(Kind::ClusterRoleBinding))
 }
 
 pub fn kind_of_key(key: &ObjectKey) -> Option<Kind>

@@ -18,7 +18,6 @@ use base_types::{
 use clouds::{Clouds, KeyRevision, OpaqueSpans};
 use rbac_rules::{Binding, Subject, grants, subject_matches};
 use std::alloc::Global;
-use std::collections::BTreeMap;
 use std::marker::Model;
 use std::snapshot::Snapshot;
 
@@ -151,8 +150,8 @@ impl Timeline {
     }
 
     fn presence(&self, key: &ObjectKey, stored: &Stored, place: u64) -> Extent
-        ensures may { (v : RbacVersion) → v.key ≡ key.now → v.revision ≡ stored.now.revision → IsTrue result.may ↔ IsNotGone self.now place v }
-        ensures must { (v : RbacVersion) → v.key ≡ key.now → v.revision ≡ stored.now.revision → IsTrue result.must ↔ IsCertain self.now place v }
+        ensures may { (v : RbacVersion) → v.key ≡ key.now → v.revision ≡ stored.now.revision → (IsTrue result.may ↔ IsNotGone self.now place v) }
+        ensures must { (v : RbacVersion) → v.key ≡ key.now → v.revision ≡ stored.now.revision → (IsTrue result.must ↔ IsCertain self.now place v) }
     {
         presence(self.removal(key, stored.revision), place)
     }
@@ -167,11 +166,11 @@ impl Timeline {
         let Some(stored) = self.latest(key, place) else {
             return Extent::NOTHING;
         };
-        let granted = match &stored.content {
-            Content::Rules(rules) => Extent::certain(grants(rules.as_slice(), attrs)),
-            _ => Extent::UNSURE,
+        let presence = self.presence(key, stored, place);
+        let Content::Rules(rules) = &stored.content else {
+            return presence.and(Extent::UNSURE);
         };
-        self.presence(key, stored, place).and(granted)
+        presence.and(Extent::certain(grants(rules.as_slice(), attrs)))
     }
 
     fn content_extent(

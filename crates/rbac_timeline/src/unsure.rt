@@ -35,7 +35,7 @@ fn is_binding(kind: Option<Kind>) -> bool {
     matches!(kind, Some(Kind::RoleBinding) | Some(Kind::ClusterRoleBinding))
 }
 
-fn nameless(span: &OpaqueSpan) -> Result<Option<Nameless>, OutOfMemory> {
+fn nameless_of(span: &OpaqueSpan) -> Result<Option<Nameless>, OutOfMemory> {
     let Some(kind) = kind_of(&span.cover.group, &span.cover.resource) else {
         return Ok(None);
     };
@@ -56,7 +56,7 @@ fn nameless(span: &OpaqueSpan) -> Result<Option<Nameless>, OutOfMemory> {
 pub fn all_nameless(alloc: Global, spans: &[OpaqueSpan]) -> Result<Vec<Nameless>, OutOfMemory> {
     let mut all = Vec::new(alloc);
     for span in spans {
-        if let Some(nameless) = nameless(span)? {
+        if let Some(nameless) = nameless_of(span)? {
             all.push(nameless)?;
         }
     }
