@@ -24,7 +24,7 @@ use Rattle.rbac_timeline.specs.States.{Reading, ReadsRules}
 use Rattle.rbac_timeline.proofs.Extremes.{decide_certain, not_gone_from}
 use Rattle.rbac_timeline.proofs.Granting.{IsHeld, may_read, may_unread, must_gone, must_read, must_there, must_unread, read_there, unread_there}
 
-abbrev tag : Content → ℕ
+abbrev pub tag : Content → ℕ
 tag (Rules rules) = 0
 tag (BoundTo binding role) = 1
 tag Unread = 2
@@ -44,7 +44,7 @@ role_of d (Rules rules) = d
 role_of d (BoundTo binding role) = role
 role_of d Unread = d
 
-abbrev binding_in : Binding → RbacContent → Binding
+abbrev pub binding_in : Binding → RbacContent → Binding
 binding_in d (Role rules) = d
 binding_in d (Bound binding) = binding
 binding_in d Unreadable = d
@@ -134,7 +134,7 @@ MustGrantByRules attrs (Rules rules) = Grants rules attrs
 MustGrantByRules attrs (BoundTo binding role) = ⊥
 MustGrantByRules attrs Unread = ⊥
 
-abbrev rules_or : RbacContent → List PolicyRule
+abbrev pub rules_or : RbacContent → List PolicyRule
 rules_or (Role rules) = rules
 rules_or (Bound binding) = []
 rules_or Unreadable = []
@@ -173,7 +173,7 @@ module _ (known : Known) (sound : AreSound known.versions known.ends) (key : Obj
   role_must_parts Unread is must =
       absurd (must_unread_not ReadsRules known sound key place by_rules version held (no_rules_elsewhere key version.content Unread is (λ no. omega arith)) must)
 
-one_binding : (key : ObjectKey) (content : RbacContent) (binding : Binding) → IsBindingOf key content binding → (y : Binding) → IsBindingOf key content y → y ≡ binding
+pub one_binding : (key : ObjectKey) (content : RbacContent) (binding : Binding) → IsBindingOf key content binding → (y : Binding) → IsBindingOf key content y → y ≡ binding
 one_binding key content binding is y read = ap (λ c. binding_in binding c) (sym read.0 ∙ is.0)
 
 module _ (known : Known) (sound : AreSound known.versions known.ends) (key : ObjectKey) (way : Way) (role_place binding_place : ℕ) (who : User) (attrs : RequestAttrs) (version : RbacVersion)

@@ -5,3 +5,4 @@ pub mod Extremes
 pub mod Granting
 pub mod Holding
 pub mod Ordered
+pub mod Ways
