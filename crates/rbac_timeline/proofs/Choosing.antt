@@ -1,7 +1,6 @@
 -- A decision is possible by a choice exactly where the states that grant most, or least, make it so.
 use Rattle.std.proofs.Common.{◌≡◌, ℕ, ◌<◌, ◌≤◌, ◌⊎◌, ⊎_elim, inl, inr, Bool, true, false, ltb, Option, Some, None, List, [], refl, sym, ◌∙◌, subst, ap, arith}
-use Rattle.std.specs.List.{Any, Contains}
-use Rattle.std.specs.Prelude.{slice_get}
+use Rattle.std.specs.List.{Any, Contains, slice_get}
 use Rattle.std.proofs.lemmas.Bool.{false≢true, lt-ltb, ltb-true}
 use Rattle.base_types.specs.declared.key.ObjectKey.{ObjectKey}
 use Rattle.base_types.specs.declared.placed.Places.{Places}

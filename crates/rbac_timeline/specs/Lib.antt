@@ -1,3 +1,4 @@
+pub mod Changing
 pub mod Choices
 pub mod Decisions
 pub mod Extents
