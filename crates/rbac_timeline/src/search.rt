@@ -44,7 +44,7 @@ impl<'a> Asked<'a> {
             role_place,
             binding_place,
         };
-        self.timeline.extent(link, self.who, self.attrs).may
+        self.timeline.may(link, self.who, self.attrs)
     }
 
     fn must(&self, way: Way, role_place: u64, binding_place: u64) -> bool {
@@ -53,7 +53,7 @@ impl<'a> Asked<'a> {
             role_place,
             binding_place,
         };
-        self.timeline.extent(link, self.who, self.attrs).must
+        self.timeline.must(link, self.who, self.attrs)
     }
 
     // The least place of the bindings from which they may grant, with the roles at this place.

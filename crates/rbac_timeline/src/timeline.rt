@@ -9,7 +9,7 @@ use crate::history::{Content, Gap, Histories, Removals, Stored, histories_of, re
 use crate::index::Index;
 use crate::kind::{Kind, kind_of_key, reaches};
 use crate::search::Asked;
-use crate::unsure::{Nameless, all_nameless, unsure_keys};
+use crate::unsure::{Nameless, Unsure, all_nameless};
 use crate::way::{Link, Way};
 use crate::version::{RbacEnds, RbacVersion, RbacVersions};
 use base_types::{
@@ -29,7 +29,7 @@ pub struct Timeline {
     clouds: Clouds,
     index: Index,
     nameless: Vec<Nameless>,
-    unsure: Vec<ObjectKey>,
+    unsure: Unsure,
     changes: Changes,
     bypass: Texts,
     // For contracts alone: they take no memory.
@@ -116,7 +116,7 @@ impl Timeline {
         let clouds = Clouds::build(alloc, spans.as_slice(), &revisions)?;
         let all_versions = Snapshot::of(&versions);
         let index = Index::of(alloc, versions.as_slice())?;
-        let unsure = unsure_keys(alloc, versions.as_slice(), spans.as_slice(), &clouds)?;
+        let unsure = Unsure::of(alloc, versions.as_slice(), spans.as_slice(), &clouds)?;
         let changes = Changes::of(
             alloc,
             versions.as_slice(),
@@ -240,33 +240,41 @@ impl Timeline {
         extent
     }
 
-    fn nameless_extent(&self, link: Link, attrs: &RequestAttrs) -> Extent
-        ensures may { IsTrue result.may ↔ MayGrantNameless self.now link.way link.binding_place attrs.now }
-        ensures must { result.must ≡ false }
+    // Whether a binding whose name isn't known may grant the request.
+    fn may_by_nameless(&self, link: Link, attrs: &RequestAttrs) -> bool
+        ensures { IsTrue result ↔ MayGrantNameless self.now link.way link.binding_place attrs.now }
     {
-        let some = self.nameless.iter().any(|nameless| {
+        self.nameless.iter().any(|nameless| {
             nameless.kind == link.way.bindings()
                 && nameless.low < link.binding_place
                 && nameless.reaches(attrs)
-        });
-        Extent {
-            may: some,
-            must: false,
-        }
+        })
     }
 
-    // What the bindings that may concern the user grant in this way.
-    pub(crate) fn extent(&self, link: Link, who: &User, attrs: &RequestAttrs) -> Extent
-        ensures may { IsTrue result.may ↔ MayGrantInWay self.now link.way link.role_place link.binding_place who.now attrs.now }
-        ensures must { IsTrue result.must ↔ MustGrantInWay self.now link.way link.role_place link.binding_place who.now attrs.now }
-    {
+    // What the bindings grant that name the user, one of its groups, or the account that it is.
+    fn named_extent(&self, link: Link, who: &User, attrs: &RequestAttrs) -> Extent {
         let user = self.keys_extent(self.index.by_user(&who.name), link, who, attrs);
         let account = self.keys_extent(self.index.by_account_user(&who.name), link, who, attrs);
-        let unsure = self.keys_extent(self.unsure.as_slice(), link, who, attrs);
-        user.or(account)
-            .or(self.groups_extent(link, who, attrs))
-            .or(unsure)
-            .or(self.nameless_extent(link, attrs))
+        user.or(account).or(self.groups_extent(link, who, attrs))
+    }
+
+    // Whether some binding may grant the request in this way.
+    pub(crate) fn may(&self, link: Link, who: &User, attrs: &RequestAttrs) -> bool
+        ensures { IsTrue result ↔ MayGrantInWay self.now link.way link.role_place link.binding_place who.now attrs.now }
+    {
+        if self.named_extent(link, who, attrs).may {
+            return true;
+        }
+        let unsure = self.unsure.keys(link.way.bindings(), attrs);
+        self.keys_extent(unsure, link, who, attrs).may || self.may_by_nameless(link, attrs)
+    }
+
+    // Whether some binding grants the request for certain in this way. One that does is sure, so it names
+    // the user.
+    pub(crate) fn must(&self, link: Link, who: &User, attrs: &RequestAttrs) -> bool
+        ensures { IsTrue result ↔ MustGrantInWay self.now link.way link.role_place link.binding_place who.now attrs.now }
+    {
+        self.named_extent(link, who, attrs).must
     }
 
     pub(crate) fn changes_between(&self, kind: Kind, low: u64, high: u64) -> &[u64] {
@@ -306,13 +314,13 @@ impl Timeline {
             role_place: places.cluster_roles,
             binding_place: places.cluster_bindings,
         };
-        let all = self
-            .extent(roles, who, attrs)
-            .or(self.extent(cluster_roles, who, attrs))
-            .or(self.extent(cluster_bindings, who, attrs));
         Possible {
-            allow: all.may,
-            forbid: !all.must,
+            allow: self.may(roles, who, attrs)
+                || self.may(cluster_roles, who, attrs)
+                || self.may(cluster_bindings, who, attrs),
+            forbid: !(self.must(roles, who, attrs)
+                || self.must(cluster_roles, who, attrs)
+                || self.must(cluster_bindings, who, attrs)),
         }
     }
 

@@ -4,6 +4,7 @@ use crate::version::RbacVersion;
 use base_types::{CoverName, ObjectKey, OutOfMemory, RequestAttrs, Text, exact_key};
 use clouds::{Clouds, OpaqueSpan};
 use std::alloc::Global;
+use std::collections::BTreeMap;
 
 /// The create of a binding whose name isn't known.
 #[derive(Drop)]
@@ -70,27 +71,74 @@ fn may_be_unsure(clouds: &Clouds, version: &RbacVersion) -> bool {
             || clouds.meets(&version.key, 0, u64::MAX).is_some())
 }
 
-/// The keys of bindings that may be clouded or unreadable somewhere; a key may come twice.
-pub fn unsure_keys(
+/// The bindings that may be clouded or unreadable somewhere; a key may come twice.
+#[derive(Drop)]
+pub struct Unsure {
+    by_namespace: BTreeMap<Text, Vec<ObjectKey>>,
+    cluster_bindings: Vec<ObjectKey>,
+}
+
+fn add_in_namespace(
     alloc: Global,
-    versions: &[RbacVersion],
-    spans: &[OpaqueSpan],
-    clouds: &Clouds,
-) -> Result<Vec<ObjectKey>, OutOfMemory> {
-    let mut keys = Vec::new(alloc);
-    for version in versions {
-        if may_be_unsure(clouds, version) {
-            keys.push(version.key.clone()?)?;
+    all: &mut BTreeMap<Text, Vec<ObjectKey>>,
+    key: ObjectKey,
+) -> Result<(), OutOfMemory> {
+    match all.get_mut(&key.namespace) {
+        Some(keys) => {
+            keys.push(key)?;
+            return Ok(());
+        }
+        None => {
+            let namespace = key.namespace.clone()?;
+            let mut keys = Vec::new(alloc);
+            keys.push(key)?;
+            let _none = all.insert(namespace, keys)?;
         }
     }
-    for span in spans {
-        if is_binding(kind_of(&span.cover.group, &span.cover.resource)) {
-            if let Some(key) = exact_key(alloc, &span.cover)? {
-                keys.push(key)?;
+    Ok(())
+}
+
+impl Unsure {
+    fn add(&mut self, alloc: Global, key: ObjectKey) -> Result<(), OutOfMemory> {
+        match kind_of_key(&key) {
+            Some(Kind::RoleBinding) => add_in_namespace(alloc, &mut self.by_namespace, key)?,
+            Some(Kind::ClusterRoleBinding) => self.cluster_bindings.push(key)?,
+            _ => {}
+        }
+        Ok(())
+    }
+
+    pub fn of(
+        alloc: Global,
+        versions: &[RbacVersion],
+        spans: &[OpaqueSpan],
+        clouds: &Clouds,
+    ) -> Result<Unsure, OutOfMemory> {
+        let mut unsure = Unsure {
+            by_namespace: BTreeMap::new(alloc),
+            cluster_bindings: Vec::new(alloc),
+        };
+        for version in versions {
+            if may_be_unsure(clouds, version) {
+                unsure.add(alloc, version.key.clone()?)?;
             }
         }
+        for span in spans {
+            if let Some(key) = exact_key(alloc, &span.cover)? {
+                unsure.add(alloc, key)?;
+            }
+        }
+        Ok(unsure)
     }
-    keys.sort()?;
-    keys.dedup();
-    Ok(keys)
+
+    /// Those of a kind that can reach the request, and maybe others.
+    pub fn keys(&self, kind: Kind, attrs: &RequestAttrs) -> &[ObjectKey] {
+        if kind == Kind::ClusterRoleBinding {
+            return self.cluster_bindings.as_slice();
+        }
+        match self.by_namespace.get(&attrs.namespace) {
+            Some(keys) => keys.as_slice(),
+            None => &[],
+        }
+    }
 }
