@@ -9,7 +9,7 @@ use crate::history::{Content, Gap, Histories, Removals, Stored, histories_of, re
 use crate::index::Index;
 use crate::kind::{Kind, kind_of_key, reaches};
 use crate::search::Asked;
-use crate::unsure::{Nameless, Unsure, all_nameless};
+use crate::unsure::{Nameless, Unsure};
 use crate::way::{Link, Way};
 use crate::version::{RbacEnds, RbacVersion, RbacVersions};
 use base_types::{
@@ -28,7 +28,7 @@ pub struct Timeline {
     removals: Removals,
     clouds: Clouds,
     index: Index,
-    nameless: Vec<Nameless>,
+    nameless: Nameless,
     unsure: Unsure,
     changes: Changes,
     bypass: Texts,
@@ -128,7 +128,7 @@ impl Timeline {
             removals: removals_of(alloc, ends.as_slice())?,
             clouds,
             index,
-            nameless: all_nameless(alloc, spans.as_slice())?,
+            nameless: Nameless::of(alloc, spans.as_slice())?,
             unsure,
             changes,
             bypass: bypass.clone()?,
@@ -244,11 +244,8 @@ impl Timeline {
     fn may_by_nameless(&self, link: Link, attrs: &RequestAttrs) -> bool
         ensures { IsTrue result ↔ MayGrantNameless self.now link.way link.binding_place attrs.now }
     {
-        self.nameless.iter().any(|nameless| {
-            nameless.kind == link.way.bindings()
-                && nameless.low < link.binding_place
-                && nameless.reaches(attrs)
-        })
+        self.nameless
+            .may_grant(link.way.bindings(), link.binding_place, attrs)
     }
 
     // What the bindings grant that name the user, one of its groups, or the account that it is.

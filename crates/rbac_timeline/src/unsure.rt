@@ -1,67 +1,98 @@
 use crate::index::readable;
 use crate::kind::{Kind, kind_of, kind_of_key};
 use crate::version::RbacVersion;
-use base_types::{CoverName, ObjectKey, OutOfMemory, RequestAttrs, Text, exact_key};
+use base_types::{Cover, CoverName, ObjectKey, OutOfMemory, RequestAttrs, Text, exact_key};
 use clouds::{Clouds, OpaqueSpan};
 use std::alloc::Global;
 use std::collections::BTreeMap;
 
-/// The create of a binding whose name isn't known.
+/// The creates of bindings whose names aren't known. Such a binding may be there from then on, so of those
+/// that reach the same requests the one that may have been first counts.
 #[derive(Drop)]
 pub struct Nameless {
-    pub kind: Kind,
-    /// None for any namespace.
-    pub namespace: Option<Text>,
-    /// It may be there above this place.
-    pub low: u64,
+    by_namespace: BTreeMap<Text, u64>,
+    // Those whose namespace may be any.
+    anywhere: Option<u64>,
+    cluster_bindings: Option<u64>,
+}
+
+fn lesser(low: Option<u64>, other: u64) -> Option<u64> {
+    match low {
+        Some(low) => Some(low.min(other)),
+        None => Some(other),
+    }
+}
+
+fn is_below(low: Option<u64>, place: u64) -> bool {
+    match low {
+        Some(low) => low < place,
+        None => false,
+    }
+}
+
+fn add_low(lows: &mut BTreeMap<Text, u64>, namespace: &Text, low: u64) -> Result<(), OutOfMemory> {
+    match lows.get_mut(namespace) {
+        Some(least) => {
+            *least = (*least).min(low);
+            return Ok(());
+        }
+        None => {
+            let _none = lows.insert(namespace.clone()?, low)?;
+        }
+    }
+    Ok(())
+}
+
+fn is_nameless_create(cover: &Cover) -> bool {
+    cover.creates && !matches!(&cover.name, CoverName::Exact(_))
 }
 
 impl Nameless {
-    /// Whether such a binding may grant the request.
-    pub fn reaches(&self, attrs: &RequestAttrs) -> bool {
-        if self.kind == Kind::ClusterRoleBinding {
-            return true;
+    fn add(&mut self, span: &OpaqueSpan) -> Result<(), OutOfMemory> {
+        let cover = &span.cover;
+        match kind_of(&cover.group, &cover.resource) {
+            Some(Kind::ClusterRoleBinding) => {
+                self.cluster_bindings = lesser(self.cluster_bindings, span.low);
+            }
+            Some(Kind::RoleBinding) => match &cover.namespace {
+                Some(namespace) => add_low(&mut self.by_namespace, namespace, span.low)?,
+                None => self.anywhere = lesser(self.anywhere, span.low),
+            },
+            _ => {}
         }
-        if !attrs.is_resource {
-            return false;
+        Ok(())
+    }
+
+    pub fn of(alloc: Global, spans: &[OpaqueSpan]) -> Result<Nameless, OutOfMemory> {
+        let mut nameless = Nameless {
+            by_namespace: BTreeMap::new(alloc),
+            anywhere: None,
+            cluster_bindings: None,
+        };
+        for span in spans {
+            if is_nameless_create(&span.cover) {
+                nameless.add(span)?;
+            }
         }
-        match &self.namespace {
-            Some(namespace) => attrs.namespace == *namespace,
-            None => true,
+        Ok(nameless)
+    }
+
+    /// Whether one of a kind may be there before the place, and may grant the request.
+    pub fn may_grant(&self, kind: Kind, place: u64, attrs: &RequestAttrs) -> bool {
+        match kind {
+            Kind::ClusterRoleBinding => is_below(self.cluster_bindings, place),
+            Kind::RoleBinding => {
+                attrs.is_resource
+                    && (is_below(self.anywhere, place)
+                        || is_below(self.by_namespace.get(&attrs.namespace).copied(), place))
+            }
+            _ => false,
         }
     }
 }
 
 fn is_binding(kind: Option<Kind>) -> bool {
     matches!(kind, Some(Kind::RoleBinding) | Some(Kind::ClusterRoleBinding))
-}
-
-fn nameless_of(span: &OpaqueSpan) -> Result<Option<Nameless>, OutOfMemory> {
-    let Some(kind) = kind_of(&span.cover.group, &span.cover.resource) else {
-        return Ok(None);
-    };
-    if !is_binding(Some(kind)) || !span.cover.creates {
-        return Ok(None);
-    }
-    if let CoverName::Exact(_) = &span.cover.name {
-        return Ok(None);
-    }
-    Ok(Some(Nameless {
-        kind,
-        namespace: span.cover.namespace.clone()?,
-        low: span.low,
-    }))
-}
-
-/// The creates of bindings whose names aren't known.
-pub fn all_nameless(alloc: Global, spans: &[OpaqueSpan]) -> Result<Vec<Nameless>, OutOfMemory> {
-    let mut all = Vec::new(alloc);
-    for span in spans {
-        if let Some(nameless) = nameless_of(span)? {
-            all.push(nameless)?;
-        }
-    }
-    Ok(all)
 }
 
 // Whether a binding of this key is clouded somewhere, or this version of it can't be read.
