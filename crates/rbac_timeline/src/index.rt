@@ -1,9 +1,19 @@
+ghost use Rattle.std.specs.Prelude.{◌≡◌, ◌↔◌, IfOk, IfSome, IfNone, OnOk};
+ghost use Rattle.base_types.specs.declared.key.ObjectKey.{ObjectKey};
+ghost use Rattle.rbac_rules.specs.declared.binding.Binding.{Binding};
+ghost use Rattle.rbac_rules.specs.Matching.{IsAccount};
+ghost use Rattle.clouds.specs.Kept.{AddsAt, items_at, text_order};
+ghost use Rattle.rbac_timeline.specs.Index.{Names};
+ghost use Rattle.rbac_timeline.specs.Indexed.{HasOneMore, IsIndexed, account_keys};
+ghost use Rattle.rbac_timeline.specs.Kinds.{IsBindingOf, kind_of_key};
+
 use crate::kind::{Kind, kind_of_key};
 use crate::version::{RbacContent, RbacVersion};
 use base_types::{ObjectKey, OutOfMemory, Text};
 use rbac_rules::{Binding, Subject};
 use std::alloc::Global;
 use std::collections::BTreeMap;
+use std::marker::Model;
 
 /// Keys in order, each once.
 #[derive(Drop)]
@@ -11,9 +21,20 @@ pub struct Keys {
     keys: Vec<ObjectKey>,
 }
 
+impl Model for Keys {
+    ghost use Rattle.std.specs.Prelude.{List};
+    ghost use Rattle.base_types.specs.declared.key.ObjectKey.{ObjectKey};
+
+    ghost Value = { List ObjectKey };
+
+    ghost view = { λ k. k.keys.items };
+}
+
 impl Keys {
     // Puts a key behind the others, unless it is the last.
-    fn add(&mut self, key: &ObjectKey) -> Result<(), OutOfMemory> {
+    fn add(&mut self, key: &ObjectKey) -> Result<(), OutOfMemory>
+        ensures { OnOk result (HasOneMore self.old self.new key.now) }
+    {
         if let Some(last) = self.keys.last() {
             if last == key {
                 return Ok(());
@@ -23,7 +44,9 @@ impl Keys {
         Ok(())
     }
 
-    pub fn as_slice(&self) -> &[ObjectKey] {
+    pub fn as_slice(&self) -> &[ObjectKey]
+        ensures { result.now ≡ self.now }
+    {
         self.keys.as_slice()
     }
 }
@@ -35,7 +58,9 @@ fn add_under(
     index: &mut ByText,
     text: &Text,
     key: &ObjectKey,
-) -> Result<(), OutOfMemory> {
+) -> Result<(), OutOfMemory>
+    ensures { OnOk result (AddsAt text_order index.old index.new text.now key.now) }
+{
     match index.get_mut(text) {
         Some(keys) => {
             keys.add(key)?;
@@ -52,7 +77,9 @@ fn add_under(
     Ok(())
 }
 
-fn found<'a>(index: &'a ByText, text: &Text) -> &'a [ObjectKey] {
+fn found<'a>(index: &'a ByText, text: &Text) -> &'a [ObjectKey]
+    ensures { result.now ≡ items_at text_order index.now text.now }
+{
     match index.get(text) {
         Some(keys) => keys.as_slice(),
         None => &[],
@@ -81,7 +108,9 @@ pub fn readable<'a>(key: &ObjectKey, content: &'a RbacContent) -> Option<&'a Bin
     }
 }
 
-fn account_user(alloc: Global, namespace: &Text, name: &Text) -> Result<Text, OutOfMemory> {
+fn account_user(alloc: Global, namespace: &Text, name: &Text) -> Result<Text, OutOfMemory>
+    ensures { IfOk result (λ user. IsAccount user namespace.now name.now) }
+{
     let mut user = String::from_str(alloc, "system:serviceaccount:")?;
     user.push_str(namespace.as_str())?;
     user.push(':')?;
@@ -125,7 +154,9 @@ impl Index {
     }
 
     /// Of versions that come by key.
-    pub fn of(alloc: Global, versions: &[RbacVersion]) -> Result<Index, OutOfMemory> {
+    pub fn of(alloc: Global, versions: &[RbacVersion]) -> Result<Index, OutOfMemory>
+        ensures { IfOk result (λ index. IsIndexed index.users index.groups index.account_users index.accounts (Names versions.now)) }
+    {
         let mut index = Index {
             users: BTreeMap::new(alloc),
             groups: BTreeMap::new(alloc),
@@ -142,16 +173,22 @@ impl Index {
         Ok(index)
     }
 
-    pub fn by_user(&self, name: &Text) -> &[ObjectKey] {
+    pub fn by_user(&self, name: &Text) -> &[ObjectKey]
+        ensures { result.now ≡ items_at text_order self.now.users name.now }
+    {
         found(&self.users, name)
     }
 
-    pub fn by_group(&self, name: &Text) -> &[ObjectKey] {
+    pub fn by_group(&self, name: &Text) -> &[ObjectKey]
+        ensures { result.now ≡ items_at text_order self.now.groups name.now }
+    {
         found(&self.groups, name)
     }
 
     /// By a user that may be a service account.
-    pub fn by_account_user(&self, name: &Text) -> &[ObjectKey] {
+    pub fn by_account_user(&self, name: &Text) -> &[ObjectKey]
+        ensures { result.now ≡ items_at text_order self.now.account_users name.now }
+    {
         found(&self.account_users, name)
     }
 
