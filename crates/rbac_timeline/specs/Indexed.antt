@@ -32,6 +32,12 @@ keys_in (Some names) name = items_at text_order names name
 abbrev pub account_keys : BTreeMap (List ℕ) ByText → List ℕ → List ℕ → List ObjectKey
 account_keys accounts namespace name = keys_in (get text_order accounts namespace) name
 
+-- the keys of a subject
+abbrev pub keys_of : ByText → ByText → BTreeMap (List ℕ) ByText → Subject → List ObjectKey
+keys_of users groups accounts (User name) = items_at text_order users name
+keys_of users groups accounts (Group name) = items_at text_order groups name
+keys_of users groups accounts (ServiceAccount namespace name) = account_keys accounts namespace name
+
 -- each subject has the keys of the bindings that name it, and each user those of the accounts that it is
 pub record IsIndexed (users groups account_users : ByText) (accounts : BTreeMap (List ℕ) ByText) (names : Subject → ObjectKey → Type 0) : Type 0 where
   pub by_user : (name : List ℕ) (key : ObjectKey) → Contains (items_at text_order users name) key ↔ names (User name) key

@@ -58,6 +58,10 @@ is_cluster_binding (Some ClusterRoleBinding) = true
 abbrev pub IsBindingOf : ObjectKey → RbacContent → Binding → Type 0
 IsBindingOf key content binding = (content ≡ Bound binding) × (IsKeyOf ClusterRoleBinding key → binding.role_is_cluster ≡ true)
 
+-- the content of a binding, where it can be read
+abbrev pub IsReadable : ObjectKey → RbacContent → Binding → Type 0
+IsReadable key content binding = (IsKeyOf RoleBinding key ⊎ IsKeyOf ClusterRoleBinding key) × IsBindingOf key content binding
+
 -- a cover without an exact name
 abbrev pub IsNameless : CoverName → Type 0
 IsNameless (Exact name) = ⊥

@@ -1,5 +1,5 @@
 -- The least places of two caches at which something holds.
-use Rattle.std.specs.Prelude.{◌≡◌, ◌<◌, ◌≤◌, ◌⊎◌, ℕ, Option, Some, None}
+use Rattle.std.specs.Prelude.{◌≡◌, ◌<◌, ◌≤◌, ◌⊎◌, ℕ, Bool, ◌&&◌, ◌||◌, ◌==◌, nat_lt, nat_le, Option, Some, None, if◌then◌else◌}
 use Rattle.base_types.specs.declared.placed.Places.{Places}
 use Rattle.base_types.specs.declared.request.RequestAttrs.{RequestAttrs}
 use Rattle.base_types.specs.declared.request.User.{User}
@@ -45,3 +45,20 @@ pub record IsFreeAt (known : Known) (who : User) (attrs : RequestAttrs) (places 
   pub of_roles : MustGrantInWay known Roles places.roles places.bindings who attrs → ⊥
   pub of_cluster_roles : MustGrantInWay known ClusterRoles places.cluster_roles places.bindings who attrs → ⊥
   pub of_cluster_bindings : MustGrantInWay known ClusterBindings places.cluster_roles places.cluster_bindings who attrs → ⊥
+
+-- all caches at one place
+abbrev pub all_at : ℕ → Places
+all_at place = record { roles = place; cluster_roles = place; bindings = place; cluster_bindings = place }
+
+abbrev pub lesser_number : ℕ → ℕ → Bool → Bool
+lesser_number a b rest = nat_lt a b || (a == b && rest)
+
+-- places are compared by their roles, then their cluster roles, bindings and cluster bindings
+abbrev pub is_upto : Places → Places → Bool
+is_upto a b = lesser_number a.roles b.roles (lesser_number a.cluster_roles b.cluster_roles (lesser_number a.bindings b.bindings (nat_le a.cluster_bindings b.cluster_bindings)))
+
+-- the lesser of two, where there are any
+abbrev pub earlier_of : Option Places → Option Places → Option Places
+earlier_of None b = b
+earlier_of (Some a) None = Some a
+earlier_of (Some a) (Some b) = if is_upto a b then Some a else Some b

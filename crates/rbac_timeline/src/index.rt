@@ -4,8 +4,8 @@ ghost use Rattle.rbac_rules.specs.declared.binding.Binding.{Binding};
 ghost use Rattle.rbac_rules.specs.Matching.{IsAccount};
 ghost use Rattle.clouds.specs.Kept.{AddsAt, items_at, text_order};
 ghost use Rattle.rbac_timeline.specs.Index.{Names};
-ghost use Rattle.rbac_timeline.specs.Indexed.{HasOneMore, IsIndexed, account_keys};
-ghost use Rattle.rbac_timeline.specs.Kinds.{IsBindingOf, kind_of_key};
+ghost use Rattle.rbac_timeline.specs.Indexed.{HasOneMore, IsIndexed, keys_of};
+ghost use Rattle.rbac_timeline.specs.Kinds.{IsReadable};
 
 use crate::kind::{Kind, kind_of_key};
 use crate::version::{RbacContent, RbacVersion};
@@ -97,7 +97,10 @@ pub struct Index {
 }
 
 /// The binding that a version holds, where it can be read.
-pub fn readable<'a>(key: &ObjectKey, content: &'a RbacContent) -> Option<&'a Binding> {
+pub fn readable<'a>(key: &ObjectKey, content: &'a RbacContent) -> Option<&'a Binding>
+    ensures some { IfSome result (λ binding. IsReadable key.now content.now binding.now) }
+    ensures none { IfNone result ((binding : Binding) → IsReadable key.now content.now binding → ⊥) }
+{
     let RbacContent::Bound(binding) = content else {
         return None;
     };
@@ -192,7 +195,9 @@ impl Index {
         found(&self.account_users, name)
     }
 
-    pub fn by_subject(&self, subject: &Subject) -> &[ObjectKey] {
+    pub fn by_subject(&self, subject: &Subject) -> &[ObjectKey]
+        ensures { result.now ≡ keys_of self.now.users self.now.groups self.now.accounts subject.now }
+    {
         match subject {
             Subject::User(name) => self.by_user(name),
             Subject::Group(name) => self.by_group(name),

@@ -1,3 +1,11 @@
+ghost use Rattle.std.specs.Prelude.{◌≡◌, ◌≤◌, ℕ, ◌↔◌, IsTrue};
+ghost use Rattle.base_types.specs.declared.placed.Places.{Places};
+ghost use Rattle.clouds.specs.FirstPlace.{IsFirstPlace};
+ghost use Rattle.rbac_timeline.specs.declared.way.Way.TheVariants.{ClusterBindings, ClusterRoles, Roles};
+ghost use Rattle.rbac_timeline.specs.Changing.{AreChangesBetween};
+ghost use Rattle.rbac_timeline.specs.Extents.{MayGrantInWay, MustGrantInWay, bindings_in};
+ghost use Rattle.rbac_timeline.specs.Searched.{AreFirstOf, IsFirstPair, IsFreeAt, MayGrantAt, all_at, earlier_of};
+
 use crate::kind::Kind;
 use crate::timeline::Timeline;
 use crate::way::{Link, Way};
@@ -14,9 +22,11 @@ pub struct Asked<'a> {
 }
 
 // The lesser of two, where there are any.
-fn earlier(a: Option<Places>, b: Option<Places>) -> Option<Places> {
+fn earlier(a: Option<Places>, b: Option<Places>) -> Option<Places>
+    ensures { result ≡ earlier_of a b }
+{
     match (a, b) {
-        (Some(a), Some(b)) => Some(a.min(b)),
+        (Some(a), Some(b)) => Some(if a <= b { a } else { b }),
         (Some(a), None) => Some(a),
         (None, b) => b,
     }
@@ -24,7 +34,9 @@ fn earlier(a: Option<Places>, b: Option<Places>) -> Option<Places> {
 
 impl<'a> Asked<'a> {
     /// All caches at the range's first place.
-    pub fn lowest(&self) -> Places {
+    pub fn lowest(&self) -> Places
+        ensures { result ≡ all_at self.now.low }
+    {
         Places {
             roles: self.low,
             cluster_roles: self.low,
@@ -34,11 +46,15 @@ impl<'a> Asked<'a> {
     }
 
     // Where an object of the kind may change, behind the first place.
-    fn later(&self, kind: Kind) -> &'a [u64] {
+    fn later(&self, kind: Kind) -> &'a [u64]
+        ensures { AreChangesBetween self.now.timeline.now kind self.now.low self.now.high result.now }
+    {
         self.timeline.changes_between(kind, self.low, self.high)
     }
 
-    fn may(&self, way: Way, role_place: u64, binding_place: u64) -> bool {
+    fn may(&self, way: Way, role_place: u64, binding_place: u64) -> bool
+        ensures { IsTrue result ↔ MayGrantInWay self.now.timeline.now way role_place binding_place self.now.who.now self.now.attrs.now }
+    {
         let link = Link {
             way,
             role_place,
@@ -47,7 +63,9 @@ impl<'a> Asked<'a> {
         self.timeline.may(link, self.who, self.attrs)
     }
 
-    fn must(&self, way: Way, role_place: u64, binding_place: u64) -> bool {
+    fn must(&self, way: Way, role_place: u64, binding_place: u64) -> bool
+        ensures { IsTrue result ↔ MustGrantInWay self.now.timeline.now way role_place binding_place self.now.who.now self.now.attrs.now }
+    {
         let link = Link {
             way,
             role_place,
@@ -57,7 +75,10 @@ impl<'a> Asked<'a> {
     }
 
     // The least place of the bindings from which they may grant, with the roles at this place.
-    fn first_binding(&self, way: Way, role_place: u64) -> Option<u64> {
+    fn first_binding(&self, way: Way, role_place: u64) -> Option<u64>
+        requires { self.now.low ≤ self.now.high }
+        ensures { IsFirstPlace (λ place. MayGrantInWay self.now.timeline.now way role_place place self.now.who.now self.now.attrs.now) self.now.low self.now.high result }
+    {
         if self.may(way, role_place, self.low) {
             return Some(self.low);
         }
@@ -70,7 +91,10 @@ impl<'a> Asked<'a> {
     }
 
     // The least places of roles and then of bindings at which they may grant.
-    fn first_pair(&self, way: Way) -> Option<(u64, u64)> {
+    fn first_pair(&self, way: Way) -> Option<(u64, u64)>
+        requires { self.now.low ≤ self.now.high }
+        ensures { IsFirstPair (λ r b. MayGrantInWay self.now.timeline.now way r b self.now.who.now self.now.attrs.now) self.now.low self.now.high result }
+    {
         if let Some(binding_place) = self.first_binding(way, self.low) {
             return Some((self.low, binding_place));
         }
@@ -84,7 +108,10 @@ impl<'a> Asked<'a> {
 
     /// The least places at which the request may be allowed. The ways to be allowed don't ask for each
     /// other, so each has its own least places.
-    pub fn first_allowed(&self) -> Option<Places> {
+    pub fn first_allowed(&self) -> Option<Places>
+        requires { self.now.low ≤ self.now.high }
+        ensures { AreFirstOf (MayGrantAt self.now.timeline.now self.now.who.now self.now.attrs.now) self.now.low self.now.high result }
+    {
         let lowest = self.lowest();
         let by_roles = self.first_pair(Way::Roles).map(|(roles, bindings)| Places {
             roles,
@@ -109,7 +136,10 @@ impl<'a> Asked<'a> {
     }
 
     // The least place of the cluster role bindings at which they don't grant for certain.
-    fn first_free_cluster_binding(&self, cluster_roles: u64) -> Option<u64> {
+    fn first_free_cluster_binding(&self, cluster_roles: u64) -> Option<u64>
+        requires { self.now.low ≤ self.now.high }
+        ensures { IsFirstPlace (λ place. MustGrantInWay self.now.timeline.now ClusterBindings cluster_roles place self.now.who.now self.now.attrs.now → ⊥) self.now.low self.now.high result }
+    {
         if !self.must(Way::ClusterBindings, cluster_roles, self.low) {
             return Some(self.low);
         }
@@ -127,7 +157,10 @@ impl<'a> Asked<'a> {
     }
 
     // The least place of the role bindings at which they don't grant for certain.
-    fn first_free_binding(&self, roles: u64, cluster_roles: u64) -> Option<u64> {
+    fn first_free_binding(&self, roles: u64, cluster_roles: u64) -> Option<u64>
+        requires { self.now.low ≤ self.now.high }
+        ensures { IsFirstPlace (λ place. (MustGrantInWay self.now.timeline.now Roles roles place self.now.who.now self.now.attrs.now → ⊥) × (MustGrantInWay self.now.timeline.now ClusterRoles cluster_roles place self.now.who.now self.now.attrs.now → ⊥)) self.now.low self.now.high result }
+    {
         if self.is_free(roles, cluster_roles, self.low) {
             return Some(self.low);
         }
@@ -163,7 +196,10 @@ impl<'a> Asked<'a> {
     }
 
     /// The least places at which the request may be forbidden.
-    pub fn first_forbidden(&self) -> Option<Places> {
+    pub fn first_forbidden(&self) -> Option<Places>
+        requires { self.now.low ≤ self.now.high }
+        ensures { AreFirstOf (IsFreeAt self.now.timeline.now self.now.who.now self.now.attrs.now) self.now.low self.now.high result }
+    {
         if let Some(places) = self.first_free(self.low) {
             return Some(places);
         }

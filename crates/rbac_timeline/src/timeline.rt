@@ -92,6 +92,7 @@ impl Timeline {
     ghost use Rattle.rbac_timeline.specs.Index.{AreBindingsOf};
     ghost use Rattle.rbac_timeline.specs.Sound.{AreSound};
     ghost use Rattle.rbac_timeline.specs.declared.version.RbacVersion.{RbacVersion};
+    ghost use Rattle.rbac_timeline.specs.Changing.{AreChangesBetween};
     ghost use Rattle.rbac_timeline.specs.Choices.{IsBypassed};
     ghost use Rattle.rbac_timeline.specs.Extents.{IsCertain, IsNotGone, MayGrantByRole, MayGrantInWay, MayGrantNameless, MustGrantByRole, MustGrantInWay};
     ghost use Rattle.rbac_timeline.specs.Kept.{MayGrantByContent, MayGrantByListed, MustGrantByContent, MustGrantByListed, stored_of};
@@ -274,7 +275,9 @@ impl Timeline {
         self.named_extent(link, who, attrs).must
     }
 
-    pub(crate) fn changes_between(&self, kind: Kind, low: u64, high: u64) -> &[u64] {
+    pub(crate) fn changes_between(&self, kind: Kind, low: u64, high: u64) -> &[u64]
+        ensures { AreChangesBetween self.now kind low high result.now }
+    {
         self.changes.between(kind, low, high)
     }
 
