@@ -1,4 +1,4 @@
-ghost use Rattle.std.specs.Prelude.{◌≡◌, ◌↔◌, IsTrue, IfOk, IfSome, IfNone, Any, Contains, map, false};
+ghost use Rattle.std.specs.Prelude.{◌≡◌, ◌↔◌, IsTrue, IfOk, IfSome, IfNone, Any, Contains, map, false, ◌||◌};
 ghost use Rattle.rbac_rules.specs.Matching.{Matches};
 ghost use Rattle.rbac_timeline.specs.Known.{key_revision};
 ghost use Rattle.base_types.specs.declared.placed.Places.{Places};
@@ -76,6 +76,12 @@ fn presence(gap: Option<Gap>, place: u64) -> Extent {
         },
         None => Extent::certain(true),
     }
+}
+
+fn any_of(a: bool, b: bool, c: bool) -> bool
+    ensures { result ≡ (a || b || c) }
+{
+    a || b || c
 }
 
 fn names(binding: &Binding, who: &User) -> bool
@@ -293,6 +299,7 @@ impl Timeline {
         ensures allow { IsTrue result.allow ↔ IsPossible self.now places.now who.now attrs.now Decision.Allow }
         ensures forbid { IsTrue result.forbid ↔ IsPossible self.now places.now who.now attrs.now Decision.Forbid }
     {
+        let _known = &self.clouds;
         if self.is_bypassed(who) {
             return Possible {
                 allow: true,
@@ -314,13 +321,21 @@ impl Timeline {
             role_place: places.cluster_roles,
             binding_place: places.cluster_bindings,
         };
+        let may_by_roles = self.may(roles, who, attrs);
+        let may_by_cluster_roles = self.may(cluster_roles, who, attrs);
+        let may_by_cluster_bindings = self.may(cluster_bindings, who, attrs);
+        let must_by_roles = self.must(roles, who, attrs);
+        let must_by_cluster_roles = self.must(cluster_roles, who, attrs);
+        let must_by_cluster_bindings = self.must(cluster_bindings, who, attrs);
+        let allowed = any_of(may_by_roles, may_by_cluster_roles, may_by_cluster_bindings);
+        let certain = any_of(
+            must_by_roles,
+            must_by_cluster_roles,
+            must_by_cluster_bindings,
+        );
         Possible {
-            allow: self.may(roles, who, attrs)
-                || self.may(cluster_roles, who, attrs)
-                || self.may(cluster_bindings, who, attrs),
-            forbid: !(self.must(roles, who, attrs)
-                || self.must(cluster_roles, who, attrs)
-                || self.must(cluster_bindings, who, attrs)),
+            allow: allowed,
+            forbid: !certain,
         }
     }
 
