@@ -24,6 +24,9 @@ use Rattle.rbac_timeline.specs.States.{Reading, ReadsRules}
 use Rattle.rbac_timeline.proofs.Extremes.{decide_certain, not_gone_from}
 use Rattle.rbac_timeline.proofs.Granting.{IsHeld, may_read, may_unread, must_gone, must_read, must_there, must_unread, read_there, unread_there}
 
+less_apart : (a b : ℕ) → a < b → a ≡ b → ⊥
+less_apart a b less same = omega arith
+
 abbrev pub tag : Content → ℕ
 tag (Rules rules) = 0
 tag (BoundTo binding role) = 1
@@ -61,7 +64,7 @@ kept_no_rules false of_cluster binding role is = omega arith
 kept_parts : (cluster of_cluster : Bool) (binding b : Binding) (role r : ObjectKey) → kept_binding cluster of_cluster binding role ≡ BoundTo b r
     → (binding ≡ b) × (role ≡ r) × (cluster ≡ true → of_cluster ≡ true)
 kept_parts true true binding b role r is = (ap (binding_of b) is, ap (role_of r) is, λ yes. refl)
-kept_parts true false binding b role r is = let no : 2 ≡ 1 = ap tag is in absurd (omega arith)
+kept_parts true false binding b role r is = absurd (less_apart 1 2 (omega arith) (sym (ap tag is)))
 kept_parts false of_cluster binding b role r is = (ap (binding_of b) is, ap (role_of r) is, λ yes. cc)
 
 kept_unread : (cluster of_cluster : Bool) (binding : Binding) (role : ObjectKey) → tag (kept_binding cluster of_cluster binding role) ≡ 2 → (cluster ≡ true) × (of_cluster ≡ false)
@@ -79,22 +82,22 @@ cluster_kind (Some ClusterRoleBinding) is = refl
 pub content_rules : (key : ObjectKey) (content : RbacContent) (rules : List PolicyRule) → content_of key content ≡ Rules rules → content ≡ Role rules
 content_rules key (Role own) rules is = ap (λ r. Role r) (ap rules_of is)
 content_rules key (Bound binding) rules is = absurd (kept_no_rules (is_cluster_binding (kind_of_key key)) binding.role_is_cluster binding (role_key key binding) (ap tag is))
-content_rules key Unreadable rules is = let no : 2 ≡ 0 = ap tag is in absurd (omega arith)
+content_rules key Unreadable rules is = absurd (less_apart 0 2 (omega arith) (sym (ap tag is)))
 
 pub content_bound : (key : ObjectKey) (content : RbacContent) (binding : Binding) (role : ObjectKey) → content_of key content ≡ BoundTo binding role
     → IsBindingOf key content binding × (role ≡ role_key key binding)
-content_bound key (Role own) binding role is = let no : 0 ≡ 1 = ap tag is in absurd (omega arith)
+content_bound key (Role own) binding role is = absurd (less_apart 0 1 (omega arith) (ap tag is))
 content_bound key (Bound own) binding role is =
     let parts = kept_parts (is_cluster_binding (kind_of_key key)) own.role_is_cluster own binding (role_key key own) role is in
     ((ap (λ b. Bound b) parts.0, λ kind. subst (λ (b : Binding). b.role_is_cluster ≡ true) parts.0 (parts.2 (ap is_cluster_binding kind))),
       sym parts.1 ∙ ap (λ b. role_key key b) parts.0)
-content_bound key Unreadable binding role is = let no : 2 ≡ 1 = ap tag is in absurd (omega arith)
+content_bound key Unreadable binding role is = absurd (less_apart 1 2 (omega arith) (sym (ap tag is)))
 
 pub no_binding_in_rules : (key : ObjectKey) (content : RbacContent) (rules : List PolicyRule) → content_of key content ≡ Rules rules → (x : Binding) → IsBindingOf key content x → ⊥
 no_binding_in_rules key content rules is x read = let role = content_rules key content rules is in let bound = read.0 in cc
 
 pub no_binding_unread : (key : ObjectKey) (content : RbacContent) → content_of key content ≡ Unread → (x : Binding) → IsBindingOf key content x → ⊥
-no_binding_unread key (Role own) is x read = let no : 0 ≡ 2 = ap tag is in absurd (omega arith)
+no_binding_unread key (Role own) is x read = absurd (less_apart 0 2 (omega arith) (ap tag is))
 no_binding_unread key (Bound own) is x read =
     let plain = kept_unread (is_cluster_binding (kind_of_key key)) own.role_is_cluster own (role_key key own) (ap tag is) in
     let cluster = read.1 (cluster_kind (kind_of_key key) plain.0) in

@@ -21,10 +21,10 @@ pub record AreTests (P : Way → Type 0) (roles cluster_roles cluster_bindings :
   pub by_cluster_bindings : (cluster_bindings ≡ true) ↔ P ClusterBindings
 
 some_way : (P : Way → Type 0) (a b c : Bool) → AreTests P a b c → (a || b || c) ≡ true → (way : Way) × P way
-some_way P a b c tests yes = ⊎_elim
+some_way P a b c tests passed = ⊎_elim
     (λ ab. ⊎_elim (λ first. (Roles, tests.by_roles.0 first)) (λ second. (ClusterRoles, tests.by_cluster_roles.0 second)) (or_cases a b ab))
     (λ third. (ClusterBindings, tests.by_cluster_bindings.0 third))
-    (or_cases (a || b) c yes)
+    (or_cases (a || b) c passed)
 
 test_of_way : (P : Way → Type 0) (a b c : Bool) → AreTests P a b c → (way : Way) → P way → (a || b || c) ≡ true
 test_of_way P a b c tests Roles holds = or_left (a || b) c (or_left a b (tests.by_roles.1 holds))

@@ -84,13 +84,18 @@ fn any_of(a: bool, b: bool, c: bool) -> bool
     a || b || c
 }
 
+fn any_subject(subjects: &[Subject], who: &User) -> bool
+    ensures { IsTrue result ↔ Any (λ subject. Matches subject who.now) subjects.now }
+{
+    subjects
+        .iter()
+        .any(|subject| subject_matches(subject, who))
+}
+
 fn names(binding: &Binding, who: &User) -> bool
     ensures { IsTrue result ↔ Any (λ subject. Matches subject who.now) binding.now.subjects }
 {
-    binding
-        .subjects
-        .iter()
-        .any(|subject| subject_matches(subject, who))
+    any_subject(binding.subjects.as_slice(), who)
 }
 
 impl Timeline {
@@ -149,11 +154,17 @@ impl Timeline {
         ensures some { IfSome result (λ s. (v : RbacVersion) × IsLatestVersion self.now.versions key.now place v × (s.now ≡ stored_of v)) }
         ensures none { IfNone result (NoneUpto self.now.versions key.now place) }
     {
-        self.histories.get(key)?.latest(place)
+        match self.histories.get(key) {
+            Some(history) => history.latest(place),
+            None => None,
+        }
     }
 
     fn removal(&self, key: &ObjectKey, last: u64) -> Option<Gap> {
-        self.removals.get(key)?.behind(last)
+        match self.removals.get(key) {
+            Some(gaps) => gaps.behind(last),
+            None => None,
+        }
     }
 
     fn presence(&self, key: &ObjectKey, stored: &Stored, place: u64) -> Extent
