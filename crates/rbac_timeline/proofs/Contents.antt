@@ -1,6 +1,7 @@
 -- From what is stored of a version to what its object grants.
-use Rattle.std.proofs.Common.{◌≡◌, ℕ, ◌<◌, ◌≤◌, ◌⊎◌, ⊎_elim, inl, inr, Bool, true, false, Option, Some, None, List, [], refl, sym, ◌∙◌, subst, ap, cond, arith}
+use Rattle.std.proofs.Common.{◌≡◌, ℕ, ◌<◌, ◌≤◌, ◌⊎◌, ⊎_elim, inl, inr, Bool, true, false, ◌&&◌, ◌↔◌, Option, Some, None, List, [], refl, sym, ◌∙◌, subst, ap, cond, arith}
 use Rattle.std.specs.List.{Any}
+use Rattle.std.proofs.lemmas.Bool.{and_from, and_parts}
 use Rattle.base_types.specs.declared.key.ObjectKey.{ObjectKey}
 use Rattle.base_types.specs.declared.request.RequestAttrs.{RequestAttrs}
 use Rattle.base_types.specs.declared.request.User.{User}
@@ -16,7 +17,7 @@ use Rattle.rbac_timeline.specs.declared.version.RbacContent.TheVariants.{Bound, 
 use Rattle.rbac_timeline.specs.declared.version.RbacVersion.{RbacVersion}
 use Rattle.rbac_timeline.specs.declared.way.Way.{Way}
 use Rattle.rbac_timeline.specs.Extents.{IsCertain, IsNotGone, IsSubject, MayGrant, MayGrantByKey, MayGrantByRole, MustGrant, MustGrantByKey, MustGrantByRole, roles_in}
-use Rattle.rbac_timeline.specs.Kept.{MayGrantByContent, MustGrantByContent, content_of}
+use Rattle.rbac_timeline.specs.Kept.{MayGrantByContent, MayGrantByRules, MustGrantByContent, MustGrantByRules, content_of}
 use Rattle.rbac_timeline.specs.Kinds.{IsBindingOf, IsKeyOf, is_cluster_binding, kind_of_key, role_key}
 use Rattle.rbac_timeline.specs.Known.{Known}
 use Rattle.rbac_timeline.specs.Sound.{AreSound}
@@ -126,17 +127,6 @@ module _ {X : Type 0} (reads : Reading X) (known : Known) (sound : AreSound know
   pub must_unread_not : ((x : X) → reads version.content x → ⊥) → MustGrant reads known key place grants → ⊥
   must_unread_not unread must = must_unread reads known key place grants version held unread (not_gone_from known sound place version (must_certain must)) must
 
--- what a version of a role stores grants
-abbrev pub MayGrantByRules : RequestAttrs → Content → Type 0
-MayGrantByRules attrs (Rules rules) = Grants rules attrs
-MayGrantByRules attrs (BoundTo binding role) = Unit {0}
-MayGrantByRules attrs Unread = Unit {0}
-
-abbrev pub MustGrantByRules : RequestAttrs → Content → Type 0
-MustGrantByRules attrs (Rules rules) = Grants rules attrs
-MustGrantByRules attrs (BoundTo binding role) = ⊥
-MustGrantByRules attrs Unread = ⊥
-
 abbrev pub rules_or : RbacContent → List PolicyRule
 rules_or (Role rules) = rules
 rules_or (Bound binding) = []
@@ -222,3 +212,10 @@ module _ (known : Known) (sound : AreSound known.versions known.ends) (key : Obj
       let parts = must_read_parts (IsBindingOf key) known sound key binding_place must_by version held binding bound.0 must in
       (parts.0, (subst (λ k. IsKeyOf (roles_in way) k) (sym bound.1) parts.1.0.role_kind, parts.1.0.matches, subst (λ k. MustGrantByRole known k role_place attrs) (sym bound.1) parts.1.1))
   binding_must_parts Unread is must = absurd (must_unread_not (IsBindingOf key) known sound key binding_place must_by version held (no_binding_unread key version.content is) must)
+
+-- a test of two parts
+pub test_of_both : (a b r : Bool) (A B C : Type 0) → r ≡ (a && b) → ((a ≡ true) ↔ A) → ((b ≡ true) ↔ B) → (A → B → C) → (C → A × B) → (r ≡ true) ↔ C
+test_of_both a b r A B C is of_a of_b join parts = (
+    (λ passed. let both = and_parts a b (sym is ∙ passed) in join (of_a.0 both.0) (of_b.0 both.1)),
+    (λ all. let both = parts all in is ∙ and_from a b (of_a.1 both.0) (of_b.1 both.1)),
+  )

@@ -1,11 +1,12 @@
 -- How versions and removals are kept by key.
-use Rattle.std.specs.Prelude.{◌≡◌, ◌<◌, ◌≤◌, ℕ, List, Any, Contains, if◌then◌else◌}
+use Rattle.std.specs.Prelude.{◌≡◌, ◌<◌, ◌≤◌, ℕ, List, Option, Some, None, Any, Contains, if◌then◌else◌}
 use Rattle.std.specs.BTreeMap.{BTreeMap}
 use Rattle.base_types.specs.declared.key.ObjectKey.{ObjectKey}
 use Rattle.base_types.specs.declared.request.RequestAttrs.{RequestAttrs}
 use Rattle.base_types.specs.declared.request.User.{User}
 use Rattle.clouds.specs.Kept.{items_at}
 use Rattle.clouds.specs.Writes.{Writes}
+use Rattle.rbac_rules.specs.Granting.{Grants}
 use Rattle.rbac_rules.specs.Matching.{Matches}
 use Rattle.rbac_timeline.specs.declared.history.Content.{Content}
 use Rattle.rbac_timeline.specs.declared.history.Content.TheVariants.{Rules, Bound as BoundTo, Unreadable as Unread}
@@ -21,6 +22,7 @@ use Rattle.rbac_timeline.specs.Index.{key_order}
 use Rattle.rbac_timeline.specs.Kinds.{IsKeyOf, IsReached, is_cluster_binding, kind_of_key, role_key}
 use Rattle.rbac_timeline.specs.Known.{Known, writes_of}
 use Rattle.rbac_timeline.specs.Sound.{AreSound}
+use Rattle.rbac_timeline.specs.States.{IsEndOf}
 
 -- what a version holds, a binding with the key of the role that it names
 abbrev pub content_of : ObjectKey → RbacContent → Content
@@ -53,6 +55,22 @@ pub record AreGaps (gaps : BTreeMap ObjectKey (List Gap)) (ends : List RbacEnd) 
   pub among : (key : ObjectKey) (gap : Gap) → Contains (items_at key_order gaps key) gap
       → (end : RbacEnd) × Contains ends end × (end.key ≡ key) × (gap ≡ gap_of end)
   pub found : (end : RbacEnd) → Contains ends end → Contains (items_at key_order gaps end.key) (gap_of end)
+
+-- the removal behind the version of a key with this revision
+abbrev pub IsRemovalOf : List RbacEnd → ObjectKey → ℕ → Option Gap → Type 0
+IsRemovalOf ends key last None = (version : RbacVersion) → version.key ≡ key → version.revision ≡ last → (end : RbacEnd) → IsEndOf ends version end → ⊥
+IsRemovalOf ends key last (Some gap) = (version : RbacVersion) → version.key ≡ key → version.revision ≡ last → (end : RbacEnd) × IsEndOf ends version end × (gap ≡ gap_of end)
+
+-- what a version of a role stores grants
+abbrev pub MayGrantByRules : RequestAttrs → Content → Type 0
+MayGrantByRules attrs (Rules rules) = Grants rules attrs
+MayGrantByRules attrs (BoundTo binding role) = Unit {0}
+MayGrantByRules attrs Unread = Unit {0}
+
+abbrev pub MustGrantByRules : RequestAttrs → Content → Type 0
+MustGrantByRules attrs (Rules rules) = Grants rules attrs
+MustGrantByRules attrs (BoundTo binding role) = ⊥
+MustGrantByRules attrs Unread = ⊥
 
 -- what a stored version of a binding may grant, or grants for certain, where it is there
 abbrev pub MayGrantByContent : Known → Way → ℕ → User → RequestAttrs → Content → Type 0

@@ -39,6 +39,13 @@ pub fn is_cluster_binding(kind: Option<Kind>) -> bool
     matches!(kind, Some(Kind::ClusterRoleBinding))
 }
 
+/// Whether it is this kind.
+pub fn is_kind(kind: Option<Kind>, expected: Kind) -> bool
+    ensures { IsTrue result ↔ (kind ≡ Some expected) }
+{
+    kind == Some(expected)
+}
+
 pub fn kind_of_key(key: &ObjectKey) -> Option<Kind>
     ensures { result ≡ kind_of_key key.now }
 {

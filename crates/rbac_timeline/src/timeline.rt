@@ -1,4 +1,5 @@
-ghost use Rattle.std.specs.Prelude.{◌≡◌, ◌↔◌, IsTrue, IfOk, IfSome, IfNone, Any, Contains, map, false, ◌||◌};
+ghost use Rattle.std.specs.Prelude.{◌≡◌, ◌↔◌, IsTrue, IfOk, IfSome, IfNone, Any, Contains, MatchOption, map, false, ⊤, ◌<◌, ◌||◌};
+ghost use Rattle.rbac_timeline.specs.Kept.{MayGrantByRules, MustGrantByRules};
 ghost use Rattle.rbac_rules.specs.Matching.{Matches};
 ghost use Rattle.rbac_timeline.specs.Known.{key_revision};
 ghost use Rattle.base_types.specs.declared.placed.Places.{Places};
@@ -7,13 +8,13 @@ use crate::changes::Changes;
 use crate::extent::Extent;
 use crate::history::{Content, Gap, Histories, Removals, Stored, histories_of, removals_of};
 use crate::index::Index;
-use crate::kind::{Kind, kind_of_key, reaches};
+use crate::kind::{Kind, is_kind, kind_of_key, reaches};
 use crate::search::Asked;
 use crate::unsure::{Nameless, Unsure};
 use crate::way::{Link, Way};
 use crate::version::{RbacEnds, RbacVersion, RbacVersions};
 use base_types::{
-    Decision, ObjectKey, OutOfMemory, Places, Possible, RequestAttrs, Texts, User, has_text,
+    Decision, ObjectKey, OutOfMemory, Places, Possible, RequestAttrs, Text, Texts, User, has_text,
 };
 use clouds::{Clouds, KeyRevision, OpaqueSpans};
 use rbac_rules::{Binding, Subject, grants, subject_matches};
@@ -68,7 +69,10 @@ fn key_revisions(
 }
 
 // Whether an object may be there at a place, and whether it is for certain, by the removal of its last version.
-fn presence(gap: Option<Gap>, place: u64) -> Extent {
+fn presence(gap: Option<Gap>, place: u64) -> Extent
+    ensures may { IsTrue result.may ↔ MatchOption gap ⊤ (λ gap. place < gap.high) }
+    ensures must { IsTrue result.must ↔ MatchOption gap ⊤ (λ gap. place < gap.low) }
+{
     match gap {
         Some(gap) => Extent {
             may: place < gap.high,
@@ -76,6 +80,29 @@ fn presence(gap: Option<Gap>, place: u64) -> Extent {
         },
         None => Extent::certain(true),
     }
+}
+
+fn rules_extent(content: &Content, attrs: &RequestAttrs) -> Extent
+    ensures may { IsTrue result.may ↔ MayGrantByRules attrs.now content.now }
+    ensures must { IsTrue result.must ↔ MustGrantByRules attrs.now content.now }
+{
+    match content {
+        Content::Rules(rules) => Extent::certain(grants(rules.as_slice(), attrs)),
+        Content::Bound(_, _) => Extent::UNSURE,
+        Content::Unreadable => Extent::UNSURE,
+    }
+}
+
+fn any_group(groups: &[Text], bypass: &Texts) -> bool
+    ensures { IsTrue result ↔ Any (Contains bypass.now) groups.now }
+{
+    groups.iter().any(|group| is_among(bypass, group))
+}
+
+fn is_among(texts: &Texts, text: &Text) -> bool
+    ensures { IsTrue result ↔ Contains texts.now text.now }
+{
+    has_text(texts, text)
 }
 
 fn any_of(a: bool, b: bool, c: bool) -> bool
@@ -106,7 +133,7 @@ impl Timeline {
     ghost use Rattle.rbac_timeline.specs.Changing.{AreChangesBetween};
     ghost use Rattle.rbac_timeline.specs.Choices.{IsBypassed};
     ghost use Rattle.rbac_timeline.specs.Extents.{IsCertain, IsNotGone, MayGrantByRole, MayGrantInWay, MayGrantNameless, MustGrantByRole, MustGrantInWay};
-    ghost use Rattle.rbac_timeline.specs.Kept.{MayGrantByContent, MayGrantByListed, MustGrantByContent, MustGrantByListed, stored_of};
+    ghost use Rattle.rbac_timeline.specs.Kept.{IsRemovalOf, MayGrantByContent, MayGrantByListed, MustGrantByContent, MustGrantByListed, stored_of};
     ghost use Rattle.rbac_timeline.specs.States.{IsLatestVersion, NoneUpto};
 
     /// Versions rise by key, and those of one key by revision. Each removal ends a version, before the key's
@@ -160,7 +187,9 @@ impl Timeline {
         }
     }
 
-    fn removal(&self, key: &ObjectKey, last: u64) -> Option<Gap> {
+    fn removal(&self, key: &ObjectKey, last: u64) -> Option<Gap>
+        ensures { IsRemovalOf self.now.ends key.now last result }
+    {
         match self.removals.get(key) {
             Some(gaps) => gaps.behind(last),
             None => None,
@@ -181,14 +210,12 @@ impl Timeline {
         if self.clouds.clouded(key, place) {
             return Extent::UNSURE;
         }
-        let Some(stored) = self.latest(key, place) else {
-            return Extent::NOTHING;
-        };
-        let presence = self.presence(key, stored, place);
-        let Content::Rules(rules) = &stored.content else {
-            return presence.and(Extent::UNSURE);
-        };
-        presence.and(Extent::certain(grants(rules.as_slice(), attrs)))
+        match self.latest(key, place) {
+            Some(stored) => self
+                .presence(key, stored, place)
+                .and(rules_extent(&stored.content, attrs)),
+            None => Extent::NOTHING,
+        }
     }
 
     fn content_extent(
@@ -201,13 +228,19 @@ impl Timeline {
         ensures may { IsTrue result.may ↔ MayGrantByContent self.now link.way link.role_place who.now attrs.now content.now }
         ensures must { IsTrue result.must ↔ MustGrantByContent self.now link.way link.role_place who.now attrs.now content.now }
     {
-        let Content::Bound(binding, role) = content else {
-            return Extent::UNSURE;
-        };
-        if kind_of_key(role) != Some(link.way.roles()) || !names(binding, who) {
-            return Extent::NOTHING;
+        match content {
+            Content::Rules(_) => Extent::UNSURE,
+            Content::Bound(binding, role) => {
+                if !is_kind(kind_of_key(role), link.way.roles()) {
+                    return Extent::NOTHING;
+                }
+                if !names(binding, who) {
+                    return Extent::NOTHING;
+                }
+                self.role_extent(role, link.role_place, attrs)
+            }
+            Content::Unreadable => Extent::UNSURE,
         }
-        self.role_extent(role, link.role_place, attrs)
     }
 
     fn key_extent(
@@ -220,17 +253,21 @@ impl Timeline {
         ensures may { IsTrue result.may ↔ MayGrantByListed self.now link.way link.role_place link.binding_place who.now attrs.now key.now }
         ensures must { IsTrue result.must ↔ MustGrantByListed self.now link.way link.role_place link.binding_place who.now attrs.now key.now }
     {
-        if kind_of_key(key) != Some(link.way.bindings()) || !reaches(key, attrs) {
+        if !is_kind(kind_of_key(key), link.way.bindings()) {
+            return Extent::NOTHING;
+        }
+        if !reaches(key, attrs) {
             return Extent::NOTHING;
         }
         if self.clouds.clouded(key, link.binding_place) {
             return Extent::UNSURE;
         }
-        let Some(stored) = self.latest(key, link.binding_place) else {
-            return Extent::NOTHING;
-        };
-        self.presence(key, stored, link.binding_place)
-            .and(self.content_extent(&stored.content, link, who, attrs))
+        match self.latest(key, link.binding_place) {
+            Some(stored) => self
+                .presence(key, stored, link.binding_place)
+                .and(self.content_extent(&stored.content, link, who, attrs)),
+            None => Extent::NOTHING,
+        }
     }
 
     fn keys_extent(
@@ -301,7 +338,7 @@ impl Timeline {
     fn is_bypassed(&self, who: &User) -> bool
         ensures { IsTrue result ↔ IsBypassed self.now who.now }
     {
-        who.groups.iter().any(|group| has_text(&self.bypass, group))
+        any_group(who.groups.as_slice(), &self.bypass)
     }
 
     /// Which decisions an authoriser could have given whose caches stood at these places. A role or binding
