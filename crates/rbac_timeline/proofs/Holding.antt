@@ -1,7 +1,9 @@
 -- From what is kept to what is known.
-use Rattle.std.proofs.Common.{◌≡◌, ◌≢◌, ℕ, ◌<◌, ◌≤◌, ◌⊎◌, ⊎_elim, List, length, get_or, refl, sym, ◌∙◌, subst, ap, arith}
+use Rattle.std.proofs.Common.{◌≡◌, ◌≢◌, ℕ, ◌<◌, ◌≤◌, ◌⊎◌, ⊎_elim, Option, Some, None, List, [], length, get_or, refl, sym, ◌∙◌, subst, ap, arith}
 use Rattle.std.specs.BTreeMap.{BTreeMap}
 use Rattle.std.specs.List.{AllPairs, Contains}
+use Rattle.std.specs.Option.{IfNone, IfSome}
+use denote.Ref.{Bor}
 use Rattle.std.proofs.lemmas.Bool.{cases_order}
 use Rattle.std.proofs.lemmas.List.{get_or_default}
 use Rattle.base_types.specs.declared.key.ObjectKey.{ObjectKey}
@@ -67,3 +69,20 @@ pub no_end : (gaps : BTreeMap ObjectKey (List Gap)) (ends : List RbacEnd) (key :
     → ((gap : Gap) → Contains (items_at key_order gaps key) gap → gap.last ≢ version.revision) → (end : RbacEnd) → IsEndOf ends version end → ⊥
 no_end gaps ends key version are of_key none end is =
     none (gap_of end) (subst (λ k. Contains (items_at key_order gaps k) (gap_of end)) (is.of_key ∙ of_key) (are.found end is.known)) is.of_last
+
+pub none_in_empty : (stored : List Stored) (place : ℕ) → stored ≡ [] → (s : Stored) → Contains stored s → place < s.revision
+none_in_empty stored place empty s among = let none : length stored ≡ 0 = ap (λ (l : List Stored). length l) empty in let within = among.1 in absurd (omega arith)
+
+-- what was found among the key's versions, in whatever way it is shown
+pub IfSome-version : (histories : BTreeMap ObjectKey (List Stored)) (versions : List RbacVersion) (key : ObjectKey) (place : ℕ) (found : Option (Bor Stored)) (all : List Stored)
+    → AreStored histories versions → items_at key_order histories key ≡ all → IfSome found (λ s. IsLatestStored all place s.now)
+    → IfSome found (λ s. (version : RbacVersion) × IsLatestVersion versions key place version × (s.now ≡ stored_of version))
+IfSome-version histories versions key place None all are is latest = tt
+IfSome-version histories versions key place (Some s) all are is latest =
+    latest_version histories versions key place s.now are (subst (λ l. IsLatestStored l place s.now) (sym is) latest)
+
+pub IfNone-version : (histories : BTreeMap ObjectKey (List Stored)) (versions : List RbacVersion) (key : ObjectKey) (place : ℕ) (found : Option (Bor Stored)) (all : List Stored)
+    → AreStored histories versions → items_at key_order histories key ≡ all → IfNone found ((s : Stored) → Contains all s → place < s.revision) → IfNone found (NoneUpto versions key place)
+IfNone-version histories versions key place None all are is none =
+    no_version histories versions key place are (subst (λ l. (s : Stored) → Contains l s → place < s.revision) (sym is) none)
+IfNone-version histories versions key place (Some s) all are is none = tt
