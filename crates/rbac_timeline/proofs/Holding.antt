@@ -1,8 +1,8 @@
 -- From what is kept to what is known.
-use Rattle.std.proofs.Common.{◌≡◌, ◌≢◌, ℕ, ◌<◌, ◌≤◌, ◌⊎◌, ⊎_elim, Option, Some, None, List, [], length, get_or, refl, sym, ◌∙◌, subst, ap, arith}
+use Rattle.std.proofs.Common.{◌≡◌, ◌≢◌, ℕ, ◌<◌, ◌≤◌, ◌↔◌, ◌⊎◌, ⊎_elim, Option, Some, None, List, [], length, get_or, refl, sym, ◌∙◌, subst, ap, arith}
 use Rattle.std.specs.BTreeMap.{BTreeMap}
 use Rattle.std.specs.List.{AllPairs, Contains}
-use Rattle.std.specs.Option.{IfNone, IfSome}
+use Rattle.std.specs.Option.{IfNone, IfSome, MatchOption}
 use denote.Ref.{Bor}
 use Rattle.std.proofs.lemmas.Bool.{cases_order}
 use Rattle.std.proofs.lemmas.List.{get_or_default}
@@ -13,7 +13,7 @@ use Rattle.rbac_timeline.specs.declared.history.Stored.{Stored}
 use Rattle.rbac_timeline.specs.declared.version.RbacEnd.{RbacEnd}
 use Rattle.rbac_timeline.specs.declared.version.RbacVersion.{RbacVersion}
 use Rattle.rbac_timeline.specs.Index.{key_order}
-use Rattle.rbac_timeline.specs.Kept.{AreGaps, AreStored, IsLatestStored, gap_of, stored_of}
+use Rattle.rbac_timeline.specs.Kept.{AreGaps, AreStored, IsLatestStored, IsRemovalOf, gap_of, stored_of}
 use Rattle.rbac_timeline.specs.States.{IsEndOf, IsLatestVersion, NoneUpto}
 
 pub latest_version : (histories : BTreeMap ObjectKey (List Stored)) (versions : List RbacVersion) (key : ObjectKey) (place : ℕ) (stored : Stored) → AreStored histories versions
@@ -86,3 +86,40 @@ pub IfNone-version : (histories : BTreeMap ObjectKey (List Stored)) (versions : 
 IfNone-version histories versions key place None all are is none =
     no_version histories versions key place are (subst (λ l. (s : Stored) → Contains l s → place < s.revision) (sym is) none)
 IfNone-version histories versions key place (Some s) all are is none = tt
+
+-- the removal that was found among the key's removals
+pub IsRemovalOf-found : (gaps : BTreeMap ObjectKey (List Gap)) (ends : List RbacEnd) (key : ObjectKey) (last : ℕ) (found : Option Gap) (all : List Gap) → AreGaps gaps ends → items_at key_order gaps key ≡ all
+    → IfSome found (Contains all) → IfSome found (λ gap. gap.last ≡ last) → IfNone found ((gap : Gap) → Contains all gap → gap.last ≢ last) → IsRemovalOf ends key last found
+IsRemovalOf-found gaps ends key last None all are is among of_last none = λ version of_key revision end is_end.
+    no_end gaps ends key version are of_key (λ gap there same. none gap (subst (λ l. Contains l gap) is there) (same ∙ revision)) end is_end
+IsRemovalOf-found gaps ends key last (Some gap) all are is among of_last none = λ version of_key revision.
+    end_kept gaps ends key gap version are of_key (subst (λ l. Contains l gap) (sym is) among) (of_last ∙ sym revision)
+
+pub no_gap : (gaps : List Gap) (last : ℕ) → gaps ≡ [] → (gap : Gap) → Contains gaps gap → gap.last ≢ last
+no_gap gaps last empty gap among = let none : length gaps ≡ 0 = ap (λ (l : List Gap). length l) empty in let within = among.1 in absurd (omega arith)
+
+-- what the removal says of the version's object
+pub not_gone_by : (ends : List RbacEnd) → AllPairs (λ a b. (a.key ≡ b.key) × (a.last ≡ b.last) → ⊥) ends → (key : ObjectKey) (last place : ℕ) (gap : Option Gap) → IsRemovalOf ends key last gap
+    → (version : RbacVersion) → version.key ≡ key → version.revision ≡ last → MatchOption gap (Unit {0}) (λ g. place < g.high) ↔ ((end : RbacEnd) → IsEndOf ends version end → place < end.high)
+not_gone_by ends distinct key last place None removal version of_key revision = ((λ always end is. absurd (removal version of_key revision end is)), (λ all. tt))
+not_gone_by ends distinct key last place (Some gap) removal version of_key revision =
+    let found = removal version of_key revision in
+    let high : gap.high ≡ found.0.high = ap (λ (g : Gap). g.high) found.2 in
+    (
+      (λ before end is. let same : found.0.high ≡ end.high = ap (λ (e : RbacEnd). e.high) (one_end ends distinct version found.0 end found.1 is) in omega arith),
+      (λ all. let before : place < found.0.high = all found.0 found.1 in omega arith),
+    )
+
+pub certain_by : (ends : List RbacEnd) → AllPairs (λ a b. (a.key ≡ b.key) × (a.last ≡ b.last) → ⊥) ends → (key : ObjectKey) (last place : ℕ) (gap : Option Gap) → IsRemovalOf ends key last gap
+    → (version : RbacVersion) → version.key ≡ key → version.revision ≡ last → MatchOption gap (Unit {0}) (λ g. place < g.low) ↔ ((end : RbacEnd) → IsEndOf ends version end → place < end.low)
+certain_by ends distinct key last place None removal version of_key revision = ((λ always end is. absurd (removal version of_key revision end is)), (λ all. tt))
+certain_by ends distinct key last place (Some gap) removal version of_key revision =
+    let found = removal version of_key revision in
+    let low : gap.low ≡ found.0.low = ap (λ (g : Gap). g.low) found.2 in
+    (
+      (λ before end is. let same : found.0.low ≡ end.low = ap (λ (e : RbacEnd). e.low) (one_end ends distinct version found.0 end found.1 is) in omega arith),
+      (λ all. let before : place < found.0.low = all found.0 found.1 in omega arith),
+    )
+
+pub both_iff : {P Q R : Type 0} → P ↔ Q → Q ↔ R → P ↔ R
+both_iff pq qr = ((λ p. qr.0 (pq.0 p)), (λ r. pq.1 (qr.1 r)))

@@ -200,6 +200,7 @@ impl Timeline {
         ensures may { (v : RbacVersion) → v.key ≡ key.now → v.revision ≡ stored.now.revision → (IsTrue result.may ↔ IsNotGone self.now place v) }
         ensures must { (v : RbacVersion) → v.key ≡ key.now → v.revision ≡ stored.now.revision → (IsTrue result.must ↔ IsCertain self.now place v) }
     {
+        let _known = &self.clouds;
         presence(self.removal(key, stored.revision), place)
     }
 
