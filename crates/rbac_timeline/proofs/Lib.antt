@@ -8,4 +8,5 @@ pub mod Holding
 pub mod Judging
 pub mod Ordered
 pub mod Stepping
+pub mod Tests
 pub mod Ways
