@@ -38,50 +38,28 @@ fn admit_at(
     Ok(seen.admit(event))
 }
 
-// Members of the events of a log, one event a line, and what becomes of each.
-static LOG: [(&str, Result<Admitted, SeenFault>); 9] = [
-    ("", Ok(Admitted::Fresh)),
-    ("", Ok(Admitted::Repeat)),
-    (r#""x":1,"#, Ok(Admitted::Repeat)),
-    (
-        r#""responseObject":[1.5],"#,
-        Err(SeenFault::Differs { line: 1 }),
-    ),
-    (r#""stage":"Panic","#, Ok(Admitted::Fresh)),
-    (
-        r#""auditID":"b","responseObject":[1.5],"#,
-        Ok(Admitted::Fresh),
-    ),
-    (
-        r#""auditID":"b","responseObject":{"a":-0},"#,
-        Ok(Admitted::Repeat),
-    ),
-    (
-        r#""responseStatus":{"code":404},"#,
-        Err(SeenFault::Differs { line: 1 }),
-    ),
-    (
-        r#""stage":"Panic","responseStatus":{"code":404},"#,
-        Ok(Admitted::Repeat),
-    ),
-];
-
 #[test]
 fn repeats_and_differences(rt: HostRuntime) -> Result<(), Fail> {
     let mut seen = Seen::new(rt.alloc())?;
-    for (i, (more, outcome)) in LOG.iter().enumerate() {
-        assert_eq!(rt;
-            admit_at(rt.alloc(), &mut seen, i as u64 + 1, more)?,
-            *outcome,
-            "{more}"
-        );
-    }
-    assert_eq!(rt; seen.count(), 3);
-    let events = seen.finish();
-    let mut lines = Vec::new(rt.alloc());
-    for event in &events {
-        lines.push(event.line)?;
-    }
-    assert_eq!(rt; lines.as_slice(), [1, 5, 6].as_slice());
+    let fresh = admit_at(rt.alloc(), &mut seen, 1, "")?;
+    assert_eq!(rt; fresh, Ok(Admitted::Fresh));
+    let repeated = admit_at(rt.alloc(), &mut seen, 2, r#""x":1,"#)?;
+    assert_eq!(rt; repeated, Ok(Admitted::Repeat));
+    let differs = admit_at(rt.alloc(), &mut seen, 3, r#""responseObject":[1.5],"#)?;
+    assert_eq!(rt; differs, Err(SeenFault::Differs { line: 1 }));
+    let other_stage = admit_at(rt.alloc(), &mut seen, 4, r#""stage":"Panic","#)?;
+    assert_eq!(rt; other_stage, Ok(Admitted::Fresh));
+    assert_eq!(rt; seen.count(), 2);
+    Ok(())
+}
+
+#[test]
+fn unread_bodies_repeat(rt: HostRuntime) -> Result<(), Fail> {
+    let mut seen = Seen::new(rt.alloc())?;
+    let fresh = admit_at(rt.alloc(), &mut seen, 1, r#""responseObject":[1.5],"#)?;
+    assert_eq!(rt; fresh, Ok(Admitted::Fresh));
+    let repeated = admit_at(rt.alloc(), &mut seen, 2, r#""responseObject":{"a":-0},"#)?;
+    assert_eq!(rt; repeated, Ok(Admitted::Repeat));
+    assert_eq!(rt; seen.finish().len(), 1);
     Ok(())
 }
