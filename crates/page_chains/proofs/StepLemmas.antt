@@ -1,9 +1,9 @@
 -- Where many steps lead to, and what that tells of chains.
 use Rattle.std.proofs.Common.{◌≡◌, ℕ, zero, suc, ◌+◌, ◌*◌, ◌<◌, Bool, true, false, List, [], ◌∷◌, length, get_or, Option, Some, None, refl, sym, ap, subst, ◌∙◌, arith}
-use Rattle.std.specs.Prelude.{is_some, option_map, slice_get, slice_index, if◌then◌else◌}
+use Rattle.std.specs.Prelude.{All, map, is_some, option_map, option_and_then, slice_get, slice_index, if◌then◌else◌}
 use Rattle.std.proofs.lemmas.Bool.{false≢true}
 use Rattle.page_chains.specs.declared.page.Page.{Page}
-use Rattle.page_chains.specs.Chains.{next_by, next_of, chain_within, chain_from}
+use Rattle.page_chains.specs.Chains.{next_by, next_of, chain_within}
 use Rattle.page_chains.specs.Links.{LeadsTo, IsLink, AreLinks, stepped}
 
 stuck : (links : List ℕ) (steps from : ℕ) → slice_index links from ≡ from → stepped links steps from ≡ from
@@ -27,7 +27,7 @@ stepped-double links twice within double (suc steps) from lt =
 none_left : (pages : List Page) (page : Page) → page.token ≡ None → next_of pages page ≡ None
 none_left pages page none = ap (next_by pages page) none
 
-bare : (pages : List Page) (o : Option Page) → chain_from 0 pages o ≡ None
+bare : (pages : List Page) (o : Option Page) → option_and_then (chain_within 0 pages) o ≡ None
 bare pages None = refl
 bare pages (Some page) = refl
 
@@ -57,6 +57,32 @@ module _ (pages : List Page) (links : List ℕ) (h : AreLinks pages links) where
           absurd (false≢true (sym ended ∙ goes))
       by_token onward (Some token) some = rw (ap is_some some) (ap (option_map (λ rest. page ∷ rest)) (by_next (next_of pages page) refl))
         where
-          by_next : (o : Option Page) → next_of pages page ≡ o → chain_from (suc steps) pages o ≡ None
+          by_next : (o : Option Page) → next_of pages page ≡ o → option_and_then (chain_within (suc steps) pages) o ≡ None
           by_next None is = refl
           by_next (Some next) is = onward next (subst (LeadsTo pages from (slice_index links from)) is link)
+
+-- a step of doubled strides
+mapped : (f : ℕ → ℕ) (xs : List ℕ) (i : ℕ) → i < length xs → slice_index (map f xs) i ≡ f (slice_index xs i)
+mapped f [] i lt = absurd (omega arith)
+mapped f (x ∷ xs) zero lt = refl
+mapped f (x ∷ xs) (suc i) lt = mapped f xs i (omega arith)
+
+pub length_mapped : (f : ℕ → ℕ) (xs : List ℕ) → length (map f xs) ≡ length xs
+length_mapped f [] = refl
+length_mapped f (x ∷ xs) = ap suc (length_mapped f xs)
+
+module _ (stride doubled : List ℕ) (within : All (λ to. to < length stride) stride) (made : doubled ≡ map (λ to. slice_index stride to) stride) where
+  twice : (steps from : ℕ) → from < length stride → stepped doubled steps from ≡ stepped stride (steps + steps) from
+  twice = stepped-double stride doubled (λ from lt. within from 0 lt) (λ from lt. ap (λ l. slice_index l from) made ∙ mapped (λ to. slice_index stride to) stride from lt)
+
+  pub even_steps : (half left from target : ℕ) → left ≡ half + half → from < length stride → stepped stride left from ≡ target → stepped doubled half from ≡ target
+  even_steps half left from target e lt before = twice half from lt ∙ ap (λ n. stepped stride n from) (sym e) ∙ before
+
+  pub odd_steps : (reached later : List ℕ) (half left from target : ℕ) → later ≡ map (λ to. slice_index stride to) reached → left ≡ suc (half + half) → from < length reached → slice_index reached from < length stride
+      → stepped stride left (slice_index reached from) ≡ target → stepped doubled half (slice_index later from) ≡ target
+  odd_steps reached later half left from target moved e lt inside before =
+      ap (λ l. stepped doubled half (slice_index l from)) moved
+      ∙ ap (stepped doubled half) (mapped (λ to. slice_index stride to) reached from lt)
+      ∙ twice half (slice_index stride (slice_index reached from)) (within (slice_index reached from) 0 inside)
+      ∙ ap (λ n. stepped stride n (slice_index reached from)) (sym e)
+      ∙ before

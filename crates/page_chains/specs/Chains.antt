@@ -1,5 +1,5 @@
 -- Chains of pages: from a first page, by the tokens, to a page without one.
-use Rattle.std.specs.Prelude.{ℕ, zero, suc, ◌==◌, ◌&&◌, ◌||◌, Bool, true, false, List, [], ◌∷◌, ◌++◌, length, Option, Some, None, is_some, filter, fold, option_map, bytes_eq, codes, decimal, nat_lt, int_lt, if◌then◌else◌}
+use Rattle.std.specs.Prelude.{ℕ, zero, suc, ◌==◌, ◌&&◌, ◌||◌, Bool, true, false, List, [], ◌∷◌, ◌++◌, length, Option, Some, None, is_some, filter, fold, option_map, option_and_then, bytes_eq, codes, decimal, nat_lt, int_lt, if◌then◌else◌}
 use Rattle.std.specs.List.{filter_map, flat_map}
 use Rattle.std.specs.Ordering.{int_eq}
 use Rattle.audit_event.specs.declared.event.Event.{Event}
@@ -50,14 +50,10 @@ next_of pages page = next_by pages page page.token
 
 -- the pages from this one to one without a token, where they are all there and at most so many. Each page has one that
 -- follows it at most, so a chain of more pages than there are is one in which a page comes twice, and it has no end.
-abbrev mutual
-  pub chain_within : ℕ → List Page → Page → Option (List Page)
-  chain_within zero pages page = None
-  chain_within (suc most) pages page = if is_some page.token then option_map (λ rest. page ∷ rest) (chain_from most pages (next_of pages page)) else Some (page ∷ [])
-
-  pub chain_from : ℕ → List Page → Option Page → Option (List Page)
-  chain_from most pages None = None
-  chain_from most pages (Some page) = chain_within most pages page
+abbrev pub chain_within : ℕ → List Page → Page → Option (List Page)
+chain_within zero pages page = None
+chain_within (suc most) pages page =
+    if is_some page.token then option_map (λ rest. page ∷ rest) (option_and_then (chain_within most pages) (next_of pages page)) else Some (page ∷ [])
 
 -- a chain is a list of its scope at its revision, with the items of all its pages in order
 abbrev pub checkpoint_of : Page → List Page → Checkpoint

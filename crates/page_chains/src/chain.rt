@@ -148,5 +148,6 @@ pub fn chains(alloc: Global, setup: &Setup, events: &Events) -> Result<Checkpoin
     ensures not_below { IfOk result (All (λ chain. setup.now.start ≤ chain.revision)) }
 {
     let pages = pages_of(alloc, setup, events.as_slice())?;
-    chains_in(alloc, pages.as_slice())
+    let found = chains_in(alloc, pages.as_slice())?;
+    Ok(found)
 }
