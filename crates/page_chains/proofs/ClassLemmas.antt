@@ -5,7 +5,6 @@ use Rattle.std.proofs.lemmas.Bool.{true≢false, false≢true, and_parts, or_par
 use Rattle.json_tree.specs.Meaning.{Meaning}
 use Rattle.json_tree.specs.Parts.{member_of}
 use Rattle.json_tree.specs.Texts.{◌>>=◌}
-use Rattle.label_select.proofs.Sound.{bind_some}
 use Rattle.audit_event.specs.declared.event.Event.{Event}
 use Rattle.setup_file.specs.Forms.{revision_at}
 use Rattle.setup_file.specs.Lists.{items_or_none, objects_in, goes_on, list_with, list_of}
@@ -38,6 +37,11 @@ IsLikely setup event (Listed group resource scope revision whole items selector)
     IsSome (tracked_as setup.resources group resource) × (has_filled (codes "continue") event.attrs ≡ true → setup.start ≤ revision)
 IsLikely setup event Free = ⊤
 IsLikely setup event Aside = ⊤
+
+-- how a step found something
+bind_some : {A B : Type 0} (o : Option A) (f : A → Option B) (y : B) → (o >>= f) ≡ Some y → (x : A) × (o ≡ Some x) × (f x ≡ Some y)
+bind_some None f y e = absurd (cc)
+bind_some (Some x) f y e = (x, refl, e)
 
 chosen : {T : Type 0} (b : Bool) (o : Option T) (x : T) → (if b then o else None) ≡ Some x → IsSome o
 chosen true o x e = ap is_some e

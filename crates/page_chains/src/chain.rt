@@ -29,7 +29,7 @@ fn copied(alloc: Global, object: &SnapshotObject) -> Result<SnapshotObject, OutO
 fn add_items(alloc: Global, items: &mut Snapshot, page: &Page) -> Result<(), OutOfMemory>
     ensures { OnOk result (items.new ≡ items.old ++ page.now.items) }
 {
-    for object in &page.items {
+    for object in page.items.as_slice() {
         items.push(copied(alloc, object)?)?;
     }
     Ok(())
