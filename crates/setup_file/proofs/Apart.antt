@@ -7,7 +7,6 @@ use Rattle.std.proofs.lemmas.Bool.Decides.{Decides-eqb}
 use Rattle.std.proofs.lemmas.List.Elements.{All-nil, All-cons}
 use Rattle.std.proofs.lemmas.List.Kept.{AllPairs-cons}
 use Rattle.std.proofs.lemmas.Slice.Eq.{bytes_eq-Decides}
-use Rattle.base_types.specs.declared.key.ObjectKey.{ObjectKey}
 use Rattle.setup_file.specs.Distinct.{are_distinct, pair_eq, key_eq}
 
 -- the test holds of equal items

@@ -1,5 +1,5 @@
 -- The trees that a tree with readable numbers holds have readable numbers, and so has its stored form.
-use Rattle.std.proofs.Common.{◌≡◌, ℕ, Bool, List, [], ◌∷◌, Option, Some, None, inl, inr, cond, subst}
+use Rattle.std.proofs.Common.{◌≡◌, ℕ, List, Some, inl, inr, subst}
 use Rattle.std.specs.Prelude.{codes, bytes_eq}
 use Rattle.std.specs.List.{All}
 use Rattle.std.proofs.lemmas.Bool.{cond_both}
@@ -56,9 +56,10 @@ without_in_range name (members ms) range = fields_without_in_range name ms range
 fields_with_in_range : (name : List ℕ) (change : Meaning → Meaning) → ((tree : Meaning) → InRange tree → InRange (change tree))
     → (fields : Fields) → FieldsInRange fields → FieldsInRange (fields_with name change fields)
 fields_with_in_range name change keeps no_fields range = range
-fields_with_in_range name change keeps (field k t rest) range =
-    (cond_both (bytes_eq k name) (change t) t InRange (λ changed. keeps t range.0) (λ stays. range.0),
-    fields_with_in_range name change keeps rest range.1)
+fields_with_in_range name change keeps (field k t rest) range = (
+  cond_both (bytes_eq k name) (change t) t InRange (λ changed. keeps t range.0) (λ stays. range.0),
+  fields_with_in_range name change keeps rest range.1,
+)
 
 with_in_range : (name : List ℕ) (change : Meaning → Meaning) → ((tree : Meaning) → InRange tree → InRange (change tree))
     → (tree : Meaning) → InRange tree → InRange (with name change tree)

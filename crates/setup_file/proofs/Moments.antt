@@ -1,5 +1,5 @@
 -- A moment that can be read lies among those that a setup may have.
-use Rattle.std.proofs.Common.{◌≡◌, ℕ, Bool, true, false, ◌||◌, cond, List, Option, Some, Result, Ok, Err, ℤ, pos, neg_ℤ, ◌^◌, inl, inr, refl, ap, subst, arith}
+use Rattle.std.proofs.Common.{◌≡◌, ℕ, Bool, false, ◌||◌, List, Option, Some, Result, Ok, Err, ℤ, pos, neg_ℤ, inl, inr, refl, ap, subst, arith}
 use Rattle.std.specs.Prelude.{int_lt, ◌≤ℤ◌, ◌-ℤ◌, option_map}
 use Rattle.std.specs.Result.{result_ok}
 use Rattle.std.proofs.lemmas.Bool.{or_parts}
@@ -11,7 +11,7 @@ use Rattle.jiff_fmt.specs.Offset.{to_offset}
 use Rattle.jiff_fmt.specs.Temporal.{DateTimeParts, temporal_datetime, full, to_timestamp, instant, parts_nanos, parse_timestamp}
 use Rattle.setup_file.specs.Forms.{moment_of}
 use Rattle.setup_file.specs.Sound.{IsMoment}
-use Rattle.setup_file.proofs.Chains.{either, was_ok, same_some}
+use Rattle.setup_file.proofs.Chains.{either, same_some}
 
 read_both : {A B : Type 0} (r : Result A Error) (f : A → Result B Error) (y : B) → (r >>= f) ≡ Ok y → (x : A) × (r ≡ Ok x) × (f x ≡ Ok y)
 read_both (Ok x) f y e = (x, refl, e)

@@ -1,6 +1,5 @@
 -- The clocks of a setup are sound.
-use Rattle.std.proofs.Common.{◌≡◌, ℕ, ℤ, pos, negsuc, ◌^◌, ◌≤◌, nat_le, int_lt, List, [], ◌∷◌, inl, inr, Option, Some, None, IfSome, Result, Ok, subst, ap, arith, codes}
-use Rattle.std.specs.Prelude.{⊤}
+use Rattle.std.proofs.Common.{◌≡◌, ℕ, ℤ, pos, negsuc, ◌^◌, ◌≤◌, nat_le, int_lt, [], ◌∷◌, inl, inr, Option, Some, None, IfSome, Ok, subst, ap, arith, codes}
 use Rattle.std.proofs.lemmas.Bool.{leb-true}
 use Rattle.base_types.specs.declared.revision.Moment.{Moment}
 use Rattle.json_tree.specs.Meaning.{Meaning}

@@ -1,11 +1,10 @@
 -- The checkpoints of a setup are sound.
-use Rattle.std.proofs.Common.{◌≡◌, ℕ, ◌+◌, ◌≤◌, nat_le, Bool, true, false, ◌&&◌, ◌||◌, not, List, [], ◌∷◌, ◌++◌, length, Option, Some, None, refl, sym, ap, subst, ◌∙◌, cond, if◌then◌else◌, inl, inr, decimal, codes}
+use Rattle.std.proofs.Common.{◌≡◌, ℕ, ◌+◌, nat_le, ◌&&◌, ◌||◌, not, List, [], ◌∷◌, ◌++◌, length, Option, Some, None, refl, subst, cond, inl, inr, decimal, codes}
 use Rattle.std.specs.List.{All}
 use Rattle.std.proofs.lemmas.Bool.{and_parts, leb-true}
 use Rattle.std.proofs.lemmas.List.Elements.{All-nil, All-cons, All-head, All-tail}
 use Rattle.json_tree.specs.Meaning.{Meaning}
 use Rattle.json_tree.specs.Parts.{member_of, items_of, is_null}
-use Rattle.json_tree.specs.Stored.{stored}
 use Rattle.json_tree.specs.Values.{InRange}
 use Rattle.setup_file.specs.declared.lists.ListRead.{ListRead}
 use Rattle.setup_file.specs.declared.setup.Checkpoint.{Checkpoint}
@@ -51,6 +50,19 @@ list_in_range tracked name namespace tree list range e =
     (gathered_all (object_of tracked name namespace) (objects_in tracked name namespace) refl (λ x xs. refl) InRange (λ (object : SnapshotObject). InRange object.tree)
     (object_in_range tracked name namespace) trees.0 objects.0 inside objects.1)
 
+-- a list that fits is one of a checkpoint
+fit_is_later : (start : ℕ) (resources : List Tracked) (number : ℕ) (group resource namespace : List ℕ) (tracked : Tracked) (list : ListRead) (checkpoint : Checkpoint)
+    → tracked_as resources group resource ≡ Some tracked → AreInRange list.items
+    → cond ((is_no_text namespace || tracked.namespaced) && is_whole_at start list)
+    (Some (record { name = codes "checkpoint:" ++ decimal number; group = group; resource = resource; namespace = namespace; revision = list.revision; items = list.items })) None
+    ≡ Some checkpoint
+    → IsLaterList start resources checkpoint
+fit_is_later start resources number group resource namespace tracked list checkpoint found range e =
+    let fits = where_true ((is_no_text namespace || tracked.namespaced) && is_whole_at start list) _ checkpoint e in
+    let whole = and_parts (is_no_text namespace || tracked.namespaced) (is_whole_at start list) fits.0 in
+    let later = and_parts (not list.rest) (nat_le start list.revision) whole.1 in
+    subst (IsLaterList start resources) (same_some _ checkpoint fits.1) (record { tracked = (tracked, found); later = leb-true start list.revision later.1; trees = range })
+
 checkpoint_is_later : (start : ℕ) (resources : List Tracked) (number : ℕ) (tree : Meaning) (checkpoint : Checkpoint) → InRange tree → checkpoint_of start resources number tree ≡ Some checkpoint
     → IsLaterList start resources checkpoint
 checkpoint_is_later start resources number tree checkpoint range e =
@@ -61,14 +73,8 @@ checkpoint_is_later start resources number tree checkpoint range e =
     let tracked = found_both (tracked_as resources group.0 resource.0) _ checkpoint namespace.2 in
     let value = found_both (member_of (codes "list") tree) _ checkpoint tracked.2 in
     let list = found_both (list_of tracked.0 [] namespace.0 value.0) _ checkpoint value.2 in
-    let fits = where_true ((is_no_text namespace.0 || tracked.0.namespaced) && is_whole_at start list.0) _ checkpoint list.2 in
-    let whole = and_parts (is_no_text namespace.0 || tracked.0.namespaced) (is_whole_at start list.0) fits.0 in
-    let later = and_parts (not list.0.rest) (nat_le start list.0.revision) whole.1 in
-    subst (IsLaterList start resources) (same_some _ checkpoint fits.1) (record {
-      tracked = (tracked.0, tracked.1);
-      later = leb-true start list.0.revision later.1;
-      trees = list_in_range tracked.0 [] namespace.0 value.0 list.0 (member_in_range (codes "list") tree value.0 range value.1) list.1;
-    })
+    let inside = list_in_range tracked.0 [] namespace.0 value.0 list.0 (member_in_range (codes "list") tree value.0 range value.1) list.1 in
+    fit_is_later start resources number group.0 resource.0 namespace.0 tracked.0 list.0 checkpoint tracked.1 inside list.2
 
 checkpoints_are_later : (start : ℕ) (resources : List Tracked) (number : ℕ) (trees : List Meaning) (checkpoints : List Checkpoint) → All InRange trees
     → checkpoints_from start resources number trees ≡ Some checkpoints → All (IsLaterList start resources) checkpoints

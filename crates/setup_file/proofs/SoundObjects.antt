@@ -1,9 +1,8 @@
 -- The objects of a snapshot and of lists are sound.
-use Rattle.std.proofs.Common.{◌≡◌, ◌≢◌, ◌↔◌, ℕ, ◌≤◌, nat_le, Bool, true, false, ◌&&◌, ◌==◌, List, [], ◌∷◌, map, Option, Some, None, Result, Ok, refl, sym, ap, subst, ◌∙◌, cond, if◌then◌else◌, inl, inr, eqb, bytes_eq, is_some, codes, true≢false}
-use Rattle.std.specs.List.{All, AllPairs, list_all}
+use Rattle.std.proofs.Common.{◌≡◌, ◌≢◌, ◌↔◌, ℕ, ◌≤◌, nat_le, Bool, true, false, ◌&&◌, ◌==◌, List, [], ◌∷◌, map, Some, None, Ok, refl, sym, subst, ◌∙◌, cond, inl, inr, bytes_eq, is_some, codes, true≢false}
+use Rattle.std.specs.List.{All, list_all}
 use Rattle.std.proofs.lemmas.Bool.{and_parts, leb-true}
 use Rattle.std.proofs.lemmas.List.Elements.{All-nil, All-cons}
-use Rattle.base_types.specs.declared.key.ObjectKey.{ObjectKey}
 use Rattle.json_tree.specs.Meaning.{Meaning}
 use Rattle.json_tree.specs.Parts.{member_of, items_of}
 use Rattle.json_tree.specs.Stored.{stored}
@@ -85,7 +84,7 @@ entry_is_sound resources tree object range e =
     let read = object_is_read tracked.0 value.0 object value.2 in
     let itself = tracked_as_itself resources group.0 resource.0 tracked.0 tracked.1 in
     let there = subst (λ r. tracked_as resources object.key.group r ≡ Some tracked.0) read.resource
-      (subst (λ g. tracked_as resources g tracked.0.resource ≡ Some tracked.0) read.group itself) in
+    (subst (λ g. tracked_as resources g tracked.0.resource ≡ Some tracked.0) read.group itself) in
     record {
       object_is = record { tracked = (tracked.0, there, read.namespace); name = read.name; uid = read.uid };
       range = subst InRange read.tree (stored_in_range value.0 (member_in_range (codes "object") tree value.0 range value.1));
@@ -127,7 +126,7 @@ snapshot_is_sound start resources tree objects range e =
     let list = chained_both (member_of (codes "snapshot") tree) items_of trees.0 (not_broken S12 _ trees.0 trees.1) in
     let inside = items_in_range list.0 trees.0 (member_in_range (codes "snapshot") tree list.0 range list.1) list.2 in
     let all = gathered_all (snapshot_entry_of resources) (snapshot_in resources) refl (λ x xs. refl) InRange (IsSoundEntry resources) (entry_is_sound resources) trees.0 found.0 inside
-      (not_broken S12 _ found.0 found.1) in
+    (not_broken S12 _ found.0 found.1) in
     subst (IsSoundSnapshot start resources) (same_kept found.0 objects apart.1) (record {
       there = at_start start resources found.0 all apart.0;
       range = λ i d within. (all i d within).range;

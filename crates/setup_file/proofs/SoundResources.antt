@@ -1,9 +1,8 @@
 -- The resources of a setup are sound.
-use Rattle.std.proofs.Common.{◌≡◌, ◌≢◌, ℕ, Bool, true, ◌&&◌, List, [], ◌∷◌, map, Option, Some, None, Result, Ok, refl, sym, ap, ap₂, subst, ◌∙◌, cond, find, inl, inr, bytes_eq, codes, arith}
+use Rattle.std.proofs.Common.{◌≡◌, ◌≢◌, ℕ, Bool, true, List, [], ◌∷◌, map, Option, Some, None, Ok, refl, sym, ap, ap₂, subst, ◌∙◌, find, inl, inr, bytes_eq, codes, arith}
 use Rattle.std.specs.Prelude.{⊤}
-use Rattle.std.specs.List.{All, AllPairs, list_all}
+use Rattle.std.specs.List.{AllPairs, list_all}
 use Rattle.std.proofs.lemmas.Bool.{and_parts}
-use Rattle.std.proofs.lemmas.List.Elements.{All-nil}
 use Rattle.std.proofs.lemmas.Slice.Eq.{bytes_eq-Decides}
 use Rattle.json_tree.specs.Meaning.{Meaning}
 use Rattle.json_tree.specs.Parts.{member_of, items_of}
@@ -100,16 +99,16 @@ resources_apart trees entries resources e f are =
     let kinds = map {B = List ℕ × List ℕ} (λ (entry : Entry). (entry.group, entry.kind)) entries in
     let parts = and_parts (are_distinct pair_eq types) (are_distinct pair_eq kinds) are in
     let same_types = seen_alike {Y = List ℕ × List ℕ} (λ entry. (entry.group, entry.resource)) (λ tracked. (tracked.group, tracked.resource))
-      (λ tree tracked is. (λ i. (is.group i, is.resource i))) trees entries resources e f in
+    (λ tree tracked is. (λ i. (is.group i, is.resource i))) trees entries resources e f in
     let same_kinds = seen_alike {Y = List ℕ × List ℕ} (λ entry. (entry.group, entry.kind)) (λ tracked. (tracked.group, tracked.kind))
-      (λ tree tracked is. (λ i. (is.group i, is.kind i))) trees entries resources e f in
+    (λ tree tracked is. (λ i. (is.group i, is.kind i))) trees entries resources e f in
     let by_type = distinct_apart pair_eq (λ (tracked : Tracked). (tracked.group, tracked.resource)) pairs_tell resources (ap (are_distinct pair_eq) (sym same_types) ∙ parts.0) in
     let by_kind = distinct_apart pair_eq (λ (tracked : Tracked). (tracked.group, tracked.kind)) pairs_tell resources (ap (are_distinct pair_eq) (sym same_kinds) ∙ parts.1) in
     record {
       types = λ i j d below within same. by_type i j d below within (λ k. (same.0 k, same.1 k));
       kinds = λ i j d below within same. by_kind i j d below within (λ k. (same.0 k, same.1 k));
       subresources = gathered_all tracked_of tracked_in refl (λ x xs. refl) (λ tree. ⊤) AreNamedApart
-        (λ tree tracked any made. (tracked_is_of_entry tree tracked made).subresources) trees resources (λ i d within. tt) f;
+          (λ tree tracked any made. (tracked_is_of_entry tree tracked made).subresources) trees resources (λ i d within. tt) f;
     }
 
 pub resources_are_apart : (tree : Meaning) (resources : List Tracked) → resources_at tree ≡ Ok resources → AreApart resources

@@ -1,5 +1,5 @@
 -- A setup that breaks no rule is sound.
-use Rattle.std.proofs.Common.{◌≡◌, Bool, true, Option, Some, None, Result, Ok, Err, IfOk, codes, subst}
+use Rattle.std.proofs.Common.{◌≡◌, Ok, codes, subst}
 use Rattle.json_tree.specs.Meaning.{Meaning}
 use Rattle.json_tree.specs.Parts.{member_of}
 use Rattle.json_tree.specs.Values.{InRange}
@@ -38,7 +38,7 @@ with_is_sound tree setup range e =
       snapshot = objects.there;
       trees = objects.range;
       checkpoints = all_are_later clocks.0.start resources.0 (member_of (codes "checkpoints") tree) checkpoints.0 (λ list. member_in_range (codes "checkpoints") tree list range)
-        (not_broken S15 _ checkpoints.0 passed.1);
+          (not_broken S15 _ checkpoints.0 passed.1);
     })
 
 pub setup_is_sound : (tree : Meaning) (setup : Setup) → InRange tree → setup_of tree ≡ Ok setup → IsSound setup
