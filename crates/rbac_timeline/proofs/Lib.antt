@@ -1,0 +1,12 @@
+pub mod Choosing
+pub mod Constancy
+pub mod Contents
+pub mod Deciding
+pub mod Extremes
+pub mod Granting
+pub mod Holding
+pub mod Judging
+pub mod Ordered
+pub mod Stepping
+pub mod Tests
+pub mod Ways
