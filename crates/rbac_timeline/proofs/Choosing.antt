@@ -106,9 +106,12 @@ nameless_begun known places attrs choice chosen number span found (in_namespace 
 pub may_from_choice : (known : Known) (places : Places) (who : User) (attrs : RequestAttrs) (choice : Choice) → IsChoice known places choice → Allows known choice who attrs → MayAllow known places who attrs
 may_from_choice known places who attrs choice chosen (by_group bypassed) = may_by_group bypassed
 may_from_choice known places who attrs choice chosen (by_binding key is_known reached granted) =
-    may_by_binding key is_known reached (choice.binding key, binding_possible key attrs reached known places choice chosen,
+    may_by_binding key is_known reached (
+      choice.binding key,
+      binding_possible key attrs reached known places choice chosen,
       IsGranted-weaker _ (MayGrantBy known places key who attrs) (choice.binding key)
-      (λ binding grants. (grants.0, (choice.role (role_key key binding), role_possible key binding known places choice chosen, grants.1))) granted)
+          (λ binding grants. (grants.0, (choice.role (role_key key binding), role_possible key binding known places choice chosen, grants.1))) granted,
+    )
 may_from_choice known places who attrs choice chosen (by_nameless number span found reached granted) =
     may_by_nameless number span found reached (nameless_begun known places attrs choice chosen number span found reached granted)
 
@@ -117,8 +120,8 @@ pub choice_from_must : (known : Known) (places : Places) (who : User) (attrs : R
 choice_from_must known places who attrs choice chosen (must_by_group bypassed) = by_group bypassed
 choice_from_must known places who attrs choice chosen (must_by_binding key is_known reached must) =
     by_binding key is_known reached (IsGranted-weaker (MustGrantBy known places key who attrs) _ (choice.binding key)
-      (λ binding grants. (grants.0, grants.1 (choice.role (role_key key binding)) (role_possible key binding known places choice chosen)))
-      (must (choice.binding key) (binding_possible key attrs reached known places choice chosen)))
+    (λ binding grants. (grants.0, grants.1 (choice.role (role_key key binding)) (role_possible key binding known places choice chosen)))
+    (must (choice.binding key) (binding_possible key attrs reached known places choice chosen)))
 
 module _ (known : Known) (sound : AreSound known.versions known.ends) (places : Places) where
   least_role : (key : ObjectKey) → Least ReadsRules known key (place_of_role places key)
@@ -181,8 +184,8 @@ module _ (known : Known) (sound : AreSound known.versions known.ends) (places : 
   greatest_allows who attrs (may_by_group bypassed) = by_group bypassed
   greatest_allows who attrs (may_by_binding key is_known reached may) =
       by_binding key is_known reached (IsGranted-weaker (MayGrantBy known places key who attrs) _ (greatest_binding key).state
-        (λ binding grants. (grants.0, (greatest_role (role_key key binding)).greatest (λ rules. Grants rules attrs) grants.1))
-        ((greatest_binding key).greatest (MayGrantBy known places key who attrs) may))
+      (λ binding grants. (grants.0, (greatest_role (role_key key binding)).greatest (λ rules. Grants rules attrs) grants.1))
+      ((greatest_binding key).greatest (MayGrantBy known places key who attrs) may))
   greatest_allows who attrs (may_by_nameless number span found reached begun) = by_nameless number span found reached (test_from_begun number span found begun)
 
   -- and what the least states allow is certain
@@ -190,8 +193,8 @@ module _ (known : Known) (sound : AreSound known.versions known.ends) (places : 
   must_from_least who attrs (by_group bypassed) = must_by_group bypassed
   must_from_least who attrs (by_binding key is_known reached granted) =
       must_by_binding key is_known reached ((least_binding key).least (MustGrantBy known places key who attrs)
-        (IsGranted-weaker _ (MustGrantBy known places key who attrs) (least_binding key).state
-          (λ binding grants. (grants.0, (least_role (role_key key binding)).least (λ rules. Grants rules attrs) grants.1)) granted))
+      (IsGranted-weaker _ (MustGrantBy known places key who attrs) (least_binding key).state
+      (λ binding grants. (grants.0, (least_role (role_key key binding)).least (λ rules. Grants rules attrs) grants.1)) granted))
   must_from_least who attrs (by_nameless number span found reached granted) = absurd (false≢true granted)
 
   pub allow_from_may : (who : User) (attrs : RequestAttrs) → MayAllow known places who attrs → IsPossible known places who attrs Allow

@@ -147,8 +147,11 @@ role_must_after known kind key of_kind before place quiet attrs must = λ state 
 pub way_may_before : (known : Known) (way : Way) (r0 r b0 b : ℕ) (who : User) (attrs : RequestAttrs) → IsQuiet known (roles_in way) r0 r → IsQuiet known (bindings_in way) b0 b
     → MayGrantInWay known way r b who attrs → MayGrantInWay known way r0 b0 who attrs
 way_may_before known way r0 r b0 b who attrs roles bindings (by_key key of may) =
-    by_key key of (may.0, state_before known (bindings_in way) key of.of_kind b0 b bindings (IsBindingOf key) may.0 may.1,
-      IsGranted-weaker _ _ may.0 (λ binding grants. (grants.0, role_may_before known (roles_in way) (role_key key binding) grants.0.role_kind r0 r roles attrs grants.1)) may.2)
+    by_key key of (
+      may.0,
+      state_before known (bindings_in way) key of.of_kind b0 b bindings (IsBindingOf key) may.0 may.1,
+      IsGranted-weaker _ _ may.0 (λ binding grants. (grants.0, role_may_before known (roles_in way) (role_key key binding) grants.0.role_kind r0 r roles attrs grants.1)) may.2,
+    )
 way_may_before known way r0 r b0 b who attrs roles bindings (by_create create) = by_create (record {
   number = create.number;
   span = create.span;

@@ -89,9 +89,10 @@ pub content_bound : (key : ObjectKey) (content : RbacContent) (binding : Binding
     → IsBindingOf key content binding × (role ≡ role_key key binding)
 content_bound key (Role own) binding role is = absurd (less_apart 0 1 (omega arith) (ap tag is))
 content_bound key (Bound own) binding role is =
-    let parts = kept_parts (is_cluster_binding (kind_of_key key)) own.role_is_cluster own binding (role_key key own) role is in
-    ((ap (λ b. Bound b) parts.0, λ kind. subst (λ (b : Binding). b.role_is_cluster ≡ true) parts.0 (parts.2 (ap is_cluster_binding kind))),
-      sym parts.1 ∙ ap (λ b. role_key key b) parts.0)
+    let parts = kept_parts (is_cluster_binding (kind_of_key key)) own.role_is_cluster own binding (role_key key own) role is in (
+      (ap (λ b. Bound b) parts.0, λ kind. subst (λ (b : Binding). b.role_is_cluster ≡ true) parts.0 (parts.2 (ap is_cluster_binding kind))),
+      sym parts.1 ∙ ap (λ b. role_key key b) parts.0,
+    )
 content_bound key Unreadable binding role is = absurd (less_apart 1 2 (omega arith) (sym (ap tag is)))
 
 pub no_binding_in_rules : (key : ObjectKey) (content : RbacContent) (rules : List PolicyRule) → content_of key content ≡ Rules rules → (x : Binding) → IsBindingOf key content x → ⊥
@@ -216,6 +217,6 @@ module _ (known : Known) (sound : AreSound known.versions known.ends) (key : Obj
 -- a test of two parts
 pub test_of_both : (a b r : Bool) (A B C : Type 0) → r ≡ (a && b) → ((a ≡ true) ↔ A) → ((b ≡ true) ↔ B) → (A → B → C) → (C → A × B) → (r ≡ true) ↔ C
 test_of_both a b r A B C is of_a of_b join parts = (
-    (λ passed. let both = and_parts a b (sym is ∙ passed) in join (of_a.0 both.0) (of_b.0 both.1)),
-    (λ all. let both = parts all in is ∙ and_from a b (of_a.1 both.0) (of_b.1 both.1)),
-  )
+  (λ passed. let both = and_parts a b (sym is ∙ passed) in join (of_a.0 both.0) (of_b.0 both.1)),
+  (λ all. let both = parts all in is ∙ and_from a b (of_a.1 both.0) (of_b.1 both.1)),
+)

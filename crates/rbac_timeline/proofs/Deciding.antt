@@ -29,9 +29,9 @@ decide_any P decide [] = inr (λ any. let within = any.2 in omega arith)
 decide_any P decide (x ∷ xs) = ⊎_elim
     (λ here. inl (Any-head P x xs here))
     (λ not_here. ⊎_elim
-      (λ there. inl (Any-tail P x xs there))
-      (λ not_there. inr (λ any. ⊎_elim not_here not_there (Any-cons_cases P x xs any)))
-      (decide_any P decide xs))
+    (λ there. inl (Any-tail P x xs there))
+    (λ not_there. inr (λ any. ⊎_elim not_here not_there (Any-cons_cases P x xs any)))
+    (decide_any P decide xs))
     (decide x)
 
 pub decide_each : {X : Type 0} (P : X → Type 0) → ((x : X) → Decided (P x)) → (xs : List X) → Decided ((x : X) → Contains xs x → P x)
@@ -46,24 +46,24 @@ decide_text [] (y ∷ ys) = inr (λ e. let n : 0 ≡ length (y ∷ ys) = ap (λ 
 decide_text (x ∷ xs) [] = inr (λ e. let n : length (x ∷ xs) ≡ 0 = ap (λ (l : List ℕ). length l) e in omega arith)
 decide_text (x ∷ xs) (y ∷ ys) = ⊎_elim
     (λ head. ⊎_elim
-      (λ tail. inl (ap (λ z. z ∷ xs) head ∙ ap (λ l. y ∷ l) tail))
-      (λ not. inr (λ e. not (ap (λ (l : List ℕ). drop 1 l) e)))
-      (decide_text xs ys))
+    (λ tail. inl (ap (λ z. z ∷ xs) head ∙ ap (λ l. y ∷ l) tail))
+    (λ not. inr (λ e. not (ap (λ (l : List ℕ). drop 1 l) e)))
+    (decide_text xs ys))
     (λ not. inr (λ e. not (ap (λ (l : List ℕ). get_or l 0 0) e)))
     (cases_eq x y)
 
 pub decide_key : (a b : ObjectKey) → Decided (a ≡ b)
 decide_key a b = ⊎_elim
     (λ group. ⊎_elim
-      (λ resource. ⊎_elim
-        (λ namespace. ⊎_elim
-          (λ name. inl (same_key a b group resource namespace name))
-          (λ not. inr (λ e. not (ap (λ (k : ObjectKey). k.name) e)))
-          (decide_text a.name b.name))
-        (λ not. inr (λ e. not (ap (λ (k : ObjectKey). k.namespace) e)))
-        (decide_text a.namespace b.namespace))
-      (λ not. inr (λ e. not (ap (λ (k : ObjectKey). k.resource) e)))
-      (decide_text a.resource b.resource))
+    (λ resource. ⊎_elim
+    (λ namespace. ⊎_elim
+    (λ name. inl (same_key a b group resource namespace name))
+    (λ not. inr (λ e. not (ap (λ (k : ObjectKey). k.name) e)))
+    (decide_text a.name b.name))
+    (λ not. inr (λ e. not (ap (λ (k : ObjectKey). k.namespace) e)))
+    (decide_text a.namespace b.namespace))
+    (λ not. inr (λ e. not (ap (λ (k : ObjectKey). k.resource) e)))
+    (decide_text a.resource b.resource))
     (λ not. inr (λ e. not (ap (λ (k : ObjectKey). k.group) e)))
     (decide_text a.group b.group)
 
@@ -72,9 +72,9 @@ decide_front [] text = inl (text, refl)
 decide_front (x ∷ front) [] = inr (λ found. let n : 0 ≡ length (x ∷ front ++ found.0) = ap (λ (l : List ℕ). length l) found.1 in omega arith)
 decide_front (x ∷ front) (y ∷ text) = ⊎_elim
     (λ head. ⊎_elim
-      (λ found. inl (found.0, ap (λ z. z ∷ text) head ∙ ap (λ l. x ∷ l) found.1))
-      (λ not. inr (λ found. not (found.0, ap (λ (l : List ℕ). drop 1 l) found.1)))
-      (decide_front front text))
+    (λ found. inl (found.0, ap (λ z. z ∷ text) head ∙ ap (λ l. x ∷ l) found.1))
+    (λ not. inr (λ found. not (found.0, ap (λ (l : List ℕ). drop 1 l) found.1)))
+    (decide_front front text))
     (λ not. inr (λ found. not (ap (λ (l : List ℕ). get_or l 0 0) found.1)))
     (cases_eq y x)
 
@@ -90,15 +90,15 @@ decide_namespace (Some given) text = decide_text text given
 pub decide_covers : (cover : Cover) (key : ObjectKey) → Decided (Covers cover key)
 decide_covers cover key = ⊎_elim
     (λ group. ⊎_elim
-      (λ resource. ⊎_elim
-        (λ namespace. ⊎_elim
-          (λ name. inl (record { group = group; resource = resource; namespace = namespace; name = name }))
-          (λ not. inr (λ covers. not covers.name))
-          (decide_name cover.name key.name))
-        (λ not. inr (λ covers. not covers.namespace))
-        (decide_namespace cover.namespace key.namespace))
-      (λ not. inr (λ covers. not covers.resource))
-      (decide_text key.resource cover.resource))
+    (λ resource. ⊎_elim
+    (λ namespace. ⊎_elim
+    (λ name. inl (record { group = group; resource = resource; namespace = namespace; name = name }))
+    (λ not. inr (λ covers. not covers.name))
+    (decide_name cover.name key.name))
+    (λ not. inr (λ covers. not covers.namespace))
+    (decide_namespace cover.namespace key.namespace))
+    (λ not. inr (λ covers. not covers.resource))
+    (decide_text key.resource cover.resource))
     (λ not. inr (λ covers. not covers.group))
     (decide_text key.group cover.group)
 
@@ -110,23 +110,23 @@ decide_unseen : (key : ObjectKey) (high place : ℕ) (r : KeyRevision) → Decid
 decide_unseen key high place r = ⊎_elim
     (λ above. inl (λ of_key behind. above))
     (λ (upto : r.revision ≤ place). ⊎_elim
-      (λ (behind : high < r.revision). ⊎_elim
-        (λ of_key. inr (λ unseen. let above : place < r.revision = unseen of_key behind in omega arith))
-        (λ not. inl (λ of_key behind. absurd (not of_key)))
-        (decide_key r.key key))
-      (λ (before : r.revision ≤ high). inl (λ of_key (behind : high < r.revision). absurd (omega arith)))
-      (cases_lt high r.revision))
+    (λ (behind : high < r.revision). ⊎_elim
+    (λ of_key. inr (λ unseen. let above : place < r.revision = unseen of_key behind in omega arith))
+    (λ not. inl (λ of_key behind. absurd (not of_key)))
+    (decide_key r.key key))
+    (λ (before : r.revision ≤ high). inl (λ of_key (behind : high < r.revision). absurd (omega arith)))
+    (cases_lt high r.revision))
     (cases_lt place r.revision)
 
 decide_hidden : (revisions : List KeyRevision) (key : ObjectKey) (place : ℕ) (span : OpaqueSpan) → Decided (IsHiddenBy revisions key place span)
 decide_hidden revisions key place span = ⊎_elim
     (λ covers. ⊎_elim
-      (λ begun. ⊎_elim
-        (λ unseen. inl (record { hides = covers; begun = begun; unseen = unseen }))
-        (λ not. inr (λ hidden. not hidden.unseen))
-        (decide_each (Unseen key span.high place) (decide_unseen key span.high place) revisions))
-      (λ (not : place ≤ span.low). inr (λ hidden. let begun = hidden.begun in omega arith))
-      (cases_lt span.low place))
+    (λ begun. ⊎_elim
+    (λ unseen. inl (record { hides = covers; begun = begun; unseen = unseen }))
+    (λ not. inr (λ hidden. not hidden.unseen))
+    (decide_each (Unseen key span.high place) (decide_unseen key span.high place) revisions))
+    (λ (not : place ≤ span.low). inr (λ hidden. let begun = hidden.begun in omega arith))
+    (cases_lt span.low place))
     (λ not. inr (λ hidden. not hidden.hides))
     (decide_covers span.cover key)
 
@@ -146,61 +146,73 @@ contained_cases v w vs among = go among.0 among.1 among.2
 -- the version doesn't count: it is of another key, or above the place
 skipped : (v : RbacVersion) (vs : List RbacVersion) (key : ObjectKey) (place : ℕ) → (v.key ≡ key → v.revision ≤ place → ⊥)
     → ((w : RbacVersion) × IsLatestVersion vs key place w) ⊎ NoneUpto vs key place → ((w : RbacVersion) × IsLatestVersion (v ∷ vs) key place w) ⊎ NoneUpto (v ∷ vs) key place
-skipped v vs key place not (inl found) = inl (found.0, record {
-  known = contained_tail v found.0 vs found.1.known;
-  of_key = found.1.of_key;
-  upto = found.1.upto;
-  latest = λ w among of_key upto. ⊎_elim
-      (λ is. absurd (not (ap (λ (x : RbacVersion). x.key) is ∙ of_key) (subst (λ (x : RbacVersion). x.revision ≤ place) (sym is) upto)))
-      (λ later. found.1.latest w later of_key upto)
-      (contained_cases v w vs among);
-})
+skipped v vs key place not (inl found) = inl (
+  found.0,
+  record {
+    known = contained_tail v found.0 vs found.1.known;
+    of_key = found.1.of_key;
+    upto = found.1.upto;
+    latest = λ w among of_key upto. ⊎_elim
+        (λ is. absurd (not (ap (λ (x : RbacVersion). x.key) is ∙ of_key) (subst (λ (x : RbacVersion). x.revision ≤ place) (sym is) upto)))
+        (λ later. found.1.latest w later of_key upto)
+        (contained_cases v w vs among);
+  },
+)
 skipped v vs key place not (inr none) = inr (λ w among of_key. ⊎_elim
     (λ is. ⊎_elim
-      (λ above. above)
-      (λ upto. absurd (not (ap (λ (x : RbacVersion). x.key) is ∙ of_key) (subst (λ (x : RbacVersion). x.revision ≤ place) (sym is) upto)))
-      (cases_lt place w.revision))
+    (λ above. above)
+    (λ upto. absurd (not (ap (λ (x : RbacVersion). x.key) is ∙ of_key) (subst (λ (x : RbacVersion). x.revision ≤ place) (sym is) upto)))
+    (cases_lt place w.revision))
     (λ later. none w later of_key)
     (contained_cases v w vs among))
 
 counted : (v : RbacVersion) (vs : List RbacVersion) (key : ObjectKey) (place : ℕ) → v.key ≡ key → v.revision ≤ place
     → ((w : RbacVersion) × IsLatestVersion vs key place w) ⊎ NoneUpto vs key place → (w : RbacVersion) × IsLatestVersion (v ∷ vs) key place w
-counted v vs key place of_key upto (inr none) = (v, record {
-  known = (0, omega arith, refl);
-  of_key = of_key;
-  upto = upto;
-  latest = λ w among w_key w_upto. ⊎_elim
-      (λ is. let same : v.revision ≡ w.revision = ap (λ (x : RbacVersion). x.revision) is in omega arith)
-      (λ later. let above = none w later w_key in absurd (omega arith))
-      (contained_cases v w vs among);
-})
+counted v vs key place of_key upto (inr none) = (
+  v,
+  record {
+    known = (0, omega arith, refl);
+    of_key = of_key;
+    upto = upto;
+    latest = λ w among w_key w_upto. ⊎_elim
+        (λ is. let same : v.revision ≡ w.revision = ap (λ (x : RbacVersion). x.revision) is in omega arith)
+        (λ later. let above = none w later w_key in absurd (omega arith))
+        (contained_cases v w vs among);
+  },
+)
 counted v vs key place of_key upto (inl found) = ⊎_elim
-    (λ (less : v.revision < found.0.revision). (found.0, record {
-      known = contained_tail v found.0 vs found.1.known;
-      of_key = found.1.of_key;
-      upto = found.1.upto;
-      latest = λ w among w_key w_upto. ⊎_elim
-          (λ is. let same : v.revision ≡ w.revision = ap (λ (x : RbacVersion). x.revision) is in omega arith)
-          (λ later. found.1.latest w later w_key w_upto)
-          (contained_cases v w vs among);
-    }))
-    (λ (more : found.0.revision ≤ v.revision). (v, record {
-      known = (0, omega arith, refl);
-      of_key = of_key;
-      upto = upto;
-      latest = λ w among w_key w_upto. ⊎_elim
-          (λ is. let same : v.revision ≡ w.revision = ap (λ (x : RbacVersion). x.revision) is in omega arith)
-          (λ later. let bound = found.1.latest w later w_key w_upto in omega arith)
-          (contained_cases v w vs among);
-    }))
+    (λ (less : v.revision < found.0.revision). (
+      found.0,
+      record {
+        known = contained_tail v found.0 vs found.1.known;
+        of_key = found.1.of_key;
+        upto = found.1.upto;
+        latest = λ w among w_key w_upto. ⊎_elim
+            (λ is. let same : v.revision ≡ w.revision = ap (λ (x : RbacVersion). x.revision) is in omega arith)
+            (λ later. found.1.latest w later w_key w_upto)
+            (contained_cases v w vs among);
+      },
+    ))
+    (λ (more : found.0.revision ≤ v.revision). (
+      v,
+      record {
+        known = (0, omega arith, refl);
+        of_key = of_key;
+        upto = upto;
+        latest = λ w among w_key w_upto. ⊎_elim
+            (λ is. let same : v.revision ≡ w.revision = ap (λ (x : RbacVersion). x.revision) is in omega arith)
+            (λ later. let bound = found.1.latest w later w_key w_upto in omega arith)
+            (contained_cases v w vs among);
+      },
+    ))
     (cases_lt v.revision found.0.revision)
 
 pub latest_or_none : (versions : List RbacVersion) (key : ObjectKey) (place : ℕ) → ((w : RbacVersion) × IsLatestVersion versions key place w) ⊎ NoneUpto versions key place
 latest_or_none [] key place = inr (λ v among of_key. let within = among.1 in absurd (omega arith))
 latest_or_none (v ∷ vs) key place = ⊎_elim
     (λ of_key. ⊎_elim
-      (λ (above : place < v.revision). skipped v vs key place (λ is upto. omega arith) (latest_or_none vs key place))
-      (λ upto. inl (counted v vs key place of_key upto (latest_or_none vs key place)))
-      (cases_lt place v.revision))
+    (λ (above : place < v.revision). skipped v vs key place (λ is upto. omega arith) (latest_or_none vs key place))
+    (λ upto. inl (counted v vs key place of_key upto (latest_or_none vs key place)))
+    (cases_lt place v.revision))
     (λ not. skipped v vs key place (λ is upto. not is) (latest_or_none vs key place))
     (decide_key v.key key)

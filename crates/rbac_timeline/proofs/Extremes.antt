@@ -42,11 +42,11 @@ pub one_version : (versions : List RbacVersion) → AllPairs IsBefore versions �
 one_version versions rising a b in_a in_b key revision = ⊎_elim
     (λ same. sym in_a.2 ∙ ap (λ k. get_or versions k a) same ∙ get_or_default versions in_b.0 a b in_b.1 ∙ in_b.2)
     (λ apart. ⊎_elim
-      (λ before. absurd (not_before a b key revision (subst (λ (v : RbacVersion). IsBefore v b) in_a.2
-        (subst (λ (v : RbacVersion). IsBefore (get_or versions in_a.0 a) v) (get_or_default versions in_b.0 a b in_b.1 ∙ in_b.2) (rising in_a.0 in_b.0 a before in_b.1)))))
-      (λ behind. absurd (not_before b a (sym key) (sym revision) (subst (λ (v : RbacVersion). IsBefore v a) in_b.2
-        (subst (λ (v : RbacVersion). IsBefore (get_or versions in_b.0 b) v) (get_or_default versions in_a.0 b a in_a.1 ∙ in_a.2) (rising in_b.0 in_a.0 b behind in_a.1)))))
-      apart)
+    (λ before. absurd (not_before a b key revision (subst (λ (v : RbacVersion). IsBefore v b) in_a.2
+    (subst (λ (v : RbacVersion). IsBefore (get_or versions in_a.0 a) v) (get_or_default versions in_b.0 a b in_b.1 ∙ in_b.2) (rising in_a.0 in_b.0 a before in_b.1)))))
+    (λ behind. absurd (not_before b a (sym key) (sym revision) (subst (λ (v : RbacVersion). IsBefore v a) in_b.2
+    (subst (λ (v : RbacVersion). IsBefore (get_or versions in_b.0 b) v) (get_or_default versions in_a.0 b a in_a.1 ∙ in_a.2) (rising in_b.0 in_a.0 b behind in_a.1)))))
+    apart)
     (cases_order in_a.0 in_b.0)
 
 pub one_latest : (versions : List RbacVersion) → AllPairs IsBefore versions → (key : ObjectKey) (place : ℕ) (a b : RbacVersion)
@@ -72,12 +72,12 @@ EndedBy version place end = (end.key ≡ version.key) × (end.last ≡ version.r
 decide_end : (version : RbacVersion) (end : RbacEnd) (n place : ℕ) → Decided ((end.key ≡ version.key) × (end.last ≡ version.revision) × (n ≤ place))
 decide_end version end n place = ⊎_elim
     (λ key. ⊎_elim
-      (λ last. ⊎_elim
-        (λ (above : place < n). inr (λ all. let upto : n ≤ place = all.2 in omega arith))
-        (λ upto. inl (key, last, upto))
-        (cases_lt place n))
-      (λ not. inr (λ all. not all.1))
-      (cases_eq end.last version.revision))
+    (λ last. ⊎_elim
+    (λ (above : place < n). inr (λ all. let upto : n ≤ place = all.2 in omega arith))
+    (λ upto. inl (key, last, upto))
+    (cases_lt place n))
+    (λ not. inr (λ all. not all.1))
+    (cases_eq end.last version.revision))
     (λ not. inr (λ all. not all.0))
     (decide_key end.key version.key)
 
@@ -92,9 +92,9 @@ pub decide_certain : (known : Known) (place : ℕ) (version : RbacVersion) → (
 decide_certain known place version = ⊎_elim
     (λ any. inl (any.1, is_end known version any.1 (any.0, any.2, any.3) any.4.0 any.4.1, any.4.2))
     (λ none. inr (λ end is. ⊎_elim
-      (λ before. before)
-      (λ began. absurd (none (is.known.0, end, is.known.1, is.known.2, (is.of_key, is.of_last, began))))
-      (cases_lt place end.low)))
+    (λ before. before)
+    (λ began. absurd (none (is.known.0, end, is.known.1, is.known.2, (is.of_key, is.of_last, began))))
+    (cases_lt place end.low)))
     (decide_any (BeganBy version place) (λ end. decide_end version end end.low place) known.ends)
 
 -- whether it may be there
@@ -102,9 +102,9 @@ pub decide_there : (known : Known) (place : ℕ) (version : RbacVersion) → ((e
 decide_there known place version = ⊎_elim
     (λ any. inl (any.1, is_end known version any.1 (any.0, any.2, any.3) any.4.0 any.4.1, any.4.2))
     (λ none. inr (λ end is. ⊎_elim
-      (λ before. before)
-      (λ ended. absurd (none (is.known.0, end, is.known.1, is.known.2, (is.of_key, is.of_last, ended))))
-      (cases_lt place end.high)))
+    (λ before. before)
+    (λ ended. absurd (none (is.known.0, end, is.known.1, is.known.2, (is.of_key, is.of_last, ended))))
+    (cases_lt place end.high)))
     (decide_any (EndedBy version place) (λ end. decide_end version end end.high place) known.ends)
 
 pub not_gone_from : (known : Known) → AreSound known.versions known.ends → (place : ℕ) (version : RbacVersion) → IsCertain known place version → IsNotGone known place version
@@ -227,7 +227,7 @@ read_binding key Unreadable = inr (λ x is. let no = is.0 in cc)
 read_binding key (Bound binding) = ⊎_elim
     (λ cluster. inl (binding, (refl, λ kind. cluster), λ y is. sym (ap (binding_or binding) is.0)))
     (λ (plain : binding.role_is_cluster ≡ false). ⊎_elim
-      (λ kind. inr (λ x is. let same : binding ≡ x = ap (binding_or binding) is.0 in let yes = is.1 kind in let no : x.role_is_cluster ≡ false = subst (λ (b : Binding). b.role_is_cluster ≡ false) same plain in cc))
-      (λ other. inl (binding, (refl, λ kind. absurd (other kind)), λ y is. sym (ap (binding_or binding) is.0)))
-      (decide_cluster (kind_of_key key)))
+    (λ kind. inr (λ x is. let same : binding ≡ x = ap (binding_or binding) is.0 in let yes = is.1 kind in let no : x.role_is_cluster ≡ false = subst (λ (b : Binding). b.role_is_cluster ≡ false) same plain in cc))
+    (λ other. inl (binding, (refl, λ kind. absurd (other kind)), λ y is. sym (ap (binding_or binding) is.0)))
+    (decide_cluster (kind_of_key key)))
     (cases_Bool binding.role_is_cluster)

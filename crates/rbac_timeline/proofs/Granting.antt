@@ -64,9 +64,9 @@ module _ {X : Type 0} (reads : Reading X) (known : Known) (key : ObjectKey) (pla
       → IsCertain known place version → grants x → MustGrant reads known key place grants
   must_read version x held read one certain granted Nothing is = ⊎_elim
       (λ unsure. ⊎_elim
-        (λ clouded. absurd (held.clear clouded))
-        (λ other. absurd (other.2 x (subst (λ (v : RbacVersion). reads v.content x) (sym (held.only other.0 other.1.latest)) read)))
-        unsure)
+      (λ clouded. absurd (held.clear clouded))
+      (λ other. absurd (other.2 x (subst (λ (v : RbacVersion). reads v.content x) (sym (held.only other.0 other.1.latest)) read)))
+      unsure)
       (λ absent. absent_not version held certain absent)
       is
     where

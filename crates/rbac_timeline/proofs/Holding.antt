@@ -22,16 +22,19 @@ latest_version histories versions key place stored are latest =
     let found = are.among key stored latest.among in
     let version = found.0 in
     let same : stored.revision ≡ version.revision = ap (λ (s : Stored). s.revision) found.3 in
-    let upto = latest.upto in
-    (version, record {
-      known = found.1;
-      of_key = found.2;
-      upto = omega arith;
-      latest = λ other among of_key other_upto.
-          let there = subst (λ k. Contains (items_at key_order histories k) (stored_of other)) of_key (are.found other among) in
-          let bound : other.revision ≤ stored.revision = latest.latest (stored_of other) there other_upto in
-          omega arith;
-    }, found.3)
+    let upto = latest.upto in (
+      version,
+      record {
+        known = found.1;
+        of_key = found.2;
+        upto = omega arith;
+        latest = λ other among of_key other_upto.
+            let there = subst (λ k. Contains (items_at key_order histories k) (stored_of other)) of_key (are.found other among) in
+            let bound : other.revision ≤ stored.revision = latest.latest (stored_of other) there other_upto in
+            omega arith;
+      },
+      found.3,
+    )
 
 pub no_version : (histories : BTreeMap ObjectKey (List Stored)) (versions : List RbacVersion) (key : ObjectKey) (place : ℕ) → AreStored histories versions
     → ((stored : Stored) → Contains (items_at key_order histories key) stored → place < stored.revision) → NoneUpto versions key place
@@ -49,11 +52,11 @@ one_end ends distinct version a b is_a is_b =
     ⊎_elim
     (λ same. sym in_a.2 ∙ ap (λ k. get_or ends k a) same ∙ b_there)
     (λ apart. ⊎_elim
-      (λ before. absurd (distinct in_a.0 in_b.0 a before in_b.1
-        (ap (λ (e : RbacEnd). e.key) in_a.2 ∙ key ∙ sym (ap (λ (e : RbacEnd). e.key) b_there), ap (λ (e : RbacEnd). e.last) in_a.2 ∙ last ∙ sym (ap (λ (e : RbacEnd). e.last) b_there))))
-      (λ behind. absurd (distinct in_b.0 in_a.0 a behind in_a.1
-        (ap (λ (e : RbacEnd). e.key) b_there ∙ sym key ∙ sym (ap (λ (e : RbacEnd). e.key) in_a.2), ap (λ (e : RbacEnd). e.last) b_there ∙ sym last ∙ sym (ap (λ (e : RbacEnd). e.last) in_a.2))))
-      apart)
+    (λ before. absurd (distinct in_a.0 in_b.0 a before in_b.1
+    (ap (λ (e : RbacEnd). e.key) in_a.2 ∙ key ∙ sym (ap (λ (e : RbacEnd). e.key) b_there), ap (λ (e : RbacEnd). e.last) in_a.2 ∙ last ∙ sym (ap (λ (e : RbacEnd). e.last) b_there))))
+    (λ behind. absurd (distinct in_b.0 in_a.0 a behind in_a.1
+    (ap (λ (e : RbacEnd). e.key) b_there ∙ sym key ∙ sym (ap (λ (e : RbacEnd). e.key) in_a.2), ap (λ (e : RbacEnd). e.last) b_there ∙ sym last ∙ sym (ap (λ (e : RbacEnd). e.last) in_a.2))))
+    apart)
     (cases_order in_a.0 in_b.0)
 
 -- the removal that is kept behind a version is its removal
@@ -104,8 +107,7 @@ pub not_gone_by : (ends : List RbacEnd) → AllPairs (λ a b. (a.key ≡ b.key) 
 not_gone_by ends distinct key last place None removal version of_key revision = ((λ always end is. absurd (removal version of_key revision end is)), (λ all. tt))
 not_gone_by ends distinct key last place (Some gap) removal version of_key revision =
     let found = removal version of_key revision in
-    let high : gap.high ≡ found.0.high = ap (λ (g : Gap). g.high) found.2 in
-    (
+    let high : gap.high ≡ found.0.high = ap (λ (g : Gap). g.high) found.2 in (
       (λ before end is. let same : found.0.high ≡ end.high = ap (λ (e : RbacEnd). e.high) (one_end ends distinct version found.0 end found.1 is) in omega arith),
       (λ all. let before : place < found.0.high = all found.0 found.1 in omega arith),
     )
@@ -115,8 +117,7 @@ pub certain_by : (ends : List RbacEnd) → AllPairs (λ a b. (a.key ≡ b.key) �
 certain_by ends distinct key last place None removal version of_key revision = ((λ always end is. absurd (removal version of_key revision end is)), (λ all. tt))
 certain_by ends distinct key last place (Some gap) removal version of_key revision =
     let found = removal version of_key revision in
-    let low : gap.low ≡ found.0.low = ap (λ (g : Gap). g.low) found.2 in
-    (
+    let low : gap.low ≡ found.0.low = ap (λ (g : Gap). g.low) found.2 in (
       (λ before end is. let same : found.0.low ≡ end.low = ap (λ (e : RbacEnd). e.low) (one_end ends distinct version found.0 end found.1 is) in omega arith),
       (λ all. let before : place < found.0.low = all found.0 found.1 in omega arith),
     )

@@ -40,22 +40,22 @@ module _ (known : Known) (sound : AreSound known.versions known.ends) (places : 
 
   pub allow_by_ways : (IsBypassed known who → ⊥) → (a b c : Bool) → AreTests (MayInWay known places who attrs) a b c → ((a || b || c) ≡ true) ↔ IsPossible known places who attrs Allow
   allow_by_ways plain a b c tests = (
-      (λ yes. let found = some_way (MayInWay known places who attrs) a b c tests yes in allow_from_may known sound places who attrs (may_from_way known places who attrs found.0 found.1)),
-      (λ possible. ⊎_elim
+    (λ yes. let found = some_way (MayInWay known places who attrs) a b c tests yes in allow_from_may known sound places who attrs (may_from_way known places who attrs found.0 found.1)),
+    (λ possible. ⊎_elim
         (λ bypassed. absurd (plain bypassed))
         (λ found. test_of_way (MayInWay known places who attrs) a b c tests found.0 found.1)
         (way_from_may known places who attrs (may_from_allow known places who attrs possible))),
-    )
+  )
 
   pub forbid_by_ways : (IsBypassed known who → ⊥) → (a b c : Bool) → AreTests (MustInWay known places who attrs) a b c → (not (a || b || c) ≡ true) ↔ IsPossible known places who attrs Forbid
   forbid_by_ways plain a b c tests = (
-      (λ yes. forbid_from_not_must known sound places who attrs (λ must. ⊎_elim
+    (λ yes. forbid_from_not_must known sound places who attrs (λ must. ⊎_elim
         plain
         (λ found. both_ways (a || b || c) (not-true (a || b || c) yes) (test_of_way (MustInWay known places who attrs) a b c tests found.0 found.1))
         (way_from_must known sound places who attrs must))),
-      (λ possible. ⊎_elim
+    (λ possible. ⊎_elim
         (λ yes. let found = some_way (MustInWay known places who attrs) a b c tests yes in
-          absurd (not_must_from_forbid known places who attrs possible (must_from_way known places who attrs found.0 found.1)))
+        absurd (not_must_from_forbid known places who attrs possible (must_from_way known places who attrs found.0 found.1)))
         (λ no. not_from_false (a || b || c) no)
         (cases_Bool (a || b || c))),
-    )
+  )

@@ -3,10 +3,15 @@ pub mod Constancy
 pub mod Contents
 pub mod Deciding
 pub mod Extremes
+pub mod Finding
+pub mod Gathering
 pub mod Granting
 pub mod Holding
 pub mod Judging
+pub mod Lows
+pub mod Mentions
 pub mod Ordered
+pub mod Rising
 pub mod Stepping
 pub mod Tests
 pub mod Ways

@@ -42,24 +42,24 @@ module _ (known : Known) (kind : Kind) (low high : ℕ) (places : List ℕ) (are
       fails.at_low (carries low place (quiet_from low place from_low (omega arith) upto_high (λ k within later. above k (omega arith) within)) holds)
   fails_before (suc index) place fails from_low upto_high above holds = ⊎_elim
       (λ (within : index < length places). ⊎_elim
-        (λ (early : place < get_or places index 0).
-        fails_before index place (record { at_low = fails.at_low; at_changes = λ k below among. fails.at_changes k (omega arith) among }) from_low upto_high
-        (λ k from_index among. ⊎_elim
-          (λ same. subst (λ n. place < get_or places n 0) same early)
-          (λ apart. ⊎_elim (λ (less : index < k). above k (omega arith) among) (λ (more : k < index). absurd (omega arith)) apart)
-          (cases_order index k)) holds)
-        (λ (late : get_or places index 0 ≤ place).
-        let inside = are.between (get_or places index 0) (index, within, get_or_default places index (get_or places index 0) 0 within) in
-        let from = inside.0 in
-        fails.at_changes index (omega arith) within (carries (get_or places index 0) place
-          (quiet_from (get_or places index 0) place late (omega arith) upto_high (λ k among later. ⊎_elim
-            (λ same. let is : get_or places k 0 ≡ get_or places index 0 = ap (λ n. get_or places n 0) (sym same) in absurd (omega arith))
-            (λ apart. ⊎_elim
-              (λ (less : index < k). above k (omega arith) among)
-              (λ (more : k < index). let up : get_or places k 0 < get_or places index 0 = are.rising k index 0 more within in absurd (omega arith))
-              apart)
-            (cases_order index k))) holds))
-        (cases_lt place (get_or places index 0)))
+      (λ (early : place < get_or places index 0).
+      fails_before index place (record { at_low = fails.at_low; at_changes = λ k below among. fails.at_changes k (omega arith) among }) from_low upto_high
+      (λ k from_index among. ⊎_elim
+      (λ same. subst (λ n. place < get_or places n 0) same early)
+      (λ apart. ⊎_elim (λ (less : index < k). above k (omega arith) among) (λ (more : k < index). absurd (omega arith)) apart)
+      (cases_order index k)) holds)
+      (λ (late : get_or places index 0 ≤ place).
+      let inside = are.between (get_or places index 0) (index, within, get_or_default places index (get_or places index 0) 0 within) in
+      let from = inside.0 in
+      fails.at_changes index (omega arith) within (carries (get_or places index 0) place
+      (quiet_from (get_or places index 0) place late (omega arith) upto_high (λ k among later. ⊎_elim
+      (λ same. let is : get_or places k 0 ≡ get_or places index 0 = ap (λ n. get_or places n 0) (sym same) in absurd (omega arith))
+      (λ apart. ⊎_elim
+      (λ (less : index < k). above k (omega arith) among)
+      (λ (more : k < index). let up : get_or places k 0 < get_or places index 0 = are.rising k index 0 more within in absurd (omega arith))
+      apart)
+      (cases_order index k))) holds))
+      (cases_lt place (get_or places index 0)))
       (λ (beyond : length places ≤ index).
       fails_before index place (record { at_low = fails.at_low; at_changes = λ k below among. fails.at_changes k (omega arith) among }) from_low upto_high
       (λ k from_index among. absurd (omega arith)) holds)
@@ -80,12 +80,12 @@ module _ (known : Known) (kind : Kind) (low high : ℕ) (places : List ℕ) (are
             (λ (early : other < get_or places index 0).
             let upto = inside.1 in
             absurd (fails_before index other fails from_low (omega arith) (λ k from_index among. ⊎_elim
-              (λ same. subst (λ n. other < get_or places n 0) same early)
-              (λ apart. ⊎_elim
-                (λ (less : index < k). let up : get_or places index 0 < get_or places k 0 = are.rising index k 0 less among in omega arith)
-                (λ (more : k < index). absurd (omega arith))
-                apart)
-              (cases_order index k)) other_holds))
+            (λ same. subst (λ n. other < get_or places n 0) same early)
+            (λ apart. ⊎_elim
+            (λ (less : index < k). let up : get_or places index 0 < get_or places k 0 = are.rising index k 0 less among in omega arith)
+            (λ (more : k < index). absurd (omega arith))
+            apart)
+            (cases_order index k)) other_holds))
             (λ late. late)
             (cases_lt other (get_or places index 0));
       }

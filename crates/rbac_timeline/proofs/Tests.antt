@@ -9,16 +9,15 @@ use Rattle.clouds.proofs.Quantified.{Any-append_cases, Any-append_left, Any-appe
 pub test_more : {X : Type 0} (P : X → Type 0) (xs : List X) (i : ℕ) (x : X) (a b r : Bool) → i < length xs → x ≡ get_or xs i x → r ≡ (a || b)
     → ((a ≡ true) ↔ Any P (take i xs)) → ((b ≡ true) ↔ P x) → (r ≡ true) ↔ Any P (take (i + 1) xs)
 test_more P xs i x a b r within is joined before here =
-    let longer : take (i + 1) xs ≡ take i xs ++ x ∷ [] = take_more xs i x within ∙ subst (λ y. take i xs ++ get_or xs i x ∷ [] ≡ take i xs ++ y ∷ []) (sym is) refl in
-    (
+    let longer : take (i + 1) xs ≡ take i xs ++ x ∷ [] = take_more xs i x within ∙ subst (λ y. take i xs ++ get_or xs i x ∷ [] ≡ take i xs ++ y ∷ []) (sym is) refl in (
       (λ passed. subst (λ l. Any P l) (sym longer) (⊎_elim
-        (λ first. Any-append_left P (take i xs) (x ∷ []) (before.0 first))
-        (λ last. Any-append_right P (take i xs) (x ∷ []) (Any-head P x [] (here.0 last)))
-        (or_cases a b (sym joined ∙ passed)))),
+          (λ first. Any-append_left P (take i xs) (x ∷ []) (before.0 first))
+          (λ last. Any-append_right P (take i xs) (x ∷ []) (Any-head P x [] (here.0 last)))
+          (or_cases a b (sym joined ∙ passed)))),
       (λ any. joined ∙ ⊎_elim
-        (λ first. or_left a b (before.1 first))
-        (λ last. or_right a b (here.1 (⊎_elim (λ holds. holds) (λ none. absurd (let within = none.2 in omega arith)) (Any-cons_cases P x [] last))))
-        (Any-append_cases P (take i xs) (x ∷ []) (subst (λ l. Any P l) longer any))),
+          (λ first. or_left a b (before.1 first))
+          (λ last. or_right a b (here.1 (⊎_elim (λ holds. holds) (λ none. absurd (let within = none.2 in omega arith)) (Any-cons_cases P x [] last))))
+          (Any-append_cases P (take i xs) (x ∷ []) (subst (λ l. Any P l) longer any))),
     )
 
 pub test_all : {X : Type 0} (P : X → Type 0) (xs : List X) (i : ℕ) (r : Bool) → length xs ≤ i → ((r ≡ true) ↔ Any P (take i xs)) → (r ≡ true) ↔ Any P xs

@@ -32,9 +32,12 @@ MustInWay known places who attrs way = MustGrantInWay known way (role_place (Som
 
 pub may_from_way : (known : Known) (places : Places) (who : User) (attrs : RequestAttrs) (way : Way) → MayInWay known places who attrs way → MayAllow known places who attrs
 may_from_way known places who attrs way (by_key key of may) =
-    may_by_binding key of.is_known of.reached (may.0, subst (λ k. IsBindingState known key (binding_place k places) may.0) (sym of.of_kind) may.1,
+    may_by_binding key of.is_known of.reached (
+      may.0,
+      subst (λ k. IsBindingState known key (binding_place k places) may.0) (sym of.of_kind) may.1,
       IsGranted-weaker _ (MayGrantBy known places key who attrs) may.0
-      (λ binding grants. (grants.0.matches, subst (λ k. MayGrantByRole known (role_key key binding) (role_place k places) attrs) (sym grants.0.role_kind) grants.1)) may.2)
+          (λ binding grants. (grants.0.matches, subst (λ k. MayGrantByRole known (role_key key binding) (role_place k places) attrs) (sym grants.0.role_kind) grants.1)) may.2,
+    )
 may_from_way known places who attrs way (by_create create) =
     may_by_nameless create.number create.span create.found create.reached (subst (λ k. create.span.low < binding_place k places) (sym create.of_kind) create.begun)
 
@@ -42,9 +45,9 @@ pub must_from_way : (known : Known) (places : Places) (who : User) (attrs : Requ
 must_from_way known places who attrs way in_way =
     let key = in_way.key in
     must_by_binding key in_way.way_of.is_known in_way.way_of.reached (λ state possible.
-      IsGranted-weaker _ (MustGrantBy known places key who attrs) state
-      (λ binding grants. (grants.0.matches, subst (λ k. MustGrantByRole known (role_key key binding) (role_place k places) attrs) (sym grants.0.role_kind) grants.1))
-      (in_way.must state (subst (λ k. IsBindingState known key (binding_place k places) state) in_way.way_of.of_kind possible)))
+    IsGranted-weaker _ (MustGrantBy known places key who attrs) state
+    (λ binding grants. (grants.0.matches, subst (λ k. MustGrantByRole known (role_key key binding) (role_place k places) attrs) (sym grants.0.role_kind) grants.1))
+    (in_way.must state (subst (λ k. IsBindingState known key (binding_place k places) state) in_way.way_of.of_kind possible)))
 
 -- the kind of the role that a binding names
 kind_by : (cluster : Bool) (key : ObjectKey) (binding : Binding) → binding.role_is_cluster ≡ cluster → IsKeyOf ClusterRole (role_key key binding) ⊎ IsKeyOf Role (role_key key binding)
@@ -79,14 +82,20 @@ may_by_state : (known : Known) (places : Places) (who : User) (attrs : RequestAt
     → (state : State Binding) → IsBindingState known key (place_of_binding places key) state → IsGranted (MayGrantBy known places key who attrs) state → (way : Way) × MayInWay known places who attrs way
 may_by_state known places who attrs key is_known reached kind Nothing possible granted = absurd granted
 may_by_state known places who attrs key is_known reached kind (By binding) possible granted =
-    let found = way_of_binding key binding possible.1.0.content possible.1.2 kind in
-    (found.0, by_key key (record { is_known = is_known; of_kind = found.1; reached = reached })
-      (By binding, subst (λ k. IsBindingState known key (binding_place k places) (By binding)) found.1 possible,
-        (record { role_kind = found.2; matches = granted.0 }, subst (λ k. MayGrantByRole known (role_key key binding) (role_place k places) attrs) found.2 granted.1)))
+    let found = way_of_binding key binding possible.1.0.content possible.1.2 kind in (
+      found.0,
+      by_key key (record { is_known = is_known; of_kind = found.1; reached = reached }) (
+        By binding,
+        subst (λ k. IsBindingState known key (binding_place k places) (By binding)) found.1 possible,
+        (record { role_kind = found.2; matches = granted.0 }, subst (λ k. MayGrantByRole known (role_key key binding) (role_place k places) attrs) found.2 granted.1),
+      ),
+    )
 may_by_state known places who attrs key is_known reached kind Everything possible granted =
-    let found = some_way key kind in
-    (found.0, by_key key (record { is_known = is_known; of_kind = found.1; reached = reached })
-      (Everything, subst (λ k. IsBindingState known key (binding_place k places) Everything) found.1 possible, tt))
+    let found = some_way key kind in (
+      found.0,
+      by_key key (record { is_known = is_known; of_kind = found.1; reached = reached })
+          (Everything, subst (λ k. IsBindingState known key (binding_place k places) Everything) found.1 possible, tt),
+    )
 
 nameless_kind : (cover : Cover) (attrs : RequestAttrs) → IsReachedNameless cover attrs → (way : Way) × (kind_of cover.group cover.resource ≡ Some (bindings_in way))
 nameless_kind cover attrs (everywhere create) = (ClusterBindings, create.of_kind)
@@ -108,12 +117,14 @@ must_by_state : (known : Known) → AreSound known.versions known.ends → (plac
 must_by_state known sound places who attrs key is_known reached kind must Nothing possible = absurd (must Nothing possible)
 must_by_state known sound places who attrs key is_known reached kind must Everything possible = absurd (must Nothing (inl possible))
 must_by_state known sound places who attrs key is_known reached kind must (By binding) possible =
-    let found = way_of_binding key binding possible.1.0.content possible.1.2 kind in
-    (found.0, record {
-      key = key;
-      way_of = record { is_known = is_known; of_kind = found.1; reached = reached };
-      must = λ state is. in_way found.0 found.1 found.2 state (subst (λ k. IsBindingState known key (binding_place k places) state) (sym found.1) is);
-    })
+    let found = way_of_binding key binding possible.1.0.content possible.1.2 kind in (
+      found.0,
+      record {
+        key = key;
+        way_of = record { is_known = is_known; of_kind = found.1; reached = reached };
+        must = λ state is. in_way found.0 found.1 found.2 state (subst (λ k. IsBindingState known key (binding_place k places) state) (sym found.1) is);
+      },
+    )
   where
     in_way : (way : Way) → IsKeyOf (bindings_in way) key → IsKeyOf (roles_in way) (role_key key binding) → (state : State Binding) → IsBindingState known key (place_of_binding places key) state
         → IsGranted (λ b. IsSubject way key who b × MustGrantByRole known (role_key key b) (role_place (Some (roles_in way)) places) attrs) state

@@ -14,6 +14,10 @@ use Rattle.rbac_timeline.specs.Kinds.{IsBindingOf, IsKeyOf}
 abbrev pub key_order : ObjectKey → ObjectKey → Ordering
 key_order = (key_ord.ghosts).cmp
 
+-- each key is before those behind it
+abbrev pub AreRising : List ObjectKey → Type 0
+AreRising keys = AllPairs (λ a b. key_order a b ≡ Less) keys
+
 -- a version of the binding names the subject; one that can't be read names none
 pub record Names (versions : List RbacVersion) (subject : Subject) (key : ObjectKey) : Type 0 where
   pub version : RbacVersion
@@ -26,5 +30,5 @@ pub record Names (versions : List RbacVersion) (subject : Subject) (key : Object
 
 -- the keys of these bindings, in order, each once
 pub record AreBindingsOf (versions : List RbacVersion) (subject : Subject) (keys : List ObjectKey) : Type 0 where
-  pub rising : AllPairs (λ a b. key_order a b ≡ Less) keys
+  pub rising : AreRising keys
   pub exact : (key : ObjectKey) → Contains keys key ↔ Names versions subject key

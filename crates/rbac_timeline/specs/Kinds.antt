@@ -1,15 +1,16 @@
 -- The four kinds of objects of `rbac.authorization.k8s.io` (Kubernetes "Using RBAC Authorization", "API objects").
-use Rattle.std.specs.Prelude.{◌≡◌, ℕ, Bool, true, false, List, [], Option, Some, None, ◌⊎◌, MatchOption, bytes_eq, codes, if◌then◌else◌}
+use Rattle.std.specs.Prelude.{◌≡◌, ℕ, Bool, true, false, ◌&&◌, List, [], Option, Some, None, MatchOption, bytes_eq, codes, if◌then◌else◌}
 use Rattle.base_types.specs.declared.key.ObjectKey.{ObjectKey}
 use Rattle.base_types.specs.declared.key.Cover.{Cover}
 use Rattle.base_types.specs.declared.key.CoverName.{CoverName}
 use Rattle.base_types.specs.declared.key.CoverName.TheVariants.{Exact, Prefix, Any}
 use Rattle.base_types.specs.declared.request.RequestAttrs.{RequestAttrs}
 use Rattle.rbac_rules.specs.declared.binding.Binding.{Binding}
+use Rattle.rbac_rules.specs.declared.binding.Subject.{Subject}
 use Rattle.rbac_timeline.specs.declared.kind.Kind.{Kind}
 use Rattle.rbac_timeline.specs.declared.kind.Kind.TheVariants.{Role as RoleKind, ClusterRole, RoleBinding, ClusterRoleBinding}
 use Rattle.rbac_timeline.specs.declared.version.RbacContent.{RbacContent}
-use Rattle.rbac_timeline.specs.declared.version.RbacContent.TheVariants.{Bound}
+use Rattle.rbac_timeline.specs.declared.version.RbacContent.TheVariants.{Bound, Role, Unreadable}
 
 abbrev pub rbac_group : List ℕ
 rbac_group = codes "rbac.authorization.k8s.io"
@@ -58,15 +59,48 @@ is_cluster_binding (Some ClusterRoleBinding) = true
 abbrev pub IsBindingOf : ObjectKey → RbacContent → Binding → Type 0
 IsBindingOf key content binding = (content ≡ Bound binding) × (IsKeyOf ClusterRoleBinding key → binding.role_is_cluster ≡ true)
 
--- the content of a binding, where it can be read
-abbrev pub IsReadable : ObjectKey → RbacContent → Binding → Type 0
-IsReadable key content binding = (IsKeyOf RoleBinding key ⊎ IsKeyOf ClusterRoleBinding key) × IsBindingOf key content binding
+-- whether a binding of this kind may name its role, which is a ClusterRole or not
+abbrev pub can_bind : Option Kind → Bool → Bool
+can_bind None of_cluster = false
+can_bind (Some RoleKind) of_cluster = false
+can_bind (Some ClusterRole) of_cluster = false
+can_bind (Some RoleBinding) of_cluster = true
+can_bind (Some ClusterRoleBinding) of_cluster = of_cluster
+
+-- whether a version of this key is a binding that can be read
+abbrev pub is_readable : ObjectKey → RbacContent → Bool
+is_readable key (Role rules) = false
+is_readable key (Bound binding) = can_bind (kind_of_key key) binding.role_is_cluster
+is_readable key Unreadable = false
+
+-- the subjects that a version of this key names
+abbrev pub subjects_of : ObjectKey → RbacContent → List Subject
+subjects_of key (Role rules) = []
+subjects_of key (Bound binding) = if can_bind (kind_of_key key) binding.role_is_cluster then binding.subjects else []
+subjects_of key Unreadable = []
+
+-- whether the kind is one of bindings
+abbrev pub is_binding : Option Kind → Bool
+is_binding None = false
+is_binding (Some RoleKind) = false
+is_binding (Some ClusterRole) = false
+is_binding (Some RoleBinding) = true
+is_binding (Some ClusterRoleBinding) = true
 
 -- a cover without an exact name
 abbrev pub IsNameless : CoverName → Type 0
 IsNameless (Exact name) = ⊥
 IsNameless (Prefix front) = Unit {0}
 IsNameless Any = Unit {0}
+
+abbrev pub is_nameless : CoverName → Bool
+is_nameless (Exact name) = false
+is_nameless (Prefix front) = true
+is_nameless Any = true
+
+-- the kind of an object that was created without a known name
+abbrev pub nameless_kind : Cover → Option Kind
+nameless_kind cover = if cover.creates && is_nameless cover.name then kind_of cover.group cover.resource else None
 
 -- the create of a binding of this kind whose name isn't known
 pub record IsNamelessCreate (kind : Kind) (cover : Cover) : Type 0 where

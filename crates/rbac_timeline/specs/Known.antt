@@ -1,4 +1,4 @@
-use Rattle.std.specs.Prelude.{ℕ, List, map}
+use Rattle.std.specs.Prelude.{ℕ, List, [], map}
 use Rattle.clouds.specs.Writes.{Writes}
 use Rattle.clouds.specs.declared.span.KeyRevision.{KeyRevision}
 use Rattle.clouds.specs.declared.span.OpaqueSpan.{OpaqueSpan}
@@ -19,3 +19,7 @@ key_revision version = record { key = version.key; revision = version.revision }
 -- each version shows its object again
 abbrev pub writes_of : Known → Writes
 writes_of known = record { spans = known.spans; revisions = map key_revision known.versions }
+
+-- without groups
+abbrev pub known_of : List RbacVersion → List RbacEnd → List OpaqueSpan → Known
+known_of versions ends spans = record { versions = versions; ends = ends; spans = spans; bypass = [] }

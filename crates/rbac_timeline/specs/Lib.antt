@@ -7,6 +7,8 @@ pub mod Indexed
 pub mod Kept
 pub mod Kinds
 pub mod Known
+pub mod Nameless
 pub mod Searched
 pub mod Sound
 pub mod States
+pub mod Unsure

@@ -1,6 +1,13 @@
-use crate::kind::{Kind, kind_of};
+ghost use Rattle.std.specs.Prelude.{◌≡◌, ◌<◌, ◌≤◌, ◌+◌, ℕ, Some, IfOk, OnOk, AllPairs, Contains};
+ghost use Rattle.clouds.specs.declared.span.OpaqueSpan.{OpaqueSpan};
+ghost use Rattle.rbac_timeline.specs.declared.version.RbacEnd.{RbacEnd};
+ghost use Rattle.rbac_timeline.specs.declared.version.RbacVersion.{RbacVersion};
+ghost use Rattle.rbac_timeline.specs.Changing.{AreAllChanges, AreChangesOf, AreWithin, HasBegins, HasEnds, HasSpans, KeepsPlaces, places_of};
+ghost use Rattle.rbac_timeline.specs.Known.{known_of};
+
+use crate::kind::{Kind, is_kind, kind_of, kind_of_key};
 use crate::version::{RbacEnd, RbacVersion};
-use base_types::{ObjectKey, OutOfMemory};
+use base_types::OutOfMemory;
 use clouds::OpaqueSpan;
 use std::alloc::Global;
 
@@ -13,76 +20,115 @@ pub struct Changes {
     cluster_bindings: Vec<u64>,
 }
 
-impl Changes {
-    fn add(&mut self, kind: Option<Kind>, place: u64) -> Result<(), OutOfMemory> {
-        match kind {
-            Some(Kind::Role) => self.roles.push(place)?,
-            Some(Kind::ClusterRole) => self.cluster_roles.push(place)?,
-            Some(Kind::RoleBinding) => self.bindings.push(place)?,
-            Some(Kind::ClusterRoleBinding) => self.cluster_bindings.push(place)?,
-            None => {}
+// A version begins at its revision. A cloud that ends, ends there too.
+fn add_versions(
+    places: &mut Vec<u64>,
+    kind: Kind,
+    versions: &[RbacVersion],
+) -> Result<(), OutOfMemory>
+    ensures kept { OnOk result (KeepsPlaces places.old.items places.new.items) }
+    ensures added { OnOk result (HasBegins kind versions.now places.new.items) }
+{
+    for version in versions {
+        if is_kind(kind_of_key(&version.key), kind) {
+            places.push(version.revision.get())?;
         }
-        Ok(())
     }
+    Ok(())
+}
 
-    fn add_key(&mut self, key: &ObjectKey, place: u64) -> Result<(), OutOfMemory> {
-        self.add(kind_of(&key.group, &key.resource), place)
+// A removal may have taken place from `low` on, and has at `high`.
+fn add_ends(places: &mut Vec<u64>, kind: Kind, ends: &[RbacEnd]) -> Result<(), OutOfMemory>
+    ensures kept { OnOk result (KeepsPlaces places.old.items places.new.items) }
+    ensures added { OnOk result (HasEnds kind ends.now places.new.items) }
+{
+    for end in ends {
+        if is_kind(kind_of_key(&end.key), kind) {
+            places.push(end.low)?;
+            places.push(end.high)?;
+        }
     }
+    Ok(())
+}
 
-    fn sort(&mut self) -> Result<(), OutOfMemory> {
-        self.roles.sort()?;
-        self.cluster_roles.sort()?;
-        self.bindings.sort()?;
-        self.cluster_bindings.sort()?;
-        self.roles.dedup();
-        self.cluster_roles.dedup();
-        self.bindings.dedup();
-        self.cluster_bindings.dedup();
-        Ok(())
+// An unrecorded write may have taken place behind `low`.
+fn add_spans(places: &mut Vec<u64>, kind: Kind, spans: &[OpaqueSpan]) -> Result<(), OutOfMemory>
+    ensures kept { OnOk result (KeepsPlaces places.old.items places.new.items) }
+    ensures added { OnOk result (HasSpans kind spans.now places.new.items) }
+{
+    for span in spans {
+        if is_kind(kind_of(&span.cover.group, &span.cover.resource), kind) && span.low < u64::MAX {
+            places.push(span.low + 1)?;
+        }
     }
+    Ok(())
+}
 
-    /// A version begins, a removal may have taken place or has, a cloud begins; clouds end with versions.
+// The changes of a kind.
+fn changes_of(
+    alloc: Global,
+    kind: Kind,
+    versions: &[RbacVersion],
+    ends: &[RbacEnd],
+    spans: &[OpaqueSpan],
+) -> Result<Vec<u64>, OutOfMemory>
+    ensures { IfOk result (λ places. AreChangesOf (known_of versions.now ends.now spans.now) kind places.items) }
+{
+    let mut places = Vec::new(alloc);
+    add_versions(&mut places, kind, versions)?;
+    add_ends(&mut places, kind, ends)?;
+    add_spans(&mut places, kind, spans)?;
+    places.sort()?;
+    places.dedup();
+    Ok(places)
+}
+
+// Those above `low` and not above `high`.
+fn between(places: &[u64], low: u64, high: u64) -> &[u64]
+    requires { AllPairs (λ a b. a < b) places.now }
+    ensures { AreWithin places.now low high result.now }
+{
+    let upto = places.partition_point(|place| *place <= high);
+    let (front, _) = places.split_at(upto);
+    let begun = front.partition_point(|place| *place <= low);
+    let (_, between) = front.split_at(begun);
+    between
+}
+
+impl Changes {
+    /// Of the versions, the removals and the unrecorded writes.
     pub fn of(
         alloc: Global,
         versions: &[RbacVersion],
         ends: &[RbacEnd],
         spans: &[OpaqueSpan],
-    ) -> Result<Changes, OutOfMemory> {
-        let mut changes = Changes {
-            roles: Vec::new(alloc),
-            cluster_roles: Vec::new(alloc),
-            bindings: Vec::new(alloc),
-            cluster_bindings: Vec::new(alloc),
-        };
-        for version in versions {
-            changes.add_key(&version.key, version.revision.get())?;
-        }
-        for end in ends {
-            changes.add_key(&end.key, end.low)?;
-            changes.add_key(&end.key, end.high)?;
-        }
-        for span in spans {
-            if span.low < u64::MAX {
-                let kind = kind_of(&span.cover.group, &span.cover.resource);
-                changes.add(kind, span.low + 1)?;
-            }
-        }
-        changes.sort()?;
-        Ok(changes)
+    ) -> Result<Changes, OutOfMemory>
+        ensures { IfOk result (AreAllChanges (known_of versions.now ends.now spans.now)) }
+    {
+        Ok(Changes {
+            roles: changes_of(alloc, Kind::Role, versions, ends, spans)?,
+            cluster_roles: changes_of(alloc, Kind::ClusterRole, versions, ends, spans)?,
+            bindings: changes_of(alloc, Kind::RoleBinding, versions, ends, spans)?,
+            cluster_bindings: changes_of(alloc, Kind::ClusterRoleBinding, versions, ends, spans)?,
+        })
     }
 
-    /// The changes of a kind above `low` and not above `high`.
-    pub fn between(&self, kind: Kind, low: u64, high: u64) -> &[u64] {
-        let places = match kind {
+    fn places(&self, kind: Kind) -> &[u64]
+        ensures { result.now ≡ places_of self.now kind }
+    {
+        match kind {
             Kind::Role => self.roles.as_slice(),
             Kind::ClusterRole => self.cluster_roles.as_slice(),
             Kind::RoleBinding => self.bindings.as_slice(),
             Kind::ClusterRoleBinding => self.cluster_bindings.as_slice(),
-        };
-        let upto = places.partition_point(|place| *place <= high);
-        let (front, _) = places.split_at(upto);
-        let begun = front.partition_point(|place| *place <= low);
-        let (_, between) = front.split_at(begun);
-        between
+        }
+    }
+
+    /// The changes of a kind above `low` and not above `high`.
+    pub fn between(&self, kind: Kind, low: u64, high: u64) -> &[u64]
+        requires { AllPairs (λ a b. a < b) (places_of self.now kind) }
+        ensures { AreWithin (places_of self.now kind) low high result.now }
+    {
+        between(self.places(kind), low, high)
     }
 }

@@ -147,13 +147,10 @@ impl Gaps {
 }
 
 pub type Histories = BTreeMap<ObjectKey, History>;
+
 pub type Removals = BTreeMap<ObjectKey, Gaps>;
 
-fn content_of(
-    alloc: Global,
-    key: &ObjectKey,
-    content: RbacContent,
-) -> Result<Content, OutOfMemory>
+fn content_of(alloc: Global, key: &ObjectKey, content: RbacContent) -> Result<Content, OutOfMemory>
     ensures { IfOk result (λ made. made ≡ content_of key.now content) }
 {
     match content {

@@ -1,16 +1,12 @@
-ghost use Rattle.std.specs.Prelude.{◌≡◌, ◌↔◌, IfOk, IfSome, IfNone, OnOk};
-ghost use Rattle.base_types.specs.declared.key.ObjectKey.{ObjectKey};
-ghost use Rattle.rbac_rules.specs.declared.binding.Binding.{Binding};
-ghost use Rattle.rbac_rules.specs.Matching.{IsAccount};
+ghost use Rattle.std.specs.Prelude.{◌≡◌, ◌∷◌, ◌++◌, [], List, IfOk, OnOk, map};
 ghost use Rattle.clouds.specs.Kept.{AddsAt, items_at, text_order};
-ghost use Rattle.rbac_timeline.specs.Index.{Names};
-ghost use Rattle.rbac_timeline.specs.Indexed.{HasOneMore, IsIndexed, keys_of};
-ghost use Rattle.rbac_timeline.specs.Kinds.{IsReadable};
+ghost use Rattle.rbac_timeline.specs.Index.{AreRising};
+ghost use Rattle.rbac_timeline.specs.Indexed.{AddsAccount, HasOneMore, IsIndexed, Mention, account_keys, account_user, keys_of, mention_of, mentions_of};
 
-use crate::kind::{Kind, kind_of_key};
-use crate::version::{RbacContent, RbacVersion};
+use crate::named::named_subjects;
+use crate::version::RbacVersion;
 use base_types::{ObjectKey, OutOfMemory, Text};
-use rbac_rules::{Binding, Subject};
+use rbac_rules::Subject;
 use std::alloc::Global;
 use std::collections::BTreeMap;
 use std::marker::Model;
@@ -27,33 +23,50 @@ impl Model for Keys {
 
     ghost Value = { List ObjectKey };
 
+    ghost use Rattle.rbac_timeline.specs.Index.{AreRising};
+
     ghost view = { λ k. k.keys.items };
+
+    ghost invariant = { λ k. AreRising k.keys.items };
 }
 
 impl Keys {
-    // Puts a key behind the others, unless it is the last.
-    fn add(&mut self, key: &ObjectKey) -> Result<(), OutOfMemory>
+    /// No keys.
+    pub fn new(alloc: Global) -> Keys
+        ensures { result ≡ [] }
+    {
+        Keys {
+            keys: Vec::new(alloc),
+        }
+    }
+
+    /// Puts a key in its place, unless it is there.
+    pub fn add(&mut self, key: &ObjectKey) -> Result<(), OutOfMemory>
         ensures { OnOk result (HasOneMore self.old self.new key.now) }
     {
-        if let Some(last) = self.keys.last() {
-            if last == key {
-                return Ok(());
+        match self.keys.binary_search(key) {
+            Ok(_) => return Ok(()),
+            Err(place) => {
+                let copy = key.clone()?;
+                self.keys.insert(place, copy)?;
             }
         }
-        self.keys.push(key.clone()?)?;
         Ok(())
     }
 
     pub fn as_slice(&self) -> &[ObjectKey]
-        ensures { result.now ≡ self.now }
+        ensures keys { result.now ≡ self.now }
+        ensures rising { AreRising self.now }
     {
         self.keys.as_slice()
     }
 }
 
-type ByText = BTreeMap<Text, Keys>;
+/// Keys under texts.
+pub type ByText = BTreeMap<Text, Keys>;
 
-fn add_under(
+/// Puts a key under a text, unless it is there.
+pub fn add_under(
     alloc: Global,
     index: &mut ByText,
     text: &Text,
@@ -67,18 +80,19 @@ fn add_under(
             return Ok(());
         }
         None => {
-            let mut keys = Keys {
-                keys: Vec::new(alloc),
-            };
+            let mut keys = Keys::new(alloc);
             keys.add(key)?;
-            let _none = index.insert(text.clone()?, keys)?;
+            let copy = text.clone()?;
+            let _none = index.insert(copy, keys)?;
         }
     }
     Ok(())
 }
 
-fn found<'a>(index: &'a ByText, text: &Text) -> &'a [ObjectKey]
-    ensures { result.now ≡ items_at text_order index.now text.now }
+/// The keys under a text.
+pub fn found<'a>(index: &'a ByText, text: &Text) -> &'a [ObjectKey]
+    ensures keys { result.now ≡ items_at text_order index.now text.now }
+    ensures rising { AreRising result.now }
 {
     match index.get(text) {
         Some(keys) => keys.as_slice(),
@@ -86,33 +100,45 @@ fn found<'a>(index: &'a ByText, text: &Text) -> &'a [ObjectKey]
     }
 }
 
-/// The bindings by the subjects that their versions name.
-#[derive(Drop)]
-pub struct Index {
-    users: ByText,
-    groups: ByText,
-    accounts: BTreeMap<Text, ByText>,
-    // By the users that service accounts are.
-    account_users: ByText,
+type Accounts = BTreeMap<Text, ByText>;
+
+fn add_account(
+    alloc: Global,
+    accounts: &mut Accounts,
+    namespace: &Text,
+    name: &Text,
+    key: &ObjectKey,
+) -> Result<(), OutOfMemory>
+    ensures { OnOk result (AddsAccount accounts.old accounts.new namespace.now name.now key.now) }
+{
+    match accounts.get_mut(namespace) {
+        Some(names) => {
+            add_under(alloc, names, name, key)?;
+            return Ok(());
+        }
+        None => {
+            let mut names = BTreeMap::new(alloc);
+            add_under(alloc, &mut names, name, key)?;
+            let copy = namespace.clone()?;
+            let _none = accounts.insert(copy, names)?;
+        }
+    }
+    Ok(())
 }
 
-/// The binding that a version holds, where it can be read.
-pub fn readable<'a>(key: &ObjectKey, content: &'a RbacContent) -> Option<&'a Binding>
-    ensures some { IfSome result (λ binding. IsReadable key.now content.now binding.now) }
-    ensures none { IfNone result ((binding : Binding) → IsReadable key.now content.now binding → ⊥) }
+fn account_found<'a>(accounts: &'a Accounts, namespace: &Text, name: &Text) -> &'a [ObjectKey]
+    ensures keys { result.now ≡ account_keys accounts.now namespace.now name.now }
+    ensures rising { AreRising result.now }
 {
-    let RbacContent::Bound(binding) = content else {
-        return None;
-    };
-    match kind_of_key(key) {
-        Some(Kind::RoleBinding) => Some(binding),
-        Some(Kind::ClusterRoleBinding) if binding.role_is_cluster => Some(binding),
-        _ => None,
+    match accounts.get(namespace) {
+        Some(names) => found(names, name),
+        None => &[],
     }
 }
 
+// The user that a service account is.
 fn account_user(alloc: Global, namespace: &Text, name: &Text) -> Result<Text, OutOfMemory>
-    ensures { IfOk result (λ user. IsAccount user namespace.now name.now) }
+    ensures { IfOk result (λ user. user ≡ account_user namespace.now name.now) }
 {
     let mut user = String::from_str(alloc, "system:serviceaccount:")?;
     user.push_str(namespace.as_str())?;
@@ -121,34 +147,42 @@ fn account_user(alloc: Global, namespace: &Text, name: &Text) -> Result<Text, Ou
     Ok(Text::from_string(user))
 }
 
+/// The bindings by the subjects that their versions name.
+#[derive(Drop)]
+pub struct Index {
+    users: ByText,
+    groups: ByText,
+    accounts: Accounts,
+    // By the users that service accounts are.
+    account_users: ByText,
+}
+
 impl Index {
-    fn add_account(
-        &mut self,
-        alloc: Global,
-        namespace: &Text,
-        name: &Text,
-        key: &ObjectKey,
-    ) -> Result<(), OutOfMemory> {
-        match self.accounts.get_mut(namespace) {
-            Some(names) => {
-                add_under(alloc, names, name, key)?;
-                return Ok(());
-            }
-            None => {
-                let mut names = BTreeMap::new(alloc);
-                add_under(alloc, &mut names, name, key)?;
-                let _none = self.accounts.insert(namespace.clone()?, names)?;
-            }
+    fn new(alloc: Global) -> Index
+        ensures { IsIndexed result [] }
+    {
+        Index {
+            users: BTreeMap::new(alloc),
+            groups: BTreeMap::new(alloc),
+            accounts: BTreeMap::new(alloc),
+            account_users: BTreeMap::new(alloc),
         }
-        Ok(())
     }
 
-    fn add(&mut self, alloc: Global, subject: &Subject, key: &ObjectKey) -> Result<(), OutOfMemory> {
+    fn add(&mut self, alloc: Global, subject: &Subject, key: &ObjectKey) -> Result<(), OutOfMemory>
+        ensures { OnOk result ((mentions : List Mention) → IsIndexed self.old mentions → IsIndexed self.new (mentions ++ mention_of key.now subject.now ∷ [])) }
+    {
         match subject {
-            Subject::User(name) => add_under(alloc, &mut self.users, name, key)?,
-            Subject::Group(name) => add_under(alloc, &mut self.groups, name, key)?,
+            Subject::User(name) => {
+                add_under(alloc, &mut self.users, name, key)?;
+                return Ok(());
+            }
+            Subject::Group(name) => {
+                add_under(alloc, &mut self.groups, name, key)?;
+                return Ok(());
+            }
             Subject::ServiceAccount { namespace, name } => {
-                self.add_account(alloc, namespace, name, key)?;
+                add_account(alloc, &mut self.accounts, namespace, name, key)?;
                 let user = account_user(alloc, namespace, name)?;
                 add_under(alloc, &mut self.account_users, &user, key)?;
             }
@@ -156,32 +190,40 @@ impl Index {
         Ok(())
     }
 
-    /// Of versions that come by key.
-    pub fn of(alloc: Global, versions: &[RbacVersion]) -> Result<Index, OutOfMemory>
-        ensures { IfOk result (λ index. IsIndexed index.users index.groups index.account_users index.accounts (Names versions.now)) }
+    fn add_each(
+        &mut self,
+        alloc: Global,
+        subjects: &[Subject],
+        key: &ObjectKey,
+    ) -> Result<(), OutOfMemory>
+        ensures { OnOk result ((mentions : List Mention) → IsIndexed self.old mentions → IsIndexed self.new (mentions ++ map (mention_of key.now) subjects.now)) }
     {
-        let mut index = Index {
-            users: BTreeMap::new(alloc),
-            groups: BTreeMap::new(alloc),
-            accounts: BTreeMap::new(alloc),
-            account_users: BTreeMap::new(alloc),
-        };
+        for subject in subjects {
+            self.add(alloc, subject, key)?;
+        }
+        Ok(())
+    }
+
+    /// Finds the bindings of these versions.
+    pub fn of(alloc: Global, versions: &[RbacVersion]) -> Result<Index, OutOfMemory>
+        ensures { IfOk result (λ index. IsIndexed index (mentions_of versions.now)) }
+    {
+        let mut index = Index::new(alloc);
         for version in versions {
-            if let Some(binding) = readable(&version.key, &version.content) {
-                for subject in &binding.subjects {
-                    index.add(alloc, subject, &version.key)?;
-                }
-            }
+            let subjects = named_subjects(&version.key, &version.content);
+            index.add_each(alloc, subjects, &version.key)?;
         }
         Ok(index)
     }
 
+    /// By the name of a user.
     pub fn by_user(&self, name: &Text) -> &[ObjectKey]
         ensures { result.now ≡ items_at text_order self.now.users name.now }
     {
         found(&self.users, name)
     }
 
+    /// By the name of a group.
     pub fn by_group(&self, name: &Text) -> &[ObjectKey]
         ensures { result.now ≡ items_at text_order self.now.groups name.now }
     {
@@ -195,16 +237,17 @@ impl Index {
         found(&self.account_users, name)
     }
 
+    /// By a subject.
     pub fn by_subject(&self, subject: &Subject) -> &[ObjectKey]
-        ensures { result.now ≡ keys_of self.now.users self.now.groups self.now.accounts subject.now }
+        ensures keys { result.now ≡ keys_of self.now subject.now }
+        ensures rising { AreRising result.now }
     {
         match subject {
-            Subject::User(name) => self.by_user(name),
-            Subject::Group(name) => self.by_group(name),
-            Subject::ServiceAccount { namespace, name } => match self.accounts.get(namespace) {
-                Some(names) => found(names, name),
-                None => &[],
-            },
+            Subject::User(name) => found(&self.users, name),
+            Subject::Group(name) => found(&self.groups, name),
+            Subject::ServiceAccount { namespace, name } => {
+                account_found(&self.accounts, namespace, name)
+            }
         }
     }
 }

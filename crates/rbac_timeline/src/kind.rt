@@ -53,11 +53,7 @@ pub fn kind_of_key(key: &ObjectKey) -> Option<Kind>
 }
 
 /// The key of the role that a binding of this key names.
-pub fn role_key(
-    alloc: Global,
-    key: &ObjectKey,
-    binding: &Binding,
-) -> Result<ObjectKey, OutOfMemory>
+pub fn role_key(alloc: Global, key: &ObjectKey, binding: &Binding) -> Result<ObjectKey, OutOfMemory>
     ensures { IfOk result (λ role. role ≡ role_key key.now binding.now) }
 {
     let group = Text::from_str(alloc, RBAC_GROUP)?;

@@ -7,6 +7,8 @@ mod extent;
 mod history;
 mod index;
 mod kind;
+mod named;
+mod nameless;
 mod search;
 mod timeline;
 mod unsure;

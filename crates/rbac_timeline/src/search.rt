@@ -118,20 +118,22 @@ impl<'a> Asked<'a> {
             bindings,
             ..lowest
         });
-        let by_cluster_roles =
-            self.first_pair(Way::ClusterRoles)
-                .map(|(cluster_roles, bindings)| Places {
-                    cluster_roles,
-                    bindings,
-                    ..lowest
-                });
-        let by_cluster_bindings =
-            self.first_pair(Way::ClusterBindings)
-                .map(|(cluster_roles, cluster_bindings)| Places {
-                    cluster_roles,
-                    cluster_bindings,
-                    ..lowest
-                });
+        let by_cluster_roles = self.first_pair(Way::ClusterRoles).map(|(
+            cluster_roles,
+            bindings,
+        )| Places {
+            cluster_roles,
+            bindings,
+            ..lowest
+        });
+        let by_cluster_bindings = self.first_pair(Way::ClusterBindings).map(|(
+            cluster_roles,
+            cluster_bindings,
+        )| Places {
+            cluster_roles,
+            cluster_bindings,
+            ..lowest
+        });
         earlier(by_roles, earlier(by_cluster_roles, by_cluster_bindings))
     }
 

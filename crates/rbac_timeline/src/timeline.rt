@@ -9,10 +9,11 @@ use crate::extent::Extent;
 use crate::history::{Content, Gap, Histories, Removals, Stored, histories_of, removals_of};
 use crate::index::Index;
 use crate::kind::{Kind, is_kind, kind_of_key, reaches};
+use crate::nameless::Nameless;
 use crate::search::Asked;
-use crate::unsure::{Nameless, Unsure};
-use crate::way::{Link, Way};
+use crate::unsure::Unsure;
 use crate::version::{RbacEnds, RbacVersion, RbacVersions};
+use crate::way::{Link, Way};
 use base_types::{
     Decision, ObjectKey, OutOfMemory, Places, Possible, RequestAttrs, Text, Texts, User, has_text,
 };
@@ -49,13 +50,10 @@ impl Model for Timeline {
     ghost use Rattle.rbac_timeline.specs.Kept.{AreKept};
 
     ghost invariant = { λ t. AreKept (record { versions = t.versions.value; ends = t.ends.value; spans = t.spans.value; bypass = t.bypass })
-        t.histories t.removals t.clouds };
+        t.histories t.removals t.clouds t.index t.nameless t.unsure t.changes };
 }
 
-fn key_revisions(
-    alloc: Global,
-    versions: &[RbacVersion],
-) -> Result<Vec<KeyRevision>, OutOfMemory>
+fn key_revisions(alloc: Global, versions: &[RbacVersion]) -> Result<Vec<KeyRevision>, OutOfMemory>
     ensures { IfOk result (λ revisions. revisions.items ≡ map key_revision versions.now) }
 {
     let mut revisions = Vec::new(alloc);
@@ -114,9 +112,7 @@ fn any_of(a: bool, b: bool, c: bool) -> bool
 fn any_subject(subjects: &[Subject], who: &User) -> bool
     ensures { IsTrue result ↔ Any (λ subject. Matches subject who.now) subjects.now }
 {
-    subjects
-        .iter()
-        .any(|subject| subject_matches(subject, who))
+    subjects.iter().any(|subject| subject_matches(subject, who))
 }
 
 fn names(binding: &Binding, who: &User) -> bool
@@ -131,9 +127,9 @@ impl Timeline {
     ghost use Rattle.rbac_timeline.specs.Sound.{AreSound};
     ghost use Rattle.rbac_timeline.specs.declared.version.RbacVersion.{RbacVersion};
     ghost use Rattle.rbac_timeline.specs.Changing.{AreChangesBetween};
-    ghost use Rattle.rbac_timeline.specs.Choices.{IsBypassed};
+    ghost use Rattle.rbac_timeline.specs.Choices.{IsBypassed, IsKnownKey};
     ghost use Rattle.rbac_timeline.specs.Extents.{IsCertain, IsNotGone, MayGrantByRole, MayGrantInWay, MayGrantNameless, MustGrantByRole, MustGrantInWay};
-    ghost use Rattle.rbac_timeline.specs.Kept.{IsRemovalOf, MayGrantByContent, MayGrantByListed, MustGrantByContent, MustGrantByListed, stored_of};
+    ghost use Rattle.rbac_timeline.specs.Kept.{IsKnownUnsure, IsRemovalOf, MayGrantByContent, MayGrantByListed, MayGrantOf, MustGrantByContent, MustGrantByListed, MustGrantOf, NamesAccount, NamesGroup, NamesUser, NamesWho, stored_of};
     ghost use Rattle.rbac_timeline.specs.States.{IsLatestVersion, NoneUpto};
 
     /// Versions rise by key, and those of one key by revision. Each removal ends a version, before the key's
@@ -244,13 +240,7 @@ impl Timeline {
         }
     }
 
-    fn key_extent(
-        &self,
-        key: &ObjectKey,
-        link: Link,
-        who: &User,
-        attrs: &RequestAttrs,
-    ) -> Extent
+    fn key_extent(&self, key: &ObjectKey, link: Link, who: &User, attrs: &RequestAttrs) -> Extent
         ensures may { IsTrue result.may ↔ MayGrantByListed self.now link.way link.role_place link.binding_place who.now attrs.now key.now }
         ensures must { IsTrue result.must ↔ MustGrantByListed self.now link.way link.role_place link.binding_place who.now attrs.now key.now }
     {
@@ -288,12 +278,73 @@ impl Timeline {
         extent
     }
 
-    fn groups_extent(&self, link: Link, who: &User, attrs: &RequestAttrs) -> Extent {
+    // What the bindings grant that name the user.
+    fn user_extent(&self, link: Link, who: &User, attrs: &RequestAttrs) -> Extent
+        ensures may { IsTrue result.may ↔ MayGrantOf self.now (NamesUser self.now.versions who.now.name) link.way link.role_place link.binding_place who.now attrs.now }
+        ensures must { IsTrue result.must ↔ MustGrantOf self.now (NamesUser self.now.versions who.now.name) link.way link.role_place link.binding_place who.now attrs.now }
+    {
+        self.keys_extent(self.index.by_user(&who.name), link, who, attrs)
+    }
+
+    // What the bindings grant that name the account that the user is.
+    fn account_extent(&self, link: Link, who: &User, attrs: &RequestAttrs) -> Extent
+        ensures may { IsTrue result.may ↔ MayGrantOf self.now (NamesAccount self.now.versions who.now.name) link.way link.role_place link.binding_place who.now attrs.now }
+        ensures must { IsTrue result.must ↔ MustGrantOf self.now (NamesAccount self.now.versions who.now.name) link.way link.role_place link.binding_place who.now attrs.now }
+    {
+        self.keys_extent(self.index.by_account_user(&who.name), link, who, attrs)
+    }
+
+    // What the bindings grant that name a group.
+    fn group_extent(&self, group: &Text, link: Link, who: &User, attrs: &RequestAttrs) -> Extent
+        ensures may { IsTrue result.may ↔ MayGrantOf self.now (NamesGroup self.now.versions group.now) link.way link.role_place link.binding_place who.now attrs.now }
+        ensures must { IsTrue result.must ↔ MustGrantOf self.now (NamesGroup self.now.versions group.now) link.way link.role_place link.binding_place who.now attrs.now }
+    {
+        self.keys_extent(self.index.by_group(group), link, who, attrs)
+    }
+
+    // What the bindings grant that name a group of these.
+    fn groups_extent(&self, groups: &[Text], link: Link, who: &User, attrs: &RequestAttrs) -> Extent
+        ensures may { IsTrue result.may ↔ Any (λ group. MayGrantOf self.now (NamesGroup self.now.versions group) link.way link.role_place link.binding_place who.now attrs.now) groups.now }
+        ensures must { IsTrue result.must ↔ Any (λ group. MustGrantOf self.now (NamesGroup self.now.versions group) link.way link.role_place link.binding_place who.now attrs.now) groups.now }
+    {
         let mut extent = Extent::NOTHING;
-        for group in &who.groups {
-            extent = extent.or(self.keys_extent(self.index.by_group(group), link, who, attrs));
+        for group in groups {
+            extent = extent.or(self.group_extent(group, link, who, attrs));
         }
         extent
+    }
+
+    // What the bindings grant that name the user, the account that it is, or one of its groups.
+    fn named_extent(&self, link: Link, who: &User, attrs: &RequestAttrs) -> Extent
+        ensures may { IsTrue result.may ↔ MayGrantOf self.now (NamesWho self.now.versions who.now) link.way link.role_place link.binding_place who.now attrs.now }
+        ensures must { IsTrue result.must ↔ MustGrantOf self.now (NamesWho self.now.versions who.now) link.way link.role_place link.binding_place who.now attrs.now }
+    {
+        let user = self.user_extent(link, who, attrs);
+        let account = self.account_extent(link, who, attrs);
+        let groups = self.groups_extent(who.groups.as_slice(), link, who, attrs);
+        user.or(account).or(groups)
+    }
+
+    // Whether one of these bindings may grant the request.
+    fn some_may(&self, keys: &[ObjectKey], link: Link, who: &User, attrs: &RequestAttrs) -> bool
+        ensures { IsTrue result ↔ Any (MayGrantByListed self.now link.way link.role_place link.binding_place who.now attrs.now) keys.now }
+    {
+        for key in keys {
+            if self.key_extent(key, link, who, attrs).may {
+                return true;
+            }
+        }
+        false
+    }
+
+    // Whether a binding may grant the request that may be clouded or unreadable somewhere; others may be
+    // among them.
+    fn may_by_unsure(&self, link: Link, who: &User, attrs: &RequestAttrs) -> bool
+        ensures sound { IsTrue result → MayGrantOf self.now (IsKnownKey self.now) link.way link.role_place link.binding_place who.now attrs.now }
+        ensures full { MayGrantOf self.now (IsKnownUnsure self.now link.binding_place) link.way link.role_place link.binding_place who.now attrs.now → IsTrue result }
+    {
+        let keys = self.unsure.keys(link.way.bindings(), attrs);
+        self.some_may(keys, link, who, attrs)
     }
 
     // Whether a binding whose name isn't known may grant the request.
@@ -304,13 +355,6 @@ impl Timeline {
             .may_grant(link.way.bindings(), link.binding_place, attrs)
     }
 
-    // What the bindings grant that name the user, one of its groups, or the account that it is.
-    fn named_extent(&self, link: Link, who: &User, attrs: &RequestAttrs) -> Extent {
-        let user = self.keys_extent(self.index.by_user(&who.name), link, who, attrs);
-        let account = self.keys_extent(self.index.by_account_user(&who.name), link, who, attrs);
-        user.or(account).or(self.groups_extent(link, who, attrs))
-    }
-
     // Whether some binding may grant the request in this way.
     pub(crate) fn may(&self, link: Link, who: &User, attrs: &RequestAttrs) -> bool
         ensures { IsTrue result ↔ MayGrantInWay self.now link.way link.role_place link.binding_place who.now attrs.now }
@@ -318,8 +362,10 @@ impl Timeline {
         if self.named_extent(link, who, attrs).may {
             return true;
         }
-        let unsure = self.unsure.keys(link.way.bindings(), attrs);
-        self.keys_extent(unsure, link, who, attrs).may || self.may_by_nameless(link, attrs)
+        if self.may_by_nameless(link, attrs) {
+            return true;
+        }
+        self.may_by_unsure(link, who, attrs)
     }
 
     // Whether some binding grants the request for certain in this way. One that does is sure, so it names

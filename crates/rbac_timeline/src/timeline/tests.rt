@@ -165,7 +165,11 @@ fn caches_at_four_places(rt: HostRuntime) -> Result<(), Fail> {
         ..all_at(10)
     };
     assert!(rt; found == Some(expected));
-    assert!(rt; timeline.find_decision(12, MAX, &who, &attrs, Decision::Allow).is_none());
+    assert!(rt;
+        timeline
+            .find_decision(12, MAX, &who, &attrs, Decision::Allow)
+            .is_none()
+    );
     let first = timeline.bindings_of(&Subject::User(Text::from_str(alloc, "u")?));
     assert!(rt; first == [key(alloc, "rolebindings", "b")?].as_slice());
     let none = timeline.bindings_of(&Subject::User(Text::from_str(alloc, "w")?));
@@ -179,17 +183,44 @@ fn with_span(alloc: Global, resource: &str, name: CoverName) -> Result<Option<Pl
     versions.push(version(key(alloc, "rolebindings", "b")?, 4, bound(alloc, "u")?)?)?;
     let mut spans = OpaqueSpans::new(alloc);
     spans.push(span(alloc, resource, name, 20)?)?;
-    let timeline = Timeline::build(alloc, versions, RbacEnds::new(alloc), spans, &Texts::new(alloc))?;
-    Ok(timeline.find_decision(10, MAX, &user(alloc, "u")?, &get(alloc, "d")?, Decision::Allow))
+    let timeline = Timeline::build(
+        alloc,
+        versions,
+        RbacEnds::new(alloc),
+        spans,
+        &Texts::new(alloc),
+    )?;
+    Ok(timeline.find_decision(
+        10,
+        MAX,
+        &user(alloc, "u")?,
+        &get(alloc, "d")?,
+        Decision::Allow,
+    ))
 }
 
 #[test]
 fn unrecorded_writes(rt: HostRuntime) -> Result<(), Fail> {
     let alloc = rt.alloc();
-    let role = with_span(alloc, "roles", CoverName::Exact(Text::from_str(alloc, "r")?))?;
-    assert!(rt; role == Some(Places { roles: 21, ..all_at(10) }));
+    let role = with_span(
+        alloc,
+        "roles",
+        CoverName::Exact(Text::from_str(alloc, "r")?),
+    )?;
+    assert!(rt;
+        role == Some(Places {
+            roles: 21,
+            ..all_at(10)
+        })
+    );
     let nameless = with_span(alloc, "rolebindings", CoverName::Any)?;
-    assert!(rt; nameless == Some(Places { bindings: 21, ..all_at(10) }));
+    assert!(rt;
+        nameless
+            == Some(Places {
+                bindings: 21,
+                ..all_at(10)
+            })
+    );
     let other = with_span(alloc, "configmaps", CoverName::Any)?;
     assert!(rt; other.is_none());
     Ok(())

@@ -11,8 +11,8 @@ returns-then-upto-eq0-clause-none c =
     let parted = IsPartitionedBy-leb (λ (g : Gap). g.last) c.self.inside.gaps.items c.args.last c.self.invariant in
     let parts = IsPartitionPoint-from_clause (λ (g : Gap). leb g.last c.args.last) _ _ clause parted (λ a r q k. search rules) in
     rw (← c.self.view_is) (λ gap among same.
-      let above : c.args.last < gap.last = none_upto (λ (g : Gap). g.last) c.self.inside.gaps.items c.args.last _ parts c.if-upto-eq0.true gap among in
-      omega arith)
+    let above : c.args.last < gap.last = none_upto (λ (g : Gap). g.last) c.self.inside.gaps.items c.args.last _ parts c.if-upto-eq0.true gap among in
+    omega arith)
 
 pub returns-then-gap-last-clause-none : goal.returns-then-gap-last-clause-none
 returns-then-gap-last-clause-none c =
@@ -23,7 +23,7 @@ returns-then-gap-last-clause-none c =
     let upto = last_upto (λ (g : Gap). g.last) c.self.inside.gaps.items c.args.last _ c.index-gap.result.now parts (omega arith) bound in
     let is : c.index-gap.result.now.last ≡ (get_or c.self.inside.gaps.items (c.partition_point-upto.result - 1) c.index-gap.result.now).last = ap (λ (g : Gap). g.last) c.index-gap.ensures in
     rw (← c.self.view_is) (λ gap among same.
-      let below : gap.last ≤ (get_or c.self.inside.gaps.items (c.partition_point-upto.result - 1) c.index-gap.result.now).last =
-        greatest_upto (λ (g : Gap). g.last) c.self.inside.gaps.items c.args.last _ c.index-gap.result.now c.self.invariant parts (omega arith) bound gap among (omega arith) in
-      let equal : c.index-gap.result.now.last ≡ c.args.last = omega arith in
-      c.if-gap-last.true equal)
+    let below : gap.last ≤ (get_or c.self.inside.gaps.items (c.partition_point-upto.result - 1) c.index-gap.result.now).last =
+    greatest_upto (λ (g : Gap). g.last) c.self.inside.gaps.items c.args.last _ c.index-gap.result.now c.self.invariant parts (omega arith) bound gap among (omega arith) in
+    let equal : c.index-gap.result.now.last ≡ c.args.last = omega arith in
+    c.if-gap-last.true equal)

@@ -12,8 +12,7 @@ returns-then-is_bypassed-clause-allow c =
 
 pub returns-then-is_bypassed-clause-forbid : goal.returns-then-is_bypassed-clause-forbid
 returns-then-is_bypassed-clause-forbid c =
-    let sound = subst (λ (k : Known). AreSound k.versions k.ends) c.self.view_is c.self.invariant.sound in
-    (
+    let sound = subst (λ (k : Known). AreSound k.versions k.ends) c.self.view_is c.self.invariant.sound in (
       (λ no. absurd (false≢true no)),
       (λ possible. absurd (not_forbid_bypassed c.args.self.now sound c.args.places.now c.args.who.now c.args.attrs.now (c.is_bypassed.ensures.0 c.if-is_bypassed.true) possible)),
     )
@@ -22,12 +21,12 @@ pub returns-clause-allow : goal.returns-clause-allow
 returns-clause-allow c =
     let sound = subst (λ (k : Known). AreSound k.versions k.ends) c.self.view_is c.self.invariant.sound in
     rw c.any_of-allowed.ensures (allow_by_ways c.args.self.now sound c.args.places.now c.args.who.now c.args.attrs.now
-      (λ bypassed. both_ways _ c.if-is_bypassed.false (c.is_bypassed.ensures.1 bypassed)) _ _ _
-      (record { by_roles = c.may-may_by_roles.ensures; by_cluster_roles = c.may-may_by_cluster_roles.ensures; by_cluster_bindings = c.may-may_by_cluster_bindings.ensures }))
+    (λ bypassed. both_ways _ c.if-is_bypassed.false (c.is_bypassed.ensures.1 bypassed)) _ _ _
+    (record { by_roles = c.may-may_by_roles.ensures; by_cluster_roles = c.may-may_by_cluster_roles.ensures; by_cluster_bindings = c.may-may_by_cluster_bindings.ensures }))
 
 pub returns-clause-forbid : goal.returns-clause-forbid
 returns-clause-forbid c =
     let sound = subst (λ (k : Known). AreSound k.versions k.ends) c.self.view_is c.self.invariant.sound in
     rw c.any_of-certain.ensures (forbid_by_ways c.args.self.now sound c.args.places.now c.args.who.now c.args.attrs.now
-      (λ bypassed. both_ways _ c.if-is_bypassed.false (c.is_bypassed.ensures.1 bypassed)) _ _ _
-      (record { by_roles = c.must-must_by_roles.ensures; by_cluster_roles = c.must-must_by_cluster_roles.ensures; by_cluster_bindings = c.must-must_by_cluster_bindings.ensures }))
+    (λ bypassed. both_ways _ c.if-is_bypassed.false (c.is_bypassed.ensures.1 bypassed)) _ _ _
+    (record { by_roles = c.must-must_by_roles.ensures; by_cluster_roles = c.must-must_by_cluster_roles.ensures; by_cluster_bindings = c.must-must_by_cluster_bindings.ensures }))

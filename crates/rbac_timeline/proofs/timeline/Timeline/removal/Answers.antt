@@ -8,7 +8,7 @@ use Rattle.rbac_timeline.proofs.timeline.Timeline.removal.Goals as goal
 pub returns-in-Some : goal.returns-in-Some
 returns-in-Some c =
     rw (← c.self.view_is) (IsRemovalOf-found c.self.inside.removals _ c.args.key.now c.args.last c.behind.result c.in-Some.gaps.now c.self.invariant.removals (ap items_of (sym c.in-Some.ensures.value))
-      c.behind.ensures.some c.behind.ensures.last c.behind.ensures.none)
+    c.behind.ensures.some c.behind.ensures.last c.behind.ensures.none)
 
 pub returns-in-None : goal.returns-in-None
 returns-in-None c =

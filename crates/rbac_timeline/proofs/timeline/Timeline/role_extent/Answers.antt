@@ -34,18 +34,17 @@ pub returns-in-None-clause-may : goal.returns-in-None-clause-may
 returns-in-None-clause-may c =
     let known = c.args.self.now in
     let sound : AreSound known.versions known.ends = subst (λ (k : Known). AreSound k.versions k.ends) c.self.view_is c.self.invariant.sound in
-    let clouds : c.self.inside.clouds ≡ writes_of known = c.self.invariant.clouds_of ∙ ap writes_of c.self.view_is in
-    (
+    let clouds : c.self.inside.clouds ≡ writes_of known = c.self.invariant.clouds_of ∙ ap writes_of c.self.view_is in (
       (λ passed. absurd (false≢true passed)),
       (λ may. absurd (may_missing ReadsRules known c.args.key.now c.args.place (λ rules. Grants rules c.args.attrs.now)
-        (λ clouded. both_ways _ c.if-clouded.false (c.clouded.ensures.1 (subst (λ w. IsClouded w c.args.key.now c.args.place) (sym clouds) clouded))) c.in-None.ensures.none may)),
+          (λ clouded. both_ways _ c.if-clouded.false (c.clouded.ensures.1 (subst (λ w. IsClouded w c.args.key.now c.args.place) (sym clouds) clouded))) c.in-None.ensures.none may)),
     )
 
 pub returns-in-None-clause-must : goal.returns-in-None-clause-must
 returns-in-None-clause-must c = (
-    (λ passed. absurd (false≢true passed)),
-    (λ must. absurd (must_missing ReadsRules c.args.self.now c.args.key.now c.args.place (λ rules. Grants rules c.args.attrs.now) c.in-None.ensures.none must)),
-  )
+  (λ passed. absurd (false≢true passed)),
+  (λ must. absurd (must_missing ReadsRules c.args.self.now c.args.key.now c.args.place (λ rules. Grants rules c.args.attrs.now) c.in-None.ensures.none must)),
+)
 
 pub returns-in-Some-clause-may : goal.returns-in-Some-clause-may
 returns-in-Some-clause-may c =
