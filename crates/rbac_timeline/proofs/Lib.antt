@@ -1,3 +1,4 @@
+pub mod Changed
 pub mod Choosing
 pub mod Constancy
 pub mod Contents

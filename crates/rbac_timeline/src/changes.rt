@@ -1,7 +1,4 @@
-ghost use Rattle.std.specs.Prelude.{◌≡◌, ◌<◌, ◌≤◌, ◌+◌, ℕ, Some, IfOk, OnOk, AllPairs, Contains};
-ghost use Rattle.clouds.specs.declared.span.OpaqueSpan.{OpaqueSpan};
-ghost use Rattle.rbac_timeline.specs.declared.version.RbacEnd.{RbacEnd};
-ghost use Rattle.rbac_timeline.specs.declared.version.RbacVersion.{RbacVersion};
+ghost use Rattle.std.specs.Prelude.{◌≡◌, ◌<◌, true, IfOk, OnOk, AllPairs, Contains};
 ghost use Rattle.rbac_timeline.specs.Changing.{AreAllChanges, AreChangesOf, AreWithin, HasBegins, HasEnds, HasSpans, KeepsPlaces, places_of};
 ghost use Rattle.rbac_timeline.specs.Known.{known_of};
 
@@ -20,6 +17,18 @@ pub struct Changes {
     cluster_bindings: Vec<u64>,
 }
 
+// Takes the place, where it is wanted.
+fn push_if(places: &mut Vec<u64>, wanted: bool, place: u64) -> Result<(), OutOfMemory>
+    ensures kept { OnOk result (KeepsPlaces places.old.items places.new.items) }
+    ensures added { OnOk result (wanted ≡ true → Contains places.new.items place) }
+{
+    if wanted {
+        places.push(place)?;
+        return Ok(());
+    }
+    Ok(())
+}
+
 // A version begins at its revision. A cloud that ends, ends there too.
 fn add_versions(
     places: &mut Vec<u64>,
@@ -30,9 +39,8 @@ fn add_versions(
     ensures added { OnOk result (HasBegins kind versions.now places.new.items) }
 {
     for version in versions {
-        if is_kind(kind_of_key(&version.key), kind) {
-            places.push(version.revision.get())?;
-        }
+        let wanted = is_kind(kind_of_key(&version.key), kind);
+        push_if(places, wanted, version.revision.get())?;
     }
     Ok(())
 }
@@ -43,10 +51,9 @@ fn add_ends(places: &mut Vec<u64>, kind: Kind, ends: &[RbacEnd]) -> Result<(), O
     ensures added { OnOk result (HasEnds kind ends.now places.new.items) }
 {
     for end in ends {
-        if is_kind(kind_of_key(&end.key), kind) {
-            places.push(end.low)?;
-            places.push(end.high)?;
-        }
+        let wanted = is_kind(kind_of_key(&end.key), kind);
+        push_if(places, wanted, end.low)?;
+        push_if(places, wanted, end.high)?;
     }
     Ok(())
 }
@@ -57,9 +64,8 @@ fn add_spans(places: &mut Vec<u64>, kind: Kind, spans: &[OpaqueSpan]) -> Result<
     ensures added { OnOk result (HasSpans kind spans.now places.new.items) }
 {
     for span in spans {
-        if is_kind(kind_of(&span.cover.group, &span.cover.resource), kind) && span.low < u64::MAX {
-            places.push(span.low + 1)?;
-        }
+        let wanted = is_kind(kind_of(&span.cover.group, &span.cover.resource), kind);
+        push_if(places, wanted, span.low.saturating_add(1))?;
     }
     Ok(())
 }

@@ -12,5 +12,7 @@ loop-span-preserved c = elim c.match-branch-2.branch [
     (AreGathered-more GivesNamed c.args.spans.now _ c.span-item.result _ w.in-Some.key c.loop-span-test.true c.span-item.is c.loop-span.invariant
       names (λ z gives. one_named c.span-item.result.cover w.in-Some.key z names gives))
   | in_default w ↦
-    let h = w.in_default in ?
+    let unnamed = rw w.in_default.is at c.in_ok-key.ensures.none in
+    rw w.keys-is
+    (AreGathered-skip GivesNamed c.args.spans.now _ c.span-item.result _ c.loop-span-test.true c.span-item.is c.loop-span.invariant unnamed)
 ]
