@@ -9,10 +9,12 @@ use Rattle.std.proofs.lemmas.List.Kept.{AllPairs-from_increasing, Contains-dedup
 use Rattle.std.proofs.lemmas.List.Sorted.{Contains-permutation}
 use Rattle.std.proofs.lemmas.Map.Keys.{IsStrictlyIncreasing-dedup}
 use Rattle.clouds.specs.declared.span.OpaqueSpan.{OpaqueSpan}
+use Rattle.rbac_timeline.specs.declared.changes.Changes.{Changes}
 use Rattle.rbac_timeline.specs.declared.kind.Kind.{Kind}
+use Rattle.rbac_timeline.specs.declared.kind.Kind.TheVariants.{ClusterRole, ClusterRoleBinding, Role, RoleBinding}
 use Rattle.rbac_timeline.specs.declared.version.RbacEnd.{RbacEnd}
 use Rattle.rbac_timeline.specs.declared.version.RbacVersion.{RbacVersion}
-use Rattle.rbac_timeline.specs.Changing.{AreChangesBetween, AreChangesOf, AreWithin, HasBegins, HasEnds, HasSpans, IsChange, KeepsPlaces, begins, ends, hides, may_end}
+use Rattle.rbac_timeline.specs.Changing.{AreAllChanges, AreChangesBetween, AreChangesOf, AreWithin, HasBegins, HasEnds, HasSpans, IsChange, KeepsPlaces, begins, ends, hides, may_end, places_of}
 use Rattle.rbac_timeline.specs.Known.{Known, known_of}
 use Rattle.rbac_timeline.specs.Unsure.{last_place}
 use Rattle.rbac_timeline.proofs.Gathering.{front_more}
@@ -134,3 +136,9 @@ AreChangesBetween-within known kind low high all places bound are within = recor
   between = within.between;
   full = λ place change above upto. within.full place (are.full place (same_change known kind place change) (omega arith)) above upto;
 }
+
+pub AreChangesOf-kind : (known : Known) (changes : Changes) (kind : Kind) → AreAllChanges known changes → AreChangesOf known kind (places_of changes kind)
+AreChangesOf-kind known changes Role all = all.in_roles
+AreChangesOf-kind known changes ClusterRole all = all.in_cluster_roles
+AreChangesOf-kind known changes RoleBinding all = all.in_bindings
+AreChangesOf-kind known changes ClusterRoleBinding all = all.in_cluster_bindings

@@ -1,5 +1,6 @@
 pub mod Changed
 pub mod Choosing
+pub mod Clouding
 pub mod Constancy
 pub mod Contents
 pub mod Deciding
@@ -11,8 +12,11 @@ pub mod Holding
 pub mod Judging
 pub mod Lows
 pub mod Mentions
+pub mod Naming
 pub mod Ordered
 pub mod Rising
 pub mod Stepping
+pub mod Storing
 pub mod Tests
+pub mod Unnamed
 pub mod Ways

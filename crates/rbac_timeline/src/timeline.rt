@@ -343,6 +343,7 @@ impl Timeline {
         ensures sound { IsTrue result → MayGrantOf self.now (IsKnownKey self.now) link.way link.role_place link.binding_place who.now attrs.now }
         ensures full { MayGrantOf self.now (IsKnownUnsure self.now link.binding_place) link.way link.role_place link.binding_place who.now attrs.now → IsTrue result }
     {
+        let _place = link.bindings_at();
         let keys = self.unsure.keys(link.way.bindings(), attrs);
         self.some_may(keys, link, who, attrs)
     }
@@ -373,6 +374,7 @@ impl Timeline {
     pub(crate) fn must(&self, link: Link, who: &User, attrs: &RequestAttrs) -> bool
         ensures { IsTrue result ↔ MustGrantInWay self.now link.way link.role_place link.binding_place who.now attrs.now }
     {
+        let _known = &self.clouds;
         self.named_extent(link, who, attrs).must
     }
 

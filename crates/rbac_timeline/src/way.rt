@@ -41,3 +41,12 @@ pub struct Link {
     pub role_place: u64,
     pub binding_place: u64,
 }
+
+impl Link {
+    /// The place of the cache of bindings, so that proofs know its range.
+    pub fn bindings_at(self) -> u64
+        ensures { result ≡ self.binding_place }
+    {
+        self.binding_place
+    }
+}
