@@ -1,11 +1,14 @@
+pub mod Answering
 pub mod Changed
 pub mod Choosing
 pub mod Clouding
+pub mod Comparing
 pub mod Constancy
 pub mod Contents
 pub mod Deciding
 pub mod Extremes
 pub mod Finding
+pub mod Firsts
 pub mod Gathering
 pub mod Granting
 pub mod Holding

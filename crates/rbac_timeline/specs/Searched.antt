@@ -3,14 +3,15 @@ use Rattle.std.specs.Prelude.{◌≡◌, ◌<◌, ◌≤◌, ◌⊎◌, ℕ, Boo
 use Rattle.base_types.specs.declared.placed.Places.{Places}
 use Rattle.base_types.specs.declared.request.RequestAttrs.{RequestAttrs}
 use Rattle.base_types.specs.declared.request.User.{User}
+use Rattle.rbac_timeline.specs.declared.way.Way.{Way}
 use Rattle.rbac_timeline.specs.declared.way.Way.TheVariants.{ClusterBindings, ClusterRoles, Roles}
-use Rattle.rbac_timeline.specs.Decisions.{AreWithin, IsUpTo}
+use Rattle.rbac_timeline.specs.Decisions.{AreWithin, ComesFirst, IsUpTo}
 use Rattle.rbac_timeline.specs.Extents.{MayGrantInWay, MustGrantInWay}
 use Rattle.rbac_timeline.specs.Known.{Known}
 
 -- a is before b by its first number, and then by its second
 abbrev pub IsPairUpTo : ℕ → ℕ → ℕ → ℕ → Type 0
-IsPairUpTo a0 a1 b0 b1 = (a0 < b0) ⊎ ((a0 ≡ b0) × (a1 ≤ b1))
+IsPairUpTo a0 a1 b0 b1 = ComesFirst a0 b0 (a1 ≤ b1)
 
 pub record IsLeastPair (holds : ℕ → ℕ → Type 0) (low high first second : ℕ) : Type 0 where
   pub first_from : low ≤ first
@@ -34,17 +35,42 @@ abbrev pub AreFirstOf : (Places → Type 0) → ℕ → ℕ → Option Places �
 AreFirstOf holds low high None = (places : Places) → AreWithin low high places → holds places → ⊥
 AreFirstOf holds low high (Some places) = AreLeastOf holds low high places
 
--- a binding may grant in one of the ways
-pub data MayGrantAt (known : Known) (who : User) (attrs : RequestAttrs) (places : Places) : Type 0 where
-  by_roles : MayGrantInWay known Roles places.roles places.bindings who attrs → MayGrantAt known who attrs places
-  by_cluster_roles : MayGrantInWay known ClusterRoles places.cluster_roles places.bindings who attrs → MayGrantAt known who attrs places
-  by_cluster_bindings : MayGrantInWay known ClusterBindings places.cluster_roles places.cluster_bindings who attrs → MayGrantAt known who attrs places
+-- the place of the roles in a way, and of its bindings
+abbrev pub roles_at : Way → Places → ℕ
+roles_at Roles places = places.roles
+roles_at ClusterRoles places = places.cluster_roles
+roles_at ClusterBindings places = places.cluster_roles
 
--- no binding grants for certain in any of the ways
-pub record IsFreeAt (known : Known) (who : User) (attrs : RequestAttrs) (places : Places) : Type 0 where
-  pub of_roles : MustGrantInWay known Roles places.roles places.bindings who attrs → ⊥
-  pub of_cluster_roles : MustGrantInWay known ClusterRoles places.cluster_roles places.bindings who attrs → ⊥
-  pub of_cluster_bindings : MustGrantInWay known ClusterBindings places.cluster_roles places.cluster_bindings who attrs → ⊥
+abbrev pub bindings_at : Way → Places → ℕ
+bindings_at Roles places = places.bindings
+bindings_at ClusterRoles places = places.bindings
+bindings_at ClusterBindings places = places.cluster_bindings
+
+-- a binding may grant in this way
+abbrev pub MayGrantBy : Known → User → RequestAttrs → Way → Places → Type 0
+MayGrantBy known who attrs way places = MayGrantInWay known way (roles_at way places) (bindings_at way places) who attrs
+
+-- in one of the ways
+abbrev pub MayGrantAt : Known → User → RequestAttrs → Places → Type 0
+MayGrantAt known who attrs places = MayGrantBy known who attrs Roles places ⊎ (MayGrantBy known who attrs ClusterRoles places ⊎ MayGrantBy known who attrs ClusterBindings places)
+
+-- no cluster role binding, and no role binding, grants for certain
+abbrev pub IsFreeCluster : Known → User → RequestAttrs → ℕ → ℕ → Type 0
+IsFreeCluster known who attrs cluster_roles cluster_bindings = MustGrantInWay known ClusterBindings cluster_roles cluster_bindings who attrs → ⊥
+
+abbrev pub IsFreePlain : Known → User → RequestAttrs → ℕ → ℕ → ℕ → Type 0
+IsFreePlain known who attrs roles cluster_roles bindings = (MustGrantInWay known Roles roles bindings who attrs → ⊥) × (MustGrantInWay known ClusterRoles cluster_roles bindings who attrs → ⊥)
+
+-- nothing grants for certain
+abbrev pub IsFreeAt : Known → User → RequestAttrs → Places → Type 0
+IsFreeAt known who attrs places = IsFreePlain known who attrs places.roles places.cluster_roles places.bindings × IsFreeCluster known who attrs places.cluster_roles places.cluster_bindings
+
+-- the same with this place of roles, and with these of roles and cluster roles
+abbrev pub FreeFrom : Known → User → RequestAttrs → ℕ → Places → Type 0
+FreeFrom known who attrs roles places = (places.roles ≡ roles) × IsFreeAt known who attrs places
+
+abbrev pub FreeWith : Known → User → RequestAttrs → ℕ → ℕ → Places → Type 0
+FreeWith known who attrs roles cluster_roles places = (places.cluster_roles ≡ cluster_roles) × FreeFrom known who attrs roles places
 
 -- all caches at one place
 abbrev pub all_at : ℕ → Places
@@ -62,3 +88,16 @@ abbrev pub earlier_of : Option Places → Option Places → Option Places
 earlier_of None b = b
 earlier_of (Some a) None = Some a
 earlier_of (Some a) (Some b) = if is_upto a b then Some a else Some b
+
+-- two places among the others
+abbrev pub with_roles : Option (ℕ × ℕ) → Places → Option Places
+with_roles None lowest = None
+with_roles (Some pair) lowest = Some (record { roles = pair.0; cluster_roles = lowest.cluster_roles; bindings = pair.1; cluster_bindings = lowest.cluster_bindings })
+
+abbrev pub with_cluster_roles : Option (ℕ × ℕ) → Places → Option Places
+with_cluster_roles None lowest = None
+with_cluster_roles (Some pair) lowest = Some (record { roles = lowest.roles; cluster_roles = pair.0; bindings = pair.1; cluster_bindings = lowest.cluster_bindings })
+
+abbrev pub with_cluster_bindings : Option (ℕ × ℕ) → Places → Option Places
+with_cluster_bindings None lowest = None
+with_cluster_bindings (Some pair) lowest = Some (record { roles = lowest.roles; cluster_roles = pair.0; bindings = lowest.bindings; cluster_bindings = pair.1 })

@@ -1,10 +1,9 @@
-ghost use Rattle.std.specs.Prelude.{◌≡◌, ◌≤◌, ℕ, ◌↔◌, IsTrue};
-ghost use Rattle.base_types.specs.declared.placed.Places.{Places};
+ghost use Rattle.std.specs.Prelude.{◌≡◌, ◌≤◌, ◌↔◌, IsTrue};
 ghost use Rattle.clouds.specs.FirstPlace.{IsFirstPlace};
 ghost use Rattle.rbac_timeline.specs.declared.way.Way.TheVariants.{ClusterBindings, ClusterRoles, Roles};
 ghost use Rattle.rbac_timeline.specs.Changing.{AreChangesBetween};
-ghost use Rattle.rbac_timeline.specs.Extents.{MayGrantInWay, MustGrantInWay, bindings_in};
-ghost use Rattle.rbac_timeline.specs.Searched.{AreFirstOf, IsFirstPair, IsFreeAt, MayGrantAt, all_at, earlier_of};
+ghost use Rattle.rbac_timeline.specs.Extents.{MayGrantInWay, MustGrantInWay};
+ghost use Rattle.rbac_timeline.specs.Searched.{AreFirstOf, FreeFrom, FreeWith, IsFirstPair, IsFreeAt, IsFreeCluster, IsFreePlain, MayGrantAt, MayGrantBy, all_at, earlier_of, with_cluster_bindings, with_cluster_roles, with_roles};
 
 use crate::kind::Kind;
 use crate::timeline::Timeline;
@@ -30,6 +29,42 @@ fn earlier(a: Option<Places>, b: Option<Places>) -> Option<Places>
         (Some(a), None) => Some(a),
         (None, b) => b,
     }
+}
+
+// The places of roles and of role bindings.
+fn with_roles(pair: Option<(u64, u64)>, lowest: Places) -> Option<Places>
+    ensures { result ≡ with_roles pair lowest }
+{
+    let (roles, bindings) = pair?;
+    Some(Places {
+        roles,
+        bindings,
+        ..lowest
+    })
+}
+
+// The places of cluster roles and of role bindings.
+fn with_cluster_roles(pair: Option<(u64, u64)>, lowest: Places) -> Option<Places>
+    ensures { result ≡ with_cluster_roles pair lowest }
+{
+    let (cluster_roles, bindings) = pair?;
+    Some(Places {
+        cluster_roles,
+        bindings,
+        ..lowest
+    })
+}
+
+// The places of cluster roles and of cluster role bindings.
+fn with_cluster_bindings(pair: Option<(u64, u64)>, lowest: Places) -> Option<Places>
+    ensures { result ≡ with_cluster_bindings pair lowest }
+{
+    let (cluster_roles, cluster_bindings) = pair?;
+    Some(Places {
+        cluster_roles,
+        cluster_bindings,
+        ..lowest
+    })
 }
 
 impl<'a> Asked<'a> {
@@ -74,7 +109,7 @@ impl<'a> Asked<'a> {
         self.timeline.must(link, self.who, self.attrs)
     }
 
-    // The least place of the bindings from which they may grant, with the roles at this place.
+    // The least place of the bindings at which they may grant, with the roles at this place.
     fn first_binding(&self, way: Way, role_place: u64) -> Option<u64>
         requires { self.now.low ≤ self.now.high }
         ensures { IsFirstPlace (λ place. MayGrantInWay self.now.timeline.now way role_place place self.now.who.now self.now.attrs.now) self.now.low self.now.high result }
@@ -106,41 +141,43 @@ impl<'a> Asked<'a> {
         None
     }
 
+    fn first_by_roles(&self) -> Option<Places>
+        requires { self.now.low ≤ self.now.high }
+        ensures { AreFirstOf (MayGrantBy self.now.timeline.now self.now.who.now self.now.attrs.now Roles) self.now.low self.now.high result }
+    {
+        with_roles(self.first_pair(Way::Roles), self.lowest())
+    }
+
+    fn first_by_cluster_roles(&self) -> Option<Places>
+        requires { self.now.low ≤ self.now.high }
+        ensures { AreFirstOf (MayGrantBy self.now.timeline.now self.now.who.now self.now.attrs.now ClusterRoles) self.now.low self.now.high result }
+    {
+        with_cluster_roles(self.first_pair(Way::ClusterRoles), self.lowest())
+    }
+
+    fn first_by_cluster_bindings(&self) -> Option<Places>
+        requires { self.now.low ≤ self.now.high }
+        ensures { AreFirstOf (MayGrantBy self.now.timeline.now self.now.who.now self.now.attrs.now ClusterBindings) self.now.low self.now.high result }
+    {
+        with_cluster_bindings(self.first_pair(Way::ClusterBindings), self.lowest())
+    }
+
     /// The least places at which the request may be allowed. The ways to be allowed don't ask for each
     /// other, so each has its own least places.
     pub fn first_allowed(&self) -> Option<Places>
         requires { self.now.low ≤ self.now.high }
         ensures { AreFirstOf (MayGrantAt self.now.timeline.now self.now.who.now self.now.attrs.now) self.now.low self.now.high result }
     {
-        let lowest = self.lowest();
-        let by_roles = self.first_pair(Way::Roles).map(|(roles, bindings)| Places {
-            roles,
-            bindings,
-            ..lowest
-        });
-        let by_cluster_roles = self.first_pair(Way::ClusterRoles).map(|(
-            cluster_roles,
-            bindings,
-        )| Places {
-            cluster_roles,
-            bindings,
-            ..lowest
-        });
-        let by_cluster_bindings = self.first_pair(Way::ClusterBindings).map(|(
-            cluster_roles,
-            cluster_bindings,
-        )| Places {
-            cluster_roles,
-            cluster_bindings,
-            ..lowest
-        });
+        let by_roles = self.first_by_roles();
+        let by_cluster_roles = self.first_by_cluster_roles();
+        let by_cluster_bindings = self.first_by_cluster_bindings();
         earlier(by_roles, earlier(by_cluster_roles, by_cluster_bindings))
     }
 
     // The least place of the cluster role bindings at which they don't grant for certain.
     fn first_free_cluster_binding(&self, cluster_roles: u64) -> Option<u64>
         requires { self.now.low ≤ self.now.high }
-        ensures { IsFirstPlace (λ place. MustGrantInWay self.now.timeline.now ClusterBindings cluster_roles place self.now.who.now self.now.attrs.now → ⊥) self.now.low self.now.high result }
+        ensures { IsFirstPlace (IsFreeCluster self.now.timeline.now self.now.who.now self.now.attrs.now cluster_roles) self.now.low self.now.high result }
     {
         if !self.must(Way::ClusterBindings, cluster_roles, self.low) {
             return Some(self.low);
@@ -153,15 +190,20 @@ impl<'a> Asked<'a> {
         None
     }
 
-    fn is_free(&self, roles: u64, cluster_roles: u64, bindings: u64) -> bool {
-        !self.must(Way::Roles, roles, bindings)
-            && !self.must(Way::ClusterRoles, cluster_roles, bindings)
+    // Whether the role bindings at this place don't grant for certain.
+    fn is_free(&self, roles: u64, cluster_roles: u64, bindings: u64) -> bool
+        ensures { IsTrue result ↔ IsFreePlain self.now.timeline.now self.now.who.now self.now.attrs.now roles cluster_roles bindings }
+    {
+        if self.must(Way::Roles, roles, bindings) {
+            return false;
+        }
+        !self.must(Way::ClusterRoles, cluster_roles, bindings)
     }
 
     // The least place of the role bindings at which they don't grant for certain.
     fn first_free_binding(&self, roles: u64, cluster_roles: u64) -> Option<u64>
         requires { self.now.low ≤ self.now.high }
-        ensures { IsFirstPlace (λ place. (MustGrantInWay self.now.timeline.now Roles roles place self.now.who.now self.now.attrs.now → ⊥) × (MustGrantInWay self.now.timeline.now ClusterRoles cluster_roles place self.now.who.now self.now.attrs.now → ⊥)) self.now.low self.now.high result }
+        ensures { IsFirstPlace (IsFreePlain self.now.timeline.now self.now.who.now self.now.attrs.now roles cluster_roles) self.now.low self.now.high result }
     {
         if self.is_free(roles, cluster_roles, self.low) {
             return Some(self.low);
@@ -174,18 +216,36 @@ impl<'a> Asked<'a> {
         None
     }
 
-    fn free_with(&self, roles: u64, cluster_roles: u64) -> Option<Places> {
-        let cluster_bindings = self.first_free_cluster_binding(cluster_roles)?;
-        let bindings = self.first_free_binding(roles, cluster_roles)?;
-        Some(Places {
-            roles,
-            cluster_roles,
-            bindings,
-            cluster_bindings,
-        })
+    // The least places with these of roles and cluster roles at which nothing grants for certain.
+    fn free_with(&self, roles: u64, cluster_roles: u64) -> Option<Places>
+        requires range { self.now.low ≤ self.now.high }
+        requires roles_from { self.now.low ≤ roles }
+        requires roles_upto { roles ≤ self.now.high }
+        requires cluster_roles_from { self.now.low ≤ cluster_roles }
+        requires cluster_roles_upto { cluster_roles ≤ self.now.high }
+        ensures { AreFirstOf (FreeWith self.now.timeline.now self.now.who.now self.now.attrs.now roles cluster_roles) self.now.low self.now.high result }
+    {
+        match self.first_free_cluster_binding(cluster_roles) {
+            Some(cluster_bindings) => match self.first_free_binding(roles, cluster_roles) {
+                Some(bindings) => Some(Places {
+                    roles,
+                    cluster_roles,
+                    bindings,
+                    cluster_bindings,
+                }),
+                None => None,
+            },
+            None => None,
+        }
     }
 
-    fn first_free(&self, roles: u64) -> Option<Places> {
+    // The least places with this one of roles at which nothing grants for certain.
+    fn first_free(&self, roles: u64) -> Option<Places>
+        requires range { self.now.low ≤ self.now.high }
+        requires roles_from { self.now.low ≤ roles }
+        requires roles_upto { roles ≤ self.now.high }
+        ensures { AreFirstOf (FreeFrom self.now.timeline.now self.now.who.now self.now.attrs.now roles) self.now.low self.now.high result }
+    {
         if let Some(places) = self.free_with(roles, self.low) {
             return Some(places);
         }

@@ -1,4 +1,4 @@
-ghost use Rattle.std.specs.Prelude.{◌≡◌, ◌↔◌, IsTrue, IfOk, IfSome, IfNone, Any, Contains, MatchOption, map, false, ⊤, ◌<◌, ◌||◌};
+ghost use Rattle.std.specs.Prelude.{◌≡◌, ◌↔◌, IsTrue, IfOk, IfSome, IfNone, Any, Contains, MatchOption, map, false, ⊤, ◌<◌, ◌≤◌, ◌||◌};
 ghost use Rattle.rbac_timeline.specs.Kept.{MayGrantByRules, MustGrantByRules};
 ghost use Rattle.rbac_rules.specs.Matching.{Matches};
 ghost use Rattle.rbac_timeline.specs.Known.{key_revision};
@@ -130,6 +130,7 @@ impl Timeline {
     ghost use Rattle.rbac_timeline.specs.Choices.{IsBypassed, IsKnownKey};
     ghost use Rattle.rbac_timeline.specs.Extents.{IsCertain, IsNotGone, MayGrantByRole, MayGrantInWay, MayGrantNameless, MustGrantByRole, MustGrantInWay};
     ghost use Rattle.rbac_timeline.specs.Kept.{IsKnownUnsure, IsRemovalOf, MayGrantByContent, MayGrantByListed, MayGrantOf, MustGrantByContent, MustGrantByListed, MustGrantOf, NamesAccount, NamesGroup, NamesUser, NamesWho, stored_of};
+    ghost use Rattle.rbac_timeline.specs.Searched.{AreFirstOf};
     ghost use Rattle.rbac_timeline.specs.States.{IsLatestVersion, NoneUpto};
 
     /// Versions rise by key, and those of one key by revision. Each removal ends a version, before the key's
@@ -443,6 +444,56 @@ impl Timeline {
         self.index.by_subject(subject)
     }
 
+    // The least places at which the request may be allowed.
+    fn find_allowed(
+        &self,
+        low: u64,
+        high: u64,
+        who: &User,
+        attrs: &RequestAttrs,
+    ) -> Option<Places>
+        requires { low ≤ high }
+        ensures { AreFirstOf (λ places. IsPossible self.now places who.now attrs.now Decision.Allow) low high result }
+    {
+        let _known = &self.clouds;
+        let asked = Asked {
+            timeline: self,
+            low,
+            high,
+            who,
+            attrs,
+        };
+        if self.is_bypassed(who) {
+            return Some(asked.lowest());
+        }
+        asked.first_allowed()
+    }
+
+    // The least places at which the request may be forbidden.
+    fn find_forbidden(
+        &self,
+        low: u64,
+        high: u64,
+        who: &User,
+        attrs: &RequestAttrs,
+    ) -> Option<Places>
+        requires { low ≤ high }
+        ensures { AreFirstOf (λ places. IsPossible self.now places who.now attrs.now Decision.Forbid) low high result }
+    {
+        let _known = &self.clouds;
+        let asked = Asked {
+            timeline: self,
+            low,
+            high,
+            who,
+            attrs,
+        };
+        if self.is_bypassed(who) {
+            return None;
+        }
+        asked.first_forbidden()
+    }
+
     /// The least places of the four caches from `low` to `high` at which the decision is possible.
     pub fn find_decision(
         &self,
@@ -458,19 +509,9 @@ impl Timeline {
         if low > high {
             return None;
         }
-        let asked = Asked {
-            timeline: self,
-            low,
-            high,
-            who,
-            attrs,
-        };
-        let bypassed = self.is_bypassed(who);
         match wanted {
-            Decision::Allow if bypassed => Some(asked.lowest()),
-            Decision::Forbid if bypassed => None,
-            Decision::Allow => asked.first_allowed(),
-            Decision::Forbid => asked.first_forbidden(),
+            Decision::Allow => self.find_allowed(low, high, who, attrs),
+            Decision::Forbid => self.find_forbidden(low, high, who, attrs),
         }
     }
 }
