@@ -29,13 +29,20 @@ low_first low n rest from holds = ⊎_elim (λ (less : low < n). inl less) (λ (
 pub AreFirstOf-lowest : (P : Places → Type 0) (low high : ℕ) → low ≤ high → P (all_at low) → AreFirstOf P low high (Some (all_at low))
 AreFirstOf-lowest P low high range holds = record {
   within = record {
-    roles_from = omega arith; roles_upto = range; cluster_roles_from = omega arith; cluster_roles_upto = range;
-    bindings_from = omega arith; bindings_upto = range; cluster_bindings_from = omega arith; cluster_bindings_upto = range };
+    roles_from = omega arith;
+    roles_upto = range;
+    cluster_roles_from = omega arith;
+    cluster_roles_upto = range;
+    bindings_from = omega arith;
+    bindings_upto = range;
+    cluster_bindings_from = omega arith;
+    cluster_bindings_upto = range;
+  };
   here = holds;
   least = λ other within other_holds.
       low_first low other.roles _ within.roles_from
       (low_first low other.cluster_roles _ within.cluster_roles_from
-        (low_first low other.bindings _ within.bindings_from within.cluster_bindings_from));
+      (low_first low other.bindings _ within.bindings_from within.cluster_bindings_from));
 }
 
 module _ (known : Known) (sound : AreSound known.versions known.ends) (who : User) (attrs : RequestAttrs) (plain : IsBypassed known who → ⊥) where
@@ -69,10 +76,13 @@ module _ (known : Known) (sound : AreSound known.versions known.ends) (who : Use
       (λ must. ⊎_elim plain (λ found. not_in_way places free found.0 found.1) (way_from_must known sound places who attrs must))
 
   free_at : (places : Places) → IsPossible known places who attrs Forbid → IsFreeAt known who attrs places
-  free_at places possible = ((
+  free_at places possible = (
+    (
       (λ must. not_must_from_forbid known places who attrs possible (must_from_way known places who attrs Roles must)),
-      (λ must. not_must_from_forbid known places who attrs possible (must_from_way known places who attrs ClusterRoles must))),
-    (λ must. not_must_from_forbid known places who attrs possible (must_from_way known places who attrs ClusterBindings must)))
+      (λ must. not_must_from_forbid known places who attrs possible (must_from_way known places who attrs ClusterRoles must)),
+    ),
+    (λ must. not_must_from_forbid known places who attrs possible (must_from_way known places who attrs ClusterBindings must)),
+  )
 
   pub AreFirstOf-forbidden : (low high : ℕ) (places : Option Places) → AreFirstOf (IsFreeAt known who attrs) low high places
       → AreFirstOf (λ p. IsPossible known p who attrs Forbid) low high places

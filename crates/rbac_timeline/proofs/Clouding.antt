@@ -59,13 +59,23 @@ module _ (known : Known) (unsure : Unsure) (are : AreUnsure (writes_of known) kn
   by_version : (way : Way) (key : ObjectKey) (place : ℕ) → place ≤ last_place → IsKeyOf (bindings_in way) key → (version : RbacVersion) → Contains known.versions version → version.key ≡ key
       → IsUnsure (IsBindingOf key) known key place → Contains are.keys key
   by_version way key place bound kind version among of_key (inl clouded) =
-      are.of_version version key among ((subst (λ k. is_binding (kind_of_key k) ≡ true) (sym of_key) (binding_from_way way (kind_of_key key) kind),
-        inr (subst (λ k. IsCloudedSomewhere (writes_of known) k) (sym of_key) (place, bound, clouded))), of_key)
+      are.of_version version key among (
+        (
+          subst (λ k. is_binding (kind_of_key k) ≡ true) (sym of_key) (binding_from_way way (kind_of_key key) kind),
+          inr (subst (λ k. IsCloudedSomewhere (writes_of known) k) (sym of_key) (place, bound, clouded)),
+        ),
+        of_key,
+      )
   by_version way key place bound kind version among of_key (inr unread) =
       let other = unread.0 in
       let latest = unread.1.latest in
-      are.of_version other key latest.known ((subst (λ k. is_binding (kind_of_key k) ≡ true) (sym latest.of_key) (binding_from_way way (kind_of_key key) kind),
-        inl (subst (λ k. is_readable k other.content ≡ false) (sym latest.of_key) (not_readable key other.content unread.2))), latest.of_key)
+      are.of_version other key latest.known (
+        (
+          subst (λ k. is_binding (kind_of_key k) ≡ true) (sym latest.of_key) (binding_from_way way (kind_of_key key) kind),
+          inl (subst (λ k. is_readable k other.content ≡ false) (sym latest.of_key) (not_readable key other.content unread.2)),
+        ),
+        latest.of_key,
+      )
 
   by_known : (way : Way) (key : ObjectKey) (place : ℕ) → place ≤ last_place → IsKeyOf (bindings_in way) key → IsKnownKey known key → IsUnsure (IsBindingOf key) known key place → Contains are.keys key
   by_known way key place bound kind (has_version version among of_key) is_unsure = by_version way key place bound kind version among of_key is_unsure

@@ -16,14 +16,14 @@ back_by_test : (a b : ℕ) (rest : Bool) → lesser_number a b rest ≡ false �
 back_by_test a b rest failed = ⊎_elim
     (λ (less : a < b). absurd (let yes = or_left (ltb a b) (eqb a b && rest) (lt-ltb a b less) in cc))
     (λ (upto : b ≤ a). ⊎_elim
-      (λ (less : b < a). inl less)
-      (λ (other : a ≤ b).
-      let same : a ≡ b = omega arith in
-      ⊎_elim
-      (λ yes. absurd (let passed = or_right (ltb a b) (eqb a b && rest) (both_from a b rest same yes) in cc))
-      (λ no. inr (sym same, no))
-      (cases_Bool rest))
-      (cases_lt b a))
+    (λ (less : b < a). inl less)
+    (λ (other : a ≤ b).
+    let same : a ≡ b = omega arith in
+    ⊎_elim
+    (λ yes. absurd (let passed = or_right (ltb a b) (eqb a b && rest) (both_from a b rest same yes) in cc))
+    (λ no. inr (sym same, no))
+    (cases_Bool rest))
+    (cases_lt b a))
     (cases_lt a b)
   where
     both_from : (a b : ℕ) (rest : Bool) → a ≡ b → rest ≡ true → (eqb a b && rest) ≡ true
@@ -35,7 +35,7 @@ first_weaker a b R S weaker first = ⊎_elim (λ less. inl less) (λ same. inr (
 pub upto_from_test : (a b : Places) → is_upto a b ≡ true → IsUpTo a b
 upto_from_test a b passed =
     first_weaker a.roles b.roles _ _ (λ r1. first_weaker a.cluster_roles b.cluster_roles _ _ (λ r2. first_weaker a.bindings b.bindings _ _ (λ r3. leb-true a.cluster_bindings b.cluster_bindings r3)
-      (first_by_test a.bindings b.bindings _ r2)) (first_by_test a.cluster_roles b.cluster_roles _ r1)) (first_by_test a.roles b.roles _ passed)
+    (first_by_test a.bindings b.bindings _ r2)) (first_by_test a.cluster_roles b.cluster_roles _ r1)) (first_by_test a.roles b.roles _ passed)
 
 below_from_not : (a b : ℕ) → leb a b ≡ false → b ≤ a
 below_from_not a b fails = let less : b < a = leb-false a b fails in omega arith
@@ -43,7 +43,7 @@ below_from_not a b fails = let less : b < a = leb-false a b fails in omega arith
 pub upto_from_not : (a b : Places) → is_upto a b ≡ false → IsUpTo b a
 upto_from_not a b failed =
     first_weaker b.roles a.roles _ _ (λ r1. first_weaker b.cluster_roles a.cluster_roles _ _ (λ r2. first_weaker b.bindings a.bindings _ _ (λ r3. below_from_not a.cluster_bindings b.cluster_bindings r3)
-      (back_by_test a.bindings b.bindings _ r2)) (back_by_test a.cluster_roles b.cluster_roles _ r1)) (back_by_test a.roles b.roles _ failed)
+    (back_by_test a.bindings b.bindings _ r2)) (back_by_test a.cluster_roles b.cluster_roles _ r1)) (back_by_test a.roles b.roles _ failed)
 
 first_trans : (a b c : ℕ) (R S T : Type 0) → (R → S → T) → ComesFirst a b R → ComesFirst b c S → ComesFirst a c T
 first_trans a b c R S T join first second = ⊎_elim
@@ -57,7 +57,7 @@ at_most a b c ab bc = omega arith
 pub upto_trans : (a b c : Places) → IsUpTo a b → IsUpTo b c → IsUpTo a c
 upto_trans a b c first second =
     first_trans a.roles b.roles c.roles _ _ _ (λ p1 q1. first_trans a.cluster_roles b.cluster_roles c.cluster_roles _ _ _ (λ p2 q2. first_trans a.bindings b.bindings c.bindings _ _ _
-      (λ p3 q3. at_most a.cluster_bindings b.cluster_bindings c.cluster_bindings p3 q3) p2 q2) p1 q1) first second
+    (λ p3 q3. at_most a.cluster_bindings b.cluster_bindings c.cluster_bindings p3 q3) p2 q2) p1 q1) first second
 
 -- of one of two kinds the first is the first of one
 module _ (P Q : Places → Type 0) (low high : ℕ) where

@@ -62,15 +62,25 @@ module _ (known : Known) (who : User) (attrs : RequestAttrs) where
       none places.roles places.bindings within.roles_from within.roles_upto within.bindings_from within.bindings_upto may
   by_roles low high range (Some pair) first = record {
     within = record {
-      roles_from = first.first_from; roles_upto = first.first_upto; cluster_roles_from = omega arith; cluster_roles_upto = range;
-      bindings_from = first.second_from; bindings_upto = first.second_upto; cluster_bindings_from = omega arith; cluster_bindings_upto = range };
+      roles_from = first.first_from;
+      roles_upto = first.first_upto;
+      cluster_roles_from = omega arith;
+      cluster_roles_upto = range;
+      bindings_from = first.second_from;
+      bindings_upto = first.second_upto;
+      cluster_bindings_from = omega arith;
+      cluster_bindings_upto = range;
+    };
     here = first.here;
     least = λ other within may. ⊎_elim
         (λ less. inl less)
-        (λ same. inr (same.0, ⊎_elim
-          (λ (less : low < other.cluster_roles). inl less)
-          (λ (upto : other.cluster_roles ≤ low). let from = within.cluster_roles_from in inr (omega arith, second_then pair.1 other.bindings low other.cluster_bindings same.1 within.cluster_bindings_from))
-          (cases_lt low other.cluster_roles)))
+        (λ same. inr (
+          same.0,
+          ⊎_elim
+              (λ (less : low < other.cluster_roles). inl less)
+              (λ (upto : other.cluster_roles ≤ low). let from = within.cluster_roles_from in inr (omega arith, second_then pair.1 other.bindings low other.cluster_bindings same.1 within.cluster_bindings_from))
+              (cases_lt low other.cluster_roles),
+        ))
         (first.least other.roles other.bindings within.roles_from within.roles_upto within.bindings_from within.bindings_upto may);
   }
     where
@@ -83,15 +93,25 @@ module _ (known : Known) (who : User) (attrs : RequestAttrs) where
       none places.cluster_roles places.bindings within.cluster_roles_from within.cluster_roles_upto within.bindings_from within.bindings_upto may
   by_cluster_roles low high range (Some pair) first = record {
     within = record {
-      roles_from = omega arith; roles_upto = range; cluster_roles_from = first.first_from; cluster_roles_upto = first.first_upto;
-      bindings_from = first.second_from; bindings_upto = first.second_upto; cluster_bindings_from = omega arith; cluster_bindings_upto = range };
+      roles_from = omega arith;
+      roles_upto = range;
+      cluster_roles_from = first.first_from;
+      cluster_roles_upto = first.first_upto;
+      bindings_from = first.second_from;
+      bindings_upto = first.second_upto;
+      cluster_bindings_from = omega arith;
+      cluster_bindings_upto = range;
+    };
     here = first.here;
     least = λ other within may. ⊎_elim
         (λ (less : low < other.roles). inl less)
-        (λ (upto : other.roles ≤ low). let from = within.roles_from in inr (omega arith, ⊎_elim
-          (λ less. inl less)
-          (λ same. inr (same.0, second_then pair.1 other.bindings low other.cluster_bindings same.1 within.cluster_bindings_from))
-          (first.least other.cluster_roles other.bindings within.cluster_roles_from within.cluster_roles_upto within.bindings_from within.bindings_upto may)))
+        (λ (upto : other.roles ≤ low). let from = within.roles_from in inr (
+          omega arith,
+          ⊎_elim
+              (λ less. inl less)
+              (λ same. inr (same.0, second_then pair.1 other.bindings low other.cluster_bindings same.1 within.cluster_bindings_from))
+              (first.least other.cluster_roles other.bindings within.cluster_roles_from within.cluster_roles_upto within.bindings_from within.bindings_upto may),
+        ))
         (cases_lt low other.roles);
   }
     where
@@ -104,18 +124,31 @@ module _ (known : Known) (who : User) (attrs : RequestAttrs) where
       none places.cluster_roles places.cluster_bindings within.cluster_roles_from within.cluster_roles_upto within.cluster_bindings_from within.cluster_bindings_upto may
   by_cluster_bindings low high range (Some pair) first = record {
     within = record {
-      roles_from = omega arith; roles_upto = range; cluster_roles_from = first.first_from; cluster_roles_upto = first.first_upto;
-      bindings_from = omega arith; bindings_upto = range; cluster_bindings_from = first.second_from; cluster_bindings_upto = first.second_upto };
+      roles_from = omega arith;
+      roles_upto = range;
+      cluster_roles_from = first.first_from;
+      cluster_roles_upto = first.first_upto;
+      bindings_from = omega arith;
+      bindings_upto = range;
+      cluster_bindings_from = first.second_from;
+      cluster_bindings_upto = first.second_upto;
+    };
     here = first.here;
     least = λ other within may. ⊎_elim
         (λ (less : low < other.roles). inl less)
-        (λ (upto : other.roles ≤ low). let from = within.roles_from in inr (omega arith, ⊎_elim
-          (λ less. inl less)
-          (λ same. inr (same.0, ⊎_elim
-            (λ (less : low < other.bindings). inl less)
-            (λ (below : other.bindings ≤ low). let bound = within.bindings_from in inr (omega arith, same.1))
-            (cases_lt low other.bindings)))
-          (first.least other.cluster_roles other.cluster_bindings within.cluster_roles_from within.cluster_roles_upto within.cluster_bindings_from within.cluster_bindings_upto may)))
+        (λ (upto : other.roles ≤ low). let from = within.roles_from in inr (
+          omega arith,
+          ⊎_elim
+              (λ less. inl less)
+              (λ same. inr (
+                same.0,
+                ⊎_elim
+                    (λ (less : low < other.bindings). inl less)
+                    (λ (below : other.bindings ≤ low). let bound = within.bindings_from in inr (omega arith, same.1))
+                    (cases_lt low other.bindings),
+              ))
+              (first.least other.cluster_roles other.cluster_bindings within.cluster_roles_from within.cluster_roles_upto within.cluster_bindings_from within.cluster_bindings_upto may),
+        ))
         (cases_lt low other.roles);
   }
 
@@ -126,9 +159,9 @@ module _ (known : Known) (who : User) (attrs : RequestAttrs) where
 
   pub plain_carries : (roles cluster_roles before place : ℕ) → IsQuiet known RoleBinding before place → IsFreePlain known who attrs roles cluster_roles place → IsFreePlain known who attrs roles cluster_roles before
   plain_carries roles cluster_roles before place quiet free = (
-      (λ must. free.0 (way_must_after known Roles roles roles before place who attrs (quiet_here known Role roles) quiet must)),
-      (λ must. free.1 (way_must_after known ClusterRoles cluster_roles cluster_roles before place who attrs (quiet_here known ClusterRole cluster_roles) quiet must)),
-    )
+    (λ must. free.0 (way_must_after known Roles roles roles before place who attrs (quiet_here known Role roles) quiet must)),
+    (λ must. free.1 (way_must_after known ClusterRoles cluster_roles cluster_roles before place who attrs (quiet_here known ClusterRole cluster_roles) quiet must)),
+  )
 
   -- some places of the bindings are free with these of the roles
   pub record FreeOf (low high roles cluster_roles : ℕ) : Type 0 where
@@ -140,10 +173,21 @@ module _ (known : Known) (who : User) (attrs : RequestAttrs) where
       let plain = free.plain in
       let cluster = free.cluster in
       record {
-        plain = (plain.0, plain.1, plain.2, (plain.3.0,
-          λ must. plain.3.1 (way_must_after known ClusterRoles before place plain.0 plain.0 who attrs quiet (quiet_here known RoleBinding plain.0) must)));
-        cluster = (cluster.0, cluster.1, cluster.2,
-          λ must. cluster.3 (way_must_after known ClusterBindings before place cluster.0 cluster.0 who attrs quiet (quiet_here known ClusterRoleBinding cluster.0) must));
+        plain = (
+          plain.0,
+          plain.1,
+          plain.2,
+          (
+            plain.3.0,
+            λ must. plain.3.1 (way_must_after known ClusterRoles before place plain.0 plain.0 who attrs quiet (quiet_here known RoleBinding plain.0) must),
+          ),
+        );
+        cluster = (
+          cluster.0,
+          cluster.1,
+          cluster.2,
+          λ must. cluster.3 (way_must_after known ClusterBindings before place cluster.0 cluster.0 who attrs quiet (quiet_here known ClusterRoleBinding cluster.0) must),
+        );
       }
 
   abbrev pub FreeSome : ℕ → ℕ → ℕ → Type 0
@@ -152,11 +196,15 @@ module _ (known : Known) (who : User) (attrs : RequestAttrs) where
   pub roles_carry_free : (low high before place : ℕ) → IsQuiet known Role before place → FreeSome low high place → FreeSome low high before
   roles_carry_free low high before place quiet some =
       let free = some.3 in
-      let plain = free.plain in
-      (some.0, some.1, some.2, record {
-        plain = (plain.0, plain.1, plain.2, ((λ must. plain.3.0 (way_must_after known Roles before place plain.0 plain.0 who attrs quiet (quiet_here known RoleBinding plain.0) must)), plain.3.1));
-        cluster = free.cluster;
-      })
+      let plain = free.plain in (
+        some.0,
+        some.1,
+        some.2,
+        record {
+          plain = (plain.0, plain.1, plain.2, ((λ must. plain.3.0 (way_must_after known Roles before place plain.0 plain.0 who attrs quiet (quiet_here known RoleBinding plain.0) must)), plain.3.1));
+          cluster = free.cluster;
+        },
+      )
 
   -- the least places with these of the roles
   pub least_with : (low high roles cluster_roles bindings cluster_bindings : ℕ) → low ≤ roles → roles ≤ high → low ≤ cluster_roles → cluster_roles ≤ high
@@ -164,8 +212,15 @@ module _ (known : Known) (who : User) (attrs : RequestAttrs) where
       → AreLeastOf (FreeWith known who attrs roles cluster_roles) low high (record { roles = roles; cluster_roles = cluster_roles; bindings = bindings; cluster_bindings = cluster_bindings })
   least_with low high roles cluster_roles bindings cluster_bindings r_from r_upto c_from c_upto plain cluster = record {
     within = record {
-      roles_from = r_from; roles_upto = r_upto; cluster_roles_from = c_from; cluster_roles_upto = c_upto;
-      bindings_from = plain.from_low; bindings_upto = plain.upto_high; cluster_bindings_from = cluster.from_low; cluster_bindings_upto = cluster.upto_high };
+      roles_from = r_from;
+      roles_upto = r_upto;
+      cluster_roles_from = c_from;
+      cluster_roles_upto = c_upto;
+      bindings_from = plain.from_low;
+      bindings_upto = plain.upto_high;
+      cluster_bindings_from = cluster.from_low;
+      cluster_bindings_upto = cluster.upto_high;
+    };
     here = (refl, (refl, (plain.here, cluster.here)));
     least = λ other within free.
         let b : bindings ≤ other.bindings = plain.least other.bindings within.bindings_from
@@ -202,8 +257,15 @@ module _ (known : Known) (who : User) (attrs : RequestAttrs) where
       let cluster = free.cluster in
       none (record { roles = roles; cluster_roles = cluster_roles; bindings = plain.0; cluster_bindings = cluster.0 })
       (record {
-        roles_from = r_from; roles_upto = r_upto; cluster_roles_from = c_from; cluster_roles_upto = c_upto;
-        bindings_from = plain.1; bindings_upto = plain.2; cluster_bindings_from = cluster.1; cluster_bindings_upto = cluster.2 })
+        roles_from = r_from;
+        roles_upto = r_upto;
+        cluster_roles_from = c_from;
+        cluster_roles_upto = c_upto;
+        bindings_from = plain.1;
+        bindings_upto = plain.2;
+        cluster_bindings_from = cluster.1;
+        cluster_bindings_upto = cluster.2;
+      })
       (refl, (refl, (plain.3, cluster.3)))
 
   -- the least places with this one of the roles
@@ -231,9 +293,12 @@ module _ (known : Known) (who : User) (attrs : RequestAttrs) where
   pub some_from_least : (low high roles : ℕ) (places : Places) → AreLeastOf (FreeFrom known who attrs roles) low high places → FreeSome low high roles
   some_from_least low high roles places least =
       let free = least.here in
-      let within = least.within in
-      (places.cluster_roles, within.cluster_roles_from, within.cluster_roles_upto,
-        subst (λ r. FreeOf low high r places.cluster_roles) free.0 (free_of_places low high places within free.1))
+      let within = least.within in (
+        places.cluster_roles,
+        within.cluster_roles_from,
+        within.cluster_roles_upto,
+        subst (λ r. FreeOf low high r places.cluster_roles) free.0 (free_of_places low high places within free.1),
+      )
 
   pub not_some : (low high roles : ℕ) → low ≤ roles → roles ≤ high → AreFirstOf (FreeFrom known who attrs roles) low high None → FreeSome low high roles → ⊥
   not_some low high roles r_from r_upto none some =
@@ -241,8 +306,15 @@ module _ (known : Known) (who : User) (attrs : RequestAttrs) where
       let cluster = some.3.cluster in
       none (record { roles = roles; cluster_roles = some.0; bindings = plain.0; cluster_bindings = cluster.0 })
       (record {
-        roles_from = r_from; roles_upto = r_upto; cluster_roles_from = some.1; cluster_roles_upto = some.2;
-        bindings_from = plain.1; bindings_upto = plain.2; cluster_bindings_from = cluster.1; cluster_bindings_upto = cluster.2 })
+        roles_from = r_from;
+        roles_upto = r_upto;
+        cluster_roles_from = some.1;
+        cluster_roles_upto = some.2;
+        bindings_from = plain.1;
+        bindings_upto = plain.2;
+        cluster_bindings_from = cluster.1;
+        cluster_bindings_upto = cluster.2;
+      })
       (refl, (plain.3, cluster.3))
 
   pub least_of_all : (low high roles : ℕ) (places : Places) → IsLeastPlace (FreeSome low high) low high roles → AreLeastOf (FreeFrom known who attrs roles) low high places

@@ -26,34 +26,34 @@ module _ (select : OpaqueSpan → Type 0) (spans : List OpaqueSpan) (span : Opaq
   -- one span more that is selected
   pub TellsBelow-more : (low : Option ℕ) → select span → TellsBelow select spans low → TellsBelow select (spans ++ span ∷ []) (Some (lesser_of low span.low))
   TellsBelow-more None is tells = λ place. (
-      (λ below. Any-append_right (begins place) spans (span ∷ []) (Any-head (begins place) span [] (is, ltb-true span.low place below))),
-      (λ any. ⊎_elim
+    (λ below. Any-append_right (begins place) spans (span ∷ []) (Any-head (begins place) span [] (is, ltb-true span.low place below))),
+    (λ any. ⊎_elim
         (λ first. absurd (false≢true ((tells place).1 first)))
         (λ last. lt-ltb span.low place (the_one place last).1)
         (Any-append_cases (begins place) spans (span ∷ []) any)),
-    )
+  )
   TellsBelow-more (Some low) is tells = λ place. (
-      (λ below.
-      let less : min low span.low < place = ltb-true (min low span.low) place below in
-      ⊎_elim
-      (λ (first : low < place). Any-append_left (begins place) spans (span ∷ []) ((tells place).0 (lt-ltb low place first)))
-      (λ (above : place ≤ low). Any-append_right (begins place) spans (span ∷ []) (Any-head (begins place) span [] (is, omega arith)))
-      (cases_lt low place)),
-      (λ any. ⊎_elim
+    (λ below.
+        let less : min low span.low < place = ltb-true (min low span.low) place below in
+        ⊎_elim
+        (λ (first : low < place). Any-append_left (begins place) spans (span ∷ []) ((tells place).0 (lt-ltb low place first)))
+        (λ (above : place ≤ low). Any-append_right (begins place) spans (span ∷ []) (Any-head (begins place) span [] (is, omega arith)))
+        (cases_lt low place)),
+    (λ any. ⊎_elim
         (λ first. let less : low < place = ltb-true low place ((tells place).1 first) in lt-ltb (min low span.low) place (omega arith))
         (λ last. let less : span.low < place = (the_one place last).1 in lt-ltb (min low span.low) place (omega arith))
         (Any-append_cases (begins place) spans (span ∷ []) any)),
-    )
+  )
 
   -- and one that isn't
   pub TellsBelow-same : (low : Option ℕ) → (select span → ⊥) → TellsBelow select spans low → TellsBelow select (spans ++ span ∷ []) low
   TellsBelow-same low not tells = λ place. (
-      (λ below. Any-append_left (begins place) spans (span ∷ []) ((tells place).0 below)),
-      (λ any. ⊎_elim
+    (λ below. Any-append_left (begins place) spans (span ∷ []) ((tells place).0 below)),
+    (λ any. ⊎_elim
         (λ first. (tells place).1 first)
         (λ last. absurd (not (the_one place last).0))
         (Any-append_cases (begins place) spans (span ∷ []) any)),
-    )
+  )
 
 pub same_namespace : (o : Option (List ℕ)) (a b : List ℕ) → o ≡ Some a → o ≡ Some b → a ≡ b
 same_namespace o a b is other = cc
@@ -65,13 +65,13 @@ module _ (nameless : Nameless) (spans : List OpaqueSpan) (span : OpaqueSpan) (ar
   AreLows-namespace by_namespace namespace kind is updates = record {
     in_namespace = λ other. ⊎_elim
         (λ tied. subst (λ n. TellsBelow (IsUnnamedIn n) (spans ++ span ∷ []) (get text_order by_namespace n)) (same_text namespace other tied)
-          (subst (λ low. TellsBelow (IsUnnamedIn namespace) (spans ++ span ∷ []) low) (sym updates.1)
-            (TellsBelow-more (IsUnnamedIn namespace) spans span (get text_order nameless.by_namespace namespace) (kind, is) (are.in_namespace namespace))))
+        (subst (λ low. TellsBelow (IsUnnamedIn namespace) (spans ++ span ∷ []) low) (sym updates.1)
+        (TellsBelow-more (IsUnnamedIn namespace) spans span (get text_order nameless.by_namespace namespace) (kind, is) (are.in_namespace namespace))))
         (λ apart. subst (λ low. TellsBelow (IsUnnamedIn other) (spans ++ span ∷ []) low) (sym (updates.2 other apart))
-          (TellsBelow-same (IsUnnamedIn other) spans span (get text_order nameless.by_namespace other)
-            (λ selected. both_ways _ (subst (λ n. is_eq (text_order namespace n) ≡ false) (sym (same_namespace span.cover.namespace namespace other is selected.1)) apart)
-              (ap is_eq (tied_itself nat_list_cmp_total namespace)))
-            (are.in_namespace other)))
+        (TellsBelow-same (IsUnnamedIn other) spans span (get text_order nameless.by_namespace other)
+        (λ selected. both_ways _ (subst (λ n. is_eq (text_order namespace n) ≡ false) (sym (same_namespace span.cover.namespace namespace other is selected.1)) apart)
+        (ap is_eq (tied_itself nat_list_cmp_total namespace)))
+        (are.in_namespace other)))
         (cases_Bool (is_eq (text_order namespace other)));
     anywhere = TellsBelow-same IsUnnamedAnywhere spans span nameless.anywhere (λ selected. let none = selected.1 in cc) are.anywhere;
     in_cluster = TellsBelow-same IsUnnamedInCluster spans span nameless.cluster_bindings (λ selected. cc) are.in_cluster;

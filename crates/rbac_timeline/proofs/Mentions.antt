@@ -42,9 +42,9 @@ AddsAccount-updates old new namespace names name key updates kept added only = r
   added = subst (λ l. Contains l key) (sym (ap (λ o. keys_in o name) updates.1)) added;
   only = λ ns n k among. ⊎_elim
       (λ tied. ⊎_elim
-        (λ before. inl (subst (λ t. Contains (account_keys old t n) k) (same_text namespace ns tied) before))
-        (λ is. inr (same_text namespace ns tied, is.0, is.1))
-        (only n k (subst (λ l. Contains l k) (here ns n tied) among)))
+      (λ before. inl (subst (λ t. Contains (account_keys old t n) k) (same_text namespace ns tied) before))
+      (λ is. inr (same_text namespace ns tied, is.0, is.1))
+      (only n k (subst (λ l. Contains l k) (here ns n tied) among)))
       (λ apart. inl (subst (λ l. Contains l k) (there ns n apart) among))
       (cases_Bool (is_eq (text_order namespace ns)));
 }
@@ -60,24 +60,24 @@ more_here : (subject : List ℕ → Subject) (name_of : Subject → List ℕ) �
     → AddsAt text_order old new name key → ((n : List ℕ) (k : ObjectKey) → Contains (items_at text_order old n) k ↔ Contains mentions (mention_of k (subject n)))
     → (n : List ℕ) (k : ObjectKey) → Contains (items_at text_order new n) k ↔ Contains (mentions ++ mention_of key (subject name) ∷ []) (mention_of k (subject n))
 more_here subject name_of names old new name key mentions adds are n k = (
-    (λ among. ⊎_elim
+  (λ among. ⊎_elim
       (λ before. Contains-append_left mentions (mention_of key (subject name) ∷ []) (mention_of k (subject n)) ((are n k).0 before))
       (λ is. subst (λ t. Contains (mentions ++ mention_of key (subject name) ∷ []) (mention_of k (subject t))) (same_text name n is.0)
-        (subst (λ x. Contains (mentions ++ mention_of key (subject name) ∷ []) (mention_of x (subject name))) (sym is.1) (Contains-push mentions (mention_of key (subject name)))))
+      (subst (λ x. Contains (mentions ++ mention_of key (subject name) ∷ []) (mention_of x (subject name))) (sym is.1) (Contains-push mentions (mention_of key (subject name)))))
       (adds.only n k among)),
-    (λ among. ⊎_elim
+  (λ among. ⊎_elim
       (λ before. adds.kept n k ((are n k).1 before))
       (λ (is : mention_of key (subject name) ≡ mention_of k (subject n)).
       let of_name : name ≡ n = sym (names name) ∙ ap (λ (m : Mention). name_of m.subject) is ∙ names n in
       subst (λ t. Contains (items_at text_order new t) k) of_name (subst (λ x. Contains (items_at text_order new name) x) (ap (λ (m : Mention). m.key) is) adds.added))
       (Contains-push_cases mentions (mention_of key (subject name)) (mention_of k (subject n)) among)),
-  )
+)
 
 more_elsewhere : (P : Type 0) (mentions : List Mention) (mention other : Mention) → (mention.subject ≡ other.subject → ⊥) → (P ↔ Contains mentions other) → P ↔ Contains (mentions ++ mention ∷ []) other
 more_elsewhere P mentions mention other apart same = (
-    (λ p. Contains-append_left mentions (mention ∷ []) other (same.0 p)),
-    (λ among. ⊎_elim same.1 (λ is. absurd (apart (ap (λ (m : Mention). m.subject) is))) (Contains-push_cases mentions mention other among)),
-  )
+  (λ p. Contains-append_left mentions (mention ∷ []) other (same.0 p)),
+  (λ among. ⊎_elim same.1 (λ is. absurd (apart (ap (λ (m : Mention). m.subject) is))) (Contains-push_cases mentions mention other among)),
+)
 
 abbrev user_name : Subject → List ℕ
 user_name (User name) = name
@@ -112,13 +112,13 @@ account_elsewhere : (users : ByText) (mentions : List Mention) (mention : Mentio
     → ((user : List ℕ) (key : ObjectKey) → Contains (items_at text_order users user) key ↔ ((namespace : List ℕ) × (name : List ℕ) × IsAccount user namespace name × Contains mentions (mention_of key (ServiceAccount namespace name))))
     → (user : List ℕ) (key : ObjectKey) → Contains (items_at text_order users user) key ↔ ((namespace : List ℕ) × (name : List ℕ) × IsAccount user namespace name × Contains (mentions ++ mention ∷ []) (mention_of key (ServiceAccount namespace name)))
 account_elsewhere users mentions mention other are user key = (
-    (λ among. let found = (are user key).0 among in
+  (λ among. let found = (are user key).0 among in
       (found.0, found.1, found.2, Contains-append_left mentions (mention ∷ []) (mention_of key (ServiceAccount found.0 found.1)) found.3)),
-    (λ found. ⊎_elim
+  (λ found. ⊎_elim
       (λ before. (are user key).1 (found.0, found.1, found.2, before))
       (λ is. absurd (unlike mention.subject (ServiceAccount found.0 found.1) (inl other) (ap (λ (m : Mention). m.subject) is)))
       (Contains-push_cases mentions mention (mention_of key (ServiceAccount found.0 found.1)) found.3)),
-  )
+)
 
 pub IsIndexed-user : (index : Index) (users : ByText) (name : List ℕ) (key : ObjectKey) (mentions : List Mention) → AddsAt text_order index.users users name key → IsIndexed index mentions
     → IsIndexed (record index { users = users }) (mentions ++ mention_of key (User name) ∷ [])
@@ -148,40 +148,44 @@ module _ (index : Index) (accounts : BTreeMap (List ℕ) ByText) (account_users 
 
   account_here : (ns n : List ℕ) (k : ObjectKey) → Contains (account_keys accounts ns n) k ↔ Contains longer (mention_of k (ServiceAccount ns n))
   account_here ns n k = (
-      (λ among. ⊎_elim
+    (λ among. ⊎_elim
         (λ before. Contains-append_left mentions (mention ∷ []) (mention_of k (ServiceAccount ns n)) ((are.by_account ns n k).0 before))
         (λ is. subst (λ t. Contains longer (mention_of k (ServiceAccount t n))) is.0
-          (subst (λ t. Contains longer (mention_of k (ServiceAccount namespace t))) is.1
-            (subst (λ x. Contains longer (mention_of x (ServiceAccount namespace name))) (sym is.2) (Contains-push mentions mention))))
+        (subst (λ t. Contains longer (mention_of k (ServiceAccount namespace t))) is.1
+        (subst (λ x. Contains longer (mention_of x (ServiceAccount namespace name))) (sym is.2) (Contains-push mentions mention))))
         (adds.only ns n k among)),
-      (λ among. ⊎_elim
+    (λ among. ⊎_elim
         (λ before. adds.kept ns n k ((are.by_account ns n k).1 before))
         (λ (is : mention ≡ mention_of k (ServiceAccount ns n)).
         subst (λ t. Contains (account_keys accounts t n) k) (ap (λ (m : Mention). account_namespace m.subject) is)
-          (subst (λ t. Contains (account_keys accounts namespace t) k) (ap (λ (m : Mention). account_name m.subject) is)
-            (subst (λ x. Contains (account_keys accounts namespace name) x) (ap (λ (m : Mention). m.key) is) adds.added)))
+        (subst (λ t. Contains (account_keys accounts namespace t) k) (ap (λ (m : Mention). account_name m.subject) is)
+        (subst (λ x. Contains (account_keys accounts namespace name) x) (ap (λ (m : Mention). m.key) is) adds.added)))
         (Contains-push_cases mentions mention (mention_of k (ServiceAccount ns n)) among)),
-    )
+  )
 
   user_here : (user : List ℕ) (k : ObjectKey) → Contains (items_at text_order account_users user) k
       ↔ ((ns : List ℕ) × (n : List ℕ) × IsAccount user ns n × Contains longer (mention_of k (ServiceAccount ns n)))
   user_here user k = (
-      (λ among. ⊎_elim
+    (λ among. ⊎_elim
         (λ before. let found = (are.by_account_user user k).0 before in
-          (found.0, found.1, found.2, Contains-append_left mentions (mention ∷ []) (mention_of k (ServiceAccount found.0 found.1)) found.3))
-        (λ is. (namespace, name, sym (same_text (account_user namespace name) user is.0),
-          subst (λ x. Contains longer (mention_of x (ServiceAccount namespace name))) (sym is.1) (Contains-push mentions mention)))
+        (found.0, found.1, found.2, Contains-append_left mentions (mention ∷ []) (mention_of k (ServiceAccount found.0 found.1)) found.3))
+        (λ is. (
+          namespace,
+          name,
+          sym (same_text (account_user namespace name) user is.0),
+          subst (λ x. Contains longer (mention_of x (ServiceAccount namespace name))) (sym is.1) (Contains-push mentions mention),
+        ))
         (user_adds.only user k among)),
-      (λ found. ⊎_elim
+    (λ found. ⊎_elim
         (λ before. user_adds.kept user k ((are.by_account_user user k).1 (found.0, found.1, found.2, before)))
         (λ (is : mention ≡ mention_of k (ServiceAccount found.0 found.1)).
         let of_namespace : namespace ≡ found.0 = ap (λ (m : Mention). account_namespace m.subject) is in
         let of_name : name ≡ found.1 = ap (λ (m : Mention). account_name m.subject) is in
         let user_is : account_user namespace name ≡ user = ap (λ t. account_user t name) of_namespace ∙ ap (λ t. account_user found.0 t) of_name ∙ sym found.2 in
         subst (λ t. Contains (items_at text_order account_users t) k) user_is
-          (subst (λ x. Contains (items_at text_order account_users (account_user namespace name)) x) (ap (λ (m : Mention). m.key) is) user_adds.added))
+        (subst (λ x. Contains (items_at text_order account_users (account_user namespace name)) x) (ap (λ (m : Mention). m.key) is) user_adds.added))
         (Contains-push_cases mentions mention (mention_of k (ServiceAccount found.0 found.1)) found.3)),
-    )
+  )
 
   pub IsIndexed-account : IsIndexed (record index { accounts = accounts; account_users = account_users }) longer
   IsIndexed-account = record {
@@ -204,9 +208,9 @@ AddsAccount-more old new namespace before names name key held updates adds = Add
     (λ n k among. adds.kept n k (subst (λ o. Contains (keys_in o n) k) held among))
     adds.added
     (λ n k among. ⊎_elim
-      (λ there. inl (subst (λ o. Contains (keys_in o n) k) (sym held) there))
-      (λ is. inr (same_text name n is.0, is.1))
-      (adds.only n k among))
+    (λ there. inl (subst (λ o. Contains (keys_in o n) k) (sym held) there))
+    (λ is. inr (same_text name n is.0, is.1))
+    (adds.only n k among))
 
 pub AddsAccount-first : (old new : BTreeMap (List ℕ) ByText) (namespace : List ℕ) (empty names : ByText) (name : List ℕ) (key : ObjectKey) → get text_order old namespace ≡ None
     → Updates text_order old new namespace (Some names) → ((n : List ℕ) → items_at text_order empty n ≡ []) → AddsAt text_order empty names name key → AddsAccount old new namespace name key
@@ -214,9 +218,9 @@ AddsAccount-first old new namespace empty names name key none updates is_empty a
     (λ n k among. let within = (subst (λ o. Contains (keys_in o n) k) none among).1 in absurd (omega arith))
     adds.added
     (λ n k among. ⊎_elim
-      (λ there. let within = (subst (λ l. Contains l k) (is_empty n) there).1 in absurd (omega arith))
-      (λ is. inr (same_text name n is.0, is.1))
-      (adds.only n k among))
+    (λ there. let within = (subst (λ l. Contains l k) (is_empty n) there).1 in absurd (omega arith))
+    (λ is. inr (same_text name n is.0, is.1))
+    (adds.only n k among))
 
 -- one subject more
 pub mentioned_more : (mentions : List Mention) (key : ObjectKey) (subjects : List Subject) (i : ℕ) (subject : Subject) → i < length subjects → subject ≡ get_or subjects i subject

@@ -112,17 +112,17 @@ mention_from_names versions subject key names =
 module _ (index : Index) (versions : List RbacVersion) (indexed : IsIndexed index (mentions_of versions)) where
   exact_keys : (subject : Subject) (key : ObjectKey) → Contains (keys_of index subject) key ↔ Names versions subject key
   exact_keys (User name) key = (
-      (λ among. names_from_mention versions (User name) key ((indexed.by_user name key).0 among)),
-      (λ names. (indexed.by_user name key).1 (mention_from_names versions (User name) key names)),
-    )
+    (λ among. names_from_mention versions (User name) key ((indexed.by_user name key).0 among)),
+    (λ names. (indexed.by_user name key).1 (mention_from_names versions (User name) key names)),
+  )
   exact_keys (Group name) key = (
-      (λ among. names_from_mention versions (Group name) key ((indexed.by_group name key).0 among)),
-      (λ names. (indexed.by_group name key).1 (mention_from_names versions (Group name) key names)),
-    )
+    (λ among. names_from_mention versions (Group name) key ((indexed.by_group name key).0 among)),
+    (λ names. (indexed.by_group name key).1 (mention_from_names versions (Group name) key names)),
+  )
   exact_keys (ServiceAccount namespace name) key = (
-      (λ among. names_from_mention versions (ServiceAccount namespace name) key ((indexed.by_account namespace name key).0 among)),
-      (λ names. (indexed.by_account namespace name key).1 (mention_from_names versions (ServiceAccount namespace name) key names)),
-    )
+    (λ among. names_from_mention versions (ServiceAccount namespace name) key ((indexed.by_account namespace name key).0 among)),
+    (λ names. (indexed.by_account namespace name key).1 (mention_from_names versions (ServiceAccount namespace name) key names)),
+  )
 
   pub AreBindingsOf-keys : (subject : Subject) (keys : List ObjectKey) → keys ≡ keys_of index subject → AreRising keys → AreBindingsOf versions subject keys
   AreBindingsOf-keys subject keys is rising = record { rising = rising; exact = λ key. subst (λ l. Contains l key ↔ Names versions subject key) (sym is) (exact_keys subject key) }
@@ -135,38 +135,38 @@ module _ (index : Index) (versions : List RbacVersion) (indexed : IsIndexed inde
 
   pub exact_account : (user : List ℕ) (key : ObjectKey) → Contains (items_at text_order index.account_users user) key ↔ NamesAccount versions user key
   exact_account user key = (
-      (λ among. let found = (indexed.by_account_user user key).0 among in (found.0, found.1, found.2, names_from_mention versions (ServiceAccount found.0 found.1) key found.3)),
-      (λ named. (indexed.by_account_user user key).1 (named.0, named.1, named.2, mention_from_names versions (ServiceAccount named.0 named.1) key named.3)),
-    )
+    (λ among. let found = (indexed.by_account_user user key).0 among in (found.0, found.1, found.2, names_from_mention versions (ServiceAccount found.0 found.1) key found.3)),
+    (λ named. (indexed.by_account_user user key).1 (named.0, named.1, named.2, mention_from_names versions (ServiceAccount named.0 named.1) key named.3)),
+  )
 
 -- a test of each way to be named
 pub who_tests : (U A : ObjectKey → Type 0) (G : List ℕ → ObjectKey → Type 0) (P : ObjectKey → Type 0) (groups : List (List ℕ)) (a b g ab r : Bool) → ab ≡ (a || b) → r ≡ (ab || g)
     → ((a ≡ true) ↔ ((key : ObjectKey) × U key × P key)) → ((b ≡ true) ↔ ((key : ObjectKey) × A key × P key)) → ((g ≡ true) ↔ Any (λ group. (key : ObjectKey) × G group key × P key) groups)
     → (r ≡ true) ↔ ((key : ObjectKey) × ((U key ⊎ A key) ⊎ Any (λ group. G group key) groups) × P key)
 who_tests U A G P groups a b g ab r first both of_user of_account of_groups = (
-    (λ yes. ⊎_elim
+  (λ yes. ⊎_elim
       (λ one. ⊎_elim
-        (λ user. let found = of_user.0 user in (found.0, inl (inl found.1), found.2))
-        (λ account. let found = of_account.0 account in (found.0, inl (inr found.1), found.2))
-        (or_cases a b (sym first ∙ one)))
+      (λ user. let found = of_user.0 user in (found.0, inl (inl found.1), found.2))
+      (λ account. let found = of_account.0 account in (found.0, inl (inr found.1), found.2))
+      (or_cases a b (sym first ∙ one)))
       (λ other. let any = of_groups.0 other in (any.4.0, inr (any.0, any.1, any.2, any.3, any.4.1), any.4.2))
       (or_cases ab g (sym both ∙ yes))),
-    (λ found. both ∙ ⊎_elim
+  (λ found. both ∙ ⊎_elim
       (λ one. or_left ab g (first ∙ ⊎_elim
-        (λ user. or_left a b (of_user.1 (found.0, user, found.2)))
-        (λ account. or_right a b (of_account.1 (found.0, account, found.2)))
-        one))
+      (λ user. or_left a b (of_user.1 (found.0, user, found.2)))
+      (λ account. or_right a b (of_account.1 (found.0, account, found.2)))
+      one))
       (λ (any : Any (λ group. G group found.0) groups). or_right ab g (of_groups.1 (any.0, any.1, any.2, any.3, (found.0, any.4, found.2))))
       found.1),
-  )
+)
 
 -- what holds of some of the keys
 pub some_of : (P Q : ObjectKey → Type 0) (keys : List ObjectKey) (passed : Bool) → ((key : ObjectKey) → Contains keys key ↔ Q key) → ((passed ≡ true) ↔ Any P keys)
     → (passed ≡ true) ↔ ((key : ObjectKey) × Q key × P key)
 some_of P Q keys passed exact test = (
-    (λ yes. let any = test.0 yes in (any.1, (exact any.1).0 (any.0, any.2, any.3), any.4)),
-    (λ found. test.1 (Any-contains P keys found.0 ((exact found.0).1 found.1) found.2)),
-  )
+  (λ yes. let any = test.0 yes in (any.1, (exact any.1).0 (any.0, any.2, any.3), any.4)),
+  (λ found. test.1 (Any-contains P keys found.0 ((exact found.0).1 found.1) found.2)),
+)
 
 -- a binding that names the user is known
 known_from_names : (known : Known) (subject : Subject) (key : ObjectKey) → Names known.versions subject key → IsKnownKey known key

@@ -21,7 +21,7 @@ before_in R [] (suc n) x within rising front behind = absurd (omega arith)
 before_in R (y ∷ xs) (suc n) x within rising front behind = AllPairs-cons R y (insert xs n x)
     (All-permutation (R y) (x ∷ xs) (insert xs n x) (IsPermutation-insert xs n x) (All-cons (R y) x xs (front 0 y (omega arith) (omega arith)) (λ k d among. rising 0 (suc k) d (omega arith) (omega arith))))
     (before_in R xs n x (omega arith) (λ i j d less among. rising (suc i) (suc j) d (omega arith) (omega arith)) (λ k d less among. front (suc k) d (omega arith) (omega arith))
-      (λ k d from among. behind (suc k) d (omega arith) (omega arith)))
+    (λ k d from among. behind (suc k) d (omega arith) (omega arith)))
 
 turned : (a b : ObjectKey) (o p : Ordering) → key_order a b ≡ o → ordering_reverse o ≡ p → key_order b a ≡ p
 turned a b o p is back = key_order_total.antisymm b a ∙ ap ordering_reverse is ∙ back

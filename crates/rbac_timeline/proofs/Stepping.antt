@@ -67,21 +67,21 @@ module _ (known : Known) (kind : Kind) (low high : ℕ) (places : List ℕ) (are
       let inside = are.between (get_or places index 0) (change_there index within) in
       let from = inside.0 in
       quiet_from (get_or places index 0) place late (omega arith) upto_high (λ k among later. ⊎_elim
-        (λ (same : index ≡ k). let is : get_or places k 0 ≡ get_or places index 0 = ap (λ n. get_or places n 0) (sym same) in absurd (omega arith))
-        (λ apart. ⊎_elim
-          (λ (less : index < k). above k (omega arith) among)
-          (λ (behind : k < index). let up : get_or places k 0 < get_or places index 0 = are.rising k index 0 behind within in absurd (omega arith))
-          apart)
-        (cases_order index k))
+      (λ (same : index ≡ k). let is : get_or places k 0 ≡ get_or places index 0 = ap (λ n. get_or places n 0) (sym same) in absurd (omega arith))
+      (λ apart. ⊎_elim
+      (λ (less : index < k). above k (omega arith) among)
+      (λ (behind : k < index). let up : get_or places k 0 < get_or places index 0 = are.rising k index 0 behind within in absurd (omega arith))
+      apart)
+      (cases_order index k))
 
   fails_before : (index place : ℕ) → FailsUpto P low places index → low ≤ place → place ≤ high → AreAbove index place → P place → ⊥
   fails_before zero place fails from_low upto_high above holds =
       fails.at_low (carries low place (quiet_from low place from_low (omega arith) upto_high (λ k within later. above k (omega arith) within)) holds)
   fails_before (suc index) place fails from_low upto_high above holds = ⊎_elim
       (λ (within : index < length places). ⊎_elim
-        (λ (early : place < get_or places index 0). fails_before index place (fewer index fails) from_low upto_high (above_with index place early above) holds)
-        (λ (late : get_or places index 0 ≤ place). fails.at_changes index (omega arith) within (carries (get_or places index 0) place (quiet_behind index place within late upto_high above) holds))
-        (cases_lt place (get_or places index 0)))
+      (λ (early : place < get_or places index 0). fails_before index place (fewer index fails) from_low upto_high (above_with index place early above) holds)
+      (λ (late : get_or places index 0 ≤ place). fails.at_changes index (omega arith) within (carries (get_or places index 0) place (quiet_behind index place within late upto_high above) holds))
+      (cases_lt place (get_or places index 0)))
       (λ (beyond : length places ≤ index). fails_before index place (fewer index fails) from_low upto_high (λ k from_index among. absurd (omega arith)) holds)
       (cases_lt index (length places))
 
@@ -100,12 +100,12 @@ module _ (known : Known) (kind : Kind) (low high : ℕ) (places : List ℕ) (are
         least = λ other from_low other_holds. ⊎_elim
             (λ (early : other < get_or places index 0).
             absurd (fails_before index other fails from_low (omega arith) (λ k from_index among. ⊎_elim
-              (λ (same : index ≡ k). subst (λ n. other < get_or places n 0) same early)
-              (λ apart. ⊎_elim
-                (λ (less : index < k). let up : get_or places index 0 < get_or places k 0 = are.rising index k 0 less among in omega arith)
-                (λ (behind : k < index). absurd (omega arith))
-                apart)
-              (cases_order index k)) other_holds))
+            (λ (same : index ≡ k). subst (λ n. other < get_or places n 0) same early)
+            (λ apart. ⊎_elim
+            (λ (less : index < k). let up : get_or places index 0 < get_or places k 0 = are.rising index k 0 less among in omega arith)
+            (λ (behind : k < index). absurd (omega arith))
+            apart)
+            (cases_order index k)) other_holds))
             (λ (late : get_or places index 0 ≤ other). late)
             (cases_lt other (get_or places index 0));
       }

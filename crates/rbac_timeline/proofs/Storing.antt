@@ -5,6 +5,9 @@ use Rattle.std.specs.List.{Contains}
 use Rattle.std.proofs.lemmas.List.Elements.{Contains-append_left, Contains-push, Contains-push_cases}
 use Rattle.base_types.specs.declared.key.ObjectKey.{ObjectKey}
 use Rattle.clouds.specs.Kept.{AddsAt, items_at}
+use Rattle.clouds.specs.Writes.{Writes}
+use Rattle.clouds.specs.declared.span.KeyRevision.{KeyRevision}
+use Rattle.clouds.specs.declared.span.OpaqueSpan.{OpaqueSpan}
 use Rattle.clouds.proofs.Adding.{same_key_from}
 use Rattle.rbac_timeline.specs.declared.history.Gap.{Gap}
 use Rattle.rbac_timeline.specs.declared.history.Stored.{Stored}
@@ -39,3 +42,7 @@ AreGaps-more gaps after removals i end within is adds are = subst (λ l. AreGaps
       (λ same. subst (λ (e : RbacEnd). Contains (items_at key_order after e.key) (gap_of e)) same adds.added)
       (Contains-push_cases (take i removals) end other there);
 })
+
+pub same_writes : (writes : Writes) (spans : List OpaqueSpan) (revisions : List KeyRevision) → writes.spans ≡ spans → writes.revisions ≡ revisions → writes ≡ record { spans = spans; revisions = revisions }
+same_writes writes spans revisions of_spans of_revisions =
+    subst (λ l. writes ≡ record { spans = l; revisions = revisions }) of_spans (subst (λ l. writes ≡ record { spans = writes.spans; revisions = l }) of_revisions refl)

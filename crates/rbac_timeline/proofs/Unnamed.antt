@@ -130,11 +130,11 @@ module _ (known : Known) (nameless : Nameless) (are : AreLows nameless known.spa
 
   pub may_unnamed : (way : Way) → (may_grant nameless (bindings_in way) place attrs ≡ true) ↔ MayGrantNameless known way place attrs
   may_unnamed Roles = (
-      (λ passed. let both = and_parts attrs.is_resource plain_test passed in plain_may Roles refl both.0 both.1),
-      (λ may. let both = plain_from may.number may.span may.found may.of_kind may.begun may.reached in and_from attrs.is_resource plain_test both.0 both.1),
-    )
+    (λ passed. let both = and_parts attrs.is_resource plain_test passed in plain_may Roles refl both.0 both.1),
+    (λ may. let both = plain_from may.number may.span may.found may.of_kind may.begun may.reached in and_from attrs.is_resource plain_test both.0 both.1),
+  )
   may_unnamed ClusterRoles = (
-      (λ passed. let both = and_parts attrs.is_resource plain_test passed in plain_may ClusterRoles refl both.0 both.1),
-      (λ may. let both = plain_from may.number may.span may.found may.of_kind may.begun may.reached in and_from attrs.is_resource plain_test both.0 both.1),
-    )
+    (λ passed. let both = and_parts attrs.is_resource plain_test passed in plain_may ClusterRoles refl both.0 both.1),
+    (λ may. let both = plain_from may.number may.span may.found may.of_kind may.begun may.reached in and_from attrs.is_resource plain_test both.0 both.1),
+  )
   may_unnamed ClusterBindings = (cluster_may, (λ may. cluster_from may.number may.span may.found may.of_kind may.begun may.reached))

@@ -7,6 +7,7 @@ mod extent;
 mod history;
 mod index;
 mod kind;
+mod lookups;
 mod named;
 mod nameless;
 mod search;

@@ -1,7 +1,7 @@
-ghost use Rattle.std.specs.Prelude.{◌≡◌, ◌↔◌, IsTrue, IfOk, IfSome, IfNone, Any, Contains, MatchOption, map, false, ⊤, ◌<◌, ◌≤◌, ◌||◌};
+ghost use Rattle.std.specs.Prelude.{◌≡◌, ◌↔◌, IsTrue, IfOk, IfSome, IfNone, Any, Contains, MatchOption, map, [], false, ⊤, ◌<◌, ◌≤◌, ◌||◌};
 ghost use Rattle.rbac_timeline.specs.Kept.{MayGrantByRules, MustGrantByRules};
 ghost use Rattle.rbac_rules.specs.Matching.{Matches};
-ghost use Rattle.rbac_timeline.specs.Known.{key_revision};
+ghost use Rattle.rbac_timeline.specs.Known.{key_revision, known_of, writes_of};
 ghost use Rattle.base_types.specs.declared.placed.Places.{Places};
 
 use crate::changes::Changes;
@@ -9,6 +9,7 @@ use crate::extent::Extent;
 use crate::history::{Content, Gap, Histories, Removals, Stored, histories_of, removals_of};
 use crate::index::Index;
 use crate::kind::{Kind, is_kind, kind_of_key, reaches};
+use crate::lookups::Lookups;
 use crate::nameless::Nameless;
 use crate::search::Asked;
 use crate::unsure::Unsure;
@@ -17,7 +18,7 @@ use crate::way::{Link, Way};
 use base_types::{
     Decision, ObjectKey, OutOfMemory, Places, Possible, RequestAttrs, Text, Texts, User, has_text,
 };
-use clouds::{Clouds, KeyRevision, OpaqueSpans};
+use clouds::{Clouds, KeyRevision, OpaqueSpan, OpaqueSpans};
 use rbac_rules::{Binding, Subject, grants, subject_matches};
 use std::alloc::Global;
 use std::marker::Model;
@@ -64,6 +65,19 @@ fn key_revisions(alloc: Global, versions: &[RbacVersion]) -> Result<Vec<KeyRevis
         })?;
     }
     Ok(revisions)
+}
+
+// What the unrecorded writes hide, where each version shows its object again.
+fn clouds_of(
+    alloc: Global,
+    versions: &[RbacVersion],
+    spans: &[OpaqueSpan],
+) -> Result<Clouds, OutOfMemory>
+    ensures { IfOk result (λ clouds. clouds ≡ writes_of (known_of versions.now [] spans.now)) }
+{
+    let revisions = key_revisions(alloc, versions)?;
+    let clouds = Clouds::build(alloc, spans, revisions.as_slice())?;
+    Ok(clouds)
 }
 
 // Whether an object may be there at a place, and whether it is for certain, by the removal of its last version.
@@ -148,23 +162,27 @@ impl Timeline {
         ensures spans { IfOk result (λ timeline. timeline.spans ≡ spans) }
         ensures bypass { IfOk result (λ timeline. timeline.bypass ≡ bypass.now) }
     {
-        let revisions = key_revisions(alloc, versions.as_slice())?;
-        let clouds = Clouds::build(alloc, spans.as_slice(), &revisions)?;
-        let all_versions = Snapshot::of(&versions);
-        let index = Index::of(alloc, versions.as_slice())?;
-        let unsure = Unsure::of(alloc, versions.as_slice(), spans.as_slice(), &clouds)?;
-        let changes = Changes::of(
+        let clouds = clouds_of(alloc, versions.as_slice(), spans.as_slice())?;
+        let lookups = Lookups::of(
             alloc,
             versions.as_slice(),
             ends.as_slice(),
             spans.as_slice(),
+            &clouds,
         )?;
+        let Lookups {
+            index,
+            nameless,
+            unsure,
+            changes,
+        } = lookups;
+        let all_versions = Snapshot::of(&versions);
         Ok(Timeline {
             histories: histories_of(alloc, versions)?,
             removals: removals_of(alloc, ends.as_slice())?,
             clouds,
             index,
-            nameless: Nameless::of(alloc, spans.as_slice())?,
+            nameless,
             unsure,
             changes,
             bypass: bypass.clone()?,
@@ -445,13 +463,7 @@ impl Timeline {
     }
 
     // The least places at which the request may be allowed.
-    fn find_allowed(
-        &self,
-        low: u64,
-        high: u64,
-        who: &User,
-        attrs: &RequestAttrs,
-    ) -> Option<Places>
+    fn find_allowed(&self, low: u64, high: u64, who: &User, attrs: &RequestAttrs) -> Option<Places>
         requires { low ≤ high }
         ensures { AreFirstOf (λ places. IsPossible self.now places who.now attrs.now Decision.Allow) low high result }
     {

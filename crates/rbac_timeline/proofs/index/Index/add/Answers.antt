@@ -11,4 +11,4 @@ pub returns : goal.returns
 returns c = λ mentions are.
     let users = rw c.in_ok-user-in-ServiceAccount.ensures at c.in_ok-add_under-in-ServiceAccount.ensures in
     rw c.in-ServiceAccount.is (IsIndexed-account c.args.self.now c.add_account.new.accounts c.add_under-in-ServiceAccount.new.index _ _ c.args.key.now mentions
-      c.in_ok-add_account-in-ServiceAccount.ensures users are)
+    c.in_ok-add_account-in-ServiceAccount.ensures users are)

@@ -9,4 +9,4 @@ returns c =
     let by = MayGrantBy s.timeline.now s.who.now s.attrs.now in
     rw (c.earlier-2.ensures, c.earlier.ensures)
     (AreFirstOf-earlier (by Roles) (OneOf (by ClusterRoles) (by ClusterBindings) s.low s.high) s.low s.high _ _ c.first_by_roles-by_roles.ensures
-      (AreFirstOf-earlier (by ClusterRoles) (by ClusterBindings) s.low s.high _ _ c.first_by_cluster_roles-by_cluster_roles.ensures c.first_by_cluster_bindings-by_cluster_bindings.ensures))
+    (AreFirstOf-earlier (by ClusterRoles) (by ClusterBindings) s.low s.high _ _ c.first_by_cluster_roles-by_cluster_roles.ensures c.first_by_cluster_bindings-by_cluster_bindings.ensures))

@@ -36,7 +36,7 @@ returns-in-Some-first_free c =
     let here = c.in-Some-first_free.ensures in
     least_of_all known who attrs s.low s.high _ c.in-Some-first_free.places
     (least_at known Role s.low s.high c.later-roles-items.result.now c.later-roles-items.ensures (FreeSome known who attrs s.low s.high) (roles_carry_free known who attrs s.low s.high)
-      c.loop-roles.roles-index c.loop-roles-test.true c.loop-roles.invariant (some_from_least known who attrs s.low s.high _ c.in-Some-first_free.places here)) here
+    c.loop-roles.roles-index c.loop-roles-test.true c.loop-roles.invariant (some_from_least known who attrs s.low s.high _ c.in-Some-first_free.places here)) here
 
 pub loop-roles-preserved : goal.loop-roles-preserved
 loop-roles-preserved c =
@@ -56,4 +56,4 @@ returns c =
     let attrs = s.attrs.now in
     none_at_all known who attrs s.low s.high
     (nowhere_from known Role s.low s.high c.later-roles-items.result.now c.later-roles-items.ensures (FreeSome known who attrs s.low s.high) (roles_carry_free known who attrs s.low s.high)
-      c.loop-roles.roles-index c.loop-roles-test.false c.loop-roles.invariant)
+    c.loop-roles.roles-index c.loop-roles-test.false c.loop-roles.invariant)

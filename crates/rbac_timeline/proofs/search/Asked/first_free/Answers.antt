@@ -38,8 +38,8 @@ returns-in-Some-free_with c =
     let here = c.in-Some-free_with.ensures in
     least_from known who attrs s.low s.high c.args.roles _ c.in-Some-free_with.places
     (least_at known ClusterRole s.low s.high c.later-cluster_roles-items.result.now c.later-cluster_roles-items.ensures (FreeOf known who attrs s.low s.high c.args.roles)
-      (clusters_carry known who attrs s.low s.high c.args.roles) c.loop-cluster_roles.cluster_roles-index c.loop-cluster_roles-test.true c.loop-cluster_roles.invariant
-      (free_from_least known who attrs s.low s.high c.args.roles _ c.in-Some-free_with.places here)) here
+    (clusters_carry known who attrs s.low s.high c.args.roles) c.loop-cluster_roles.cluster_roles-index c.loop-cluster_roles-test.true c.loop-cluster_roles.invariant
+    (free_from_least known who attrs s.low s.high c.args.roles _ c.in-Some-free_with.places here)) here
 
 pub loop-cluster_roles-preserved : goal.loop-cluster_roles-preserved
 loop-cluster_roles-preserved c =
@@ -59,4 +59,4 @@ returns c =
     let attrs = s.attrs.now in
     none_from known who attrs s.low s.high c.args.roles
     (nowhere_from known ClusterRole s.low s.high c.later-cluster_roles-items.result.now c.later-cluster_roles-items.ensures (FreeOf known who attrs s.low s.high c.args.roles)
-      (clusters_carry known who attrs s.low s.high c.args.roles) c.loop-cluster_roles.cluster_roles-index c.loop-cluster_roles-test.false c.loop-cluster_roles.invariant)
+    (clusters_carry known who attrs s.low s.high c.args.roles) c.loop-cluster_roles.cluster_roles-index c.loop-cluster_roles-test.false c.loop-cluster_roles.invariant)

@@ -23,7 +23,7 @@ returns-in-Some-first_binding c =
     let here = c.in-Some-first_binding.ensures in
     IsLeastPair-from may s.low s.high _ c.in-Some-first_binding.binding_place
     (least_at s.timeline.now _ s.low s.high c.later-role_place-items.result.now are (SomeSecond may s.low s.high) (roles_carry s.timeline.now s.who.now s.attrs.now c.args.way s.low s.high)
-      c.loop-role_place.role_place-index c.loop-role_place-test.true c.loop-role_place.invariant (some_from_first may s.low s.high _ c.in-Some-first_binding.binding_place here)) here
+    c.loop-role_place.role_place-index c.loop-role_place-test.true c.loop-role_place.invariant (some_from_first may s.low s.high _ c.in-Some-first_binding.binding_place here)) here
 
 pub loop-role_place-preserved : goal.loop-role_place-preserved
 loop-role_place-preserved c =
@@ -39,4 +39,4 @@ returns c =
     let are = rw c.roles.ensures at c.later-role_place-items.ensures in
     no_pair may s.low s.high
     (nowhere_from s.timeline.now _ s.low s.high c.later-role_place-items.result.now are (SomeSecond may s.low s.high) (roles_carry s.timeline.now s.who.now s.attrs.now c.args.way s.low s.high)
-      c.loop-role_place.role_place-index c.loop-role_place-test.false c.loop-role_place.invariant)
+    c.loop-role_place.role_place-index c.loop-role_place-test.false c.loop-role_place.invariant)

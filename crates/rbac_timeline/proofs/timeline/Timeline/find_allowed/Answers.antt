@@ -15,7 +15,7 @@ returns-then-is_bypassed c =
     let known = c.args.self.now in
     let sound = subst (λ (k : Known). AreSound k.versions k.ends) c.self.view_is c.self.invariant.sound in
     rw c.lowest.ensures (AreFirstOf-lowest (λ (p : Places). IsPossible known p c.args.who.now c.args.attrs.now Allow) c.args.low c.args.high c.requires
-      (allow_bypassed known sound (all_at c.args.low) c.args.who.now c.args.attrs.now (c.is_bypassed.ensures.0 c.if-is_bypassed.true)))
+    (allow_bypassed known sound (all_at c.args.low) c.args.who.now c.args.attrs.now (c.is_bypassed.ensures.0 c.if-is_bypassed.true)))
 
 pub returns : goal.returns
 returns c =

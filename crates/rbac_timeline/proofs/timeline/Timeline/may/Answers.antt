@@ -19,8 +19,8 @@ returns c = (
   (λ way. ⊎_elim
       (λ named. absurd (both_ways _ c.if-named_extent.false (c.named_extent.ensures.may.1 named)))
       (λ other. ⊎_elim
-        (λ create. absurd (both_ways _ c.if-may_by_nameless.false (c.may_by_nameless.ensures.1 create)))
-        (λ unsure. c.may_by_unsure.ensures.full unsure)
-        other)
+      (λ create. absurd (both_ways _ c.if-may_by_nameless.false (c.may_by_nameless.ensures.1 create)))
+      (λ unsure. c.may_by_unsure.ensures.full unsure)
+      other)
       (cases_of_way c.args.self.now c.args.link.way c.args.link.role_place c.args.link.binding_place c.args.who.now c.args.attrs.now way)),
 )

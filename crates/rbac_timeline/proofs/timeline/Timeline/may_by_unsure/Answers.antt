@@ -23,4 +23,4 @@ returns-clause-full c = λ may.
     let fits = c.bindings_at-place.type_inv in
     let bound : c.args.link.binding_place ≤ last_place = omega arith in
     test (Any-contains (MayGrantByListed known c.args.link.way c.args.link.role_place c.args.link.binding_place c.args.who.now c.args.attrs.now) _ may.0
-      (found_unsure known c.self.inside.unsure are c.args.link.way c.args.attrs.now c.args.link.binding_place may.0 bound may.2.0 may.2.1 may.1) may.2)
+    (found_unsure known c.self.inside.unsure are c.args.link.way c.args.attrs.now c.args.link.binding_place may.0 bound may.2.0 may.2.1 may.1) may.2)

@@ -9,5 +9,5 @@ returns c =
     let sound = subst (λ (k : Known). AreSound k.versions k.ends) c.self.view_is c.self.invariant.sound in (
       (λ yes. must_from_named c.args.self.now c.args.link.way c.args.link.role_place c.args.link.binding_place c.args.who.now c.args.attrs.now (c.named_extent.ensures.must.0 yes)),
       (λ must. c.named_extent.ensures.must.1
-        (named_from_must c.args.self.now c.args.link.way c.args.link.role_place c.args.link.binding_place c.args.who.now c.args.attrs.now sound must)),
+          (named_from_must c.args.self.now c.args.link.way c.args.link.role_place c.args.link.binding_place c.args.who.now c.args.attrs.now sound must)),
     )

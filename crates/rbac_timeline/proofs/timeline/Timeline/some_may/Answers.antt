@@ -19,5 +19,5 @@ pub returns : goal.returns
 returns c = (
   (λ no. absurd (false≢true no)),
   (λ any. absurd (none_all (MayGrantByListed c.args.self.now c.args.link.way c.args.link.role_place c.args.link.binding_place c.args.who.now c.args.attrs.now) c.args.keys.now _
-    c.loop-key-test.false c.loop-key.invariant any)),
+      c.loop-key-test.false c.loop-key.invariant any)),
 )
