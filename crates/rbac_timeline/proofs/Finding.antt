@@ -4,6 +4,8 @@ use Rattle.std.specs.List.{Any, Contains}
 use Rattle.std.specs.Option.{IfNone, IfSome}
 use Rattle.std.proofs.lemmas.Bool.{false≢true}
 use Rattle.std.proofs.lemmas.List.Elements.{Contains-append_cases, Contains-append_left, Contains-append_right, Contains-push, Contains-push_cases}
+use Rattle.std.specs.List.Sorted.{IsPermutation}
+use Rattle.std.proofs.lemmas.List.Sorted.{Contains-permutation, IsPermutation-sym}
 use Rattle.base_types.specs.Covers.{NamesExactly}
 use Rattle.base_types.specs.declared.key.Cover.{Cover}
 use Rattle.base_types.specs.declared.key.CoverName.{CoverName}
@@ -82,17 +84,20 @@ module _ (unsure : Unsure) (keys : List ObjectKey) (key : ObjectKey) (are : AreF
         (Contains-push_cases keys key k among);
   }
 
-pub AreUnsure-both : (writes : Writes) (versions : List RbacVersion) (spans : List OpaqueSpan) (unsure : Unsure) (of_versions of_spans : List ObjectKey)
-    → AreGathered (GivesUnsure writes) versions of_versions → AreGathered GivesNamed spans of_spans → AreFound unsure (of_versions ++ of_spans) → AreUnsure writes versions spans unsure
-AreUnsure-both writes versions spans unsure of_versions of_spans by_versions by_spans found = record {
-  keys = of_versions ++ of_spans;
+pub AreUnsure-both : (writes : Writes) (versions : List RbacVersion) (spans : List OpaqueSpan) (unsure : Unsure) (of_versions of_spans order : List ObjectKey)
+    → AreGathered (GivesUnsure writes) versions of_versions → AreGathered GivesNamed spans of_spans → IsPermutation (of_versions ++ of_spans) order → AreFound unsure order
+    → AreUnsure writes versions spans unsure
+AreUnsure-both writes versions spans unsure of_versions of_spans order by_versions by_spans moved found = record {
+  keys = order;
   found = found;
   among = λ key among. ⊎_elim
       (λ left. inl (by_versions.among key left))
       (λ right. inr (by_spans.among key right))
-      (Contains-append_cases of_versions of_spans key among);
-  of_version = λ version key among gives. Contains-append_left of_versions of_spans key (by_versions.full version key among gives);
-  of_span = λ span key among gives. Contains-append_right of_versions of_spans key (by_spans.full span key among gives);
+      (Contains-append_cases of_versions of_spans key (Contains-permutation order (of_versions ++ of_spans) key (IsPermutation-sym (of_versions ++ of_spans) order moved) among));
+  of_version = λ version key among gives.
+      Contains-permutation (of_versions ++ of_spans) order key moved (Contains-append_left of_versions of_spans key (by_versions.full version key among gives));
+  of_span = λ span key among gives.
+      Contains-permutation (of_versions ++ of_spans) order key moved (Contains-append_right of_versions of_spans key (by_spans.full span key among gives));
 }
 
 name_of : CoverName → List ℕ

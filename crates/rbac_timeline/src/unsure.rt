@@ -1,4 +1,5 @@
 ghost use Rattle.std.specs.Prelude.{◌≡◌, ◌↔◌, ◌∷◌, ◌++◌, [], List, Some, None, IfOk, OnOk, IsTrue};
+ghost use Rattle.std.specs.List.Sorted.{IsPermutation};
 ghost use Rattle.base_types.specs.declared.key.ObjectKey.{ObjectKey};
 ghost use Rattle.rbac_timeline.specs.Kinds.{is_binding};
 ghost use Rattle.rbac_timeline.specs.Unsure.{AreFound, AreGathered, AreUnsure, GivesNamed, GivesUnsure, IsCloudedSomewhere, MayBeUnsure, unsure_keys};
@@ -70,6 +71,20 @@ fn keys_of_spans(alloc: Global, spans: &[OpaqueSpan]) -> Result<Vec<ObjectKey>, 
     Ok(keys)
 }
 
+// Both together, in order, so that each is put behind the others.
+fn in_order(
+    of_versions: Vec<ObjectKey>,
+    of_spans: Vec<ObjectKey>,
+) -> Result<Vec<ObjectKey>, OutOfMemory>
+    ensures { IfOk result (λ keys. IsPermutation (of_versions.items ++ of_spans.items) keys.items) }
+{
+    let mut keys = of_versions;
+    let mut others = of_spans;
+    keys.append(&mut others)?;
+    keys.sort()?;
+    Ok(keys)
+}
+
 /// The bindings that may be clouded or unreadable somewhere, and maybe others.
 #[derive(Drop)]
 pub struct Unsure {
@@ -123,9 +138,9 @@ impl Unsure {
     {
         let of_versions = keys_of_versions(alloc, versions, clouds)?;
         let of_spans = keys_of_spans(alloc, spans)?;
+        let keys = in_order(of_versions, of_spans)?;
         let mut unsure = Unsure::new(alloc);
-        unsure.add_each(alloc, of_versions.as_slice())?;
-        unsure.add_each(alloc, of_spans.as_slice())?;
+        unsure.add_each(alloc, keys.as_slice())?;
         Ok(unsure)
     }
 

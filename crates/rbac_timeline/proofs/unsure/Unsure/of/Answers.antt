@@ -4,6 +4,5 @@ use Rattle.rbac_timeline.proofs.unsure.Unsure.of.Goals as goal
 
 pub returns : goal.returns
 returns c =
-    let first = rw c.as_slice.ensures.value at c.in_ok-add_each.ensures [] c.new-unsure.ensures in
-    let both = rw c.as_slice-2.ensures.value at c.in_ok-add_each-2.ensures _ first in
-    AreUnsure-both c.args.clouds.now c.args.versions.now c.args.spans.now c.add_each-2.new.self _ _ c.in_ok-of_versions.ensures c.in_ok-of_spans.ensures both
+    let found = rw c.as_slice.ensures.value at c.in_ok-add_each.ensures [] c.new-unsure.ensures in
+    AreUnsure-both c.args.clouds.now c.args.versions.now c.args.spans.now c.add_each.new.self _ _ _ c.in_ok-of_versions.ensures c.in_ok-of_spans.ensures c.in_ok-keys.ensures found
