@@ -1,0 +1,14 @@
+pub mod Changing
+pub mod Choices
+pub mod Decisions
+pub mod Extents
+pub mod Index
+pub mod Indexed
+pub mod Kept
+pub mod Kinds
+pub mod Known
+pub mod Nameless
+pub mod Searched
+pub mod Sound
+pub mod States
+pub mod Unsure

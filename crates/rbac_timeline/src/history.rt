@@ -1,0 +1,237 @@
+ghost use Rattle.std.specs.Prelude.{◌≡◌, ◌≢◌, ◌<◌, [], ◌∷◌, IfOk, IfSome, IfNone, OnOk, List, Contains};
+ghost use Rattle.std.specs.List.Sorted.{IsPermutation};
+ghost use Rattle.clouds.specs.Kept.{AddsAt};
+
+use crate::kind::{is_cluster_binding, kind_of_key, role_key};
+use crate::version::{RbacContent, RbacEnd, RbacVersion, RbacVersions};
+use base_types::{ObjectKey, OutOfMemory};
+use rbac_rules::{Binding, PolicyRules};
+use std::alloc::Global;
+use std::collections::BTreeMap;
+use std::marker::Model;
+
+/// What a version holds, by the kind of its key.
+#[derive(Drop)]
+pub enum Content {
+    Rules(PolicyRules),
+    /// With the key of the role that the binding names.
+    Bound(Binding, ObjectKey),
+    Unreadable,
+}
+
+/// A version of one key.
+#[derive(Drop)]
+pub struct Stored {
+    pub revision: u64,
+    pub content: Content,
+}
+
+/// A removal of one key's object, whose last version has the revision `last`.
+#[derive(Clone, Copy, Debug, PartialEq, Eq)]
+pub struct Gap {
+    pub last: u64,
+    pub low: u64,
+    pub high: u64,
+}
+
+ghost use Rattle.rbac_timeline.specs.Index.{key_order};
+ghost use Rattle.rbac_timeline.specs.Kept.{AreGaps, AreStored, content_of, gap_of, stored_of};
+
+/// The versions of one key, by revision.
+#[derive(Drop)]
+pub struct History {
+    stored: Vec<Stored>,
+}
+
+impl Model for History {
+    ghost use Rattle.std.specs.Prelude.{List};
+    ghost use Rattle.std.specs.List.Sorted.{IsNonDecreasingBy};
+    ghost use Rattle.rbac_timeline.specs.declared.history.Stored.{Stored};
+
+    ghost Value = { List Stored };
+
+    ghost view = { λ h. h.stored.items };
+
+    ghost invariant = { λ h. IsNonDecreasingBy (λ s. s.revision) h.stored.items };
+}
+
+impl History {
+    ghost use Rattle.rbac_timeline.specs.declared.history.Stored.{Stored};
+    ghost use Rattle.rbac_timeline.specs.Kept.{IsLatestStored};
+
+    fn of(alloc: Global, stored: Stored) -> Result<History, OutOfMemory>
+        ensures { IfOk result (λ history. history ≡ stored ∷ []) }
+    {
+        let mut all = Vec::new(alloc);
+        all.push(stored)?;
+        Ok(History { stored: all })
+    }
+
+    fn add(&mut self, stored: Stored) -> Result<(), OutOfMemory>
+        ensures { OnOk result (IsPermutation (stored ∷ self.old) self.new) }
+    {
+        let revision = stored.revision;
+        let place = self
+            .stored
+            .partition_point(|other| other.revision <= revision);
+        self.stored.insert(place, stored)?;
+        Ok(())
+    }
+
+    /// The latest version at or below a place.
+    pub fn latest(&self, place: u64) -> Option<&Stored>
+        ensures some { IfSome result (λ stored. IsLatestStored self.now place stored.now) }
+        ensures none { IfNone result ((stored : Stored) → Contains self.now stored → place < stored.revision) }
+    {
+        let upto = self.stored.partition_point(|other| other.revision <= place);
+        if upto == 0 {
+            return None;
+        }
+        Some(&self.stored[upto - 1])
+    }
+}
+
+/// The removals of one key's object, by their last versions.
+#[derive(Drop)]
+pub struct Gaps {
+    gaps: Vec<Gap>,
+}
+
+impl Model for Gaps {
+    ghost use Rattle.std.specs.Prelude.{List};
+    ghost use Rattle.std.specs.List.Sorted.{IsNonDecreasingBy};
+    ghost use Rattle.rbac_timeline.specs.declared.history.Gap.{Gap};
+
+    ghost Value = { List Gap };
+
+    ghost view = { λ g. g.gaps.items };
+
+    ghost invariant = { λ g. IsNonDecreasingBy (λ gap. gap.last) g.gaps.items };
+}
+
+impl Gaps {
+    ghost use Rattle.rbac_timeline.specs.declared.history.Gap.{Gap};
+
+    fn of(alloc: Global, gap: Gap) -> Result<Gaps, OutOfMemory>
+        ensures { IfOk result (λ gaps. gaps ≡ gap ∷ []) }
+    {
+        let mut gaps = Vec::new(alloc);
+        gaps.push(gap)?;
+        Ok(Gaps { gaps })
+    }
+
+    fn add(&mut self, gap: Gap) -> Result<(), OutOfMemory>
+        ensures { OnOk result (IsPermutation (gap ∷ self.old) self.new) }
+    {
+        let place = self.gaps.partition_point(|other| other.last <= gap.last);
+        self.gaps.insert(place, gap)?;
+        Ok(())
+    }
+
+    /// The removal behind the version with this revision.
+    pub fn behind(&self, last: u64) -> Option<Gap>
+        ensures some { IfSome result (Contains self.now) }
+        ensures last { IfSome result (λ gap. gap.last ≡ last) }
+        ensures none { IfNone result ((gap : Gap) → Contains self.now gap → gap.last ≢ last) }
+    {
+        let upto = self.gaps.partition_point(|other| other.last <= last);
+        if upto == 0 {
+            return None;
+        }
+        let gap = self.gaps[upto - 1];
+        if gap.last != last {
+            return None;
+        }
+        Some(gap)
+    }
+}
+
+pub type Histories = BTreeMap<ObjectKey, History>;
+
+pub type Removals = BTreeMap<ObjectKey, Gaps>;
+
+fn content_of(alloc: Global, key: &ObjectKey, content: RbacContent) -> Result<Content, OutOfMemory>
+    ensures { IfOk result (λ made. made ≡ content_of key.now content) }
+{
+    match content {
+        RbacContent::Role(rules) => Ok(Content::Rules(rules)),
+        RbacContent::Bound(binding) => {
+            if is_cluster_binding(kind_of_key(key)) && !binding.role_is_cluster {
+                return Ok(Content::Unreadable);
+            }
+            let role = role_key(alloc, key, &binding)?;
+            Ok(Content::Bound(binding, role))
+        }
+        RbacContent::Unreadable => Ok(Content::Unreadable),
+    }
+}
+
+fn add_version(
+    alloc: Global,
+    histories: &mut Histories,
+    version: RbacVersion,
+) -> Result<(), OutOfMemory>
+    ensures { OnOk result (AddsAt key_order histories.old histories.new version.key (stored_of version)) }
+{
+    let RbacVersion {
+        key,
+        revision,
+        content,
+    } = version;
+    let stored = Stored {
+        revision: revision.get(),
+        content: content_of(alloc, &key, content)?,
+    };
+    match histories.get_mut(&key) {
+        Some(history) => {
+            history.add(stored)?;
+            return Ok(());
+        }
+        None => {
+            let _none = histories.insert(key, History::of(alloc, stored)?)?;
+        }
+    }
+    Ok(())
+}
+
+/// The versions of each key.
+pub fn histories_of(alloc: Global, versions: RbacVersions) -> Result<Histories, OutOfMemory>
+    ensures { IfOk result (λ histories. AreStored histories versions) }
+{
+    let mut histories = BTreeMap::new(alloc);
+    for version in versions.into_vec() {
+        add_version(alloc, &mut histories, version)?;
+    }
+    Ok(histories)
+}
+
+fn add_end(alloc: Global, removals: &mut Removals, end: &RbacEnd) -> Result<(), OutOfMemory>
+    ensures { OnOk result (AddsAt key_order removals.old removals.new end.now.key (gap_of end.now)) }
+{
+    let gap = Gap {
+        last: end.last.get(),
+        low: end.low,
+        high: end.high,
+    };
+    match removals.get_mut(&end.key) {
+        Some(gaps) => {
+            gaps.add(gap)?;
+            return Ok(());
+        }
+        None => {
+            let _none = removals.insert(end.key.clone()?, Gaps::of(alloc, gap)?)?;
+        }
+    }
+    Ok(())
+}
+
+/// The removals of each key's object.
+pub fn removals_of(alloc: Global, ends: &[RbacEnd]) -> Result<Removals, OutOfMemory>
+    ensures { IfOk result (λ removals. AreGaps removals ends.now) }
+{
+    let mut removals = BTreeMap::new(alloc);
+    for end in ends {
+        add_end(alloc, &mut removals, end)?;
+    }
+    Ok(removals)
+}

@@ -1,0 +1,20 @@
+//! Which decisions an authoriser could have given at each place of a history, by the roles and bindings
+//! that its four caches may have held (Kubernetes "Using RBAC Authorization").
+#![tactic(auto)]
+
+mod changes;
+mod extent;
+mod history;
+mod index;
+mod kind;
+mod lookups;
+mod named;
+mod nameless;
+mod search;
+mod timeline;
+mod unsure;
+mod version;
+mod way;
+
+pub use timeline::Timeline;
+pub use version::{RbacContent, RbacEnd, RbacEnds, RbacVersion, RbacVersions};

@@ -1,0 +1,532 @@
+ghost use Rattle.std.specs.Prelude.{◌≡◌, ◌↔◌, IsTrue, IfOk, IfSome, IfNone, Any, Contains, MatchOption, map, [], false, ⊤, ◌<◌, ◌≤◌, ◌||◌};
+ghost use Rattle.rbac_timeline.specs.Kept.{MayGrantByRules, MustGrantByRules};
+ghost use Rattle.rbac_rules.specs.Matching.{Matches};
+ghost use Rattle.rbac_timeline.specs.Known.{key_revision, known_of, writes_of};
+ghost use Rattle.base_types.specs.declared.placed.Places.{Places};
+
+use crate::changes::Changes;
+use crate::extent::Extent;
+use crate::history::{Content, Gap, Histories, Removals, Stored, histories_of, removals_of};
+use crate::index::Index;
+use crate::kind::{Kind, is_kind, kind_of_key, reaches};
+use crate::lookups::Lookups;
+use crate::nameless::Nameless;
+use crate::search::Asked;
+use crate::unsure::Unsure;
+use crate::version::{RbacEnds, RbacVersion, RbacVersions};
+use crate::way::{Link, Way};
+use base_types::{
+    Decision, ObjectKey, OutOfMemory, Places, Possible, RequestAttrs, Text, Texts, User, has_text,
+};
+use clouds::{Clouds, KeyRevision, OpaqueSpan, OpaqueSpans};
+use rbac_rules::{Binding, Subject, grants, subject_matches};
+use std::alloc::Global;
+use std::marker::Model;
+use std::snapshot::Snapshot;
+
+/// Roles and bindings at each place of a history. Contracts see what it was built of.
+#[derive(Drop)]
+pub struct Timeline {
+    histories: Histories,
+    removals: Removals,
+    clouds: Clouds,
+    index: Index,
+    nameless: Nameless,
+    unsure: Unsure,
+    changes: Changes,
+    bypass: Texts,
+    // For contracts alone: they take no memory.
+    versions: Snapshot<RbacVersions>,
+    ends: Snapshot<RbacEnds>,
+    spans: Snapshot<OpaqueSpans>,
+}
+
+impl Model for Timeline {
+    ghost use Rattle.rbac_timeline.specs.Known.{Known};
+
+    ghost Value = { Known };
+
+    ghost view = { λ t. record { versions = t.versions.value; ends = t.ends.value; spans = t.spans.value; bypass = t.bypass } };
+
+    ghost use Rattle.rbac_timeline.specs.Kept.{AreKept};
+
+    ghost invariant = { λ t. AreKept (record { versions = t.versions.value; ends = t.ends.value; spans = t.spans.value; bypass = t.bypass })
+        t.histories t.removals t.clouds t.index t.nameless t.unsure t.changes };
+}
+
+fn key_revisions(alloc: Global, versions: &[RbacVersion]) -> Result<Vec<KeyRevision>, OutOfMemory>
+    ensures { IfOk result (λ revisions. revisions.items ≡ map key_revision versions.now) }
+{
+    let mut revisions = Vec::new(alloc);
+    for version in versions {
+        revisions.push(KeyRevision {
+            key: version.key.clone()?,
+            revision: version.revision,
+        })?;
+    }
+    Ok(revisions)
+}
+
+// What the unrecorded writes hide, where each version shows its object again.
+fn clouds_of(
+    alloc: Global,
+    versions: &[RbacVersion],
+    spans: &[OpaqueSpan],
+) -> Result<Clouds, OutOfMemory>
+    ensures { IfOk result (λ clouds. clouds ≡ writes_of (known_of versions.now [] spans.now)) }
+{
+    let revisions = key_revisions(alloc, versions)?;
+    let clouds = Clouds::build(alloc, spans, revisions.as_slice())?;
+    Ok(clouds)
+}
+
+// Whether an object may be there at a place, and whether it is for certain, by the removal of its last version.
+fn presence(gap: Option<Gap>, place: u64) -> Extent
+    ensures may { IsTrue result.may ↔ MatchOption gap ⊤ (λ gap. place < gap.high) }
+    ensures must { IsTrue result.must ↔ MatchOption gap ⊤ (λ gap. place < gap.low) }
+{
+    match gap {
+        Some(gap) => Extent {
+            may: place < gap.high,
+            must: place < gap.low,
+        },
+        None => Extent::certain(true),
+    }
+}
+
+fn rules_extent(content: &Content, attrs: &RequestAttrs) -> Extent
+    ensures may { IsTrue result.may ↔ MayGrantByRules attrs.now content.now }
+    ensures must { IsTrue result.must ↔ MustGrantByRules attrs.now content.now }
+{
+    match content {
+        Content::Rules(rules) => Extent::certain(grants(rules.as_slice(), attrs)),
+        Content::Bound(_, _) => Extent::UNSURE,
+        Content::Unreadable => Extent::UNSURE,
+    }
+}
+
+fn any_group(groups: &[Text], bypass: &Texts) -> bool
+    ensures { IsTrue result ↔ Any (Contains bypass.now) groups.now }
+{
+    groups.iter().any(|group| is_among(bypass, group))
+}
+
+fn is_among(texts: &Texts, text: &Text) -> bool
+    ensures { IsTrue result ↔ Contains texts.now text.now }
+{
+    has_text(texts, text)
+}
+
+fn any_of(a: bool, b: bool, c: bool) -> bool
+    ensures { result ≡ (a || b || c) }
+{
+    a || b || c
+}
+
+fn any_subject(subjects: &[Subject], who: &User) -> bool
+    ensures { IsTrue result ↔ Any (λ subject. Matches subject who.now) subjects.now }
+{
+    subjects.iter().any(|subject| subject_matches(subject, who))
+}
+
+fn names(binding: &Binding, who: &User) -> bool
+    ensures { IsTrue result ↔ Any (λ subject. Matches subject who.now) binding.now.subjects }
+{
+    any_subject(binding.subjects.as_slice(), who)
+}
+
+impl Timeline {
+    ghost use Rattle.rbac_timeline.specs.Decisions.{AreLeastPlaces, IsDecidedAt, IsPossible};
+    ghost use Rattle.rbac_timeline.specs.Index.{AreBindingsOf};
+    ghost use Rattle.rbac_timeline.specs.Sound.{AreSound};
+    ghost use Rattle.rbac_timeline.specs.declared.version.RbacVersion.{RbacVersion};
+    ghost use Rattle.rbac_timeline.specs.Changing.{AreChangesBetween};
+    ghost use Rattle.rbac_timeline.specs.Choices.{IsBypassed, IsKnownKey};
+    ghost use Rattle.rbac_timeline.specs.Extents.{IsCertain, IsNotGone, MayGrantByRole, MayGrantInWay, MayGrantNameless, MustGrantByRole, MustGrantInWay};
+    ghost use Rattle.rbac_timeline.specs.Kept.{IsKnownUnsure, IsRemovalOf, MayGrantByContent, MayGrantByListed, MayGrantOf, MustGrantByContent, MustGrantByListed, MustGrantOf, NamesAccount, NamesGroup, NamesUser, NamesWho, stored_of};
+    ghost use Rattle.rbac_timeline.specs.Searched.{AreFirstOf};
+    ghost use Rattle.rbac_timeline.specs.States.{IsLatestVersion, NoneUpto};
+
+    /// Versions rise by key, and those of one key by revision. Each removal ends a version, before the key's
+    /// next one.
+    pub fn build(
+        alloc: Global,
+        versions: RbacVersions,
+        ends: RbacEnds,
+        spans: OpaqueSpans,
+        bypass: &Texts,
+    ) -> Result<Timeline, OutOfMemory>
+        requires { AreSound versions ends }
+        ensures versions { IfOk result (λ timeline. timeline.versions ≡ versions) }
+        ensures ends { IfOk result (λ timeline. timeline.ends ≡ ends) }
+        ensures spans { IfOk result (λ timeline. timeline.spans ≡ spans) }
+        ensures bypass { IfOk result (λ timeline. timeline.bypass ≡ bypass.now) }
+    {
+        let clouds = clouds_of(alloc, versions.as_slice(), spans.as_slice())?;
+        let lookups = Lookups::of(
+            alloc,
+            versions.as_slice(),
+            ends.as_slice(),
+            spans.as_slice(),
+            &clouds,
+        )?;
+        let Lookups {
+            index,
+            nameless,
+            unsure,
+            changes,
+        } = lookups;
+        let all_versions = Snapshot::of(&versions);
+        Ok(Timeline {
+            histories: histories_of(alloc, versions)?,
+            removals: removals_of(alloc, ends.as_slice())?,
+            clouds,
+            index,
+            nameless,
+            unsure,
+            changes,
+            bypass: bypass.clone()?,
+            versions: all_versions,
+            ends: Snapshot::of(&ends),
+            spans: Snapshot::of(&spans),
+        })
+    }
+
+    fn latest(&self, key: &ObjectKey, place: u64) -> Option<&Stored>
+        ensures some { IfSome result (λ s. (v : RbacVersion) × IsLatestVersion self.now.versions key.now place v × (s.now ≡ stored_of v)) }
+        ensures none { IfNone result (NoneUpto self.now.versions key.now place) }
+    {
+        match self.histories.get(key) {
+            Some(history) => history.latest(place),
+            None => None,
+        }
+    }
+
+    fn removal(&self, key: &ObjectKey, last: u64) -> Option<Gap>
+        ensures { IsRemovalOf self.now.ends key.now last result }
+    {
+        match self.removals.get(key) {
+            Some(gaps) => gaps.behind(last),
+            None => None,
+        }
+    }
+
+    fn presence(&self, key: &ObjectKey, stored: &Stored, place: u64) -> Extent
+        ensures may { (v : RbacVersion) → v.key ≡ key.now → v.revision ≡ stored.now.revision → (IsTrue result.may ↔ IsNotGone self.now place v) }
+        ensures must { (v : RbacVersion) → v.key ≡ key.now → v.revision ≡ stored.now.revision → (IsTrue result.must ↔ IsCertain self.now place v) }
+    {
+        let _known = &self.clouds;
+        presence(self.removal(key, stored.revision), place)
+    }
+
+    fn role_extent(&self, key: &ObjectKey, place: u64, attrs: &RequestAttrs) -> Extent
+        ensures may { IsTrue result.may ↔ MayGrantByRole self.now key.now place attrs.now }
+        ensures must { IsTrue result.must ↔ MustGrantByRole self.now key.now place attrs.now }
+    {
+        if self.clouds.clouded(key, place) {
+            return Extent::UNSURE;
+        }
+        match self.latest(key, place) {
+            Some(stored) => self
+                .presence(key, stored, place)
+                .and(rules_extent(&stored.content, attrs)),
+            None => Extent::NOTHING,
+        }
+    }
+
+    fn content_extent(
+        &self,
+        content: &Content,
+        link: Link,
+        who: &User,
+        attrs: &RequestAttrs,
+    ) -> Extent
+        ensures may { IsTrue result.may ↔ MayGrantByContent self.now link.way link.role_place who.now attrs.now content.now }
+        ensures must { IsTrue result.must ↔ MustGrantByContent self.now link.way link.role_place who.now attrs.now content.now }
+    {
+        match content {
+            Content::Rules(_) => Extent::UNSURE,
+            Content::Bound(binding, role) => {
+                if !is_kind(kind_of_key(role), link.way.roles()) {
+                    return Extent::NOTHING;
+                }
+                if !names(binding, who) {
+                    return Extent::NOTHING;
+                }
+                self.role_extent(role, link.role_place, attrs)
+            }
+            Content::Unreadable => Extent::UNSURE,
+        }
+    }
+
+    fn key_extent(&self, key: &ObjectKey, link: Link, who: &User, attrs: &RequestAttrs) -> Extent
+        ensures may { IsTrue result.may ↔ MayGrantByListed self.now link.way link.role_place link.binding_place who.now attrs.now key.now }
+        ensures must { IsTrue result.must ↔ MustGrantByListed self.now link.way link.role_place link.binding_place who.now attrs.now key.now }
+    {
+        if !is_kind(kind_of_key(key), link.way.bindings()) {
+            return Extent::NOTHING;
+        }
+        if !reaches(key, attrs) {
+            return Extent::NOTHING;
+        }
+        if self.clouds.clouded(key, link.binding_place) {
+            return Extent::UNSURE;
+        }
+        match self.latest(key, link.binding_place) {
+            Some(stored) => self
+                .presence(key, stored, link.binding_place)
+                .and(self.content_extent(&stored.content, link, who, attrs)),
+            None => Extent::NOTHING,
+        }
+    }
+
+    fn keys_extent(
+        &self,
+        keys: &[ObjectKey],
+        link: Link,
+        who: &User,
+        attrs: &RequestAttrs,
+    ) -> Extent
+        ensures may { IsTrue result.may ↔ Any (MayGrantByListed self.now link.way link.role_place link.binding_place who.now attrs.now) keys.now }
+        ensures must { IsTrue result.must ↔ Any (MustGrantByListed self.now link.way link.role_place link.binding_place who.now attrs.now) keys.now }
+    {
+        let mut extent = Extent::NOTHING;
+        for key in keys {
+            extent = extent.or(self.key_extent(key, link, who, attrs));
+        }
+        extent
+    }
+
+    // What the bindings grant that name the user.
+    fn user_extent(&self, link: Link, who: &User, attrs: &RequestAttrs) -> Extent
+        ensures may { IsTrue result.may ↔ MayGrantOf self.now (NamesUser self.now.versions who.now.name) link.way link.role_place link.binding_place who.now attrs.now }
+        ensures must { IsTrue result.must ↔ MustGrantOf self.now (NamesUser self.now.versions who.now.name) link.way link.role_place link.binding_place who.now attrs.now }
+    {
+        self.keys_extent(self.index.by_user(&who.name), link, who, attrs)
+    }
+
+    // What the bindings grant that name the account that the user is.
+    fn account_extent(&self, link: Link, who: &User, attrs: &RequestAttrs) -> Extent
+        ensures may { IsTrue result.may ↔ MayGrantOf self.now (NamesAccount self.now.versions who.now.name) link.way link.role_place link.binding_place who.now attrs.now }
+        ensures must { IsTrue result.must ↔ MustGrantOf self.now (NamesAccount self.now.versions who.now.name) link.way link.role_place link.binding_place who.now attrs.now }
+    {
+        self.keys_extent(self.index.by_account_user(&who.name), link, who, attrs)
+    }
+
+    // What the bindings grant that name a group.
+    fn group_extent(&self, group: &Text, link: Link, who: &User, attrs: &RequestAttrs) -> Extent
+        ensures may { IsTrue result.may ↔ MayGrantOf self.now (NamesGroup self.now.versions group.now) link.way link.role_place link.binding_place who.now attrs.now }
+        ensures must { IsTrue result.must ↔ MustGrantOf self.now (NamesGroup self.now.versions group.now) link.way link.role_place link.binding_place who.now attrs.now }
+    {
+        self.keys_extent(self.index.by_group(group), link, who, attrs)
+    }
+
+    // What the bindings grant that name a group of these.
+    fn groups_extent(&self, groups: &[Text], link: Link, who: &User, attrs: &RequestAttrs) -> Extent
+        ensures may { IsTrue result.may ↔ Any (λ group. MayGrantOf self.now (NamesGroup self.now.versions group) link.way link.role_place link.binding_place who.now attrs.now) groups.now }
+        ensures must { IsTrue result.must ↔ Any (λ group. MustGrantOf self.now (NamesGroup self.now.versions group) link.way link.role_place link.binding_place who.now attrs.now) groups.now }
+    {
+        let mut extent = Extent::NOTHING;
+        for group in groups {
+            extent = extent.or(self.group_extent(group, link, who, attrs));
+        }
+        extent
+    }
+
+    // What the bindings grant that name the user, the account that it is, or one of its groups.
+    fn named_extent(&self, link: Link, who: &User, attrs: &RequestAttrs) -> Extent
+        ensures may { IsTrue result.may ↔ MayGrantOf self.now (NamesWho self.now.versions who.now) link.way link.role_place link.binding_place who.now attrs.now }
+        ensures must { IsTrue result.must ↔ MustGrantOf self.now (NamesWho self.now.versions who.now) link.way link.role_place link.binding_place who.now attrs.now }
+    {
+        let user = self.user_extent(link, who, attrs);
+        let account = self.account_extent(link, who, attrs);
+        let groups = self.groups_extent(who.groups.as_slice(), link, who, attrs);
+        user.or(account).or(groups)
+    }
+
+    // Whether one of these bindings may grant the request.
+    fn some_may(&self, keys: &[ObjectKey], link: Link, who: &User, attrs: &RequestAttrs) -> bool
+        ensures { IsTrue result ↔ Any (MayGrantByListed self.now link.way link.role_place link.binding_place who.now attrs.now) keys.now }
+    {
+        for key in keys {
+            if self.key_extent(key, link, who, attrs).may {
+                return true;
+            }
+        }
+        false
+    }
+
+    // Whether a binding may grant the request that may be clouded or unreadable somewhere; others may be
+    // among them.
+    fn may_by_unsure(&self, link: Link, who: &User, attrs: &RequestAttrs) -> bool
+        ensures sound { IsTrue result → MayGrantOf self.now (IsKnownKey self.now) link.way link.role_place link.binding_place who.now attrs.now }
+        ensures full { MayGrantOf self.now (IsKnownUnsure self.now link.binding_place) link.way link.role_place link.binding_place who.now attrs.now → IsTrue result }
+    {
+        let _place = link.bindings_at();
+        let keys = self.unsure.keys(link.way.bindings(), attrs);
+        self.some_may(keys, link, who, attrs)
+    }
+
+    // Whether a binding whose name isn't known may grant the request.
+    fn may_by_nameless(&self, link: Link, attrs: &RequestAttrs) -> bool
+        ensures { IsTrue result ↔ MayGrantNameless self.now link.way link.binding_place attrs.now }
+    {
+        self.nameless
+            .may_grant(link.way.bindings(), link.binding_place, attrs)
+    }
+
+    // Whether some binding may grant the request in this way.
+    pub(crate) fn may(&self, link: Link, who: &User, attrs: &RequestAttrs) -> bool
+        ensures { IsTrue result ↔ MayGrantInWay self.now link.way link.role_place link.binding_place who.now attrs.now }
+    {
+        if self.named_extent(link, who, attrs).may {
+            return true;
+        }
+        if self.may_by_nameless(link, attrs) {
+            return true;
+        }
+        self.may_by_unsure(link, who, attrs)
+    }
+
+    // Whether some binding grants the request for certain in this way. One that does is sure, so it names
+    // the user.
+    pub(crate) fn must(&self, link: Link, who: &User, attrs: &RequestAttrs) -> bool
+        ensures { IsTrue result ↔ MustGrantInWay self.now link.way link.role_place link.binding_place who.now attrs.now }
+    {
+        let _known = &self.clouds;
+        self.named_extent(link, who, attrs).must
+    }
+
+    pub(crate) fn changes_between(&self, kind: Kind, low: u64, high: u64) -> &[u64]
+        ensures { AreChangesBetween self.now kind low high result.now }
+    {
+        self.changes.between(kind, low, high)
+    }
+
+    fn is_bypassed(&self, who: &User) -> bool
+        ensures { IsTrue result ↔ IsBypassed self.now who.now }
+    {
+        any_group(who.groups.as_slice(), &self.bypass)
+    }
+
+    /// Which decisions an authoriser could have given whose caches stood at these places. A role or binding
+    /// that is clouded or can't be read may grant everything that it can reach, or nothing.
+    pub fn decide(&self, places: &Places, who: &User, attrs: &RequestAttrs) -> Possible
+        ensures allow { IsTrue result.allow ↔ IsPossible self.now places.now who.now attrs.now Decision.Allow }
+        ensures forbid { IsTrue result.forbid ↔ IsPossible self.now places.now who.now attrs.now Decision.Forbid }
+    {
+        let _known = &self.clouds;
+        if self.is_bypassed(who) {
+            return Possible {
+                allow: true,
+                forbid: false,
+            };
+        }
+        let roles = Link {
+            way: Way::Roles,
+            role_place: places.roles,
+            binding_place: places.bindings,
+        };
+        let cluster_roles = Link {
+            way: Way::ClusterRoles,
+            role_place: places.cluster_roles,
+            binding_place: places.bindings,
+        };
+        let cluster_bindings = Link {
+            way: Way::ClusterBindings,
+            role_place: places.cluster_roles,
+            binding_place: places.cluster_bindings,
+        };
+        let may_by_roles = self.may(roles, who, attrs);
+        let may_by_cluster_roles = self.may(cluster_roles, who, attrs);
+        let may_by_cluster_bindings = self.may(cluster_bindings, who, attrs);
+        let must_by_roles = self.must(roles, who, attrs);
+        let must_by_cluster_roles = self.must(cluster_roles, who, attrs);
+        let must_by_cluster_bindings = self.must(cluster_bindings, who, attrs);
+        let allowed = any_of(may_by_roles, may_by_cluster_roles, may_by_cluster_bindings);
+        let certain = any_of(
+            must_by_roles,
+            must_by_cluster_roles,
+            must_by_cluster_bindings,
+        );
+        Possible {
+            allow: allowed,
+            forbid: !certain,
+        }
+    }
+
+    /// The bindings that have a version which names the subject, by key. One that can't be read names none.
+    pub fn bindings_of(&self, subject: &Subject) -> &[ObjectKey]
+        ensures { AreBindingsOf self.now.versions subject.now result.now }
+    {
+        self.index.by_subject(subject)
+    }
+
+    // The least places at which the request may be allowed.
+    fn find_allowed(&self, low: u64, high: u64, who: &User, attrs: &RequestAttrs) -> Option<Places>
+        requires { low ≤ high }
+        ensures { AreFirstOf (λ places. IsPossible self.now places who.now attrs.now Decision.Allow) low high result }
+    {
+        let _known = &self.clouds;
+        let asked = Asked {
+            timeline: self,
+            low,
+            high,
+            who,
+            attrs,
+        };
+        if self.is_bypassed(who) {
+            return Some(asked.lowest());
+        }
+        asked.first_allowed()
+    }
+
+    // The least places at which the request may be forbidden.
+    fn find_forbidden(
+        &self,
+        low: u64,
+        high: u64,
+        who: &User,
+        attrs: &RequestAttrs,
+    ) -> Option<Places>
+        requires { low ≤ high }
+        ensures { AreFirstOf (λ places. IsPossible self.now places who.now attrs.now Decision.Forbid) low high result }
+    {
+        let _known = &self.clouds;
+        let asked = Asked {
+            timeline: self,
+            low,
+            high,
+            who,
+            attrs,
+        };
+        if self.is_bypassed(who) {
+            return None;
+        }
+        asked.first_forbidden()
+    }
+
+    /// The least places of the four caches from `low` to `high` at which the decision is possible.
+    pub fn find_decision(
+        &self,
+        low: u64,
+        high: u64,
+        who: &User,
+        attrs: &RequestAttrs,
+        wanted: Decision,
+    ) -> Option<Places>
+        ensures some { IfSome result (AreLeastPlaces self.now low high who.now attrs.now wanted) }
+        ensures none { IfNone result ((places : Places) → ¬ (IsDecidedAt self.now low high who.now attrs.now wanted places)) }
+    {
+        if low > high {
+            return None;
+        }
+        match wanted {
+            Decision::Allow => self.find_allowed(low, high, who, attrs),
+            Decision::Forbid => self.find_forbidden(low, high, who, attrs),
+        }
+    }
+}
+
+#[cfg(test)]
+mod tests;
