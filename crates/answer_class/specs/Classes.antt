@@ -1,25 +1,5 @@
--- What an event says of the cluster. The classes are tried in this order, and the first that applies is the event's:
---    1  aside: it isn't the last event of its request, is no request for a resource, or for one that isn't tracked
---    2  free: a dry run (Kubernetes API concepts, "Dry-run")
---    3  free: a verb that neither writes nor reads, or a subresource that leaves the object
---    4  aside: a write that ended before the log
---    5  opaque: a write without an answer, or that the server failed at
---    6  opaque: a write that was made but isn't recorded: past the log's end, without bodies, in another version, of a
---       collection, or through a subresource that makes no object of its own
---    7  made: a write that was answered by the object that it made, in the log or above its start
---    8  aside: the same before the log
---    9  removed: a delete that tells the uid of what it removed, or a write that ended a deleted object
---   10  opaque: any other write that was made
---   11  aside: it may lie outside the log, has no bodies, or is in another version
---   12  aside: a read through a subresource that isn't known
---   13  aside: a read at a revision that isn't understood, or a list at one below the start
---   14  saw none: `404 NotFound` for the object at the path
---   15  saw some: `409 AlreadyExists` for the name that a create asks for
---   16  saw other: `409 Conflict` for a request with preconditions
---   17  saw: a get that was answered by the object
---   18  listed: a list that was answered by a list of objects
---   19  aside: a read that was answered by something else, as a Table
---   20  free: every other event
+-- What an event says of the cluster: this is the table of classes read as one decision after another, and Table is the
+-- table itself, whose rows the numbers below name.
 use Rattle.std.specs.Prelude.{ℕ, ◌&&◌, ◌||◌, Bool, true, false, not, List, [], Option, Some, None, codes, bytes_eq, nat_lt, if◌then◌else◌}
 use Rattle.json_tree.specs.Meaning.{Meaning}
 use Rattle.json_tree.specs.Parts.{member_of}

@@ -5,4 +5,5 @@ pub mod Covers
 pub mod Labels
 pub mod Lists
 pub mod Requests
+pub mod Table
 pub mod Times

@@ -2,6 +2,7 @@ ghost use Rattle.std.specs.Prelude.{◌≡◌, IfOk, option_map};
 ghost use Rattle.answer_class.specs.Covers.{cover_of};
 ghost use Rattle.answer_class.specs.Lists.{list_namespace};
 ghost use Rattle.answer_class.specs.Classes.{key_named, path_key, saw, listed, got, gathered, read_by, read_class, tells_kind, may_miss, is_missing, asked_name, is_taken, tells_conflict, is_conflict, conflict_class, taken_class, refused_class, is_outside, is_out_of_sight, later_class, deleted_uid, ended_uid, removed_uid, removed, is_made_by, made, made_class, is_hidden_by, is_hidden, is_dry, is_idle, succeeded_class, tracked_class, class_of};
+ghost use Rattle.answer_class.specs.Table.{by_table};
 
 use crate::answer::Answer;
 use crate::bodies::{answered_object, asks_dry, body_member, filled_at, is_ended, is_finalizing};
@@ -513,7 +514,8 @@ fn tracked_class(
 /// What an event says of the cluster. An event of another stage than the last one of its request, and one that isn't
 /// for a tracked resource, are set aside.
 pub fn class_of(alloc: Global, setup: &Setup, event: &Event) -> Result<Answer, OutOfMemory>
-    ensures { IfOk result (λ answer. answer ≡ class_of setup.now event.now) }
+    ensures class { IfOk result (λ answer. answer ≡ class_of setup.now event.now) }
+    ensures table { IfOk result (λ answer. answer ≡ by_table setup.now event.now) }
 {
     let Some(tracked) = tracked_of(setup, &event.attrs) else {
         return Ok(Answer::Aside);
