@@ -1,5 +1,5 @@
 -- Unrecorded writes, and when they may have begun.
-use Rattle.std.specs.Prelude.{◌≡◌, ◌≤◌, ◌<◌, ◌+◌, ◌≤ℤ◌, ◌↔◌, ℕ, ℤ, List, [], ◌∷◌, ◌++◌, Option, Some, None, length, slice_index_or, All, AllPairs, Any}
+use Rattle.std.specs.Prelude.{◌≡◌, ◌+◌, ◌≤ℤ◌, ℕ, List, [], ◌∷◌, Option, Some, None, length, filter_map, All, AllPairs, Any}
 use Rattle.base_types.specs.Covers.{Covers}
 use Rattle.base_types.specs.declared.key.ObjectKey.{ObjectKey}
 use Rattle.base_types.specs.declared.revision.Moment.{Moment}
@@ -10,31 +10,37 @@ use Rattle.write_groups.specs.declared.event.Shown.{Shown}
 use Rattle.write_groups.specs.declared.event.Shown.TheVariants.{Made, Removed, Opaque, Saw, SawNone, SawSome, SawOther, Listed, Free, Aside}
 use Rattle.write_groups.specs.declared.hidden.Hiding.{Hiding}
 
-abbrev pub hiding_if : Moment → Shown → List Hiding
-hiding_if since (Made item created) = []
-hiding_if since (Removed key uid) = []
-hiding_if since (Opaque cover) = record { cover = cover; since = since } ∷ []
-hiding_if since (Saw item) = []
-hiding_if since (SawNone key) = []
-hiding_if since (SawSome key) = []
-hiding_if since (SawOther key) = []
-hiding_if since (Listed listing) = []
-hiding_if since Free = []
-hiding_if since Aside = []
+abbrev pub hiding_if : Moment → Shown → Option Hiding
+hiding_if since (Made item created) = None
+hiding_if since (Removed key uid) = None
+hiding_if since (Opaque cover) = Some (record { cover = cover; since = since })
+hiding_if since (Saw item) = None
+hiding_if since (SawNone key) = None
+hiding_if since (SawSome key) = None
+hiding_if since (SawOther key) = None
+hiding_if since (Listed listing) = None
+hiding_if since Free = None
+hiding_if since Aside = None
+
+-- the unrecorded write that an event stands for
+abbrev pub hiding_at : LogEvent → Option Hiding
+hiding_at event = hiding_if event.lo event.answer
 
 -- the unrecorded writes of a log, by line
 abbrev pub hidings_of : List LogEvent → List Hiding
-hidings_of [] = []
-hidings_of (event ∷ events) = hiding_if event.lo event.answer ++ hidings_of events
+hidings_of events = filter_map hiding_at events
 
 -- the earliest first
 abbrev pub IsSorted : List Hiding → Type 0
 IsSorted hidings = AllPairs (λ a b. a.since.0 ≤ℤ b.since.0) hidings
 
+abbrev pub numbered : ℕ → Hiding → OpaqueSpan
+numbered number hiding = record { cover = hiding.cover; low = number; high = 0 }
+
 -- each write under its number as a place
 abbrev pub spans_from : ℕ → List Hiding → List OpaqueSpan
 spans_from number [] = []
-spans_from number (hiding ∷ hidings) = record { cover = hiding.cover; low = number; high = 0 } ∷ spans_from (number + 1) hidings
+spans_from number (hiding ∷ hidings) = numbered number hiding ∷ spans_from (number + 1) hidings
 
 abbrev pub hidings_in : List OpaqueSpan → List Moment → List Hiding
 hidings_in [] begins = []

@@ -1,5 +1,5 @@
 -- Between which moments a group's revision was written.
-use Rattle.std.specs.Prelude.{◌≡◌, ◌||◌, ◌==◌, not, ◌≤ℤ◌, ◌⊎◌, ℕ, ℤ, Bool, true, false, List, [], ◌∷◌, ◌++◌, Option, Some, None, if◌then◌else◌, int_lt, slice_get, option_map}
+use Rattle.std.specs.Prelude.{◌≡◌, ◌||◌, ◌==◌, not, ◌≤ℤ◌, ◌⊎◌, ℕ, ℤ, Bool, true, false, List, [], ◌∷◌, ◌++◌, Option, Some, None, if◌then◌else◌, int_lt, slice_get, option_map, fold}
 use Rattle.std.specs.List.{list_any}
 use Rattle.base_types.specs.declared.revision.Moment.{Moment}
 use Rattle.time_windows.specs.declared.span.Span.{Span}
@@ -15,25 +15,22 @@ earlier_of None b = b
 earlier_of (Some a) None = Some a
 earlier_of (Some a) (Some b) = Some (if int_lt b.0 a.0 then b else a)
 
--- the earliest of the moments that there are
-abbrev pub least_of : List (Option Moment) → Option Moment
-least_of [] = None
-least_of (at ∷ moments) = earlier_of at (least_of moments)
+abbrev pub end_at : List LogEvent → ℕ → Option Moment
+end_at events number = option_map (λ event. event.hi) (slice_get events number)
 
-abbrev pub end_at : Option LogEvent → Option Moment
-end_at event = option_map (λ found. found.hi) event
+abbrev pub start_at : List LogEvent → ℕ → Option Moment
+start_at events number = option_map (λ event. event.lo) (slice_get events number)
 
-abbrev pub start_at : Option LogEvent → Option Moment
-start_at event = option_map (λ found. found.lo) event
+-- the earliest of the moments that the numbers have
+abbrev pub least_by : (ℕ → Option Moment) → List ℕ → Option Moment
+least_by at numbers = fold (λ first number. earlier_of first (at number)) None numbers
 
--- the ends of the events of these numbers
-abbrev pub ends_of : List LogEvent → List ℕ → List (Option Moment)
-ends_of events [] = []
-ends_of events (number ∷ numbers) = end_at (slice_get events number) ∷ ends_of events numbers
+-- the first end of the events of these numbers, and their first start
+abbrev pub first_end : List LogEvent → List ℕ → Option Moment
+first_end events numbers = least_by (end_at events) numbers
 
-abbrev pub starts_of : List LogEvent → List ℕ → List (Option Moment)
-starts_of events [] = []
-starts_of events (number ∷ numbers) = start_at (slice_get events number) ∷ starts_of events numbers
+abbrev pub first_start : List LogEvent → List ℕ → Option Moment
+first_start events numbers = least_by (start_at events) numbers
 
 abbrev pub creates : Shown → Bool
 creates (Made item created) = created
@@ -55,24 +52,27 @@ is_other revision (Some wanted) = not (wanted == revision)
 abbrev pub made_surely : ℕ → LogEvent → Bool
 made_surely revision event = creates event.answer || is_other revision event.preconditions.revision
 
-abbrev pub made_surely_at : ℕ → Option LogEvent → Bool
-made_surely_at revision None = false
-made_surely_at revision (Some event) = made_surely revision event
+abbrev pub made_surely_if : ℕ → Option LogEvent → Bool
+made_surely_if revision None = false
+made_surely_if revision (Some event) = made_surely revision event
+
+abbrev pub made_surely_at : List LogEvent → ℕ → ℕ → Bool
+made_surely_at events revision number = made_surely_if revision (slice_get events number)
 
 -- a member surely made the revision
 abbrev pub is_sure : List LogEvent → Group → Bool
-is_sure events group = list_any (λ number. made_surely_at group.revision (slice_get events number)) group.members
+is_sure events group = list_any (made_surely_at events group.revision) group.members
 
 -- The first end of the members, and their first start; where no member is sure, unrecorded writes of the key may have
 -- begun before.
 pub record IsSpan (events : List LogEvent) (hidings : List Hiding) (group : Group) (span : Span) : Type 0 where
   pub of_revision : span.revision ≡ group.revision
-  pub end : least_of (ends_of events group.members) ≡ Some span.hi
+  pub end : first_end events group.members ≡ Some span.hi
   pub recorded : Moment
-  pub first : least_of (starts_of events group.members) ≡ Some recorded
+  pub first : first_start events group.members ≡ Some recorded
   pub beginning : ((is_sure events group ≡ true) × (span.lo ≡ recorded))
       ⊎ ((is_sure events group ≡ false) × ((since : Option Moment) × IsFirstSince hidings group.key since × (earlier_of (Some recorded) since ≡ Some span.lo)))
 
 abbrev pub IsSpanIn : List LogEvent → List Hiding → Group → Option Span → Type 0
-IsSpanIn events hidings group None = (least_of (ends_of events group.members) ≡ None) ⊎ (least_of (starts_of events group.members) ≡ None)
+IsSpanIn events hidings group None = (first_end events group.members ≡ None) ⊎ (first_start events group.members ≡ None)
 IsSpanIn events hidings group (Some span) = IsSpan events hidings group span

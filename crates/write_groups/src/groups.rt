@@ -152,7 +152,7 @@ fn group_each(
     ensures { IfOk result (λ groups. (start : ℕ) (order : List ℕ) → AreGathered start events.now order made.now → AreGroups start events.now order groups) }
 {
     let mut groups = Groups::new(alloc);
-    for (_revision, numbers) in made {
+    for numbers in made.values() {
         if let Some(group) = group_in(alloc, events, numbers.as_slice())? {
             groups.push(group)?;
         }

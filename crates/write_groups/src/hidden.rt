@@ -1,6 +1,6 @@
 ghost use Rattle.std.specs.Prelude.{◌≡◌, IfOk, map};
 ghost use Rattle.std.specs.List.Sorted.{IsPermutation};
-ghost use Rattle.write_groups.specs.Hiding.{hidings_of, spans_from, IsSorted};
+ghost use Rattle.write_groups.specs.Hiding.{hiding_at, hidings_of, numbered, spans_from, IsSorted};
 
 use crate::event::{LogEvent, Shown};
 use base_types::{Cover, Moment, ObjectKey, OutOfMemory};
@@ -38,17 +38,27 @@ impl Model for Hidden {
     ghost invariant = { λ h. AreNumbered h.covers h.begins.items };
 }
 
+// The unrecorded write that an event stands for.
+fn hiding_at(event: &LogEvent) -> Result<Option<Hiding>, OutOfMemory>
+    ensures { IfOk result (λ hiding. hiding ≡ hiding_at event.now) }
+{
+    match &event.answer {
+        Shown::Opaque { cover } => Ok(Some(Hiding {
+            cover: cover.clone()?,
+            since: event.lo,
+        })),
+        _ => Ok(None),
+    }
+}
+
 // The unrecorded writes of a log.
 fn hidings_of(alloc: Global, events: &[LogEvent]) -> Result<Vec<Hiding>, OutOfMemory>
     ensures { IfOk result (λ hidings. hidings.items ≡ hidings_of events.now) }
 {
     let mut hidings = Vec::new(alloc);
     for event in events {
-        if let Shown::Opaque { cover } = &event.answer {
-            hidings.push(Hiding {
-                cover: cover.clone()?,
-                since: event.lo,
-            })?;
+        if let Some(hiding) = hiding_at(event)? {
+            hidings.push(hiding)?;
         }
     }
     Ok(hidings)
@@ -69,16 +79,22 @@ fn begins_of(alloc: Global, hidings: &[Hiding]) -> Result<Vec<Moment>, OutOfMemo
     Ok(begins)
 }
 
+fn numbered(number: u64, hiding: &Hiding) -> Result<OpaqueSpan, OutOfMemory>
+    ensures { IfOk result (λ span. span ≡ numbered number hiding.now) }
+{
+    Ok(OpaqueSpan {
+        cover: hiding.cover.clone()?,
+        low: number,
+        high: 0,
+    })
+}
+
 fn spans_of(alloc: Global, hidings: &[Hiding]) -> Result<Vec<OpaqueSpan>, OutOfMemory>
     ensures { IfOk result (λ spans. spans.items ≡ spans_from 0 hidings.now) }
 {
     let mut spans = Vec::with_capacity(alloc, hidings.len())?;
     for (i, hiding) in hidings.iter().enumerate() {
-        spans.push(OpaqueSpan {
-            cover: hiding.cover.clone()?,
-            low: i as u64,
-            high: 0,
-        })?;
+        spans.push(numbered(i as u64, hiding)?)?;
     }
     Ok(spans)
 }

@@ -4,7 +4,7 @@ ghost use Rattle.history_model.specs.Histories.{History};
 ghost use Rattle.history_model.specs.Judging.{IsOrder};
 ghost use Rattle.write_groups.specs.Members.{AreGroupsOf};
 ghost use Rattle.write_groups.specs.Modelled.{HasEvents, span_of};
-ghost use Rattle.write_groups.specs.Spanned.{earlier_of, ends_of, starts_of, least_of, is_sure, made_surely, IsSpanIn};
+ghost use Rattle.write_groups.specs.Spanned.{earlier_of, end_at, start_at, first_end, first_start, is_sure, made_surely, made_surely_at, IsSpanIn};
 
 use crate::event::{LogEvent, Shown};
 use crate::groups::{Group, made_item};
@@ -24,32 +24,36 @@ fn earlier(a: Option<Moment>, b: Option<Moment>) -> Option<Moment>
     }
 }
 
+fn end_at(events: &[LogEvent], number: u32) -> Option<Moment>
+    ensures { result ≡ end_at events.now number }
+{
+    Some(events.get(number as usize)?.hi)
+}
+
+fn start_at(events: &[LogEvent], number: u32) -> Option<Moment>
+    ensures { result ≡ start_at events.now number }
+{
+    Some(events.get(number as usize)?.lo)
+}
+
 // The first end of the events of these numbers.
 fn first_end(events: &[LogEvent], numbers: &[u32]) -> Option<Moment>
-    ensures { result ≡ least_of (ends_of events.now numbers.now) }
+    ensures { result ≡ first_end events.now numbers.now }
 {
     let mut first = None;
     for number in numbers {
-        let end = match events.get(*number as usize) {
-            Some(event) => Some(event.hi),
-            None => None,
-        };
-        first = earlier(first, end);
+        first = earlier(first, end_at(events, *number));
     }
     first
 }
 
 // The first start of the events of these numbers.
 fn first_start(events: &[LogEvent], numbers: &[u32]) -> Option<Moment>
-    ensures { result ≡ least_of (starts_of events.now numbers.now) }
+    ensures { result ≡ first_start events.now numbers.now }
 {
     let mut first = None;
     for number in numbers {
-        let start = match events.get(*number as usize) {
-            Some(event) => Some(event.lo),
-            None => None,
-        };
-        first = earlier(first, start);
+        first = earlier(first, start_at(events, *number));
     }
     first
 }
@@ -69,13 +73,21 @@ fn made_surely(event: &LogEvent, revision: Revision) -> bool
     creates || differs
 }
 
+fn made_surely_at(events: &[LogEvent], revision: Revision, number: u32) -> bool
+    ensures { result ≡ made_surely_at events.now revision number }
+{
+    match events.get(number as usize) {
+        Some(event) => made_surely(event, revision),
+        None => false,
+    }
+}
+
+// Whether a member surely made the group's revision.
 fn is_sure(events: &[LogEvent], group: &Group) -> bool
     ensures { result ≡ is_sure events.now group.now }
 {
-    for number in &group.members {
-        if let Some(event) = events.get(*number as usize)
-            && made_surely(event, group.revision)
-        {
+    for number in group.members.as_slice() {
+        if made_surely_at(events, group.revision, *number) {
             return true;
         }
     }
