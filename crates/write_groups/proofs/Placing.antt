@@ -1,5 +1,5 @@
 -- The places that windows answer are those of the model of history.
-use Rattle.std.proofs.Common.{◌≡◌, ℕ, ℤ, suc, zero, ◌+◌, ◌-◌, ◌<◌, ◌≤◌, ◌<ℤ◌, ◌≤ℤ◌, ◌⊎◌, inl, inr, true, false, List, [], ◌∷◌, length, get_or, map, min, max, if◌then◌else◌, refl, ap, sym, arith}
+use Rattle.std.proofs.Common.{◌≡◌, ℕ, ℤ, suc, zero, ◌+◌, ◌-◌, ◌<◌, ◌≤◌, ◌<ℤ◌, ◌≤ℤ◌, ◌⊎◌, inl, inr, true, false, List, [], ◌∷◌, length, get_or, map, min, max, if◌then◌else◌, refl, ap, sym, ◌∙◌, arith}
 use Rattle.std.specs.Prelude.{Any, int_lt}
 use Rattle.std.proofs.lemmas.Int.{ints}
 use Rattle.base_types.proofs.Quantifiers.{Any-head, Any-tail}
@@ -28,14 +28,12 @@ ended_below start spans at revision (k, s, l, e, p) = go spans k l e
 -- what isn't below the start and below no revision that had ended isn't below the lowest place
 above_ended : (start : ℕ) (spans : List Span) (at : ℤ) (place : ℕ) → start ≤ place → ((revision : ℕ) → EndedBefore spans at revision → revision ≤ place) → lowest_of start (map span_of spans) at ≤ place
 above_ended start [] at place s h = s
-above_ended start (x ∷ xs) at place s h = go (int_tells x.hi.0 at)
+above_ended start (x ∷ xs) at place s h =
+    go (above_ended start xs at place s (λ revision a. h revision (Any-tail (λ (span : Span). (span.revision ≡ revision) × (span.hi.0 <ℤ at)) x xs a))) (int_tells x.hi.0 at)
   where
-    rest : lowest_of start (map span_of xs) at ≤ place
-    rest = above_ended start xs at place s (λ revision a. h revision (Any-tail (λ (span : Span). (span.revision ≡ revision) × (span.hi.0 <ℤ at)) x xs a))
-
-    go : ((int_lt x.hi.0 at ≡ true) × (x.hi.0 <ℤ at)) ⊎ ((int_lt x.hi.0 at ≡ false) × (at ≤ℤ x.hi.0)) → lowest_of start (map span_of (x ∷ xs)) at ≤ place
-    go (inl t) = rw t.0 (let first : x.revision ≤ place = h x.revision (Any-head (λ (span : Span). (span.revision ≡ x.revision) × (span.hi.0 <ℤ at)) x xs (refl, t.1)) in omega (arith, rest))
-    go (inr t) = rw t.0 (omega (arith, rest))
+    go : lowest_of start (map span_of xs) at ≤ place → ((int_lt x.hi.0 at ≡ true) × (x.hi.0 <ℤ at)) ⊎ ((int_lt x.hi.0 at ≡ false) × (at ≤ℤ x.hi.0)) → lowest_of start (map span_of (x ∷ xs)) at ≤ place
+    go rest (inl t) = rw t.0 (let first : x.revision ≤ place = h x.revision (Any-head (λ (span : Span). (span.revision ≡ x.revision) × (span.hi.0 <ℤ at)) x xs (refl, t.1)) in omega (arith, rest))
+    go rest (inr t) = rw t.0 (omega (arith, rest))
 
 lowest_same : (start : ℕ) (spans : List Span) (at : ℤ) (place : ℕ) → IsLowest start spans at place → place ≡ lowest_of start (map span_of spans) at
 lowest_same start spans at place l = omega (arith, upto l.reached, above_ended start spans at place l.from_start l.greatest)
@@ -62,14 +60,12 @@ begun_above spans at revision (k, s, l, e, p) = go spans k l e
 
 below_begun : (spans : List Span) (at : ℤ) (place : ℕ) → place ≤ last_place → ((revision : ℕ) → BeginsAfter spans at revision → place < revision) → place ≤ highest_of (map span_of spans) at
 below_begun [] at place s h = s
-below_begun (x ∷ xs) at place s h = go (int_tells at x.lo.0)
+below_begun (x ∷ xs) at place s h =
+    go (below_begun xs at place s (λ revision a. h revision (Any-tail (λ (span : Span). (span.revision ≡ revision) × (at <ℤ span.lo.0)) x xs a))) (int_tells at x.lo.0)
   where
-    rest : place ≤ highest_of (map span_of xs) at
-    rest = below_begun xs at place s (λ revision a. h revision (Any-tail (λ (span : Span). (span.revision ≡ revision) × (at <ℤ span.lo.0)) x xs a))
-
-    go : ((int_lt at x.lo.0 ≡ true) × (at <ℤ x.lo.0)) ⊎ ((int_lt at x.lo.0 ≡ false) × (x.lo.0 ≤ℤ at)) → place ≤ highest_of (map span_of (x ∷ xs)) at
-    go (inl t) = rw t.0 (let first : place < x.revision = h x.revision (Any-head (λ (span : Span). (span.revision ≡ x.revision) × (at <ℤ span.lo.0)) x xs (refl, t.1)) in omega (arith, rest))
-    go (inr t) = rw t.0 (omega (arith, rest))
+    go : place ≤ highest_of (map span_of xs) at → ((int_lt at x.lo.0 ≡ true) × (at <ℤ x.lo.0)) ⊎ ((int_lt at x.lo.0 ≡ false) × (x.lo.0 ≤ℤ at)) → place ≤ highest_of (map span_of (x ∷ xs)) at
+    go rest (inl t) = rw t.0 (let first : place < x.revision = h x.revision (Any-head (λ (span : Span). (span.revision ≡ x.revision) × (at <ℤ span.lo.0)) x xs (refl, t.1)) in omega (arith, rest))
+    go rest (inr t) = rw t.0 (omega (arith, rest))
 
 highest_same : (spans : List Span) (at : ℤ) (place : ℕ) → place ≤ last_place → IsHighest spans at place → place ≡ highest_of (map span_of spans) at
 highest_same spans at place s l = omega (arith, upto l.reached, below_begun spans at place s l.least)

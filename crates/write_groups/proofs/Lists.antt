@@ -1,0 +1,66 @@
+-- Lists that are kept in part, or made from others.
+use Rattle.std.proofs.Common.{◌≡◌, ℕ, ◌<◌, ◌⊎◌, inl, inr, Bool, true, false, List, [], ◌∷◌, length, get_or, map, Option, Some, None, All, AllPairs, Contains, refl, sym, ap, ◌∙◌, subst, arith}
+use Rattle.std.specs.List.{filter, filter_map, cons_option}
+use Rattle.std.proofs.lemmas.List.Elements.{All-filter, All-contains_itself, filter_passes}
+use Rattle.std.proofs.lemmas.Option.{same_Some}
+use Rattle.history_model.proofs.Members.{not_in_none, here, there, in_cons, all_at, all_from, pairs_head, pairs_tail, pairs_cons}
+
+-- what a filter keeps
+pub filter_from : {X : Type 0} (p : X → Bool) (xs : List X) (x : X) → Contains (filter p xs) x → Contains xs x × (p x ≡ true)
+filter_from p xs x c = (all_at (Contains xs) (filter p xs) x (All-filter p (Contains xs) xs (All-contains_itself xs)) c, all_at (λ z. p z ≡ true) (filter p xs) x (filter_passes p xs) c)
+
+pub filter_has : {X : Type 0} (p : X → Bool) (xs : List X) (x : X) → Contains xs x → p x ≡ true → Contains (filter p xs) x
+filter_has p [] x c e = absurd (not_in_none c)
+filter_has {X} p (y ∷ ys) x c e = go (p y) refl (λ d. filter_has p ys x d e) (in_cons y ys x c)
+  where
+    go : (t : Bool) → p y ≡ t → (Contains ys x → Contains (filter p ys) x) → (y ≡ x) ⊎ Contains ys x → Contains (filter p (y ∷ ys)) x
+    go true t rest (inl q) = rw t (subst (λ z. Contains (y ∷ filter p ys) z) q (here y (filter p ys)))
+    go true t rest (inr d) = rw t (there y x (filter p ys) (rest d))
+    go false t rest (inl q) = absurd (cc (t, e, q))
+    go false t rest (inr d) = rw t (rest d)
+
+-- what is made of the items that make something
+pub made_from : {X Y : Type 0} (f : X → Option Y) (xs : List X) (y : Y) → Contains (filter_map f xs) y → (x : X) × Contains xs x × (f x ≡ Some y)
+made_from f [] y c = absurd (not_in_none c)
+made_from {X} {Y} f (x ∷ xs) y c = go (f x) refl (λ d. made_from f xs y d)
+  where
+    go : (o : Option Y) → f x ≡ o → (Contains (filter_map f xs) y → (z : X) × Contains xs z × (f z ≡ Some y)) → (z : X) × Contains (x ∷ xs) z × (f z ≡ Some y)
+    go None e rest = let r = rest (rw e at c) in (r.0, there x r.0 xs r.1, r.2)
+    go (Some w) e rest = at (in_cons w (filter_map f xs) y (rw e at c))
+      where
+        at : (w ≡ y) ⊎ Contains (filter_map f xs) y → (z : X) × Contains (x ∷ xs) z × (f z ≡ Some y)
+        at (inl q) = (x, here x xs, e ∙ ap Some q)
+        at (inr d) = let r = rest d in (r.0, there x r.0 xs r.1, r.2)
+
+pub made_has : {X Y : Type 0} (f : X → Option Y) (xs : List X) (x : X) (y : Y) → Contains xs x → f x ≡ Some y → Contains (filter_map f xs) y
+made_has f [] x y c e = absurd (not_in_none c)
+made_has {X} {Y} f (z ∷ zs) x y c e = go (f z) refl (λ d. made_has f zs x y d e) (in_cons z zs x c)
+  where
+    go : (o : Option Y) → f z ≡ o → (Contains zs x → Contains (filter_map f zs) y) → (z ≡ x) ⊎ Contains zs x → Contains (filter_map f (z ∷ zs)) y
+    go None t rest (inl q) = absurd (cc (t, e, q))
+    go None t rest (inr d) = rw t (rest d)
+    go (Some w) t rest (inl q) = rw t (subst (λ v. Contains (w ∷ filter_map f zs) v) (same_Some w y (sym t ∙ ap f q ∙ e)) (here w (filter_map f zs)))
+    go (Some w) t rest (inr d) = rw t (there w y (filter_map f zs) (rest d))
+
+-- what holds of each two items holds of what they make
+pub made_pairs : {X Y : Type 0} (f : X → Option Y) (S : X → X → Type 0) (R : Y → Y → Type 0) (xs : List X) → AllPairs S xs
+    → ((a b : X) (x y : Y) → Contains xs a → Contains xs b → S a b → f a ≡ Some x → f b ≡ Some y → R x y) → AllPairs R (filter_map f xs)
+made_pairs f S R [] pairs h = λ i j d l m. absurd (omega arith)
+made_pairs {X} {Y} f S R (x ∷ xs) pairs h =
+    go (f x) refl (made_pairs f S R xs (pairs_tail S x xs pairs) (λ a b v w c d. h a b v w (there x a xs c) (there x b xs d)))
+  where
+    go : (o : Option Y) → f x ≡ o → AllPairs R (filter_map f xs) → AllPairs R (filter_map f (x ∷ xs))
+    go None e rest = rw e rest
+    go (Some y) e rest = rw e (pairs_cons R y (filter_map f xs) (all_from (R y) (filter_map f xs) (λ z c. at z (made_from f xs z c))) rest)
+      where
+        at : (z : Y) → (b : X) × Contains xs b × (f b ≡ Some z) → R y z
+        at z (b, c, t) = h x b y z (here x xs) (there x b xs c) (all_at (S x) xs b (pairs_head S x xs pairs) c) e t
+
+pub made_map : {X Y Z : Type 0} (f : Y → Option Z) (g : X → Y) (xs : List X) → filter_map f (map g xs) ≡ filter_map (λ x. f (g x)) xs
+made_map f g [] = refl
+made_map f g (x ∷ xs) = ap (cons_option (f (g x))) (made_map f g xs)
+
+-- a list with a member isn't empty
+pub first_of : {X : Type 0} (xs : List X) (x : X) → Contains xs x → (first : X) × (rest : List X) × (xs ≡ first ∷ rest)
+first_of [] x c = absurd (not_in_none c)
+first_of (y ∷ ys) x c = (y, ys, refl)
