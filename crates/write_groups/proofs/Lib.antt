@@ -1,3 +1,5 @@
 pub mod Comparing
 pub mod Placing
 pub mod Lists
+pub mod Grouping
+pub mod Belonging

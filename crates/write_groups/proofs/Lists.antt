@@ -1,5 +1,5 @@
 -- Lists that are kept in part, or made from others.
-use Rattle.std.proofs.Common.{◌≡◌, ℕ, ◌<◌, ◌⊎◌, inl, inr, Bool, true, false, List, [], ◌∷◌, length, get_or, map, Option, Some, None, All, AllPairs, Contains, refl, sym, ap, ◌∙◌, subst, arith}
+use Rattle.std.proofs.Common.{◌≡◌, ℕ, ◌<◌, ◌⊎◌, inl, inr, Bool, true, false, List, [], ◌∷◌, ◌++◌, append-nil, length, get_or, map, Option, Some, None, All, AllPairs, Contains, refl, sym, ap, ◌∙◌, subst, arith}
 use Rattle.std.specs.List.{filter, filter_map, cons_option}
 use Rattle.std.proofs.lemmas.List.Elements.{All-filter, All-contains_itself, filter_passes}
 use Rattle.std.proofs.lemmas.Option.{same_Some}
@@ -64,3 +64,7 @@ made_map f g (x ∷ xs) = ap (cons_option (f (g x))) (made_map f g xs)
 pub first_of : {X : Type 0} (xs : List X) (x : X) → Contains xs x → (first : X) × (rest : List X) × (xs ≡ first ∷ rest)
 first_of [] x c = absurd (not_in_none c)
 first_of (y ∷ ys) x c = (y, ys, refl)
+
+-- once nothing is left, all is made
+pub made_all : {X Y : Type 0} (f : X → Option Y) (made : List Y) (rest all : List X) → rest ≡ [] → made ++ filter_map f rest ≡ filter_map f all → made ≡ filter_map f all
+made_all f made rest all e h = sym (append-nil made) ∙ ap (λ l. made ++ filter_map f l) (sym e) ∙ h

@@ -82,5 +82,6 @@ group_in events (number ∷ numbers) = group_by events (number ∷ numbers) (ite
 -- the groups of all revisions above the start
 pub record AreGroups (start : ℕ) (events : List LogEvent) (order : List ℕ) (groups : List Group) : Type 0 where
   pub rising : AllPairs (λ a b. a.revision < b.revision) groups
+  pub above : All (λ group. start < group.revision) groups
   pub sound : All (λ group. group_in events (answered_with start events order group.revision) ≡ Some group) groups
   pub full : (number revision : ℕ) → Contains order number → revision_above start events number ≡ Some revision → Any (λ group. group.revision ≡ revision) groups
