@@ -3,3 +3,4 @@ pub mod Placing
 pub mod Lists
 pub mod Grouping
 pub mod Belonging
+pub mod Judging

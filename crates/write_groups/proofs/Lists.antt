@@ -68,3 +68,34 @@ first_of (y ∷ ys) x c = (y, ys, refl)
 -- once nothing is left, all is made
 pub made_all : {X Y : Type 0} (f : X → Option Y) (made : List Y) (rest all : List X) → rest ≡ [] → made ++ filter_map f rest ≡ filter_map f all → made ≡ filter_map f all
 made_all f made rest all e h = sym (append-nil made) ∙ ap (λ l. made ++ filter_map f l) (sym e) ∙ h
+
+-- what a list is mapped to
+pub map_from : {X Y : Type 0} (f : X → Y) (xs : List X) (y : Y) → Contains (map f xs) y → (x : X) × Contains xs x × (f x ≡ y)
+map_from f [] y c = absurd (not_in_none c)
+map_from {X} {Y} f (x ∷ xs) y c = go (λ d. map_from f xs y d) (in_cons (f x) (map f xs) y c)
+  where
+    go : (Contains (map f xs) y → (z : X) × Contains xs z × (f z ≡ y)) → (f x ≡ y) ⊎ Contains (map f xs) y → (z : X) × Contains (x ∷ xs) z × (f z ≡ y)
+    go rest (inl e) = (x, here x xs, e)
+    go rest (inr d) = let r = rest d in (r.0, there x r.0 xs r.1, r.2)
+
+pub map_has : {X Y : Type 0} (f : X → Y) (xs : List X) (x : X) → Contains xs x → Contains (map f xs) (f x)
+map_has f [] x c = absurd (not_in_none c)
+map_has {X} {Y} f (z ∷ zs) x c = go (λ d. map_has f zs x d) (in_cons z zs x c)
+  where
+    go : (Contains zs x → Contains (map f zs) (f x)) → (z ≡ x) ⊎ Contains zs x → Contains (map f (z ∷ zs)) (f x)
+    go rest (inl e) = subst (λ y. Contains (f z ∷ map f zs) y) (ap f e) (here (f z) (map f zs))
+    go rest (inr d) = there (f z) (f x) (map f zs) (rest d)
+
+pub pairs_map : {X Y : Type 0} (f : X → Y) (R : Y → Y → Type 0) (xs : List X) → AllPairs (λ a b. R (f a) (f b)) xs → AllPairs R (map f xs)
+pairs_map f R [] pairs = λ i j d l m. absurd (omega arith)
+pairs_map {X} {Y} f R (x ∷ xs) pairs =
+    pairs_cons R (f x) (map f xs) (all_from (R (f x)) (map f xs) (λ y c. at y (map_from f xs y c))) (pairs_map f R xs (pairs_tail (λ a b. R (f a) (f b)) x xs pairs))
+  where
+    at : (y : Y) → (z : X) × Contains xs z × (f z ≡ y) → R (f x) y
+    at y (z, c, e) = subst (R (f x)) e (all_at (λ z. R (f x) (f z)) xs z (pairs_head (λ a b. R (f a) (f b)) x xs pairs) c)
+
+pub pairs_unmap : {X Y : Type 0} (f : X → Y) (R : Y → Y → Type 0) (xs : List X) → AllPairs R (map f xs) → AllPairs (λ a b. R (f a) (f b)) xs
+pairs_unmap f R [] pairs = λ i j d l m. absurd (omega arith)
+pairs_unmap f R (x ∷ xs) pairs =
+    pairs_cons (λ a b. R (f a) (f b)) x xs (all_from (λ z. R (f x) (f z)) xs (λ z c. all_at (R (f x)) (map f xs) (f z) (pairs_head R (f x) (map f xs) pairs) (map_has f xs z c)))
+    (pairs_unmap f R xs (pairs_tail R (f x) (map f xs) pairs))
