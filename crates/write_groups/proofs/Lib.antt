@@ -4,3 +4,4 @@ pub mod Lists
 pub mod Grouping
 pub mod Belonging
 pub mod Judging
+pub mod Covering

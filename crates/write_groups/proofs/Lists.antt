@@ -1,7 +1,8 @@
 -- Lists that are kept in part, or made from others.
-use Rattle.std.proofs.Common.{◌≡◌, ℕ, ◌<◌, ◌⊎◌, inl, inr, Bool, true, false, List, [], ◌∷◌, ◌++◌, append-nil, length, get_or, map, Option, Some, None, All, AllPairs, Contains, refl, sym, ap, ◌∙◌, subst, arith}
+use Rattle.std.proofs.Common.{◌≡◌, ℕ, ◌+◌, ◌<◌, ◌⊎◌, inl, inr, Bool, true, false, List, [], ◌∷◌, ◌++◌, append-nil, length, get_or, take, map, Option, Some, None, All, AllPairs, Contains, refl, sym, ap, ◌∙◌, subst, arith}
 use Rattle.std.specs.List.{filter, filter_map, cons_option}
-use Rattle.std.proofs.lemmas.List.Elements.{All-filter, All-contains_itself, filter_passes}
+use Rattle.std.proofs.lemmas.List.{take_more}
+use Rattle.std.proofs.lemmas.List.Elements.{All-filter, All-contains_itself, filter_passes, filter_map-append}
 use Rattle.std.proofs.lemmas.Option.{same_Some}
 use Rattle.history_model.proofs.Members.{not_in_none, here, there, in_cons, all_at, all_from, pairs_head, pairs_tail, pairs_cons}
 
@@ -99,3 +100,14 @@ pairs_unmap f R [] pairs = λ i j d l m. absurd (omega arith)
 pairs_unmap f R (x ∷ xs) pairs =
     pairs_cons (λ a b. R (f a) (f b)) x xs (all_from (λ z. R (f x) (f z)) xs (λ z c. all_at (R (f x)) (map f xs) (f z) (pairs_head R (f x) (map f xs) pairs) (map_has f xs z c)))
     (pairs_unmap f R xs (pairs_tail R (f x) (map f xs) pairs))
+
+-- one more item makes something, or nothing
+pub made_one : {X Y : Type 0} (f : X → Option Y) (xs : List X) (i : ℕ) (x : X) (y : Y) (done : List Y) → i < length xs → x ≡ get_or xs i x → f x ≡ Some y → done ≡ filter_map f (take i xs) → done ++ y ∷ [] ≡ filter_map f (take (i + 1) xs)
+made_one f xs i x y done l is e h =
+    ap (λ l. l ++ y ∷ []) h ∙ ap (λ l. filter_map f (take i xs) ++ l) (sym (ap (λ o. cons_option o []) e) ∙ ap (λ z. filter_map f (z ∷ [])) is)
+    ∙ sym (filter_map-append f (take i xs) (get_or xs i x ∷ [])) ∙ ap (filter_map f) (sym (take_more xs i x l))
+
+pub made_none : {X Y : Type 0} (f : X → Option Y) (xs : List X) (i : ℕ) (x : X) (done : List Y) → i < length xs → x ≡ get_or xs i x → f x ≡ None → done ≡ filter_map f (take i xs) → done ≡ filter_map f (take (i + 1) xs)
+made_none f xs i x done l is e h =
+    h ∙ sym (append-nil (filter_map f (take i xs))) ∙ ap (λ l. filter_map f (take i xs) ++ l) (sym (ap (λ o. cons_option o []) e) ∙ ap (λ z. filter_map f (z ∷ [])) is)
+    ∙ sym (filter_map-append f (take i xs) (get_or xs i x ∷ [])) ∙ ap (filter_map f) (sym (take_more xs i x l))
