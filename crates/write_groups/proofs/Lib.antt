@@ -5,3 +5,5 @@ pub mod Grouping
 pub mod Belonging
 pub mod Judging
 pub mod Covering
+pub mod Earliest
+pub mod Timing

@@ -63,15 +63,22 @@ made_surely_at events revision number = made_surely_if revision (slice_get event
 abbrev pub is_sure : List LogEvent → Group → Bool
 is_sure events group = list_any (made_surely_at events group.revision) group.members
 
--- The first end of the members, and their first start; where no member is sure, unrecorded writes of the key may have
--- begun before.
+abbrev pub or_earlier : Moment → Option Moment → Moment
+or_earlier recorded None = recorded
+or_earlier recorded (Some since) = if int_lt since.0 recorded.0 then since else recorded
+
+-- the members' first start; where no member is sure, unrecorded writes of the key may have begun before
+abbrev pub IsBeginningOf : List LogEvent → List Hiding → Group → Moment → Moment → Type 0
+IsBeginningOf events hidings group recorded lo = ((is_sure events group ≡ true) × (lo ≡ recorded))
+    ⊎ ((is_sure events group ≡ false) × ((since : Option Moment) × IsFirstSince hidings group.key since × (lo ≡ or_earlier recorded since)))
+
+-- the members' first end, and when the group may have begun
 pub record IsSpan (events : List LogEvent) (hidings : List Hiding) (group : Group) (span : Span) : Type 0 where
   pub of_revision : span.revision ≡ group.revision
   pub end : first_end events group.members ≡ Some span.hi
   pub recorded : Moment
   pub first : first_start events group.members ≡ Some recorded
-  pub beginning : ((is_sure events group ≡ true) × (span.lo ≡ recorded))
-      ⊎ ((is_sure events group ≡ false) × ((since : Option Moment) × IsFirstSince hidings group.key since × (earlier_of (Some recorded) since ≡ Some span.lo)))
+  pub beginning : IsBeginningOf events hidings group recorded span.lo
 
 abbrev pub IsSpanIn : List LogEvent → List Hiding → Group → Option Span → Type 0
 IsSpanIn events hidings group None = (first_end events group.members ≡ None) ⊎ (first_start events group.members ≡ None)

@@ -4,7 +4,7 @@ ghost use Rattle.history_model.specs.Histories.{History};
 ghost use Rattle.history_model.specs.Judging.{IsOrder};
 ghost use Rattle.write_groups.specs.Members.{AreGroupsOf};
 ghost use Rattle.write_groups.specs.Modelled.{HasEvents, span_of};
-ghost use Rattle.write_groups.specs.Spanned.{earlier_of, end_at, start_at, first_end, first_start, is_sure, made_surely, made_surely_at, IsSpanIn};
+ghost use Rattle.write_groups.specs.Spanned.{earlier_of, or_earlier, end_at, start_at, first_end, first_start, is_sure, made_surely, made_surely_at, IsBeginningOf, IsSpanIn};
 
 use crate::event::{LogEvent, Shown};
 use crate::groups::{Group, made_item};
@@ -94,6 +94,32 @@ fn is_sure(events: &[LogEvent], group: &Group) -> bool
     false
 }
 
+fn or_earlier(recorded: Moment, since: Option<Moment>) -> Moment
+    ensures { result ≡ or_earlier recorded since }
+{
+    match since {
+        Some(since) => {
+            if since < recorded {
+                since
+            } else {
+                recorded
+            }
+        }
+        None => recorded,
+    }
+}
+
+// When the group's revision may have begun to be written: with the first recorded start, or where no member is sure with
+// an unrecorded write before.
+fn beginning(events: &[LogEvent], hidden: &Hidden, group: &Group, recorded: Moment) -> Moment
+    ensures { IsBeginningOf events.now hidden.now group.now recorded result }
+{
+    if is_sure(events, group) {
+        return recorded;
+    }
+    or_earlier(recorded, hidden.since(&group.key))
+}
+
 // When the group's revision was written; None where the group has no member.
 fn span_in(events: &[LogEvent], hidden: &Hidden, group: &Group) -> Option<Span>
     ensures { IsSpanIn events.now hidden.now group.now result }
@@ -101,17 +127,9 @@ fn span_in(events: &[LogEvent], hidden: &Hidden, group: &Group) -> Option<Span>
     let members = group.members.as_slice();
     let hi = first_end(events, members)?;
     let recorded = first_start(events, members)?;
-    let lo = if is_sure(events, group) {
-        recorded
-    } else {
-        match hidden.since(&group.key) {
-            Some(since) if since < recorded => since,
-            _ => recorded,
-        }
-    };
     Some(Span {
         revision: group.revision,
-        lo,
+        lo: beginning(events, hidden, group, recorded),
         hi,
     })
 }
