@@ -38,13 +38,7 @@ use Rattle.write_groups.specs.declared.hidden.Hiding.{Hiding}
 use Rattle.write_groups.specs.Hiding.{hiding_if, hiding_at, hidings_of, IsFirstSince}
 use Rattle.write_groups.specs.Members.{IsGroupOf, AreGroupsOf}
 use Rattle.write_groups.specs.Modelled.{HasEvents, answer_of, event_of, span_of}
-use Rattle.write_groups.specs.Spanned.{end_at, start_at, least_by, first_end, first_start, creates, is_other, made_surely, made_surely_if, made_surely_at, is_sure, or_earlier, IsBeginningOf, IsSpan, IsSpanIn}
-
--- the spans of some groups
-pub record AreSpansOf (events : List LogEvent) (hidings : List Hiding) (groups : List Group) (spans : List Span) : Type 0 where
-  pub sound : (span : Span) → Contains spans span → (group : Group) × Contains groups group × IsSpan events hidings group span
-  pub full : (group : Group) → Contains groups group → IsSpanIn events hidings group None ⊎ ((span : Span) × Contains spans span × IsSpan events hidings group span)
-  pub rising : AllPairs (λ a b. a.revision < b.revision) spans
+use Rattle.write_groups.specs.Spanned.{end_at, start_at, least_by, first_end, first_start, creates, is_other, made_surely, made_surely_if, made_surely_at, is_sure, or_earlier, IsBeginningOf, IsSpan, IsSpanIn, AreSpansOf}
 
 pub no_spans : (events : List LogEvent) (hidings : List Hiding) → AreSpansOf events hidings [] []
 no_spans events hidings = record { sound = λ span c. absurd (let l = c.1 in omega arith); full = λ group c. absurd (let l = c.1 in omega arith); rising = λ i j d l m. absurd (omega arith) }

@@ -1,5 +1,5 @@
 -- Between which moments a group's revision was written.
-use Rattle.std.specs.Prelude.{◌≡◌, ◌||◌, ◌==◌, not, ◌≤ℤ◌, ◌⊎◌, ℕ, ℤ, Bool, true, false, List, [], ◌∷◌, ◌++◌, Option, Some, None, if◌then◌else◌, int_lt, slice_get, option_map, fold}
+use Rattle.std.specs.Prelude.{◌≡◌, ◌||◌, ◌==◌, not, ◌<◌, ◌⊎◌, ℕ, ℤ, Bool, true, false, List, [], ◌∷◌, ◌++◌, Option, Some, None, if◌then◌else◌, int_lt, slice_get, option_map, fold, AllPairs, Contains}
 use Rattle.std.specs.List.{list_any}
 use Rattle.base_types.specs.declared.revision.Moment.{Moment}
 use Rattle.time_windows.specs.declared.span.Span.{Span}
@@ -83,3 +83,9 @@ pub record IsSpan (events : List LogEvent) (hidings : List Hiding) (group : Grou
 abbrev pub IsSpanIn : List LogEvent → List Hiding → Group → Option Span → Type 0
 IsSpanIn events hidings group None = (first_end events group.members ≡ None) ⊎ (first_start events group.members ≡ None)
 IsSpanIn events hidings group (Some span) = IsSpan events hidings group span
+
+-- the spans of some groups
+pub record AreSpansOf (events : List LogEvent) (hidings : List Hiding) (groups : List Group) (spans : List Span) : Type 0 where
+  pub sound : (span : Span) → Contains spans span → (group : Group) × Contains groups group × IsSpan events hidings group span
+  pub full : (group : Group) → Contains groups group → IsSpanIn events hidings group None ⊎ ((span : Span) × Contains spans span × IsSpan events hidings group span)
+  pub rising : AllPairs (λ a b. a.revision < b.revision) spans

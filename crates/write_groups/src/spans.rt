@@ -4,7 +4,7 @@ ghost use Rattle.history_model.specs.Histories.{History};
 ghost use Rattle.history_model.specs.Judging.{IsOrder};
 ghost use Rattle.write_groups.specs.Members.{AreGroupsOf};
 ghost use Rattle.write_groups.specs.Modelled.{HasEvents, span_of};
-ghost use Rattle.write_groups.specs.Spanned.{earlier_of, or_earlier, end_at, start_at, first_end, first_start, is_sure, made_surely, made_surely_at, IsBeginningOf, IsSpanIn};
+ghost use Rattle.write_groups.specs.Spanned.{earlier_of, or_earlier, end_at, start_at, first_end, first_start, is_sure, made_surely, made_surely_at, IsBeginningOf, IsSpanIn, AreSpansOf};
 
 use crate::event::{LogEvent, Shown};
 use crate::groups::{Group, made_item};
@@ -98,13 +98,7 @@ fn or_earlier(recorded: Moment, since: Option<Moment>) -> Moment
     ensures { result ≡ or_earlier recorded since }
 {
     match since {
-        Some(since) => {
-            if since < recorded {
-                since
-            } else {
-                recorded
-            }
-        }
+        Some(since) => { if since < recorded { since } else { recorded } }
         None => recorded,
     }
 }
@@ -134,6 +128,24 @@ fn span_in(events: &[LogEvent], hidden: &Hidden, group: &Group) -> Option<Span>
     })
 }
 
+fn spans_with(
+    alloc: Global,
+    events: &[LogEvent],
+    hidden: &Hidden,
+    groups: &[Group],
+) -> Result<Vec<Span>, OutOfMemory>
+    requires { AllPairs (λ a b. a.revision < b.revision) groups.now }
+    ensures { IfOk result (λ spans. AreSpansOf events.now hidden.now groups.now spans.items) }
+{
+    let mut spans = Vec::with_capacity(alloc, groups.len())?;
+    for group in groups {
+        if let Some(span) = span_in(events, hidden, group) {
+            spans.push(span)?;
+        }
+    }
+    Ok(spans)
+}
+
 /// Between which moments each revision above the start was written.
 pub fn spans_of(
     alloc: Global,
@@ -149,11 +161,5 @@ pub fn spans_of(
         → h.spans ≡ map span_of spans.items → AreSpans h) }
 {
     let hidden = Hidden::build(alloc, events)?;
-    let mut spans = Vec::with_capacity(alloc, groups.len())?;
-    for group in groups {
-        if let Some(span) = span_in(events, &hidden, group) {
-            spans.push(span)?;
-        }
-    }
-    Ok(spans)
+    Ok(spans_with(alloc, events, &hidden, groups)?)
 }

@@ -1,11 +1,13 @@
-use Rattle.write_groups.proofs.Timing.{AreSpansOf, no_spans, none_more, one_more, above_all, spans_found}
+use Rattle.write_groups.proofs.Timing.{above_all, spans_found}
 use Rattle.write_groups.proofs.spans.spans_of.Goals as goal
 
-pub loop-group-init : goal.loop-group-init
-loop-group-init c = ?
-
-pub loop-group-preserved : goal.loop-group-preserved
-loop-group-preserved c = ?
-
 pub returns : goal.returns
-returns c = ?
+returns c =
+    let hidden = c.in_ok-hidden.hidden in
+    let spans = c.in_ok-spans_with.field-0.items in
+    let are = c.in_ok-spans_with.ensures in
+    record {
+      rising = are.rising;
+      above = above_all c.args.events.now hidden c.args.groups.now spans c.args.start c.requires.above are;
+      spans = λ h has ordered belong is. spans_found c.args.events.now hidden c.args.groups.now spans c.in_ok-hidden.ensures are h has belong is;
+    }
