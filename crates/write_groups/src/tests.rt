@@ -94,13 +94,7 @@ fn wanted(told: Told) -> Option<Revision> {
     }
 }
 
-fn event(
-    alloc: Global,
-    line: u64,
-    told: Told,
-    lo: i128,
-    hi: i128,
-) -> Result<LogEvent, Fail>
+fn event(alloc: Global, line: u64, told: Told, lo: i128, hi: i128) -> Result<LogEvent, Fail>
     ensures { IfOk result (λ event. event.line ≡ line) }
 {
     Ok(LogEvent {
@@ -162,8 +156,15 @@ fn groups_of_a_log(rt: HostRuntime) -> Result<(), Fail> {
 fn unrecorded_writes(rt: HostRuntime) -> Result<(), Fail> {
     let alloc = rt.alloc();
     let hidden = Hidden::build(alloc, &log(alloc)?)?;
-    for (name, since) in [("a", Some(Moment(50))), ("b", Some(Moment(10))), ("c", None)] {
-        assert!(rt; hidden.since(&key(alloc, name)?) == since, "since of {name}");
+    for (name, since) in [
+        ("a", Some(Moment(50))),
+        ("b", Some(Moment(10))),
+        ("c", None),
+    ] {
+        assert!(rt;
+            hidden.since(&key(alloc, name)?) == since,
+            "since of {name}"
+        );
     }
     Ok(())
 }
@@ -197,8 +198,17 @@ fn windows_of_readings(rt: HostRuntime) -> Result<(), Fail> {
     ];
     for (reading, low, high) in cases {
         read.reading = reading;
-        assert!(rt; window_of(&windows, start, &read) == (Window { low, high }), "{low} to {high}");
+        assert!(rt;
+            window_of(&windows, start, &read) == (Window { low, high }),
+            "{low} to {high}"
+        );
     }
-    assert_eq!(rt; (lowest(&windows, Moment(130)), highest(&windows, Moment(150))), (10, u64::MAX));
+    assert_eq!(rt;
+        (
+            lowest(&windows, Moment(130)),
+            highest(&windows, Moment(150))
+        ),
+        (10, u64::MAX)
+    );
     Ok(())
 }
