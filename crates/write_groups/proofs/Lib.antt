@@ -1,0 +1,9 @@
+pub mod Comparing
+pub mod Placing
+pub mod Lists
+pub mod Grouping
+pub mod Belonging
+pub mod Judging
+pub mod Covering
+pub mod Earliest
+pub mod Timing
