@@ -43,8 +43,7 @@ pub record AreKept (versions : List Version) (firsts : List Bool) (last : BTreeM
   pub rising : AllPairs (λ a b. a.revision < b.revision) versions
   pub flagged : AreFlagged versions firsts
   pub last_of : (key : ObjectKey) → IsLastAt versions key (get key_order last key)
-  pub owned : (key : ObjectKey) (uid : List ℕ) → IsTrue (contains owner_order owners (record { key = key; uid = uid }))
-      ↔ Any (λ v. (v.key ≡ key) × (v.uid ≡ uid)) versions
+  pub owned : (owner : Owner) → IsTrue (contains owner_order owners owner) ↔ Any (λ v. owner_of v ≡ owner) versions
   pub used : (uid : List ℕ) → IsTrue (contains text_order uids uid) ↔ Any (λ v. v.uid ≡ uid) versions
 
 -- the key's latest version, and whether its incarnation is the first with its uid

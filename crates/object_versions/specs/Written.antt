@@ -57,7 +57,7 @@ pub record Extends (h : past.History) (done : List Version) (revision : ℕ) : T
 
 -- why the write could not have made its revision from the object before it, and why it could not have found it
 abbrev pub IsJudgement : past.History → Making → Judged → Type 0
-IsJudgement h m judged = ((before : Option past.Version) → IsEntryBefore h m before → IsLeastFault h m before judged.making)
+IsJudgement h m judged = ((before : Option past.Version) × IsEntryBefore h m before × IsLeastFault h m before judged.making)
     × IsLeastFoundFault h m judged.finding
 
 -- the write of the number, judged
@@ -101,3 +101,7 @@ AreSlots slots versions = (key : ObjectKey) (revision : ℕ)
 pub record IsSnapshot (start : ℕ) (snapshot : List Item) : Type 0 where
   pub apart : AllPairs (λ a b. a.revision ≢ b.revision) snapshot
   pub below : All (λ item. item.revision ≤ start) snapshot
+
+-- there is at least one number, and each is that of a write
+abbrev pub AreWrites : List LogEvent → List ℕ → Type 0
+AreWrites events numbers = (numbers ≢ []) × All (λ number. (m : Making) × (making_at events number ≡ Some m)) numbers

@@ -1,4 +1,4 @@
-ghost use Rattle.std.specs.Prelude.{◌≡◌, ◌<◌, ◌++◌, ◌∷◌, [], ◌↔◌, not, true, IfOk, OnOk, IsTrue, All, AllPairs, Any};
+ghost use Rattle.std.specs.Prelude.{◌≡◌, ◌<◌, ◌++◌, ◌∷◌, [], ◌↔◌, not, true, IfOk, OnOk, IsTrue, All, AllPairs, Any, option_map, slice_get};
 ghost use Rattle.std.specs.BTreeSet.{contains, Updates};
 ghost use Rattle.object_versions.specs.Growing.{AreFlagged, IsContinued, IsLatestIn};
 ghost use Rattle.object_versions.specs.Owners.{owner_order, owner_of};
@@ -42,6 +42,18 @@ pub struct Latest<'a> {
     pub is_first: bool,
 }
 
+fn version_at(versions: &[Version], position: usize) -> Option<&Version>
+    ensures { option_map (λ version. version.now) result ≡ slice_get versions.now position }
+{
+    versions.get(position)
+}
+
+fn flag_at(firsts: &[bool], position: usize) -> Option<bool>
+    ensures { result ≡ slice_get firsts.now position }
+{
+    firsts.get(position).copied()
+}
+
 // Keeps that the key had the uid, and tells whether it hadn't before.
 fn add_owner(owners: &mut BTreeSet<Owner>, version: &Version) -> Result<bool, OutOfMemory>
     ensures added { IfOk result (λ added. added ≡ not (contains owner_order owners.old (owner_of version.now))) }
@@ -69,11 +81,12 @@ impl Grown {
 
     /// The key's latest version.
     pub fn latest(&self, key: &ObjectKey) -> Option<Latest<'_>>
-        ensures { IsLatestIn self.now key.now result }
+        ensures latest { IsLatestIn self.now key.now result }
+        ensures rising { AllPairs (λ a b. a.revision < b.revision) self.now }
     {
         let position = *self.last.get(key)?;
-        let version = self.versions.as_slice().get(position)?;
-        let is_first = *self.firsts.get(position)?;
+        let version = version_at(self.versions.as_slice(), position)?;
+        let is_first = flag_at(&self.firsts, position)?;
         Some(Latest { version, is_first })
     }
 

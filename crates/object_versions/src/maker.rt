@@ -16,24 +16,18 @@ pub struct Judged {
 fn first_maker(judged: &[Judged]) -> Option<u32>
     ensures { result ≡ first_maker judged.now }
 {
-    for one in judged {
-        if one.making.is_none() && one.finding.is_some() {
-            return Some(one.number);
-        }
-    }
-    None
+    let one = judged
+        .iter()
+        .find(|one| one.making.is_none() && one.finding.is_some())?;
+    Some(one.number)
 }
 
 // The first that could have made the revision.
 fn first_able(judged: &[Judged]) -> Option<u32>
     ensures { result ≡ first_able judged.now }
 {
-    for one in judged {
-        if one.making.is_none() {
-            return Some(one.number);
-        }
-    }
-    None
+    let one = judged.iter().find(|one| one.making.is_none())?;
+    Some(one.number)
 }
 
 /// Who made the revision of a group, `first` being the group's first write.

@@ -68,7 +68,7 @@ fn node_of(before: Option<&Version>) -> Option<NodeId>
 
 // Whether the write can't have made its revision between its moments.
 fn is_out_of_reach(windows: &Windows, making: Making<'_>) -> bool
-    ensures { (h : History) → HasTimes windows.now h → IsTrue result ↔ IsOutside h (making_of making) }
+    ensures { (h : History) → HasTimes windows.now h → IsTrue result ↔ IsOutside h (making_of making.entry) }
 {
     let revision = making.item.revision.get();
     revision <= lowest(windows, making.event.lo) || highest(windows, making.event.hi) < revision
@@ -83,7 +83,7 @@ fn clear_fault<B: Bodies>(
     is_used: bool,
     before: Option<&Version>,
 ) -> Result<Option<Reason>, OutOfMemory>
-    ensures { IfOk result (λ found. found ≡ clear_code (B.body bodies.now) making.number making.event.now making.item.now making.created is_used
+    ensures { IfOk result (λ found. found ≡ clear_code (B.body bodies.now) making.entry.number making.entry.event.now making.entry.item.now making.entry.created is_used
         (option_map (λ v. v.now) before.entry)) }
 {
     if making.created {
@@ -117,8 +117,8 @@ pub fn making_fault<B: Bodies>(
     before: Option<&Version>,
 ) -> Result<Option<Reason>, OutOfMemory>
     ensures { IfOk result (λ found. (h : History) → HasTimes windows.now h → IsJudgedBy clouds.now (B.body bodies.now) h
-        → (IsTrue is_used ↔ IsUsedUid h (making_of making))
-        → IsLeastFault h (making_of making) (option_map (λ v. version_of v.now) before.entry) found) }
+        → (IsTrue is_used ↔ IsUsedUid h (making_of making.entry))
+        → IsLeastFault h (making_of making.entry) (option_map (λ v. version_of v.now) before.entry) found) }
 {
     if is_out_of_reach(windows, making) {
         return Ok(Some(Reason::U3));
@@ -138,7 +138,7 @@ pub fn finding_fault<B: Bodies>(
     bodies: &B,
     making: Making<'_>,
 ) -> Result<Option<Reason>, OutOfMemory>
-    ensures { IfOk result (λ found. (h : History) → h.body ≡ B.body bodies.now → IsLeastFoundFault h (making_of making) found) }
+    ensures { IfOk result (λ found. (h : History) → h.body ≡ B.body bodies.now → IsLeastFoundFault h (making_of making.entry) found) }
 {
     if making.created {
         return Ok(Some(Reason::U4));

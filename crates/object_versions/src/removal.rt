@@ -1,4 +1,4 @@
-ghost use Rattle.std.specs.Prelude.{◌≡◌, ◌↔◌, IfSome, IfNone, IsTrue};
+ghost use Rattle.std.specs.Prelude.{◌≡◌, ◌↔◌, IfSome, IfNone, IsTrue, option_map, slice_get};
 ghost use Rattle.history_model.specs.Histories.{History, Removal};
 ghost use Rattle.history_model.specs.Incarnations.{IsFirstWithUid, IsRemovalBehind, place_before};
 ghost use Rattle.history_model.specs.Judging.{IsOrder};
@@ -23,6 +23,12 @@ fn place_before(next: Option<Revision>) -> u64
     }
 }
 
+fn event_at(events: &[LogEvent], number: u32) -> Option<&LogEvent>
+    ensures { option_map (λ event. event.now) result ≡ slice_get events.now number }
+{
+    events.get(number as usize)
+}
+
 /// At which places the object of a version may have been removed, the version being the last of its incarnation and
 /// `next` the first revision of the next one; None where it wasn't removed. `is_first` tells whether the incarnation
 /// is the first of its key with its uid.
@@ -45,7 +51,7 @@ pub fn range_behind(
         return None;
     }
     let number = first_removal(removed, &version.key, &version.uid)?;
-    let event = events.get(number as usize)?;
+    let event = event_at(events, number)?;
     let before = lowest(windows, event.lo).max(version.revision.get());
     let high = highest(windows, event.hi).min(place_before(next));
     if high <= before {

@@ -10,7 +10,7 @@ ghost use Rattle.object_versions.specs.Hidden.{slots_of};
 ghost use Rattle.object_versions.specs.Modelled.{making_of, version_of};
 ghost use Rattle.object_versions.specs.Surrounded.{HasLog};
 ghost use Rattle.object_versions.specs.declared.version.Version.{Version};
-ghost use Rattle.object_versions.specs.Written.{making_at, snapshot_version, IsOfLog, Extends, IsAnsweredAt, IsJudgement, AreJudged, AreAllJudged, AreSlots, IsOfGroup, IsSnapshot, IsVersionIn};
+ghost use Rattle.object_versions.specs.Written.{making_at, snapshot_version, IsOfLog, Extends, IsAnsweredAt, IsJudgement, AreJudged, AreAllJudged, AreSlots, IsOfGroup, IsSnapshot, IsVersionIn, AreWrites};
 
 use crate::bodies::Bodies;
 use crate::grown::{Grown, Latest};
@@ -57,8 +57,8 @@ fn entry_before<'a>(
     latest: Option<Latest<'a>>,
     making: Making<'_>,
 ) -> Option<&'a Version>
-    ensures { (h : History) (done : List Version) → HasLog log.windows.now log.events.now log.removed.now h → Extends h done making.item.now.revision
-        → IsLatestIn done making.item.now.key latest → IsEntryBefore h (making_of making) (option_map (λ v. version_of v.now) result) }
+    ensures { (h : History) (done : List Version) → HasLog log.entry.windows.now log.entry.events.now log.entry.removed.now h → Extends h done making.entry.item.now.revision
+        → IsLatestIn done making.entry.item.now.key latest.entry → IsEntryBefore h (making_of making.entry) (option_map (λ v. version_of v.now) result) }
 {
     let latest = latest?;
     if making.created
@@ -86,9 +86,9 @@ fn judge<B: Bodies>(
     grown: &Grown,
     making: Making<'_>,
 ) -> Result<Judged, OutOfMemory>
-    ensures number { IfOk result (λ judged. judged.number ≡ making.number) }
-    ensures { IfOk result (λ judged. (h : History) → IsOfLog log (B.body bodies.now) h → Extends h grown.now making.item.now.revision
-        → IsJudgement h (making_of making) judged) }
+    ensures number { IfOk result (λ judged. judged.number ≡ making.entry.number) }
+    ensures judged { IfOk result (λ judged. (h : History) → IsOfLog log.entry (B.body bodies.now) h → Extends h grown.now making.entry.item.now.revision
+        → IsJudgement h (making_of making.entry) judged) }
 {
     let item = making.item;
     let before = entry_before(log, grown.latest(&item.key), making);
@@ -115,8 +115,8 @@ fn judge_each<B: Bodies>(
     grown: &Grown,
     members: &[u32],
 ) -> Result<Vec<Judged>, OutOfMemory>
-    ensures { IfOk result (λ judged. (h : History) (revision : ℕ) → IsOfLog log (B.body bodies.now) h → Extends h grown.now revision
-        → All (IsAnsweredAt log.events.now revision) members.now → AreJudged h log.events.now members.now judged.items) }
+    ensures { IfOk result (λ judged. (h : History) (revision : ℕ) → IsOfLog log.entry (B.body bodies.now) h → Extends h grown.now revision
+        → All (IsAnsweredAt log.entry.events.now revision) members.now → AreJudged h log.entry.events.now members.now judged.items) }
 {
     let mut judged = Vec::with_capacity(alloc, members.len())?;
     for number in members {
@@ -133,7 +133,7 @@ fn version_in(
     group: &Group,
     judged: &[Judged],
 ) -> Result<Option<Version>, OutOfMemory>
-    ensures { IfOk result (λ version. (h : History) → IsOfGroup log group.now judged.now h → IsVersionIn h group.now version) }
+    ensures { IfOk result (λ version. (h : History) → IsOfGroup log.entry group.now judged.now h → IsVersionIn h group.now version) }
 {
     let Some(first) = judged.first() else {
         return Ok(None);
@@ -211,12 +211,13 @@ pub fn write_versions<B: Bodies>(
     requires snapshot { IsSnapshot start snapshot.now }
     requires rising { AllPairs (λ a b. a.revision < b.revision) groups.now }
     requires above { All (λ group. start < group.revision) groups.now }
+    requires members { All (λ group. AreWrites log.entry.events.now group.members) groups.now }
     ensures slots { IfOk result (λ written. AreSlots (slots_of snapshot.now groups.now) written.versions) }
-    ensures versions { IfOk result (λ written. (h : History) → IsOfLog log (B.body bodies.now) h → AreGroupsOf h groups.now → h.start ≡ start
+    ensures versions { IfOk result (λ written. (h : History) → IsOfLog log.entry (B.body bodies.now) h → AreGroupsOf h groups.now → h.start ≡ start
         → h.snapshot ≡ map item_of snapshot.now → h.versions ≡ map version_of written.versions → AreVersions h) }
     ensures firsts { IfOk result (λ written. AreFlagged written.versions written.firsts.items) }
-    ensures judged { IfOk result (λ written. (h : History) → IsOfLog log (B.body bodies.now) h → AreGroupsOf h groups.now → h.start ≡ start
-        → h.versions ≡ map version_of written.versions → AreAllJudged h log.events.now groups.now written.judged.items) }
+    ensures judged { IfOk result (λ written. (h : History) → IsOfLog log.entry (B.body bodies.now) h → AreGroupsOf h groups.now → h.start ≡ start
+        → h.versions ≡ map version_of written.versions → AreAllJudged h log.entry.events.now groups.now written.judged.items) }
 {
     let mut grown = begin(alloc, &by_revision(alloc, snapshot)?)?;
     let mut judged = Vec::new(alloc);
