@@ -1,0 +1,4 @@
+pub mod Chains
+pub mod Finding
+pub mod Links
+pub mod Pages
