@@ -1,40 +1,19 @@
 -- The first page that each token leads to, found one page after another.
 use Rattle.std.proofs.Common.{◌≡◌, ℕ, ◌+◌, ◌<◌, ◌==◌, Bool, true, false, ◌&&◌, List, [], ◌∷◌, ◌++◌, length, get_or, take, drop, Option, Some, None, refl, sym, ap, subst, ◌∙◌, if◌then◌else◌, arith}
-use Rattle.std.specs.Prelude.{cond, filter, fold, option_map, option_and_then, slice_get, bytes_eq}
+use Rattle.std.specs.Prelude.{cond, filter, fold, option_map, option_and_then, slice_get}
 use Rattle.std.specs.Option.{option_map_or}
 use Rattle.std.specs.HashMap.{get}
-use Rattle.std.proofs.lemmas.Bool.{true≢false, false≢true, and_parts, eqb-true}
+use Rattle.std.proofs.lemmas.Bool.{true≢false}
 use Rattle.std.proofs.lemmas.List.{take_more}
 use Rattle.std.proofs.lemmas.Option.{slice_get_read}
 use Rattle.std.proofs.lemmas.List.Elements.{filter-append}
-use Rattle.std.proofs.lemmas.Slice.Eq.{bytes_eq-Decides}
 use Rattle.page_chains.specs.declared.page.Asked.{Asked}
 use Rattle.page_chains.specs.declared.page.Asked.TheVariants.{First, Next, Unclear}
 use Rattle.page_chains.specs.declared.page.Page.{Page}
 use Rattle.page_chains.specs.declared.page.PageKey.{PageKey}
-use Rattle.page_chains.specs.contracts.page.PageKeyPartialEq.TheImpl as by_parts
 use Rattle.page_chains.specs.Chains.{key_with, same_key, is_asked_by, asks, comes_before, sooner, earliest}
 use Rattle.page_chains.specs.Finding.{Places, key_asked, asked_key, known, FindsFirst}
-
--- equality of keys
-abbrev pub same : PageKey → PageKey → Bool
-same = (by_parts.ghosts).eq
-
-same_is : (a b : PageKey) → same a b ≡ same_key a b
-same_is a b = refl
-
-same_means : (a b : PageKey) → same_key a b ≡ true → a ≡ b
-same_means a b e =
-    let one = and_parts (bytes_eq a.group b.group) _ e in
-    let two = and_parts (bytes_eq a.resource b.resource) _ one.1 in
-    let three = and_parts (bytes_eq a.namespace b.namespace) _ two.1 in
-    let four = and_parts (a.revision == b.revision) _ three.1 in
-    let group = (bytes_eq-Decides a.group b.group).0 one.0 in
-    let resource = (bytes_eq-Decides a.resource b.resource).0 two.0 in
-    let namespace = (bytes_eq-Decides a.namespace b.namespace).0 three.0 in
-    let revision = eqb-true a.revision b.revision four.0 in
-    let token = (bytes_eq-Decides a.token b.token).0 four.1 in
-    λ i. record { group = group i; resource = resource i; namespace = namespace i; revision = revision i; token = token i }
+use Rattle.page_chains.proofs.KeyLemmas.{same, same_means}
 
 fold_end : {A B : Type 0} (f : B → A → B) (z : B) (xs : List A) (x : A) → fold f z (xs ++ x ∷ []) ≡ f (fold f z xs) x
 fold_end f z [] x = refl

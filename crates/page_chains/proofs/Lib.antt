@@ -1,6 +1,11 @@
 pub mod ChainLemmas
 pub mod ClassLemmas
 pub mod FindingLemmas
+pub mod FollowLemmas
+pub mod KeyLemmas
+pub mod Members
+pub mod PartLemmas
+pub mod PlaceLemmas
 pub mod ReadingLemmas
 pub mod StartLemmas
 pub mod StepLemmas

@@ -1,5 +1,5 @@
 -- Where many steps lead to, and what that tells of chains.
-use Rattle.std.proofs.Common.{◌≡◌, ℕ, zero, suc, ◌+◌, ◌*◌, ◌<◌, Bool, true, false, List, [], ◌∷◌, length, get_or, Option, Some, None, refl, sym, ap, subst, ◌∙◌, arith}
+use Rattle.std.proofs.Common.{◌≡◌, ℕ, zero, suc, ◌+◌, ◌*◌, ◌/◌, ◌%◌, ◌<◌, Bool, true, false, List, [], ◌∷◌, length, get_or, Option, Some, None, refl, sym, ap, subst, ◌∙◌, arith}
 use Rattle.std.specs.Prelude.{All, map, is_some, option_map, option_and_then, slice_get, slice_index, if◌then◌else◌}
 use Rattle.std.proofs.lemmas.Bool.{false≢true}
 use Rattle.page_chains.specs.declared.page.Page.{Page}
@@ -45,6 +45,7 @@ module _ (pages : List Page) (links : List ℕ) (h : AreLinks pages links) where
   no_end (suc steps) from page last lt here there goes =
       by_token (λ next to. no_end steps (slice_index links from) next last (within from lt) to there goes) page.token refl
     where
+      link : LeadsTo pages from (slice_index links from) (next_of pages page)
       link = h.right from lt page here
 
       by_token : ((next : Page) → slice_get pages (slice_index links from) ≡ Some next → chain_within (suc steps) pages next ≡ None)
@@ -61,28 +62,72 @@ module _ (pages : List Page) (links : List ℕ) (h : AreLinks pages links) where
           by_next None is = refl
           by_next (Some next) is = onward next (subst (LeadsTo pages from (slice_index links from)) is link)
 
--- a step of doubled strides
-mapped : (f : ℕ → ℕ) (xs : List ℕ) (i : ℕ) → i < length xs → slice_index (map f xs) i ≡ f (slice_index xs i)
-mapped f [] i lt = absurd (omega arith)
-mapped f (x ∷ xs) zero lt = refl
-mapped f (x ∷ xs) (suc i) lt = mapped f xs i (omega arith)
+-- a list of places is led on from
+mapped_at : (f : ℕ → ℕ) (xs : List ℕ) (i d e : ℕ) → i < length xs → get_or (map f xs) i d ≡ f (get_or xs i e)
+mapped_at f [] i d e lt = absurd (omega arith)
+mapped_at f (x ∷ xs) zero d e lt = refl
+mapped_at f (x ∷ xs) (suc i) d e lt = mapped_at f xs i d e (omega arith)
 
-pub length_mapped : (f : ℕ → ℕ) (xs : List ℕ) → length (map f xs) ≡ length xs
+length_mapped : (f : ℕ → ℕ) (xs : List ℕ) → length (map f xs) ≡ length xs
 length_mapped f [] = refl
 length_mapped f (x ∷ xs) = ap suc (length_mapped f xs)
 
-module _ (stride doubled : List ℕ) (within : All (λ to. to < length stride) stride) (made : doubled ≡ map (λ to. slice_index stride to) stride) where
-  twice : (steps from : ℕ) → from < length stride → stepped doubled steps from ≡ stepped stride (steps + steps) from
-  twice = stepped-double stride doubled (λ from lt. within from 0 lt) (λ from lt. ap (λ l. slice_index l from) made ∙ mapped (λ to. slice_index stride to) stride from lt)
+-- so many steps are left from where the places were led to, by strides that are as long as the steps
+pub record AreUnderWay (links : List ℕ) (steps : ℕ) (reached stride : List ℕ) (left : ℕ) : Type 0 where
+  pub each : length reached ≡ length links
+  pub strides : length stride ≡ length links
+  pub within : All (λ to. to < length links) reached
+  pub strides_within : All (λ to. to < length links) stride
+  pub right : (from : ℕ) → from < length links → stepped stride left (slice_index reached from) ≡ stepped links steps from
 
-  pub even_steps : (half left from target : ℕ) → left ≡ half + half → from < length stride → stepped stride left from ≡ target → stepped doubled half from ≡ target
-  even_steps half left from target e lt before = twice half from lt ∙ ap (λ n. stepped stride n from) (sym e) ∙ before
+module _ (links : List ℕ) (steps : ℕ) (reached stride : List ℕ) (left : ℕ) (h : AreUnderWay links steps reached stride left) where
+  led_within : (places : List ℕ) → All (λ to. to < length links) places → All (λ to. to < length links) (map (λ to. slice_index stride to) places)
+  led_within places inside k d lt =
+      let here : k < length places = let e = length_mapped (λ to. slice_index stride to) places in omega arith in
+      let there : get_or places k 0 < length stride = let p = inside k 0 here in let e = h.strides in omega arith in
+      subst (λ n. n < length links) (sym (mapped_at (λ to. slice_index stride to) places k d 0 here)) (h.strides_within (get_or places k 0) 0 there)
 
-  pub odd_steps : (reached later : List ℕ) (half left from target : ℕ) → later ≡ map (λ to. slice_index stride to) reached → left ≡ suc (half + half) → from < length reached → slice_index reached from < length stride
-      → stepped stride left (slice_index reached from) ≡ target → stepped doubled half (slice_index later from) ≡ target
-  odd_steps reached later half left from target moved e lt inside before =
-      ap (λ l. stepped doubled half (slice_index l from)) moved
-      ∙ ap (stepped doubled half) (mapped (λ to. slice_index stride to) reached from lt)
-      ∙ twice half (slice_index stride (slice_index reached from)) (within (slice_index reached from) 0 inside)
-      ∙ ap (λ n. stepped stride n (slice_index reached from)) (sym e)
-      ∙ before
+  module _ (doubled : List ℕ) (made : doubled ≡ map (λ to. slice_index stride to) stride) where
+    inside : (from : ℕ) → from < length stride → slice_index stride from < length stride
+    inside from lt = let p = h.strides_within from 0 (let e = h.strides in omega arith) in let e = h.strides in omega arith
+
+    twice : (count from : ℕ) → from < length stride → stepped doubled count from ≡ stepped stride (count + count) from
+    twice = stepped-double stride doubled inside (λ from lt. ap (λ l. slice_index l from) made ∙ mapped_at (λ to. slice_index stride to) stride from 0 0 lt)
+
+    doubled_each : length doubled ≡ length links
+    doubled_each = ap length made ∙ length_mapped (λ to. slice_index stride to) stride ∙ h.strides
+
+    doubled_within : All (λ to. to < length links) doubled
+    doubled_within = subst (All (λ to. to < length links)) (sym made) (led_within stride h.strides_within)
+
+    reached_inside : (from : ℕ) → from < length links → slice_index reached from < length stride
+    reached_inside from lt = let p = h.within from 0 (let e = h.each in omega arith) in let e = h.strides in omega arith
+
+    pub even : (left % 2 ≡ 1 → ⊥) → AreUnderWay links steps reached doubled (left / 2)
+    even two = record {
+      each = h.each;
+      strides = doubled_each;
+      within = h.within;
+      strides_within = doubled_within;
+      right = λ from lt.
+        let whole : left / 2 + left / 2 ≡ left = omega arith in
+        twice (left / 2) (slice_index reached from) (reached_inside from lt)
+        ∙ ap (λ n. stepped stride n (slice_index reached from)) whole
+        ∙ h.right from lt;
+    }
+
+    pub odd : (later : List ℕ) → later ≡ map (λ to. slice_index stride to) reached → left % 2 ≡ 1 → AreUnderWay links steps later doubled (left / 2)
+    odd later moved one = record {
+      each = ap length moved ∙ length_mapped (λ to. slice_index stride to) reached ∙ h.each;
+      strides = doubled_each;
+      within = subst (All (λ to. to < length links)) (sym moved) (led_within reached h.within);
+      strides_within = doubled_within;
+      right = λ from lt.
+        let here : from < length reached = let e = h.each in omega arith in
+        let whole : suc (left / 2 + left / 2) ≡ left = omega arith in
+        ap (λ l. stepped doubled (left / 2) (slice_index l from)) moved
+        ∙ ap (stepped doubled (left / 2)) (mapped_at (λ to. slice_index stride to) reached from 0 0 here)
+        ∙ twice (left / 2) (slice_index stride (slice_index reached from)) (inside (slice_index reached from) (reached_inside from lt))
+        ∙ ap (λ n. stepped stride n (slice_index reached from)) whole
+        ∙ h.right from lt;
+    }

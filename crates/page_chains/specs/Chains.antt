@@ -17,7 +17,7 @@ key_with page token = record { group = page.group; resource = page.resource; nam
 
 abbrev pub same_key : PageKey → PageKey → Bool
 same_key a b =
-    bytes_eq a.group b.group && bytes_eq a.resource b.resource && bytes_eq a.namespace b.namespace && (a.revision == b.revision) && bytes_eq a.token b.token
+    bytes_eq a.group b.group && (bytes_eq a.resource b.resource && (bytes_eq a.namespace b.namespace && ((a.revision == b.revision) && bytes_eq a.token b.token)))
 
 -- the page was asked for by this token, for a list of this resource at this revision
 abbrev pub is_asked_by : PageKey → Page → Asked → Bool

@@ -1,5 +1,5 @@
 -- Pages of lists (Kubernetes API concepts, "Retrieving large results sets in chunks").
-use Rattle.std.specs.Prelude.{ℕ, Bool, true, false, ◌&&◌, ◌||◌, not, List, [], ◌∷◌, Option, Some, None, is_some, filter, codes, if◌then◌else◌}
+use Rattle.std.specs.Prelude.{ℕ, Bool, true, false, ◌||◌, List, [], ◌∷◌, Option, Some, None, filter, codes, if◌then◌else◌}
 use Rattle.std.specs.List.{filter_map}
 use Rattle.json_tree.specs.Parts.{member_of}
 use Rattle.json_tree.specs.Texts.{◌>>=◌}
@@ -40,10 +40,6 @@ is_first Unclear = false
 abbrev pub is_selective : RequestAttrs → Bool
 is_selective attrs = has_filled (codes "labelSelector") attrs || has_filled (codes "fieldSelector") attrs
 
--- a list that was asked for from its start and was answered to its end is no page of several
-abbrev pub is_part : Event → Bool
-is_part event = is_some (token_of event) || not (is_first (asked_of event.attrs))
-
 abbrev pub page_with : Event → List ℕ → List ℕ → List ℕ → ℕ → List SnapshotObject → Page
 page_with event group resource scope revision items = record {
   line = event.line;
@@ -72,7 +68,8 @@ page_in event Aside = None
 
 -- the page of a list that an event is
 abbrev pub page_of : Setup → Event → Option Page
-page_of setup event = if is_part event && not (is_selective event.attrs) then page_in event (class_of setup event) else None
+page_of setup event = if is_selective event.attrs then None else page_in event (class_of setup event)
 
+-- the pages among these events
 abbrev pub pages_of : Setup → List Event → List Page
 pages_of setup events = filter_map (page_of setup) events

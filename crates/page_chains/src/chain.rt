@@ -1,13 +1,16 @@
 ghost use Rattle.std.specs.Prelude.{◌≡◌, ◌++◌, ◌≤◌, ◌<◌, ◌-◌, length, map, All, IsSome, IfOk, OnOk, codes, decimal, option_map, option_and_then, slice_get};
 ghost use Rattle.std.specs.List.{flat_map};
+ghost use Rattle.std.specs.Option.{option_to_list};
 ghost use Rattle.setup_file.specs.Resources.{tracked_as};
 ghost use Rattle.page_chains.specs.Chains.{chain_within, checkpoint_of, begins, chain_of, chains_in, chains_of};
+ghost use Rattle.page_chains.specs.Following.{AreChains};
 ghost use Rattle.page_chains.specs.Links.{AreLinks, stepped};
+ghost use Rattle.page_chains.specs.Pages.{pages_of};
 
 use crate::finding::links_of;
 use crate::page::{Asked, Page};
 use crate::reaching::reached_after;
-use crate::reading::pages_of;
+use crate::reading::parts_of;
 use audit_event::Events;
 use base_types::{OutOfMemory, Text};
 use json_tree::copy;
@@ -115,13 +118,26 @@ fn chain_at(
     ensures { IfOk result (λ found. found ≡ option_and_then (chain_of pages.now) (slice_get pages.now first)) }
 {
     let page = &pages[first];
-    if !begins(page) || pages[last].token.is_some() {
+    if !begins(page) {
+        return Ok(None);
+    }
+    if pages[last].token.is_some() {
         return Ok(None);
     }
     match chain_from(alloc, pages, links, first)? {
         Some(chain) => Ok(Some(checkpoint_of(alloc, page, &chain)?)),
         None => Ok(None),
     }
+}
+
+// Puts what was found behind others.
+fn put(found: &mut Checkpoints, more: Option<Checkpoint>) -> Result<(), OutOfMemory>
+    ensures { OnOk result (found.new ≡ found.old ++ option_to_list more) }
+{
+    if let Some(checkpoint) = more {
+        found.push(checkpoint)?;
+    }
+    Ok(())
 }
 
 fn chains_in(alloc: Global, pages: &[Page]) -> Result<Checkpoints, OutOfMemory>
@@ -132,9 +148,7 @@ fn chains_in(alloc: Global, pages: &[Page]) -> Result<Checkpoints, OutOfMemory>
     let last = reached_after(alloc, &links, pages.len().saturating_sub(1))?;
     let mut found = Checkpoints::new(alloc);
     for first in 0..pages.len() {
-        if let Some(checkpoint) = chain_at(alloc, pages, &links, first, last[first])? {
-            found.push(checkpoint)?;
-        }
+        put(&mut found, chain_at(alloc, pages, &links, first, last[first])?)?;
     }
     Ok(found)
 }
@@ -143,11 +157,12 @@ fn chains_in(alloc: Global, pages: &[Page]) -> Result<Checkpoints, OutOfMemory>
 /// no earlier than the log. The events stand in the order of their lines.
 pub fn chains(alloc: Global, setup: &Setup, events: &Events) -> Result<Checkpoints, OutOfMemory>
     ensures chains { IfOk result (λ found. found ≡ chains_of setup.now events.now) }
+    ensures each { IfOk result (AreChains (pages_of setup.now events.now)) }
     ensures few { IfOk result (λ found. length found ≤ length events.now) }
     ensures tracked { IfOk result (All (λ chain. IsSome (tracked_as setup.now.resources chain.group chain.resource))) }
     ensures not_below { IfOk result (All (λ chain. setup.now.start ≤ chain.revision)) }
 {
-    let pages = pages_of(alloc, setup, events.as_slice())?;
-    let found = chains_in(alloc, pages.as_slice())?;
+    let parts = parts_of(alloc, setup, events.as_slice())?;
+    let found = chains_in(alloc, parts.as_slice())?;
     Ok(found)
 }

@@ -1,4 +1,4 @@
-ghost use Rattle.std.specs.Prelude.{◌≡◌, ◌<◌, true, length, IfOk, option_map};
+ghost use Rattle.std.specs.Prelude.{◌≡◌, ◌+◌, ◌<◌, true, length, take, IfOk, OnOk, option_map};
 ghost use Rattle.std.specs.Option.{option_map_or};
 ghost use Rattle.page_chains.specs.Chains.{key_with, comes_before};
 ghost use Rattle.page_chains.specs.Finding.{asked_key, known, FindsFirst};
@@ -62,18 +62,29 @@ fn is_sooner(pages: &[Page], places: &Places, key: &PageKey, page: &Page) -> boo
     }
 }
 
-/// Finds the first page, in the order of judgement, that each token leads to.
+// Keeps the place of a page that comes before the one that is known for its key.
+fn keep_sooner(pages: &[Page], places: &mut Places, place: usize) -> Result<(), OutOfMemory>
+    requires within { place < length pages.now }
+    requires first { FindsFirst (⟦<PageKey as PartialEq>⟧.eq) pages.now (take place pages.now) places.old }
+    ensures { OnOk result (FindsFirst (⟦<PageKey as PartialEq>⟧.eq) pages.now (take (place + 1) pages.now) places.new) }
+{
+    let page = &pages[place];
+    let Some(key) = asked_key(page)? else {
+        return Ok(());
+    };
+    if is_sooner(pages, places, &key, page) {
+        places.insert(key, place)?;
+    }
+    Ok(())
+}
+
+// Finds the first page, in the order of judgement, that each token leads to.
 fn first_places(alloc: Global, pages: &[Page]) -> Result<Places, OutOfMemory>
     ensures { IfOk result (λ places. FindsFirst (⟦<PageKey as PartialEq>⟧.eq) pages.now pages.now places) }
 {
     let mut places = HashMap::new(alloc);
     for place in 0..pages.len() {
-        let page = &pages[place];
-        if let Some(key) = asked_key(page)? {
-            if is_sooner(pages, &places, &key, page) {
-                places.insert(key, place)?;
-            }
-        }
+        keep_sooner(pages, &mut places, place)?;
     }
     Ok(places)
 }

@@ -3,7 +3,8 @@ ghost use Rattle.std.specs.List.{list_any};
 ghost use Rattle.answer_class.specs.Bodies.{kept};
 ghost use Rattle.answer_class.specs.Lists.{one_at_most};
 ghost use Rattle.answer_class.specs.Requests.{is_filled, has_filled};
-ghost use Rattle.page_chains.specs.Pages.{token_of, asked_by, asked_of, is_first, is_selective, is_part, page_in, page_of, pages_of};
+ghost use Rattle.page_chains.specs.Pages.{token_of, asked_by, asked_of, is_first, is_selective, page_in};
+ghost use Rattle.page_chains.specs.Parts.{part_of, parts_of};
 ghost use Rattle.setup_file.specs.Forms.{non_empty, filled_at};
 ghost use Rattle.json_tree.specs.Parts.{member_of};
 
@@ -139,8 +140,8 @@ fn page_in(event: &Event, asked: Asked, answer: Answer) -> Result<Option<Page>, 
 }
 
 // Lists that aren't read in pages are told apart before their objects are looked at.
-fn page_of(alloc: Global, setup: &Setup, event: &Event) -> Result<Option<Page>, OutOfMemory>
-    ensures { IfOk result (λ page. page ≡ page_of setup.now event.now) }
+fn part_of(alloc: Global, setup: &Setup, event: &Event) -> Result<Option<Page>, OutOfMemory>
+    ensures { IfOk result (λ page. page ≡ part_of setup.now event.now) }
 {
     let asked = asked_of(&event.attrs)?;
     if token_of(event).is_none() && is_first(&asked) {
@@ -152,16 +153,16 @@ fn page_of(alloc: Global, setup: &Setup, event: &Event) -> Result<Option<Page>, 
     page_in(event, asked, class_of(alloc, setup, event)?)
 }
 
-/// The pages among the events, in their order.
-pub fn pages_of(alloc: Global, setup: &Setup, events: &[Event]) -> Result<Pages, OutOfMemory>
-    ensures pages { IfOk result (λ pages. pages ≡ pages_of setup.now events.now) }
-    ensures few { IfOk result (λ pages. length pages ≤ length events.now) }
+/// The pages among the events that can be parts of a chain, in the order of the events.
+pub fn parts_of(alloc: Global, setup: &Setup, events: &[Event]) -> Result<Pages, OutOfMemory>
+    ensures parts { IfOk result (λ parts. parts ≡ parts_of setup.now events.now) }
+    ensures few { IfOk result (λ parts. length parts ≤ length events.now) }
 {
-    let mut pages = Pages::new(alloc);
+    let mut parts = Pages::new(alloc);
     for event in events {
-        if let Some(page) = page_of(alloc, setup, event)? {
-            pages.push(page)?;
+        if let Some(page) = part_of(alloc, setup, event)? {
+            parts.push(page)?;
         }
     }
-    Ok(pages)
+    Ok(parts)
 }

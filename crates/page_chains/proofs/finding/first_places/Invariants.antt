@@ -1,6 +1,6 @@
 use Rattle.std.proofs.Common.{take}
 use Rattle.page_chains.specs.Finding.{FindsFirst}
-use Rattle.page_chains.proofs.FindingLemmas.{same}
+use Rattle.page_chains.proofs.KeyLemmas.{same}
 use Rattle.page_chains.proofs.finding.first_places.Given as goal
 
 abbrev pub invariant-loop-place : goal.invariant-loop-place
