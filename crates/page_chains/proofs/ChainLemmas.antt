@@ -67,7 +67,7 @@ module _ (setup : Setup) where
   page_in_likely event (SawNone key) h = tt
   page_in_likely event (SawSome key) h = tt
   page_in_likely event (SawOther key) h = tt
-  page_in_likely event (Listed group resource scope revision whole items selector) h = (h.0, λ further. h.1 (asked_filled (is_filled (codes "continue")) event.attrs.query further))
+  page_in_likely event (Listed group resource scope revision whole items selector) h = (h.tracked, λ further. h.late (asked_filled (is_filled (codes "continue")) event.attrs.query further))
   page_in_likely event Free h = tt
   page_in_likely event Aside h = tt
 

@@ -1,4 +1,5 @@
--- What the class of an event tells of a list: its resource is tracked, and one that was continued isn't below the start.
+-- What the class of an event tells of a list: its resource is tracked, one that was continued isn't below the start, and
+-- its items are those of the answer.
 use Rattle.std.proofs.Common.{◌≡◌, ℕ, ◌<◌, ◌≤◌, Bool, true, false, ◌&&◌, ◌||◌, List, [], ◌∷◌, Option, Some, None, refl, sym, ap, subst, ◌∙◌, if◌then◌else◌, codes, arith}
 use Rattle.std.specs.Prelude.{IsSome, ⊤, nat_lt, is_some}
 use Rattle.std.proofs.lemmas.Bool.{true≢false, false≢true, and_parts, or_parts, ltb-false}
@@ -25,6 +26,15 @@ use Rattle.answer_class.specs.declared.answer.Answer.TheVariants.{Made, Removed,
 use Rattle.answer_class.specs.declared.request.Verb.{Verb}
 use Rattle.answer_class.specs.declared.request.Verb.TheVariants.{Create, Update, Patch, Delete, DeleteCollection, Get, Listing, Other}
 
+-- the items are those of the list that the answer is
+abbrev pub AreAnswered : Event → List SnapshotObject → Type 0
+AreAnswered event items = (tracked : Tracked) × (list : ListRead) × (answered_list tracked event ≡ Some list) × (items ≡ list.items)
+
+pub record IsLikelyList (setup : Setup) (event : Event) (group resource : List ℕ) (revision : ℕ) (items : List SnapshotObject) : Type 0 where
+  pub tracked : IsSome (tracked_as setup.resources group resource)
+  pub late : has_filled (codes "continue") event.attrs ≡ true → setup.start ≤ revision
+  pub answered : AreAnswered event items
+
 abbrev pub IsLikely : Setup → Event → Answer → Type 0
 IsLikely setup event (Made key revision uid object created) = ⊤
 IsLikely setup event (Removed key uid) = ⊤
@@ -33,8 +43,7 @@ IsLikely setup event (Saw key revision uid object) = ⊤
 IsLikely setup event (SawNone key) = ⊤
 IsLikely setup event (SawSome key) = ⊤
 IsLikely setup event (SawOther key) = ⊤
-IsLikely setup event (Listed group resource scope revision whole items selector) =
-    IsSome (tracked_as setup.resources group resource) × (has_filled (codes "continue") event.attrs ≡ true → setup.start ≤ revision)
+IsLikely setup event (Listed group resource scope revision whole items selector) = IsLikelyList setup event group resource revision items
 IsLikely setup event Free = ⊤
 IsLikely setup event Aside = ⊤
 
@@ -81,7 +90,11 @@ module _ (setup : Setup) (event : Event) where
   module _ (tracked : Tracked) (is_tracked : IsSome (tracked_as setup.resources event.attrs.group event.attrs.resource)) where
     listed_likely : (o : Option ListRead) → answered_list tracked event ≡ o → is_old_list setup Listing event ≡ false → IsLikely setup event (listed tracked event o)
     listed_likely None is young = tt
-    listed_likely (Some list) is young = (is_tracked, λ continued. not_below (has_filled (codes "continue") event.attrs) (asks_revision (first_value (codes "resourceVersion") event.attrs)) (answered_at event) continued (answered tracked event list is) young)
+    listed_likely (Some list) is young = record {
+      tracked = is_tracked;
+      late = λ continued. not_below (has_filled (codes "continue") event.attrs) (asks_revision (first_value (codes "resourceVersion") event.attrs)) (answered_at event) continued (answered tracked event list is) young;
+      answered = (tracked, list, is, refl);
+    }
       where
         not_below : (c a : Bool) (o : Option ℕ) → c ≡ true → o ≡ Some list.revision → ((c || a) && is_below setup.start o) ≡ false → setup.start ≤ list.revision
         not_below true a (Some revision) t e h = let same : revision ≡ list.revision = cc in let le : setup.start ≤ revision = omega (arith, ltb-false revision setup.start h) in subst (λ r. setup.start ≤ r) same le

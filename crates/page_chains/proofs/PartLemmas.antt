@@ -15,7 +15,7 @@ use Rattle.page_chains.specs.declared.page.Page.{Page}
 use Rattle.page_chains.specs.declared.page.PageKey.{PageKey}
 use Rattle.page_chains.specs.Pages.{token_of, asked_of, is_first, is_selective, page_in, page_of, pages_of}
 use Rattle.page_chains.specs.Parts.{is_part, part_in, part_of, parts_of}
-use Rattle.page_chains.specs.Chains.{key_with, is_asked_by, asks, earliest, next_by, next_of, chain_within, checkpoint_of, begins, chain_of, chains_in}
+use Rattle.page_chains.specs.Chains.{key_with, is_asked_by, asks, earliest, next_by, next_of, chain_within, checkpoint_of, begins, chain_of, chains_in, chains_of}
 use Rattle.page_chains.specs.Following.{AreAfter, IsChain, IsChainOf}
 use Rattle.page_chains.proofs.Members.{Each, Among, among_itself, among_kept}
 use Rattle.page_chains.proofs.FollowLemmas.{same_after, chain_is}
@@ -153,3 +153,9 @@ module _ (pages : List Page) where
 
   pub chains_in_parts : chains_in parts ≡ chains_in pages
   chains_in_parts = made_of_parts pages (among_itself pages)
+
+-- what is found among the parts are the chains of all pages
+pub found_of_parts : (setup : Setup) (events list : List Event) (parts slice : List Page) (found : List Checkpoint)
+    → found ≡ chains_in slice → slice ≡ parts → parts ≡ parts_of setup list → list ≡ events → found ≡ chains_of setup events
+found_of_parts setup events list parts slice found made sliced read whole =
+    made ∙ ap chains_in (sliced ∙ read ∙ ap (parts_of setup) whole ∙ parts_are setup events) ∙ chains_in_parts (pages_of setup events)
