@@ -23,13 +23,14 @@ use Rattle.page_chains.specs.Following.{AreAfter, IsChain, IsChainOf, AreChains}
 use Rattle.page_chains.proofs.ClassLemmas.{IsLikely, class_likely}
 use Rattle.page_chains.proofs.FollowLemmas.{followed, chain_is}
 use Rattle.page_chains.proofs.KeyLemmas.{same_means}
+use Rattle.page_chains.proofs.OrderLemmas.{next_is_earliest}
 use Rattle.page_chains.proofs.Members.{Each, Maybe, all_of, each_mapped, each_made, anything, Among, among_itself, holds_of}
 
 -- the chains are those of the pages
 abbrev pub IsOfPages : List Page → Checkpoint → Type 0
 IsOfPages pages found = (page : Page) × Among page pages × IsChain pages page found
 
-chains_are : (pages : List Page) → Each (IsOfPages pages) (chains_in pages)
+pub chains_are : (pages : List Page) → Each (IsOfPages pages) (chains_in pages)
 chains_are pages = each_made (λ page. Among page pages) (IsOfPages pages) (chain_of pages) (λ page among. made page among (chain_of pages page) (chain_is pages page among)) pages (among_itself pages)
   where
     made : (page : Page) → Among page pages → (o : Option Checkpoint) → IsChainOf pages page o → Maybe (IsOfPages pages) o
@@ -38,6 +39,7 @@ chains_are pages = each_made (λ page. Among page pages) (IsOfPages pages) (chai
 
 pub each_chain : (pages : List Page) → AreChains pages (chains_in pages)
 each_chain pages = record {
+  next = next_is_earliest pages;
   chain = chain_of pages;
   each = all_of (λ page. IsChainOf pages page (chain_of pages page)) pages (each_mapped (λ page. Among page pages) (λ page. IsChainOf pages page (chain_of pages page)) (chain_is pages) pages (among_itself pages));
   are = refl;

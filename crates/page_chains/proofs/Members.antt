@@ -1,6 +1,6 @@
 -- What holds of each item of a list, which items it has, and how many others these can be.
 use Rattle.std.proofs.Common.{◌≡◌, ◌≢◌, ℕ, zero, suc, ◌<◌, ◌≤◌, ◌⊎◌, inl, inr, Bool, true, false, List, [], ◌∷◌, ◌++◌, length, get_or, Option, Some, None, refl, sym, ap, subst, ◌∙◌, arith}
-use Rattle.std.specs.Prelude.{⊤, All, cond, filter}
+use Rattle.std.specs.Prelude.{⊤, All, Contains, cond, filter}
 use Rattle.std.specs.List.{filter_map, flat_map, cons_option}
 use Rattle.std.proofs.lemmas.List.Elements.{All-nil, All-cons}
 
@@ -79,6 +79,20 @@ among_kept p (y ∷ ys) x e (inr m) = by_test (among_kept p ys x e m) (p y)
     by_test : Among x (filter p ys) → (b : Bool) → Among x (cond b (y ∷ filter p ys) (filter p ys))
     by_test rest true = inr rest
     by_test rest false = rest
+
+pub among_front : {X : Type 0} (xs ys : List X) (x : X) → Among x xs → Among x (xs ++ ys)
+among_front [] ys x m = absurd m
+among_front (z ∷ xs) ys x (inl e) = inl e
+among_front (z ∷ xs) ys x (inr m) = inr (among_front xs ys x m)
+
+pub among_end : {X : Type 0} (xs : List X) (x : X) → Among x (xs ++ x ∷ [])
+among_end [] x = inl refl
+among_end (z ∷ xs) x = inr (among_end xs x)
+
+pub contains_of : {X : Type 0} (x : X) (ys : List X) → Among x ys → Contains ys x
+contains_of x [] m = absurd m
+contains_of x (y ∷ ys) (inl e) = (0, omega arith, e)
+contains_of x (y ∷ ys) (inr m) = let later = contains_of x ys m in (suc later.0, omega (arith, later.1), later.2)
 
 -- a list without one of its items
 dropped : {X : Type 0} (x : X) (ys : List X) → Among x ys → List X

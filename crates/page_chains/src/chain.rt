@@ -1,7 +1,9 @@
 ghost use Rattle.std.specs.Prelude.{◌≡◌, ◌++◌, ◌≤◌, ◌<◌, ◌-◌, length, map, All, IsSome, IfOk, OnOk, codes, decimal, option_map, option_and_then, slice_get};
 ghost use Rattle.std.specs.List.{flat_map};
 ghost use Rattle.std.specs.Option.{option_to_list};
+ghost use Rattle.audit_event.specs.Events.{IsSound};
 ghost use Rattle.setup_file.specs.Resources.{tracked_as};
+ghost use Rattle.setup_file.specs.Sound.{IsLaterList};
 ghost use Rattle.page_chains.specs.Chains.{chain_within, checkpoint_of, begins, chain_of, chains_in, chains_of};
 ghost use Rattle.page_chains.specs.Following.{AreChains};
 ghost use Rattle.page_chains.specs.Links.{AreLinks, stepped};
@@ -161,6 +163,7 @@ pub fn chains(alloc: Global, setup: &Setup, events: &Events) -> Result<Checkpoin
     ensures few { IfOk result (λ found. length found ≤ length events.now) }
     ensures tracked { IfOk result (All (λ chain. IsSome (tracked_as setup.now.resources chain.group chain.resource))) }
     ensures not_below { IfOk result (All (λ chain. setup.now.start ≤ chain.revision)) }
+    ensures sound { All IsSound events.now → IfOk result (All (IsLaterList setup.now.start setup.now.resources)) }
 {
     let parts = parts_of(alloc, setup, events.as_slice())?;
     let found = chains_in(alloc, parts.as_slice())?;
