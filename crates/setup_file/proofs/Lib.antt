@@ -1,4 +1,13 @@
+pub mod Apart
+pub mod Chains
 pub mod Gathered
+pub mod InRange
 pub mod Mapped
+pub mod Moments
 pub mod RevisionTexts
 pub mod Seen
+pub mod SoundClocks
+pub mod SoundLists
+pub mod SoundObjects
+pub mod SoundResources
+pub mod SoundSetup

@@ -1,5 +1,5 @@
 -- Where and when a log begins and ends, and how its times may be off.
-use Rattle.std.specs.Prelude.{ℕ, ℤ, pos, negsuc, ◌^◌, List, [], ◌∷◌, Option, Some, None, nat_le, int_lt, codes, if◌then◌else◌}
+use Rattle.std.specs.Prelude.{ℕ, ℤ, pos, negsuc, ◌^◌, [], ◌∷◌, Option, Some, None, nat_le, int_lt, codes, if◌then◌else◌}
 use Rattle.base_types.specs.declared.revision.Moment.{Moment}
 use Rattle.json_tree.specs.Meaning.{Meaning}
 use Rattle.json_tree.specs.Parts.{member_of, text_of, whole_of}

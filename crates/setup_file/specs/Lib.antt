@@ -8,4 +8,5 @@ pub mod Objects
 pub mod Reading
 pub mod Resources
 pub mod Snapshots
+pub mod Sound
 pub mod Steps

@@ -1,12 +1,12 @@
 -- Lists of objects (Kubernetes API concepts, "Collections").
 use Rattle.std.specs.Prelude.{ℕ, Bool, true, false, not, List, [], ◌∷◌, Option, Some, None, codes, if◌then◌else◌}
-use Rattle.json_tree.specs.Meaning.{Meaning, null}
+use Rattle.json_tree.specs.Meaning.{Meaning}
 use Rattle.json_tree.specs.Parts.{member_of, text_of, items_of, is_null}
 use Rattle.json_tree.specs.Texts.{◌>>=◌}
 use Rattle.setup_file.specs.declared.lists.ListRead.{ListRead}
 use Rattle.setup_file.specs.declared.setup.Tracked.{Tracked}
 use Rattle.setup_file.specs.declared.setup.SnapshotObject.{SnapshotObject}
-use Rattle.setup_file.specs.Forms.{text_at, revision_at}
+use Rattle.setup_file.specs.Forms.{revision_at}
 use Rattle.setup_file.specs.Objects.{has_text_at, object_of}
 
 -- the items of a list: `items` may be null or absent

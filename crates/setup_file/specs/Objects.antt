@@ -2,7 +2,7 @@
 use Rattle.std.specs.Prelude.{ℕ, Bool, true, false, ◌&&◌, ◌||◌, List, [], ◌∷◌, Option, Some, None, bytes_eq, codes, is_none, if◌then◌else◌}
 use Rattle.base_types.specs.Matching.{combined}
 use Rattle.json_tree.specs.Meaning.{Meaning}
-use Rattle.json_tree.specs.Parts.{member_of, text_of}
+use Rattle.json_tree.specs.Parts.{member_of}
 use Rattle.json_tree.specs.Stored.{stored}
 use Rattle.json_tree.specs.Texts.{◌>>=◌}
 use Rattle.setup_file.specs.declared.setup.Tracked.{Tracked}

@@ -1,6 +1,6 @@
 -- The setup of a text, or the first rule that it breaks.
-use Rattle.std.specs.Prelude.{◌≡◌, ⊤, ℕ, ℤ, pos, ◌⊎◌, Bool, true, false, ◌&&◌, ◌||◌, List, [], ◌∷◌, ◌++◌, Option, Some, None, Result, Ok, Err, IsUtf8, is_some, bytes_eq, codes, if◌then◌else◌}
-use Rattle.std.specs.List.{list_all, list_any}
+use Rattle.std.specs.Prelude.{◌≡◌, ℕ, ℤ, pos, ◌⊎◌, Bool, false, ◌&&◌, ◌||◌, List, [], ◌∷◌, ◌++◌, Option, Some, None, Result, Ok, Err, IsUtf8, is_some, codes, if◌then◌else◌}
+use Rattle.std.specs.List.{list_all}
 use Rattle.std.specs.Ordering.{int_eq}
 use Rattle.std.specs.Result.{result_ok}
 use Rattle.serde_json.specs.Data.{Data}
@@ -8,7 +8,7 @@ use Rattle.serde_json.specs.Read.{read}
 use Rattle.audit_policy.specs.declared.policy.Policy.{Policy}
 use Rattle.audit_policy.specs.Forms.{policy_of}
 use Rattle.json_tree.specs.Meaning.{Meaning}
-use Rattle.json_tree.specs.Parts.{member_of, whole_of, items_of, members_of}
+use Rattle.json_tree.specs.Parts.{member_of, whole_of, items_of}
 use Rattle.json_tree.specs.Values.{of_data}
 use Rattle.setup_file.specs.declared.clocks.Clocks.{Clocks}
 use Rattle.setup_file.specs.declared.fault.SetupRule.{SetupRule}

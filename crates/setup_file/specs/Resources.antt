@@ -1,7 +1,7 @@
 -- The resources that are judged.
 use Rattle.std.specs.Prelude.{ℕ, Bool, true, false, ◌&&◌, List, [], ◌∷◌, Option, Some, None, map, option_map, is_some, bytes_eq, codes, if◌then◌else◌}
 use Rattle.std.specs.Result.{result_ok}
-use Rattle.std.specs.List.{list_all, find}
+use Rattle.std.specs.List.{find}
 use Rattle.json_tree.specs.Meaning.{Meaning}
 use Rattle.json_tree.specs.Parts.{member_of, text_of, flag_of, items_of}
 use Rattle.json_tree.specs.Texts.{◌>>=◌}

@@ -4,9 +4,11 @@ ghost use Rattle.json_tree.specs.Parts.{member_of};
 ghost use Rattle.setup_file.specs.declared.fault.SetupRule.{SetupRule};
 ghost use Rattle.setup_file.specs.declared.fault.SetupFault.TheVariants.{Rule};
 ghost use Rattle.json_tree.specs.Meaning.{Meaning};
+ghost use Rattle.json_tree.specs.Values.{InRange};
 ghost use Rattle.setup_file.specs.declared.fault.SetupRule.TheVariants.{S1};
 ghost use Rattle.setup_file.specs.Forms.{is_form};
 ghost use Rattle.setup_file.specs.Reading.{is_version, known, known_2, has_known, has_all, is_setup_form, is_known_version, policy_at, setup_with, setup_of, IsTreeOf, ReadsAs};
+ghost use Rattle.setup_file.specs.Sound.{IsSound};
 ghost use Rattle.setup_file.specs.Steps.{IsCause};
 
 use crate::authorization::{is_authorized, read_authorization};
@@ -183,6 +185,7 @@ fn setup_of(alloc: Global, tree: &Tree) -> Result<Setup, SetupFault>
 // The tree of a text, or the first rule.
 fn tree_of(alloc: Global, bytes: &[u8]) -> Result<Tree, SetupFault>
     ensures tree { IfOk result (IsTreeOf bytes.now) }
+    ensures range { IfOk result InRange }
     ensures none { (rule : SetupRule) → result ≡ Err (Rule rule) → (rule ≡ S1) × ((tree : Meaning) → IsTreeOf bytes.now tree → ⊥) }
 {
     let value = match Value::from_slice(alloc, bytes) {
@@ -200,6 +203,7 @@ fn tree_of(alloc: Global, bytes: &[u8]) -> Result<Tree, SetupFault>
 /// Reads a setup: one JSON object. Of the rules that it breaks, the first in their order is the fault.
 pub fn read_setup(alloc: Global, bytes: &[u8]) -> Result<Setup, SetupFault>
     ensures setup { IfOk result (λ setup. ReadsAs bytes.now (Ok setup)) }
+    ensures sound { IfOk result IsSound }
     ensures cause { (rule : SetupRule) → result ≡ Err (Rule rule) → ReadsAs bytes.now (Err rule) }
 {
     let tree = tree_of(alloc, bytes)?;

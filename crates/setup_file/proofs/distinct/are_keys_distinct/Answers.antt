@@ -1,4 +1,4 @@
-use Rattle.std.proofs.Common.{ℕ, ◌≡◌, ◌==◌, Bor, List, false, bytes_eq}
+use Rattle.std.proofs.Common.{◌≡◌, Bor, false}
 use Rattle.std.specs.Prelude.{map}
 use Rattle.base_types.specs.declared.key.ObjectKey.{ObjectKey}
 use Rattle.setup_file.specs.Distinct.{key_eq}

@@ -1,4 +1,4 @@
-use Rattle.std.proofs.Common.{◌≡◌, ◌==◌, drop}
+use Rattle.std.proofs.Common.{◌≡◌, drop}
 use Rattle.std.specs.Prelude.{map}
 use Rattle.setup_file.specs.Distinct.{are_distinct, key_eq}
 use Rattle.setup_file.proofs.Seen.{are_new, seen_in}

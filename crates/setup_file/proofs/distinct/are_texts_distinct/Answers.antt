@@ -1,4 +1,4 @@
-use Rattle.std.proofs.Common.{ℕ, ◌≡◌, ◌==◌, Bor, List, false, bytes_eq}
+use Rattle.std.proofs.Common.{ℕ, ◌≡◌, Bor, List, false, bytes_eq}
 use Rattle.std.specs.Prelude.{map}
 use Rattle.setup_file.proofs.Seen.{seen_in, distinct_new, new_step, unseen, put_key}
 use Rattle.setup_file.proofs.distinct.are_texts_distinct.Goals as goal
