@@ -3,18 +3,17 @@
 use Rattle.std.proofs.Common.{◌≡◌, ℕ, ◌<◌, ◌≤◌, Bool, true, false, ◌&&◌, ◌||◌, List, [], ◌∷◌, Option, Some, None, refl, sym, ap, subst, ◌∙◌, if◌then◌else◌, codes, arith}
 use Rattle.std.specs.Prelude.{IsSome, ⊤, nat_lt, is_some}
 use Rattle.std.proofs.lemmas.Bool.{true≢false, false≢true, and_parts, or_parts, ltb-false}
-use Rattle.json_tree.specs.Meaning.{Meaning}
 use Rattle.json_tree.specs.Parts.{member_of}
 use Rattle.json_tree.specs.Texts.{◌>>=◌}
 use Rattle.audit_event.specs.declared.event.Event.{Event}
 use Rattle.setup_file.specs.Forms.{revision_at}
-use Rattle.setup_file.specs.Lists.{items_or_none, objects_in, goes_on, list_with, list_of}
-use Rattle.setup_file.specs.Objects.{has_text_at}
+use Rattle.setup_file.specs.Lists.{list_of}
 use Rattle.setup_file.specs.Resources.{tracked_as}
 use Rattle.setup_file.specs.declared.lists.ListRead.{ListRead}
 use Rattle.setup_file.specs.declared.setup.Setup.{Setup}
 use Rattle.setup_file.specs.declared.setup.SnapshotObject.{SnapshotObject}
 use Rattle.setup_file.specs.declared.setup.Tracked.{Tracked}
+use Rattle.setup_file.proofs.Chains.{found_both, where_true}
 use Rattle.answer_class.specs.Bodies.{kept, answered_object}
 use Rattle.answer_class.specs.Covers.{cover_of}
 use Rattle.answer_class.specs.Lists.{answered_list, answered_at, is_below, is_old_list, asks_revision, extent_of, is_odd}
@@ -25,6 +24,7 @@ use Rattle.answer_class.specs.declared.answer.Answer.{Answer}
 use Rattle.answer_class.specs.declared.answer.Answer.TheVariants.{Made, Removed, Opaque, Saw, SawNone, SawSome, SawOther, Listed, Free, Aside}
 use Rattle.answer_class.specs.declared.request.Verb.{Verb}
 use Rattle.answer_class.specs.declared.request.Verb.TheVariants.{Create, Update, Patch, Delete, DeleteCollection, Get, Listing, Other}
+use Rattle.page_chains.proofs.ListLemmas.{list_is_read}
 
 -- the items are those of the list that the answer is
 abbrev pub AreAnswered : Event → List SnapshotObject → Type 0
@@ -47,40 +47,14 @@ IsLikely setup event (Listed group resource scope revision whole items selector)
 IsLikely setup event Free = ⊤
 IsLikely setup event Aside = ⊤
 
--- how a step found something
-bind_some : {A B : Type 0} (o : Option A) (f : A → Option B) (y : B) → (o >>= f) ≡ Some y → (x : A) × (o ≡ Some x) × (f x ≡ Some y)
-bind_some None f y e = absurd (cc)
-bind_some (Some x) f y e = (x, refl, e)
-
-chosen : {T : Type 0} (b : Bool) (o : Option T) (x : T) → (if b then o else None) ≡ Some x → IsSome o
-chosen true o x e = ap is_some e
-chosen false o x e = absurd (cc)
-
-only_if : {T : Type 0} (b : Bool) (o : Option T) (x : T) → (if b then o else None) ≡ Some x → o ≡ Some x
-only_if true o x e = e
-only_if false o x e = absurd (cc)
-
 -- a list's revision is the one at which it was answered
-list_revision : (tracked : Tracked) (name namespace : List ℕ) (metadata tree : Meaning) (list : ListRead) → list_with tracked name namespace metadata tree ≡ Some list
-    → revision_at (codes "resourceVersion") metadata ≡ Some list.revision
-list_revision tracked name namespace metadata tree list e =
-    let revision = bind_some (revision_at (codes "resourceVersion") metadata) _ list e in
-    let trees = bind_some (items_or_none (member_of (codes "items") tree)) _ list revision.2 in
-    let objects = bind_some (objects_in tracked name namespace trees.0) _ list trees.2 in
-    let same : revision.0 ≡ list.revision = let whole = objects.2 in some_revision _ list whole in
-    revision.1 ∙ ap Some same
-  where
-    some_revision : (a b : ListRead) → Some a ≡ Some b → a.revision ≡ b.revision
-    some_revision a b e = let s : a ≡ b = cc in ap (λ (l : ListRead). l.revision) s
-
 answered : (tracked : Tracked) (event : Event) (list : ListRead) → answered_list tracked event ≡ Some list → answered_at event ≡ Some list.revision
 answered tracked event list e =
-    let body = bind_some (kept event.response) (list_of tracked event.attrs.name event.attrs.namespace) list e in
-    let metadata = bind_some (member_of (codes "metadata") body.0) _ list body.2 in
-    let read = only_if (has_text_at (codes "kind") tracked.list_kind body.0) (list_with tracked event.attrs.name event.attrs.namespace metadata.0 body.0) list metadata.2 in
+    let body = found_both (kept event.response) (list_of tracked event.attrs.name event.attrs.namespace) list e in
+    let read = list_is_read tracked event.attrs.name event.attrs.namespace body.0 list body.2 in
     ap (λ o. o >>= member_of (codes "metadata") >>= revision_at (codes "resourceVersion")) body.1
-    ∙ ap (λ o. o >>= revision_at (codes "resourceVersion")) metadata.1
-    ∙ list_revision tracked event.attrs.name event.attrs.namespace metadata.0 body.0 list read
+    ∙ ap (λ o. o >>= revision_at (codes "resourceVersion")) read.has
+    ∙ read.revision
 
 module _ (setup : Setup) (event : Event) where
   either : (b : Bool) (x y : Answer) → (b ≡ true → IsLikely setup event x) → (b ≡ false → IsLikely setup event y) → IsLikely setup event (if b then x else y)
@@ -167,7 +141,7 @@ module _ (setup : Setup) (event : Event) where
   in_likely None e = tt
   in_likely (Some tracked) e =
       either (is_completing event.stage) (tracked_class setup tracked event) Aside
-      (λ _. tracked_likely tracked (chosen event.attrs.is_resource (tracked_as setup.resources event.attrs.group event.attrs.resource) tracked e)) (λ _. tt)
+      (λ _. tracked_likely tracked (ap is_some (where_true event.attrs.is_resource (tracked_as setup.resources event.attrs.group event.attrs.resource) tracked e).1)) (λ _. tt)
 
   pub class_likely : IsLikely setup event (class_of setup event)
   class_likely = in_likely (tracked_of setup event.attrs) refl

@@ -3,6 +3,7 @@ pub mod ClassLemmas
 pub mod FindingLemmas
 pub mod FollowLemmas
 pub mod KeyLemmas
+pub mod ListLemmas
 pub mod Members
 pub mod OrderLemmas
 pub mod PartLemmas

@@ -82,10 +82,11 @@ one_more seen None page empty = subst (λ l. IsBest (l ++ page ∷ []) (Some pag
 one_more seen (Some found) page best = by_order (comes_before page found) refl
   where
     by_order : (b : Bool) → comes_before page found ≡ b → IsBest (seen ++ page ∷ []) (if b then Some page else Some found)
-    by_order true e =
-        (among_end seen page,
-        each_append (λ other. comes_before other page ≡ false) seen (page ∷ [])
-        (each_mapped (λ other. comes_before other found ≡ false) (λ other. comes_before other page ≡ false) (λ other. not_before page found other e) seen best.1) (itself page, tt))
+    by_order true e = (
+      among_end seen page,
+      each_append (λ other. comes_before other page ≡ false) seen (page ∷ [])
+          (each_mapped (λ other. comes_before other found ≡ false) (λ other. comes_before other page ≡ false) (λ other. not_before page found other e) seen best.1) (itself page, tt),
+    )
     by_order false e = (among_front seen (page ∷ []) found best.0, each_append (λ other. comes_before other found ≡ false) seen (page ∷ []) best.1 (e, tt))
 
 all_seen : (xs seen : List Page) (o : Option Page) → IsBest seen o → IsBest (seen ++ xs) (fold sooner o xs)

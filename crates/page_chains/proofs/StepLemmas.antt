@@ -110,10 +110,10 @@ module _ (links : List ℕ) (steps : ℕ) (reached stride : List ℕ) (left : �
       within = h.within;
       strides_within = doubled_within;
       right = λ from lt.
-        let whole : left / 2 + left / 2 ≡ left = omega arith in
-        twice (left / 2) (slice_index reached from) (reached_inside from lt)
-        ∙ ap (λ n. stepped stride n (slice_index reached from)) whole
-        ∙ h.right from lt;
+          let whole : left / 2 + left / 2 ≡ left = omega arith in
+          twice (left / 2) (slice_index reached from) (reached_inside from lt)
+          ∙ ap (λ n. stepped stride n (slice_index reached from)) whole
+          ∙ h.right from lt;
     }
 
     pub odd : (later : List ℕ) → later ≡ map (λ to. slice_index stride to) reached → left % 2 ≡ 1 → AreUnderWay links steps later doubled (left / 2)
@@ -123,11 +123,11 @@ module _ (links : List ℕ) (steps : ℕ) (reached stride : List ℕ) (left : �
       within = subst (All (λ to. to < length links)) (sym moved) (led_within reached h.within);
       strides_within = doubled_within;
       right = λ from lt.
-        let here : from < length reached = let e = h.each in omega arith in
-        let whole : suc (left / 2 + left / 2) ≡ left = omega arith in
-        ap (λ l. stepped doubled (left / 2) (slice_index l from)) moved
-        ∙ ap (stepped doubled (left / 2)) (mapped_at (λ to. slice_index stride to) reached from 0 0 here)
-        ∙ twice (left / 2) (slice_index stride (slice_index reached from)) (inside (slice_index reached from) (reached_inside from lt))
-        ∙ ap (λ n. stepped stride n (slice_index reached from)) whole
-        ∙ h.right from lt;
+          let here : from < length reached = let e = h.each in omega arith in
+          let whole : suc (left / 2 + left / 2) ≡ left = omega arith in
+          ap (λ l. stepped doubled (left / 2) (slice_index l from)) moved
+          ∙ ap (stepped doubled (left / 2)) (mapped_at (λ to. slice_index stride to) reached from 0 0 here)
+          ∙ twice (left / 2) (slice_index stride (slice_index reached from)) (inside (slice_index reached from) (reached_inside from lt))
+          ∙ ap (λ n. stepped stride n (slice_index reached from)) whole
+          ∙ h.right from lt;
     }

@@ -150,7 +150,10 @@ fn chains_in(alloc: Global, pages: &[Page]) -> Result<Checkpoints, OutOfMemory>
     let last = reached_after(alloc, &links, pages.len().saturating_sub(1))?;
     let mut found = Checkpoints::new(alloc);
     for first in 0..pages.len() {
-        put(&mut found, chain_at(alloc, pages, &links, first, last[first])?)?;
+        put(
+            &mut found,
+            chain_at(alloc, pages, &links, first, last[first])?,
+        )?;
     }
     Ok(found)
 }

@@ -30,7 +30,11 @@ fn places_below(alloc: Global, count: usize) -> Result<Vec<usize>, OutOfMemory>
 
 /// Where so many steps lead to from each place. Steps are doubled, so the time is that of the logarithm of their
 /// number for each place, also where places lead round in a circle.
-pub fn reached_after(alloc: Global, links: &[usize], steps: usize) -> Result<Vec<usize>, OutOfMemory>
+pub fn reached_after(
+    alloc: Global,
+    links: &[usize],
+    steps: usize,
+) -> Result<Vec<usize>, OutOfMemory>
     requires { All (λ to. to < length links.now) links.now }
     ensures { IfOk result (λ reached. AreSteps links.now steps reached.items) }
 {

@@ -43,12 +43,12 @@ loop-step-preserved c =
     let apart : slice_index links here ≢ here = c.if-links-here.false in
     let made = behind c.loop-step.chain.items c.push.new.self.items _ c.in_ok-push.ensures.items in
     let on = goes_on pages links c.requires.links _ (map (λ (p : Bor Page). p.now) c.loop-step.chain.items) c.loop-step._step here page
-      c.loop-step-test.true c.loop-step.invariant.within c.index-pages-here.is c.loop-step.invariant.left goes apart in
+    c.loop-step-test.true c.loop-step.invariant.within c.index-pages-here.is c.loop-step.invariant.left goes apart in
     let each = c.requires.links.each in
     let inside = c.loop-step.invariant.within in
     let lt : here < length links = omega arith in
     record {
       within = c.requires.links.within here 0 lt;
       left = subst (λ (done : List Page). option_and_then (chain_within (length pages) pages) (slice_get pages c.args.first)
-        ≡ option_map (λ rest. done ++ rest) (option_and_then (chain_within (length pages - (c.loop-step._step + 1)) pages) (slice_get pages (slice_index links here)))) (sym made) on;
+          ≡ option_map (λ rest. done ++ rest) (option_and_then (chain_within (length pages - (c.loop-step._step + 1)) pages) (slice_get pages (slice_index links here)))) (sym made) on;
     }

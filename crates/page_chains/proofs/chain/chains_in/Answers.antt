@@ -7,7 +7,7 @@ loop-first-preserved c =
     let pages = c.args.pages.now in
     record {
       found = placed (chain_of pages) (chains_in pages) pages c.loop-first.first c.in_ok-chain_at.field-0 c.loop-first.found c.put.new.found c.loop-first-test.true c.in_ok-chain_at.ensures c.in_ok-put.ensures
-        c.loop-first.invariant.found;
+          c.loop-first.invariant.found;
       few = few_placed (chain_of pages) (chains_in pages) pages c.loop-first.first c.in_ok-chain_at.field-0 c.loop-first.found c.put.new.found c.loop-first-test.true c.in_ok-chain_at.ensures c.in_ok-put.ensures
-        c.loop-first.invariant.few;
+          c.loop-first.invariant.few;
     }
