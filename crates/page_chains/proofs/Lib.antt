@@ -1,0 +1,15 @@
+pub mod ChainLemmas
+pub mod ClassLemmas
+pub mod FindingLemmas
+pub mod FollowLemmas
+pub mod KeyLemmas
+pub mod ListLemmas
+pub mod Members
+pub mod OrderLemmas
+pub mod PartLemmas
+pub mod PlaceLemmas
+pub mod ReadingLemmas
+pub mod SoundLemmas
+pub mod StartLemmas
+pub mod StepLemmas
+pub mod WalkLemmas

@@ -1,0 +1,6 @@
+pub mod Chains
+pub mod Finding
+pub mod Following
+pub mod Links
+pub mod Pages
+pub mod Parts
