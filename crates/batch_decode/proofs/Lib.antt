@@ -1,3 +1,4 @@
+pub mod Alone
 pub mod Gathering
 pub mod LexSizes
 pub mod ListLemmas

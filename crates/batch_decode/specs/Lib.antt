@@ -1,2 +1,3 @@
 pub mod Batches
 pub mod Lists
+pub mod OneDecoding

@@ -4,8 +4,10 @@
 
 mod batch;
 mod decoded;
+mod law;
 mod line;
 
 pub use batch::decode_all;
 pub use decoded::{Decoded, DecodedList, ItemFault};
+pub use law::one_decoding_law;
 pub use line::decode_line;
