@@ -527,6 +527,3 @@ impl Timeline {
         }
     }
 }
-
-#[cfg(test)]
-mod tests;
