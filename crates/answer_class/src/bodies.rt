@@ -10,6 +10,7 @@ use json_tree::Tree;
 use setup_file::{SnapshotObject, Tracked, canonical, read_object};
 use std::alloc::Global;
 
+/// The tree of a body that was recorded.
 pub fn kept(body: &Body) -> Option<&Tree>
     ensures { option_map (λ tree. tree.now) result ≡ kept body.now }
 {

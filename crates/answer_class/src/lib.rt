@@ -13,9 +13,12 @@ mod request;
 mod times;
 
 pub use answer::{Answer, Item, Items};
+pub use bodies::{filled_at, kept};
 pub use classes::class_of;
 pub use conditions::{Conditions, conditions_of};
 pub use labels::listable;
+pub use lists::one_at_most;
+pub use request::has_filled;
 
 #[cfg(test)]
 mod tests;

@@ -27,13 +27,13 @@ fn not_whole() -> Extent
     }
 }
 
-// The only label selector of a query that isn't empty, or none; nothing where there are several.
-fn one_at_most(pairs: &[Pair]) -> Option<Option<&Pair>>
-    ensures { option_map (λ found. option_map (λ pair. pair.now) found) result ≡ one_at_most (filter (is_filled (codes "labelSelector")) pairs.now) }
+/// The only member of a query with this name and a value that isn't empty, or none; nothing where there are several.
+pub fn one_at_most<'a>(pairs: &'a [Pair], name: &str) -> Option<Option<&'a Pair>>
+    ensures { option_map (λ found. option_map (λ pair. pair.now) found) result ≡ one_at_most (filter (is_filled name.now) pairs.now) }
 {
     let mut found: Option<&Pair> = None;
     for pair in pairs {
-        if is_filled(pair, "labelSelector") {
+        if is_filled(pair, name) {
             if found.is_some() {
                 return None;
             }
@@ -63,7 +63,7 @@ pub fn extent_of(alloc: Global, attrs: &RequestAttrs, rest: bool) -> Result<Exte
     if rest || has_filled(attrs, "fieldSelector") || has_filled(attrs, "continue") {
         return Ok(not_whole());
     }
-    match one_at_most(attrs.query.as_slice()) {
+    match one_at_most(attrs.query.as_slice(), "labelSelector") {
         None => Ok(not_whole()),
         Some(None) => Ok(Extent {
             whole: true,

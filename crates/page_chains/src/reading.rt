@@ -1,43 +1,13 @@
 ghost use Rattle.std.specs.Prelude.{◌≡◌, ◌≤◌, length, IfOk, filter, codes, option_map, option_and_then};
-ghost use Rattle.std.specs.List.{list_any};
-ghost use Rattle.answer_class.specs.Bodies.{kept};
-ghost use Rattle.answer_class.specs.Lists.{one_at_most};
-ghost use Rattle.answer_class.specs.Requests.{is_filled, has_filled};
 ghost use Rattle.page_chains.specs.Pages.{token_of, asked_by, asked_of, is_first, is_selective, page_in};
 ghost use Rattle.page_chains.specs.Parts.{part_of, parts_of};
-ghost use Rattle.setup_file.specs.Forms.{non_empty, filled_at};
-ghost use Rattle.json_tree.specs.Parts.{member_of};
 
 use crate::page::{Asked, Page, Pages};
-use answer_class::{Answer, class_of};
-use audit_event::{Body, Event};
-use base_types::{OutOfMemory, Pair, RequestAttrs, Text};
-use json_tree::Tree;
+use answer_class::{Answer, class_of, filled_at, has_filled, kept, one_at_most};
+use audit_event::Event;
+use base_types::{OutOfMemory, RequestAttrs, Text};
 use setup_file::Setup;
 use std::alloc::Global;
-
-fn non_empty(text: &Text) -> Option<&Text>
-    ensures { option_map (λ text. text.now) result ≡ non_empty text.now }
-{
-    if text.is_empty() { None } else { Some(text) }
-}
-
-// A text member with at least one byte.
-fn filled_at<'a>(tree: &'a Tree, name: &str) -> Option<&'a Text>
-    ensures { option_map (λ text. text.now) result ≡ filled_at name.now tree.now }
-{
-    non_empty(tree.member(name)?.as_text()?)
-}
-
-fn kept(body: &Body) -> Option<&Tree>
-    ensures { option_map (λ tree. tree.now) result ≡ kept body.now }
-{
-    match body {
-        Body::Kept(tree) => Some(tree),
-        Body::Absent => None,
-        Body::Unread => None,
-    }
-}
 
 // The token with which the next page is asked for.
 fn token_of(event: &Event) -> Option<&Text>
@@ -46,39 +16,11 @@ fn token_of(event: &Event) -> Option<&Text>
     filled_at(kept(&event.response)?.member("metadata")?, "continue")
 }
 
-fn is_filled(pair: &Pair, name: &str) -> bool
-    ensures { result ≡ is_filled name.now pair.now }
-{
-    pair.name.as_str() == name && !pair.value.is_empty()
-}
-
-fn has_filled(attrs: &RequestAttrs, name: &str) -> bool
-    ensures { result ≡ has_filled name.now attrs.now }
-{
-    attrs.query.iter().any(|pair| is_filled(pair, name))
-}
-
-// The only token of a query that isn't empty, or none; nothing where there are several.
-fn one_at_most(pairs: &[Pair]) -> Option<Option<&Pair>>
-    ensures { option_map (λ found. option_map (λ pair. pair.now) found) result ≡ one_at_most (filter (is_filled (codes "continue")) pairs.now) }
-{
-    let mut found: Option<&Pair> = None;
-    for pair in pairs {
-        if is_filled(pair, "continue") {
-            if found.is_some() {
-                return None;
-            }
-            found = Some(pair);
-        }
-    }
-    Some(found)
-}
-
 #[tactic(auto, using(crate::proofs::ReadingLemmas::asked_as))]
 fn asked_of(attrs: &RequestAttrs) -> Result<Asked, OutOfMemory>
     ensures { IfOk result (λ asked. asked ≡ asked_of attrs.now) }
 {
-    match one_at_most(attrs.query.as_slice()) {
+    match one_at_most(attrs.query.as_slice(), "continue") {
         Some(Some(pair)) => Ok(Asked::Next(pair.value.clone()?)),
         Some(None) => Ok(Asked::First),
         None => Ok(Asked::Unclear),

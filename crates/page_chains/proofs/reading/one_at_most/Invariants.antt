@@ -1,8 +1,0 @@
-use Rattle.std.proofs.Common.{◌≡◌, filter, take}
-use Rattle.std.specs.Prelude.{codes, option_map}
-use Rattle.answer_class.specs.Requests.{is_filled}
-use Rattle.answer_class.proofs.Filled.{some_list}
-use Rattle.page_chains.proofs.reading.one_at_most.Given as goal
-
-abbrev pub invariant-loop-pair : goal.invariant-loop-pair
-invariant-loop-pair l = filter (is_filled (codes "continue")) (take l.pair-index l.pairs) ≡ some_list (option_map (λ pair. pair.now) l.found)
