@@ -1,0 +1,15 @@
+use base_types::{Listed, ObjectKey, Range, Revision, Text};
+
+/// The removal of an incarnation, whose last version has the revision `last`. Its place isn't recorded: it is one of
+/// the range.
+#[derive(Debug, Drop)]
+pub struct Removal {
+    pub key: ObjectKey,
+    /// `metadata.uid`
+    pub uid: Text,
+    pub last: Revision,
+    pub range: Range,
+}
+
+/// Removals by the numbers of their events.
+pub type Removals = Listed<Removal>;

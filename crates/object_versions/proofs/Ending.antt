@@ -1,0 +1,31 @@
+-- What is found behind a version that may end its incarnation.
+use Rattle.std.proofs.Common.{◌≡◌, ◌≢◌, ℕ, Bool, List, Option, Some, None, option_map, Bor, refl, sym, ap, subst}
+use Rattle.std.specs.Prelude.{◌↔◌, IsTrue}
+use Rattle.base_types.specs.declared.claim.Range.{Range}
+use Rattle.base_types.specs.declared.key.ObjectKey.{ObjectKey}
+use Rattle.history_model.specs.Histories as past
+use Rattle.history_model.specs.Incarnations.{IsRemovalBehind}
+use Rattle.object_past.specs.Modelled.{recorded}
+use Rattle.object_versions.specs.Ended.{IsEnd, revision_of}
+use Rattle.object_past.specs.Modelled.{version_of}
+use Rattle.object_versions.specs.Modelled.{removal_of}
+use Rattle.object_past.specs.declared.removal.Removal.{Removal}
+use Rattle.object_past.specs.declared.version.Version.{Version}
+
+-- a removal with copies of the version's texts
+pub recorded_is : (v : Version) (range : Range) (key : ObjectKey) (uid : List ℕ) → key ≡ v.key → uid ≡ v.uid
+    → recorded (record { key = key; uid = uid; last = v.revision; range = range }) ≡ removal_of v range
+recorded_is v range key uid keys uids = λ i. record { key = keys i; uid = uids i; last = v.revision; range = range }
+
+-- the next revision, as the match on the next version gives it
+pub next_some : (after : Option (Bor Version)) (v : Bor Version) → after ≡ Some v → revision_of (option_map (λ x. x.now) after) ≡ Some v.now.revision
+next_some after v is = ap (λ o. revision_of (option_map (λ x. x.now) o)) is
+
+pub next_none : (after : Option (Bor Version)) → after ≡ None → revision_of (option_map (λ x. x.now) after) ≡ None
+next_none after is = ap (λ o. revision_of (option_map (λ x. x.now) o)) is
+
+pub end_some : (version : Version) (after : Option (Bor Version)) (v : Bor Version) → after ≡ Some v → v.now.uid ≢ version.uid → IsEnd version (option_map (λ x. x.now) after)
+end_some version after v is other = subst (λ o. IsEnd version (option_map (λ x. x.now) o)) (sym is) other
+
+pub end_none : (version : Version) (after : Option (Bor Version)) → after ≡ None → IsEnd version (option_map (λ x. x.now) after)
+end_none version after is = subst (λ o. IsEnd version (option_map (λ x. x.now) o)) (sym is) tt

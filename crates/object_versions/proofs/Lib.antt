@@ -1,0 +1,13 @@
+pub mod Choosing
+pub mod Clouding
+pub mod Ending
+pub mod Entries
+pub mod Faulting
+pub mod Filing
+pub mod Firsts
+pub mod Growth
+pub mod Keeping
+pub mod Mapped
+pub mod Numbered
+pub mod Removing
+pub mod Telling

@@ -1,0 +1,92 @@
+-- What the tests of a write and of the object before it tell.
+use Rattle.std.proofs.Common.{◌≡◌, ◌≢◌, ℕ, ◌-◌, Bool, true, false, ◌&&◌, ◌==◌, not, List, Option, Some, None, refl, sym, ap, ◌∙◌, subst, ⊎_elim, Bor, true≢false}
+use Rattle.std.specs.Prelude.{◌↔◌, IsTrue, IsSome, IfSome, is_none, is_some, option_map, bytes_eq}
+use Rattle.std.specs.Cmp.Lexicographic.{bytes_decides}
+use Rattle.std.proofs.lemmas.Bool.Decides.{eqb_tells}
+use Rattle.history_model.specs.Groups as model
+use Rattle.history_model.specs.Histories as past
+use Rattle.history_model.specs.Making.{AreMet, MeetsConditions, IsClear, IsOtherObject, IsUsedUid, IsLeastFault, tree_of}
+use Rattle.write_groups.specs.Modelled.{conditions_of, event_of, item_of}
+use Rattle.write_groups.specs.declared.event.Item.{Item}
+use Rattle.write_groups.specs.declared.event.LogEvent.{LogEvent}
+use Rattle.write_groups.specs.declared.event.Preconditions.{Preconditions}
+use Rattle.object_versions.proofs.Faulting.{AreTold, clear_least}
+use Rattle.object_versions.proofs.Mapped.{no_true}
+use Rattle.object_versions.specs.Faults.{asks_revision, asks_uid, are_met, meets, is_other, node_of, clear_code, IsOutside}
+use Rattle.object_past.specs.Modelled.{version_of}
+use Rattle.object_past.specs.declared.version.Version.{Version}
+
+both_true : {P Q : Type 0} (a b : Bool) → (IsTrue a ↔ P) → (IsTrue b ↔ Q) → IsTrue (a && b) ↔ (P × Q)
+both_true true b p q = ((λ t. (p.0 refl, q.0 t)), λ held. q.1 held.1)
+both_true false b p q = ((λ t. absurd (no_true t)), λ held. p.1 held.0)
+
+revision_told : (wanted : Option ℕ) (revision : ℕ) → IsTrue (asks_revision wanted revision) ↔ IfSome wanted (λ asked. asked ≡ revision)
+revision_told None revision = ((λ t. tt), λ held. refl)
+revision_told (Some asked) revision = ⊎_elim
+    (λ same. ((λ t. same.1), λ held. same.0))
+    (λ other. ((λ t. absurd (true≢false (sym t ∙ other.0))), λ held. absurd (other.1 held)))
+    (eqb_tells asked revision)
+
+uid_told : (wanted : Option (List ℕ)) (uid : List ℕ) → IsTrue (asks_uid wanted uid) ↔ IfSome wanted (λ asked. asked ≡ uid)
+uid_told None uid = ((λ t. tt), λ held. refl)
+uid_told (Some asked) uid = go (bytes_eq asked uid) refl
+  where
+    go : (t : Bool) → bytes_eq asked uid ≡ t → IsTrue (bytes_eq asked uid) ↔ (asked ≡ uid)
+    go true is = ((λ t. (bytes_decides asked uid).0 is), λ held. is)
+    go false is = ((λ t. absurd (true≢false (sym t ∙ is))), λ held. absurd (true≢false (sym ((bytes_decides asked uid).1 held) ∙ is)))
+
+pub met_told : (asked : Preconditions) (revision : ℕ) (uid : List ℕ) → IsTrue (are_met asked revision uid) ↔ AreMet (conditions_of asked) revision uid
+met_told asked revision uid = both_true (asks_revision asked.revision revision) (asks_uid asked.uid uid) (revision_told asked.revision revision) (uid_told asked.uid uid)
+
+none_told : {A : Type 0} (found : Option A) → IsTrue (is_none found) ↔ (found ≡ None)
+none_told None = ((λ t. refl), λ held. refl)
+none_told (Some a) = ((λ t. absurd (no_true t)), λ held. absurd (cc held))
+
+meets_told : (asked : Preconditions) (before : Option Version) → IsTrue (meets asked before) ↔ MeetsConditions (conditions_of asked) (option_map version_of before)
+meets_told asked None = both_true (is_none asked.revision) (is_none asked.uid) (none_told asked.revision) (none_told asked.uid)
+meets_told asked (Some v) = met_told asked v.revision v.uid
+
+other_told : (m : model.Making) (item : Item) (before : Option Version) → m.item ≡ item_of item → IsTrue (is_other item before) ↔ IsOtherObject m (option_map version_of before)
+other_told m item None is = ((λ t. tt), λ held. refl)
+other_told m item (Some v) is = go (bytes_eq v.uid item.uid) refl
+  where
+    go : (t : Bool) → bytes_eq v.uid item.uid ≡ t → IsTrue (not (bytes_eq v.uid item.uid)) ↔ (v.uid ≢ m.item.uid)
+    go true same = ((λ t. absurd (no_true (subst (λ b. IsTrue (not b)) same t))), λ differs. absurd (differs ((bytes_decides v.uid item.uid).0 same ∙ sym (ap (λ i. i.uid) is))))
+    go false apart = ((λ t held. true≢false (sym ((bytes_decides v.uid item.uid).1 (held ∙ ap (λ i. i.uid) is)) ∙ apart)), λ differs. subst (λ b. IsTrue (not b)) (sym apart) refl)
+
+some_told : (before : Option Version) → IsTrue (is_some before) ↔ IsSome (option_map version_of before)
+some_told None = ((λ t. t), λ held. held)
+some_told (Some v) = ((λ t. refl), λ held. refl)
+
+node_is : (before : Option Version) → tree_of (option_map version_of before) ≡ node_of before
+node_is None = refl
+node_is (Some v) = refl
+
+-- the code that is found is the least fault, where the key isn't clouded
+pub clear_is_least : (h : past.History) (body : ℕ → Option ℕ → Bool) (number : ℕ) (event : LogEvent) (item : Item) (created is_used : Bool) (before : Option Version)
+    → h.body ≡ body
+    → (IsOutside h (record { number = number; event = event_of event; item = item_of item; created = created }) → ⊥)
+    → IsClear h (record { number = number; event = event_of event; item = item_of item; created = created })
+    → (IsTrue is_used ↔ IsUsedUid h (record { number = number; event = event_of event; item = item_of item; created = created }))
+    → IsLeastFault h (record { number = number; event = event_of event; item = item_of item; created = created }) (option_map version_of before)
+      (clear_code body number event item created is_used before)
+clear_is_least h body number event item created is_used before bodies inside clear used =
+    clear_least h m (option_map version_of before) created is_used (is_some before) (is_other item before) (meets event.preconditions before) (body number (node_of before))
+      (record {
+        inside = inside;
+        clear = clear;
+        made = refl;
+        had = used;
+        there = some_told before;
+        differs = other_told m item before refl;
+        meets = meets_told event.preconditions before;
+        asked = ap (λ f. f number (tree_of (option_map version_of before))) bodies ∙ ap (body number) (node_is before);
+      })
+  where
+    m : model.Making
+    m = record { number = number; event = event_of event; item = item_of item; created = created }
+
+-- a lent version, as the model has it
+pub lent_is : (before : Option (Bor Version)) → option_map (λ v. version_of v.now) before ≡ option_map version_of (option_map (λ v. v.now) before)
+lent_is None = refl
+lent_is (Some v) = refl

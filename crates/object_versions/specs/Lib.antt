@@ -1,0 +1,10 @@
+pub mod Chosen
+pub mod Ended
+pub mod Faults
+pub mod Growing
+pub mod Hidden
+pub mod Modelled
+pub mod Owners
+pub mod Removals
+pub mod Surrounded
+pub mod Written

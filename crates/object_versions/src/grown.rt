@@ -1,0 +1,149 @@
+ghost use Rattle.std.specs.Prelude.{◌≡◌, ◌<◌, ◌++◌, ◌∷◌, [], ◌↔◌, not, true, IfOk, OnOk, IsTrue, All, AllPairs, Any, option_map, slice_get};
+ghost use Rattle.std.specs.BTreeSet.{contains, Updates};
+ghost use Rattle.object_versions.specs.Growing.{AreFlagged, IsContinued, IsLatestIn};
+ghost use Rattle.object_versions.specs.Owners.{owner_order, owner_of};
+
+use crate::owner::Owner;
+use object_past::{Version, Versions};
+use base_types::{ObjectKey, OutOfMemory, Text};
+use std::alloc::Global;
+use std::collections::{BTreeMap, BTreeSet};
+use std::marker::Model;
+
+/// The versions up to some revision, with what is known of their keys and uids. Contracts see the versions.
+#[derive(Drop)]
+pub struct Grown {
+    versions: Versions,
+    // Of each version, whether its incarnation is the first of its key with its uid.
+    firsts: Vec<bool>,
+    // The position of each key's latest version.
+    last: BTreeMap<ObjectKey, usize>,
+    owners: BTreeSet<Owner>,
+    uids: BTreeSet<Text>,
+}
+
+impl Model for Grown {
+    ghost use Rattle.std.specs.Prelude.{List};
+    ghost use Rattle.object_past.specs.declared.version.Version.{Version};
+
+    ghost Value = { List Version };
+
+    ghost use Rattle.object_versions.specs.Growing.{AreKept};
+
+    ghost view = { λ g. g.versions };
+
+    ghost invariant = { λ g. AreKept g.versions g.firsts.items g.last g.owners g.uids };
+}
+
+/// The latest version of a key, and whether its incarnation is the first of the key with its uid.
+#[derive(Clone, Copy)]
+pub struct Latest<'a> {
+    pub version: &'a Version,
+    pub is_first: bool,
+}
+
+fn version_at(versions: &[Version], position: usize) -> Option<&Version>
+    ensures { option_map (λ version. version.now) result ≡ slice_get versions.now position }
+{
+    versions.get(position)
+}
+
+fn flag_at(firsts: &[bool], position: usize) -> Option<bool>
+    ensures { result ≡ slice_get firsts.now position }
+{
+    firsts.get(position).copied()
+}
+
+// Keeps that the key had the uid, and tells whether it hadn't before.
+fn add_owner(owners: &mut BTreeSet<Owner>, version: &Version) -> Result<bool, OutOfMemory>
+    ensures added { IfOk result (λ added. added ≡ not (contains owner_order owners.old (owner_of version.now))) }
+    ensures updates { OnOk result (Updates owner_order owners.old owners.new (owner_of version.now) true) }
+{
+    let owner = Owner {
+        key: version.key.clone()?,
+        uid: version.uid.clone()?,
+    };
+    Ok(owners.insert(owner)?)
+}
+
+impl Grown {
+    pub fn new(alloc: Global) -> Grown
+        ensures { result ≡ [] }
+    {
+        Grown {
+            versions: Versions::new(alloc),
+            firsts: Vec::new(alloc),
+            last: BTreeMap::new(alloc),
+            owners: BTreeSet::new(alloc),
+            uids: BTreeSet::new(alloc),
+        }
+    }
+
+    /// The key's latest version.
+    pub fn latest(&self, key: &ObjectKey) -> Option<Latest<'_>>
+        ensures latest { IsLatestIn self.now key.now result }
+        ensures rising { AllPairs (λ a b. a.revision < b.revision) self.now }
+    {
+        let position = *self.last.get(key)?;
+        let version = version_at(self.versions.as_slice(), position)?;
+        let is_first = flag_at(&self.firsts, position)?;
+        Some(Latest { version, is_first })
+    }
+
+    /// Whether a version has the uid.
+    pub fn is_used(&self, uid: &Text) -> bool
+        ensures { IsTrue result ↔ Any (λ v. v.uid ≡ uid.now) self.now }
+    {
+        self.uids.contains(uid)
+    }
+
+    // Whether a version's incarnation is the first of its key with its uid, where it continues the latest one.
+    fn continues(&self, version: &Version) -> Option<bool>
+        ensures { IsContinued self.now version.now result }
+    {
+        let latest = self.latest(&version.key)?;
+        if latest.version.uid == version.uid {
+            return Some(latest.is_first);
+        }
+        None
+    }
+
+    /// Takes a version whose revision is above those of the others.
+    pub fn with(self, version: Version) -> Result<Grown, OutOfMemory>
+        requires above { All (λ v. v.revision < version.revision) self }
+        ensures { IfOk result (λ grown. grown ≡ self ++ version ∷ []) }
+    {
+        let continued = self.continues(&version);
+        let Grown {
+            mut versions,
+            mut firsts,
+            mut last,
+            mut owners,
+            mut uids,
+        } = self;
+        let is_first = match continued {
+            Some(is_first) => is_first,
+            None => add_owner(&mut owners, &version)?,
+        };
+        let _used = uids.insert(version.uid.clone()?)?;
+        let _before = last.insert(version.key.clone()?, versions.len())?;
+        firsts.push(is_first)?;
+        versions.push(version)?;
+        Ok(Grown {
+            versions,
+            firsts,
+            last,
+            owners,
+            uids,
+        })
+    }
+
+    /// The versions, and of each whether its incarnation is the first of its key with its uid.
+    pub fn into_parts(self) -> (Versions, Vec<bool>)
+        ensures versions { result.0 ≡ self }
+        ensures rising { AllPairs (λ a b. a.revision < b.revision) self }
+        ensures firsts { AreFlagged self result.1.items }
+    {
+        (self.versions, self.firsts)
+    }
+}

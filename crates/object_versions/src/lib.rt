@@ -1,0 +1,22 @@
+//! The past of each object: its versions with their makers, cut into incarnations, and the removals that ended these.
+#![tactic(auto)]
+
+mod bodies;
+mod grown;
+mod hiding;
+mod maker;
+mod making;
+mod owner;
+mod removal;
+mod removals;
+mod removed;
+mod versions;
+
+pub use bodies::Bodies;
+pub use hiding::{clouds_of, slots_of};
+pub use maker::Judged;
+pub use making::{Making, finding_fault, making_fault};
+pub use removal::range_behind;
+pub use removals::removals_of;
+pub use removed::{Removed, first_removals};
+pub use versions::{Log, Written, write_versions};

@@ -1,0 +1,155 @@
+ghost use Rattle.std.specs.Prelude.{◌≡◌, ◌↔◌, ◌||◌, IfOk, IsTrue, is_some, option_map};
+ghost use Rattle.history_model.specs.Histories.{History};
+ghost use Rattle.history_model.specs.Making.{IsUsedUid, IsLeastFault};
+ghost use Rattle.write_groups.specs.Modelled.{HasTimes};
+ghost use Rattle.object_versions.specs.Faults.{are_met, meets, is_other, node_of, clear_code, IsOutside, IsLeastFoundFault};
+ghost use Rattle.object_past.specs.Modelled.{version_of};
+ghost use Rattle.object_versions.specs.Modelled.{making_of};
+ghost use Rattle.object_versions.specs.Surrounded.{IsJudgedBy};
+
+use crate::bodies::Bodies;
+use object_past::Version;
+use base_types::{OutOfMemory, Reason, Revision, Text};
+use clouds::Clouds;
+use node_pool::NodeId;
+use std::alloc::Global;
+use time_windows::Windows;
+use write_groups::{Item, LogEvent, Preconditions, highest, lowest};
+
+/// A write, and the object that it was answered with.
+#[derive(Clone, Copy)]
+pub struct Making<'a> {
+    pub number: u32,
+    pub event: &'a LogEvent,
+    pub item: &'a Item,
+    /// Whether the answer was `201 Created`.
+    pub created: bool,
+}
+
+// Whether an object of this revision and uid meets the preconditions.
+fn are_met(asked: &Preconditions, revision: Revision, uid: &Text) -> bool
+    ensures { result ≡ are_met asked.now revision uid.now }
+{
+    let by_revision = match asked.revision {
+        Some(wanted) => wanted == revision,
+        None => true,
+    };
+    let by_uid = match &asked.uid {
+        Some(wanted) => *wanted == *uid,
+        None => true,
+    };
+    by_revision && by_uid
+}
+
+// Whether the object meets the preconditions; no object meets those that ask for nothing.
+fn meets(asked: &Preconditions, before: Option<&Version>) -> bool
+    ensures { result ≡ meets asked.now (option_map (λ v. v.now) before.entry) }
+{
+    match before {
+        Some(version) => are_met(asked, version.revision, &version.uid),
+        None => asked.revision.is_none() && asked.uid.is_none(),
+    }
+}
+
+// Whether the object before the write is another one than the write was answered with, or none.
+fn is_other(item: &Item, before: Option<&Version>) -> bool
+    ensures { result ≡ is_other item.now (option_map (λ v. v.now) before.entry) }
+{
+    match before {
+        Some(version) => version.uid != item.uid,
+        None => true,
+    }
+}
+
+fn node_of(before: Option<&Version>) -> Option<NodeId>
+    ensures { option_map (λ node. node.0) result ≡ node_of (option_map (λ v. v.now) before.entry) }
+{
+    Some(before?.node)
+}
+
+// Whether the write can't have made its revision between its moments.
+fn is_out_of_reach(windows: &Windows, making: Making<'_>) -> bool
+    ensures { (h : History) → HasTimes windows.now h → IsTrue result ↔ IsOutside h (making_of making.entry) }
+{
+    let revision = making.item.revision.get();
+    revision <= lowest(windows, making.event.lo) || highest(windows, making.event.hi) < revision
+}
+
+// Why a write could not have made its revision from the object before it, where its key isn't clouded; `is_used` tells
+// whether an earlier version has the uid.
+fn clear_fault<B: Bodies>(
+    alloc: Global,
+    bodies: &B,
+    making: Making<'_>,
+    is_used: bool,
+    before: Option<&Version>,
+) -> Result<Option<Reason>, OutOfMemory>
+    ensures { IfOk result (λ found. found ≡ clear_code (B.body bodies.now) making.entry.number making.entry.event.now making.entry.item.now making.entry.created is_used
+        (option_map (λ v. v.now) before.entry)) }
+{
+    if making.created {
+        if before.is_some() {
+            return Ok(Some(Reason::U4));
+        }
+        if is_used {
+            return Ok(Some(Reason::U5));
+        }
+    } else if is_other(making.item, before) {
+        return Ok(Some(Reason::U6));
+    }
+    if !meets(&making.event.preconditions, before) {
+        return Ok(Some(Reason::U7));
+    }
+    if !bodies.is_right(alloc, making.number, node_of(before))? {
+        return Ok(Some(Reason::U8));
+    }
+    Ok(None)
+}
+
+/// The least fault by which a write could not have made its revision, `before` being the object that was there before
+/// it; None where it could. `is_used` tells whether an earlier version has the uid.
+pub fn making_fault<B: Bodies>(
+    alloc: Global,
+    windows: &Windows,
+    clouds: &Clouds,
+    bodies: &B,
+    making: Making<'_>,
+    is_used: bool,
+    before: Option<&Version>,
+) -> Result<Option<Reason>, OutOfMemory>
+    ensures { IfOk result (λ found. (h : History) → HasTimes windows.now h → IsJudgedBy clouds.now (B.body bodies.now) h
+        → (IsTrue is_used ↔ IsUsedUid h (making_of making.entry))
+        → IsLeastFault h (making_of making.entry) (option_map (λ v. version_of v.now) before.entry) found) }
+{
+    if is_out_of_reach(windows, making) {
+        return Ok(Some(Reason::U3));
+    }
+    if clouds.clouded(&making.item.key, making.item.revision.get() - 1) {
+        if making.created && is_used {
+            return Ok(Some(Reason::U5));
+        }
+        return Ok(None);
+    }
+    clear_fault(alloc, bodies, making, is_used, before)
+}
+
+/// The least fault by which a write could not have found its answer and left it as it was; None where it could.
+pub fn finding_fault<B: Bodies>(
+    alloc: Global,
+    bodies: &B,
+    making: Making<'_>,
+) -> Result<Option<Reason>, OutOfMemory>
+    ensures { IfOk result (λ found. (h : History) → h.body ≡ B.body bodies.now → IsLeastFoundFault h (making_of making.entry) found) }
+{
+    if making.created {
+        return Ok(Some(Reason::U4));
+    }
+    let item = making.item;
+    if !are_met(&making.event.preconditions, item.revision, &item.uid) {
+        return Ok(Some(Reason::U7));
+    }
+    if !bodies.is_right(alloc, making.number, Some(item.node))? {
+        return Ok(Some(Reason::U8));
+    }
+    Ok(None)
+}

@@ -1,0 +1,98 @@
+ghost use Rattle.std.specs.Prelude.{◌≡◌, ◌<◌, IfOk, AllPairs, map, option_map};
+ghost use Rattle.std.specs.List.Sorted.{IsPermutation};
+ghost use Rattle.history_model.specs.Histories.{History};
+ghost use Rattle.history_model.specs.Incarnations.{AreRemovals};
+ghost use Rattle.object_past.specs.Modelled.{recorded};
+ghost use Rattle.object_versions.specs.Ended.{AreFound, IsFoundAfter};
+ghost use Rattle.object_versions.specs.Growing.{AreFlagged};
+ghost use Rattle.object_past.specs.Modelled.{version_of};
+ghost use Rattle.object_versions.specs.Surrounded.{HasLog};
+
+use crate::removal::range_behind;
+use object_past::{Removal, Removals, Version};
+use crate::versions::Log;
+use base_types::{ObjectKey, OutOfMemory};
+use std::alloc::Global;
+use std::collections::BTreeMap;
+
+// The removal behind a version, where the version is the last of its incarnation; `after` is the key's next version.
+fn removal_after(
+    log: Log<'_>,
+    version: &Version,
+    is_first: bool,
+    after: Option<&Version>,
+) -> Result<Option<Removal>, OutOfMemory>
+    ensures { IfOk result (IsFoundAfter log.entry.windows.now log.entry.events.now log.entry.removed.now version.now is_first (option_map (λ v. v.now) after.entry)) }
+{
+    let next = match after {
+        Some(after) => {
+            if after.uid == version.uid {
+                return Ok(None);
+            }
+            Some(after.revision)
+        }
+        None => None,
+    };
+    let found = range_behind(
+        log.windows,
+        log.events,
+        log.removed,
+        version,
+        is_first,
+        next,
+    );
+    let Some(range) = found else {
+        return Ok(None);
+    };
+    Ok(Some(Removal {
+        key: version.key.clone()?,
+        uid: version.uid.clone()?,
+        last: version.revision,
+        range,
+    }))
+}
+
+// The removals of all versions, from the latest version on.
+fn find_removals(
+    alloc: Global,
+    log: Log<'_>,
+    versions: &[Version],
+    firsts: &[bool],
+) -> Result<Vec<Removal>, OutOfMemory>
+    requires rising { AllPairs (λ a b. a.revision < b.revision) versions.now }
+    requires firsts { AreFlagged versions.now firsts.now }
+    ensures { IfOk result (λ removals. (h : History) → HasLog log.entry.windows.now log.entry.events.now log.entry.removed.now h
+        → h.versions ≡ map version_of versions.now → AreFound h removals.items) }
+{
+    let mut next: BTreeMap<ObjectKey, usize> = BTreeMap::new(alloc);
+    let mut removals = Vec::new(alloc);
+    for i in (0..versions.len()).rev() {
+        let version = &versions[i];
+        let after = match next.insert(version.key.clone()?, i)? {
+            Some(position) => versions.get(position),
+            None => None,
+        };
+        if let Some(removal) = removal_after(log, version, firsts[i], after)? {
+            removals.push(removal)?;
+        }
+    }
+    Ok(removals)
+}
+
+/// The removals of a log, whose versions rise by revision; `firsts` tells of each version whether its incarnation is
+/// the first of its key with its uid.
+pub fn removals_of(
+    alloc: Global,
+    log: Log<'_>,
+    versions: &[Version],
+    firsts: &[bool],
+) -> Result<Removals, OutOfMemory>
+    requires rising { AllPairs (λ a b. a.revision < b.revision) versions.now }
+    requires firsts { AreFlagged versions.now firsts.now }
+    ensures { IfOk result (λ removals. (h : History) → HasLog log.entry.windows.now log.entry.events.now log.entry.removed.now h
+        → h.versions ≡ map version_of versions.now → h.removals ≡ map recorded removals → AreRemovals h) }
+{
+    let mut removals = find_removals(alloc, log, versions, firsts)?;
+    removals.sort_by_key(|removal| removal.range.event)?;
+    Ok(Removals::from_vec(removals))
+}

@@ -1,0 +1,238 @@
+ghost use Rattle.std.specs.Prelude.{◌≡◌, ◌≢◌, ◌<◌, ℕ, List, IfOk, All, AllPairs, map, option_map};
+ghost use Rattle.std.specs.List.Sorted.{IsPermutation};
+ghost use Rattle.history_model.specs.Histories.{History};
+ghost use Rattle.history_model.specs.Makers.{AreVersions};
+ghost use Rattle.history_model.specs.Making.{IsEntryBefore};
+ghost use Rattle.write_groups.specs.Members.{AreGroupsOf};
+ghost use Rattle.write_groups.specs.Modelled.{item_of};
+ghost use Rattle.object_versions.specs.Growing.{AreFlagged, IsLatestIn};
+ghost use Rattle.object_versions.specs.Hidden.{slots_of};
+ghost use Rattle.object_past.specs.Modelled.{version_of};
+ghost use Rattle.object_versions.specs.Modelled.{making_of};
+ghost use Rattle.object_versions.specs.Surrounded.{HasLog};
+ghost use Rattle.object_past.specs.declared.version.Version.{Version};
+ghost use Rattle.object_versions.specs.Written.{making_at, snapshot_version, IsOfLog, Extends, IsAnsweredAt, IsJudgement, AreJudged, AreAllJudged, AreSlots, IsOfGroup, IsSnapshot, IsVersionIn, AreWrites};
+
+use crate::bodies::Bodies;
+use crate::grown::{Grown, Latest};
+use crate::maker::{Judged, maker_among};
+use crate::making::{Making, finding_fault, making_fault};
+use crate::removal::range_behind;
+use crate::removed::Removed;
+use object_past::{Maker, Version, Versions};
+use base_types::{OutOfMemory, Revision};
+use clouds::Clouds;
+use std::alloc::Global;
+use time_windows::Windows;
+use write_groups::{Group, Item, LogEvent, Shown};
+
+/// What of a log its versions are judged by.
+#[derive(Clone, Copy)]
+pub struct Log<'a> {
+    pub windows: &'a Windows,
+    pub clouds: &'a Clouds,
+    pub events: &'a [LogEvent],
+    pub removed: &'a Removed,
+}
+
+// The write of this number.
+fn making_at(events: &[LogEvent], number: u32) -> Option<Making<'_>>
+    ensures { option_map making_of result ≡ making_at events.now number }
+{
+    let event = events.get(number as usize)?;
+    match &event.answer {
+        Shown::Made { item, created } => Some(Making {
+            number,
+            event,
+            item,
+            created: *created,
+        }),
+        _ => None,
+    }
+}
+
+// The object before a write: its key's latest version, but none where that was removed before a creation of another
+// uid.
+fn entry_before<'a>(
+    log: Log<'_>,
+    latest: Option<Latest<'a>>,
+    making: Making<'_>,
+) -> Option<&'a Version>
+    ensures { (h : History) (done : List Version) → HasLog log.entry.windows.now log.entry.events.now log.entry.removed.now h → Extends h done making.entry.item.now.revision
+        → IsLatestIn done making.entry.item.now.key latest.entry → IsEntryBefore h (making_of making.entry) (option_map (λ v. version_of v.now) result) }
+{
+    let latest = latest?;
+    if making.created
+        && latest.version.uid != making.item.uid
+        && range_behind(
+            log.windows,
+            log.events,
+            log.removed,
+            latest.version,
+            latest.is_first,
+            Some(making.item.revision),
+        )
+        .is_some()
+    {
+        return None;
+    }
+    Some(latest.version)
+}
+
+// Why a write could not have made its revision behind these versions, and why it could not have found it.
+fn judge<B: Bodies>(
+    alloc: Global,
+    log: Log<'_>,
+    bodies: &B,
+    grown: &Grown,
+    making: Making<'_>,
+) -> Result<Judged, OutOfMemory>
+    ensures number { IfOk result (λ judged. judged.number ≡ making.entry.number) }
+    ensures judged { IfOk result (λ judged. (h : History) → IsOfLog log.entry (B.body bodies.now) h → Extends h grown.now making.entry.item.now.revision
+        → IsJudgement h (making_of making.entry) judged) }
+{
+    let item = making.item;
+    let before = entry_before(log, grown.latest(&item.key), making);
+    let is_used = grown.is_used(&item.uid);
+    Ok(Judged {
+        number: making.number,
+        making: making_fault(
+            alloc,
+            log.windows,
+            log.clouds,
+            bodies,
+            making,
+            is_used,
+            before,
+        )?,
+        finding: finding_fault(alloc, bodies, making)?,
+    })
+}
+
+fn judge_each<B: Bodies>(
+    alloc: Global,
+    log: Log<'_>,
+    bodies: &B,
+    grown: &Grown,
+    members: &[u32],
+) -> Result<Vec<Judged>, OutOfMemory>
+    ensures { IfOk result (λ judged. (h : History) (revision : ℕ) → IsOfLog log.entry (B.body bodies.now) h → Extends h grown.now revision
+        → All (IsAnsweredAt log.entry.events.now revision) members.now → AreJudged h log.entry.events.now members.now judged.items) }
+{
+    let mut judged = Vec::with_capacity(alloc, members.len())?;
+    for number in members {
+        if let Some(making) = making_at(log.events, *number) {
+            judged.push(judge(alloc, log, bodies, grown, making)?)?;
+        }
+    }
+    Ok(judged)
+}
+
+// The version that a group's writes left behind the others.
+fn version_in(
+    log: Log<'_>,
+    group: &Group,
+    judged: &[Judged],
+) -> Result<Option<Version>, OutOfMemory>
+    ensures { IfOk result (λ version. (h : History) → IsOfGroup log.entry group.now judged.now h → IsVersionIn h group.now version) }
+{
+    let Some(first) = judged.first() else {
+        return Ok(None);
+    };
+    let may_be_unrecorded = log.clouds.may_make(&group.key, group.revision);
+    let maker = maker_among(judged, first.number, may_be_unrecorded);
+    let shown = match maker {
+        Maker::Event(number) => number,
+        _ => first.number,
+    };
+    let Some(making) = making_at(log.events, shown) else {
+        return Ok(None);
+    };
+    Ok(Some(Version {
+        key: group.key.clone()?,
+        revision: group.revision,
+        uid: making.item.uid.clone()?,
+        node: making.item.node,
+        maker,
+    }))
+}
+
+fn snapshot_version(item: &Item) -> Result<Version, OutOfMemory>
+    ensures { IfOk result (λ version. version ≡ snapshot_version item.now) }
+{
+    Ok(Version {
+        key: item.key.clone()?,
+        revision: item.revision,
+        uid: item.uid.clone()?,
+        node: item.node,
+        maker: Maker::Snapshot,
+    })
+}
+
+fn by_revision(alloc: Global, snapshot: &[Item]) -> Result<Vec<&Item>, OutOfMemory>
+    requires { AllPairs (λ a b. a.revision ≢ b.revision) snapshot.now }
+    ensures same { IfOk result (λ order. IsPermutation snapshot.now (map (λ item. item.now) order.items)) }
+    ensures rising { IfOk result (λ order. AllPairs (λ a b. a.now.revision < b.now.revision) order.items) }
+{
+    let mut order: Vec<&Item> = snapshot.iter().collect(alloc)?;
+    order.sort_by_key(|item| item.revision.get())?;
+    Ok(order)
+}
+
+// The versions that were there at the start.
+fn begin(alloc: Global, order: &[&Item]) -> Result<Grown, OutOfMemory>
+    requires { AllPairs (λ a b. a.now.revision < b.now.revision) order.now }
+    ensures { IfOk result (λ grown. grown ≡ map (λ item. snapshot_version item.now) order.now) }
+{
+    let mut grown = Grown::new(alloc);
+    for item in order {
+        grown = grown.with(snapshot_version(item)?)?;
+    }
+    Ok(grown)
+}
+
+/// The versions of a log, of each whether its incarnation is the first of its key with its uid, and of each write of a
+/// group why it could not have made its revision or found it.
+#[derive(Drop)]
+pub struct Written {
+    pub versions: Versions,
+    pub firsts: Vec<bool>,
+    pub judged: Vec<Judged>,
+}
+
+/// The versions of all objects by revision: those of the snapshot, and one for each group.
+pub fn write_versions<B: Bodies>(
+    alloc: Global,
+    log: Log<'_>,
+    bodies: &B,
+    start: Revision,
+    snapshot: &[Item],
+    groups: &[Group],
+) -> Result<Written, OutOfMemory>
+    requires snapshot { IsSnapshot start snapshot.now }
+    requires rising { AllPairs (λ a b. a.revision < b.revision) groups.now }
+    requires above { All (λ group. start < group.revision) groups.now }
+    requires members { All (λ group. AreWrites log.entry.events.now group.members) groups.now }
+    ensures slots { IfOk result (λ written. AreSlots (slots_of snapshot.now groups.now) written.versions) }
+    ensures versions { IfOk result (λ written. (h : History) → IsOfLog log.entry (B.body bodies.now) h → AreGroupsOf h groups.now → h.start ≡ start
+        → h.snapshot ≡ map item_of snapshot.now → h.versions ≡ map version_of written.versions → AreVersions h) }
+    ensures firsts { IfOk result (λ written. AreFlagged written.versions written.firsts.items) }
+    ensures judged { IfOk result (λ written. (h : History) → IsOfLog log.entry (B.body bodies.now) h → AreGroupsOf h groups.now → h.start ≡ start
+        → h.versions ≡ map version_of written.versions → AreAllJudged h log.entry.events.now groups.now written.judged.items) }
+{
+    let mut grown = begin(alloc, &by_revision(alloc, snapshot)?)?;
+    let mut judged = Vec::new(alloc);
+    for group in groups {
+        let mut members = judge_each(alloc, log, bodies, &grown, group.members.as_slice())?;
+        if let Some(version) = version_in(log, group, &members)? {
+            grown = grown.with(version)?;
+        }
+        judged.append(&mut members)?;
+    }
+    let (versions, firsts) = grown.into_parts();
+    Ok(Written {
+        versions,
+        firsts,
+        judged,
+    })
+}
