@@ -1,5 +1,5 @@
 -- From the first places of the ways to those of the decisions.
-use Rattle.std.proofs.Common.{◌≡◌, ℕ, ◌<◌, ◌≤◌, ◌⊎◌, ⊎_elim, inl, inr, Option, Some, None, arith}
+use Rattle.std.proofs.Common.{ℕ, ◌<◌, ◌≤◌, ⊎_elim, inl, inr, Option, Some, None, arith}
 use Rattle.std.specs.Option.{IfNone, IfSome}
 use Rattle.std.proofs.lemmas.Bool.{cases_lt}
 use Rattle.base_types.specs.declared.placed.Places.{Places}
@@ -10,12 +10,11 @@ use Rattle.base_types.specs.declared.request.User.{User}
 use Rattle.rbac_timeline.specs.declared.way.Way.{Way}
 use Rattle.rbac_timeline.specs.declared.way.Way.TheVariants.{ClusterBindings, ClusterRoles, Roles}
 use Rattle.rbac_timeline.specs.Choices.{IsBypassed}
-use Rattle.rbac_timeline.specs.Decisions.{AreLeastPlaces, AreWithin, ComesFirst, IsDecidedAt, IsPossible, IsUpTo}
+use Rattle.rbac_timeline.specs.Decisions.{AreLeastPlaces, ComesFirst, IsDecidedAt, IsPossible}
 use Rattle.rbac_timeline.specs.Known.{Known}
-use Rattle.rbac_timeline.specs.Searched.{AreFirstOf, AreLeastOf, IsFreeAt, MayGrantAt, MayGrantBy, all_at}
+use Rattle.rbac_timeline.specs.Searched.{AreFirstOf, IsFreeAt, MayGrantAt, all_at}
 use Rattle.rbac_timeline.specs.Sound.{AreSound}
-use Rattle.rbac_timeline.proofs.Choosing.{MayAllow, MustAllow, allow_from_may, forbid_from_not_must, may_from_allow, not_must_from_forbid}
-use Rattle.rbac_timeline.proofs.Judging.{allow_bypassed, not_forbid_bypassed}
+use Rattle.rbac_timeline.proofs.Choosing.{allow_from_may, forbid_from_not_must, may_from_allow, not_must_from_forbid}
 use Rattle.rbac_timeline.proofs.Ways.{MayInWay, MustInWay, may_from_way, must_from_way, way_from_may, way_from_must}
 
 pub AreFirstOf-same : (P Q : Places → Type 0) (low high : ℕ) (places : Option Places) → ((p : Places) → P p → Q p) → ((p : Places) → Q p → P p) → AreFirstOf P low high places → AreFirstOf Q low high places

@@ -1,6 +1,6 @@
 -- A decision is possible by a choice exactly where the states that grant most, or least, make it so.
-use Rattle.std.proofs.Common.{◌≡◌, ℕ, ◌<◌, ◌≤◌, ◌⊎◌, ⊎_elim, inl, inr, Bool, true, false, ltb, Option, Some, None, List, [], refl, sym, ◌∙◌, subst, ap, arith}
-use Rattle.std.specs.List.{Any, Contains, slice_get}
+use Rattle.std.proofs.Common.{◌≡◌, ℕ, ◌<◌, Bool, true, false, ltb, Option, Some, None, refl, sym, ◌∙◌, subst, ap}
+use Rattle.std.specs.List.{Any, slice_get}
 use Rattle.std.proofs.lemmas.Bool.{false≢true, lt-ltb, ltb-true}
 use Rattle.base_types.specs.declared.key.ObjectKey.{ObjectKey}
 use Rattle.base_types.specs.declared.placed.Places.{Places}
@@ -9,40 +9,25 @@ use Rattle.base_types.specs.declared.request.RequestAttrs.{RequestAttrs}
 use Rattle.base_types.specs.declared.request.User.{User}
 use Rattle.clouds.specs.declared.span.OpaqueSpan.{OpaqueSpan}
 use Rattle.rbac_rules.specs.declared.binding.Binding.{Binding}
-use Rattle.rbac_rules.specs.declared.role.PolicyRule.{PolicyRule}
 use Rattle.rbac_rules.specs.Granting.{Grants}
 use Rattle.rbac_rules.specs.Matching.{Matches}
 use Rattle.rbac_timeline.specs.declared.kind.Kind.{Kind}
 use Rattle.rbac_timeline.specs.declared.kind.Kind.TheVariants.{Role, ClusterRole, RoleBinding, ClusterRoleBinding}
-use Rattle.rbac_timeline.specs.Choices.{Allows, BindingGrants, Choice, IsBypassed, IsChoice, IsKnownKey, RoleGrants, by_binding, by_group, by_nameless}
+use Rattle.rbac_timeline.specs.Choices.{Allows, Choice, IsBypassed, IsChoice, IsKnownKey, by_binding, by_group, by_nameless}
+use Rattle.rbac_timeline.specs.Deciding.{cache_place}
 use Rattle.rbac_timeline.specs.Decisions.{IsPossible}
-use Rattle.rbac_timeline.specs.Kinds.{IsBindingOf, IsKeyOf, IsReached, IsReachedBy, IsReachedNameless, everywhere, in_namespace, kind_of, kind_of_key, role_key}
+use Rattle.rbac_timeline.specs.Kinds.{IsBindingOf, IsReached, IsReachedBy, IsReachedNameless, everywhere, in_namespace, kind_of, kind_of_key, role_key}
 use Rattle.rbac_timeline.specs.Known.{Known}
 use Rattle.rbac_timeline.specs.Sound.{AreSound}
-use Rattle.rbac_timeline.specs.States.{By, Everything, IsBindingState, IsGranted, IsRoleState, IsState, Nothing, Reading, ReadsRules, State}
+use Rattle.rbac_timeline.specs.States.{By, Everything, IsBindingState, IsGranted, IsRoleState, Nothing, ReadsRules, State}
 use Rattle.rbac_timeline.proofs.Extremes.{Greatest, Least, greatest_state, least_state, read_binding, read_rules}
 use Rattle.rbac_timeline.specs.Extents.{MayGrant, MustGrant}
 
--- the place of the cache that holds roles, and bindings, of a kind
-abbrev pub role_place : Option Kind → Places → ℕ
-role_place None places = places.cluster_roles
-role_place (Some Role) places = places.roles
-role_place (Some ClusterRole) places = places.cluster_roles
-role_place (Some RoleBinding) places = places.cluster_roles
-role_place (Some ClusterRoleBinding) places = places.cluster_roles
-
-abbrev pub binding_place : Option Kind → Places → ℕ
-binding_place None places = places.cluster_bindings
-binding_place (Some Role) places = places.cluster_bindings
-binding_place (Some ClusterRole) places = places.cluster_bindings
-binding_place (Some RoleBinding) places = places.bindings
-binding_place (Some ClusterRoleBinding) places = places.cluster_bindings
-
 abbrev pub place_of_role : Places → ObjectKey → ℕ
-place_of_role places key = role_place (kind_of_key key) places
+place_of_role places key = cache_place (kind_of_key key) places
 
 abbrev pub place_of_binding : Places → ObjectKey → ℕ
-place_of_binding places key = binding_place (kind_of_key key) places
+place_of_binding places key = cache_place (kind_of_key key) places
 
 pub IsGranted-weaker : {X : Type 0} (P Q : X → Type 0) (state : State X) → ((x : X) → P x → Q x) → IsGranted P state → IsGranted Q state
 IsGranted-weaker P Q Nothing weaker granted = granted
@@ -64,7 +49,7 @@ pub data MayAllow (known : Known) (places : Places) (who : User) (attrs : Reques
   may_by_binding : (key : ObjectKey) → IsKnownKey known key → IsReached key attrs
       → MayGrant (IsBindingOf key) known key (place_of_binding places key) (MayGrantBy known places key who attrs) → MayAllow known places who attrs
   may_by_nameless : (number : ℕ) (span : OpaqueSpan) → slice_get known.spans number ≡ Some span → IsReachedNameless span.cover attrs
-      → span.low < binding_place (kind_of span.cover.group span.cover.resource) places → MayAllow known places who attrs
+      → span.low < cache_place (kind_of span.cover.group span.cover.resource) places → MayAllow known places who attrs
 
 pub data MustAllow (known : Known) (places : Places) (who : User) (attrs : RequestAttrs) : Type 0 where
   must_by_group : IsBypassed known who → MustAllow known places who attrs
@@ -84,7 +69,7 @@ role_possible : (key : ObjectKey) (binding : Binding) (known : Known) (places : 
 role_possible key binding known places choice chosen = role_by binding.role_is_cluster key binding refl known places choice chosen
 
 binding_by : (kind : Option Kind) (key : ObjectKey) (attrs : RequestAttrs) → kind_of_key key ≡ kind → IsReachedBy kind key attrs → (known : Known) (places : Places) (choice : Choice)
-    → IsChoice known places choice → IsBindingState known key (binding_place kind places) (choice.binding key)
+    → IsChoice known places choice → IsBindingState known key (cache_place kind places) (choice.binding key)
 binding_by None key attrs is reached known places choice chosen = absurd reached
 binding_by (Some Role) key attrs is reached known places choice chosen = absurd reached
 binding_by (Some ClusterRole) key attrs is reached known places choice chosen = absurd reached
@@ -97,11 +82,11 @@ binding_possible key attrs reached known places choice chosen = binding_by (kind
 
 -- a choice that allows shows that the greatest states do
 nameless_begun : (known : Known) (places : Places) (attrs : RequestAttrs) (choice : Choice) → IsChoice known places choice → (number : ℕ) (span : OpaqueSpan) → slice_get known.spans number ≡ Some span
-    → IsReachedNameless span.cover attrs → choice.nameless number ≡ true → span.low < binding_place (kind_of span.cover.group span.cover.resource) places
+    → IsReachedNameless span.cover attrs → choice.nameless number ≡ true → span.low < cache_place (kind_of span.cover.group span.cover.resource) places
 nameless_begun known places attrs choice chosen number span found (everywhere create) granted =
-    subst (λ k. span.low < binding_place k places) (sym create.of_kind) (chosen.of_cluster_nameless number span found create granted)
+    subst (λ k. span.low < cache_place k places) (sym create.of_kind) (chosen.of_cluster_nameless number span found create granted)
 nameless_begun known places attrs choice chosen number span found (in_namespace create resource namespace) granted =
-    subst (λ k. span.low < binding_place k places) (sym create.of_kind) (chosen.of_nameless number span found create granted)
+    subst (λ k. span.low < cache_place k places) (sym create.of_kind) (chosen.of_nameless number span found create granted)
 
 pub may_from_choice : (known : Known) (places : Places) (who : User) (attrs : RequestAttrs) (choice : Choice) → IsChoice known places choice → Allows known choice who attrs → MayAllow known places who attrs
 may_from_choice known places who attrs choice chosen (by_group bypassed) = may_by_group bypassed
@@ -141,40 +126,40 @@ module _ (known : Known) (sound : AreSound known.versions known.ends) (places : 
 
   begun_test : Option OpaqueSpan → Bool
   begun_test None = false
-  begun_test (Some span) = ltb span.low (binding_place (kind_of span.cover.group span.cover.resource) places)
+  begun_test (Some span) = ltb span.low (cache_place (kind_of span.cover.group span.cover.resource) places)
 
   abbrev greatest_choice : Choice
   greatest_choice = record { role = λ key. (greatest_role key).state; binding = λ key. (greatest_binding key).state; nameless = λ number. begun_test (slice_get known.spans number) }
 
   least_is_choice : IsChoice known places least_choice
   least_is_choice = record {
-    of_roles = λ key kind. subst (λ k. IsRoleState known key (role_place k places) (least_role key).state) kind (least_role key).possible;
-    of_cluster_roles = λ key kind. subst (λ k. IsRoleState known key (role_place k places) (least_role key).state) kind (least_role key).possible;
-    of_bindings = λ key kind. subst (λ k. IsBindingState known key (binding_place k places) (least_binding key).state) kind (least_binding key).possible;
-    of_cluster_bindings = λ key kind. subst (λ k. IsBindingState known key (binding_place k places) (least_binding key).state) kind (least_binding key).possible;
+    of_roles = λ key kind. subst (λ k. IsRoleState known key (cache_place k places) (least_role key).state) kind (least_role key).possible;
+    of_cluster_roles = λ key kind. subst (λ k. IsRoleState known key (cache_place k places) (least_role key).state) kind (least_role key).possible;
+    of_bindings = λ key kind. subst (λ k. IsBindingState known key (cache_place k places) (least_binding key).state) kind (least_binding key).possible;
+    of_cluster_bindings = λ key kind. subst (λ k. IsBindingState known key (cache_place k places) (least_binding key).state) kind (least_binding key).possible;
     of_nameless = λ number span found create granted. absurd (false≢true granted);
     of_cluster_nameless = λ number span found create granted. absurd (false≢true granted);
   }
 
   begun_from_test : (number : ℕ) (span : OpaqueSpan) (kind : Kind) → slice_get known.spans number ≡ Some span → kind_of span.cover.group span.cover.resource ≡ Some kind
-      → begun_test (slice_get known.spans number) ≡ true → span.low < binding_place (Some kind) places
+      → begun_test (slice_get known.spans number) ≡ true → span.low < cache_place (Some kind) places
   unfolding begun_test
   begun_from_test number span kind found is granted =
-      let test : ltb span.low (binding_place (kind_of span.cover.group span.cover.resource) places) ≡ true = ap begun_test (sym found) ∙ granted in
-      subst (λ k. span.low < binding_place k places) is (ltb-true span.low (binding_place (kind_of span.cover.group span.cover.resource) places) test)
+      let test : ltb span.low (cache_place (kind_of span.cover.group span.cover.resource) places) ≡ true = ap begun_test (sym found) ∙ granted in
+      subst (λ k. span.low < cache_place k places) is (ltb-true span.low (cache_place (kind_of span.cover.group span.cover.resource) places) test)
 
-  test_from_begun : (number : ℕ) (span : OpaqueSpan) → slice_get known.spans number ≡ Some span → span.low < binding_place (kind_of span.cover.group span.cover.resource) places
+  test_from_begun : (number : ℕ) (span : OpaqueSpan) → slice_get known.spans number ≡ Some span → span.low < cache_place (kind_of span.cover.group span.cover.resource) places
       → begun_test (slice_get known.spans number) ≡ true
   unfolding begun_test
   test_from_begun number span found begun =
-      ap begun_test found ∙ lt-ltb span.low (binding_place (kind_of span.cover.group span.cover.resource) places) begun
+      ap begun_test found ∙ lt-ltb span.low (cache_place (kind_of span.cover.group span.cover.resource) places) begun
 
   greatest_is_choice : IsChoice known places greatest_choice
   greatest_is_choice = record {
-    of_roles = λ key kind. subst (λ k. IsRoleState known key (role_place k places) (greatest_role key).state) kind (greatest_role key).possible;
-    of_cluster_roles = λ key kind. subst (λ k. IsRoleState known key (role_place k places) (greatest_role key).state) kind (greatest_role key).possible;
-    of_bindings = λ key kind. subst (λ k. IsBindingState known key (binding_place k places) (greatest_binding key).state) kind (greatest_binding key).possible;
-    of_cluster_bindings = λ key kind. subst (λ k. IsBindingState known key (binding_place k places) (greatest_binding key).state) kind (greatest_binding key).possible;
+    of_roles = λ key kind. subst (λ k. IsRoleState known key (cache_place k places) (greatest_role key).state) kind (greatest_role key).possible;
+    of_cluster_roles = λ key kind. subst (λ k. IsRoleState known key (cache_place k places) (greatest_role key).state) kind (greatest_role key).possible;
+    of_bindings = λ key kind. subst (λ k. IsBindingState known key (cache_place k places) (greatest_binding key).state) kind (greatest_binding key).possible;
+    of_cluster_bindings = λ key kind. subst (λ k. IsBindingState known key (cache_place k places) (greatest_binding key).state) kind (greatest_binding key).possible;
     of_nameless = λ number span found create granted. begun_from_test number span RoleBinding found create.of_kind granted;
     of_cluster_nameless = λ number span found create granted. begun_from_test number span ClusterRoleBinding found create.of_kind granted;
   }

@@ -1,10 +1,9 @@
 -- Bindings of which nothing is known somewhere are among those that are looked at.
-use Rattle.std.proofs.Common.{◌≡◌, ℕ, ◌≤◌, ◌⊎◌, ⊎_elim, inl, inr, true, false, Bool, Option, Some, None, List, refl, sym, ◌∙◌, subst, ap}
-use Rattle.std.specs.List.{Any, Contains}
+use Rattle.std.proofs.Common.{◌≡◌, ℕ, ◌≤◌, ⊎_elim, inl, inr, true, false, Option, Some, None, refl, sym, subst, ap}
+use Rattle.std.specs.List.{Contains}
 use Rattle.std.proofs.lemmas.Bool.{cases_Bool}
 use Rattle.base_types.specs.declared.key.ObjectKey.{ObjectKey}
 use Rattle.base_types.specs.declared.request.RequestAttrs.{RequestAttrs}
-use Rattle.clouds.specs.Clouds.{IsClouded}
 use Rattle.rbac_rules.specs.declared.binding.Binding.{Binding}
 use Rattle.rbac_timeline.specs.declared.kind.Kind.{Kind}
 use Rattle.rbac_timeline.specs.declared.kind.Kind.TheVariants.{Role as RoleKind, ClusterRole, RoleBinding, ClusterRoleBinding}
@@ -20,7 +19,7 @@ use Rattle.rbac_timeline.specs.Kept.{IsKnownUnsure}
 use Rattle.rbac_timeline.specs.Kinds.{IsBindingOf, IsKeyOf, IsReached, IsReachedBy, can_bind, is_binding, is_readable, kind_of_key}
 use Rattle.rbac_timeline.specs.Known.{Known, writes_of}
 use Rattle.rbac_timeline.specs.States.{IsUnsure}
-use Rattle.rbac_timeline.specs.Unsure.{AreUnsure, GivesUnsure, IsCloudedSomewhere, MayBeUnsure, last_place, unsure_keys}
+use Rattle.rbac_timeline.specs.Unsure.{AreUnsure, IsCloudedSomewhere, last_place, unsure_keys}
 
 binding_from_way : (way : Way) (kind : Option Kind) → kind ≡ Some (bindings_in way) → is_binding kind ≡ true
 binding_from_way Roles kind is = ap is_binding is

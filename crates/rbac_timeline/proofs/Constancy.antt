@@ -1,6 +1,6 @@
 -- Between two changes of its kind an object keeps its possible states.
-use Rattle.std.proofs.Common.{◌≡◌, ℕ, zero, suc, ◌+◌, ◌<◌, ◌≤◌, ◌⊎◌, ⊎_elim, inl, inr, Option, Some, None, List, [], ◌∷◌, length, get_or, refl, sym, ◌∙◌, subst, ap, map, arith}
-use Rattle.std.specs.List.{Any, Contains, slice_get}
+use Rattle.std.proofs.Common.{◌≡◌, ℕ, zero, suc, ◌+◌, ◌<◌, ◌≤◌, ⊎_elim, inl, inr, Some, List, [], ◌∷◌, length, get_or, refl, sym, ◌∙◌, subst, ap, map, arith}
+use Rattle.std.specs.List.{Contains, slice_get}
 use Rattle.std.specs.Option.{unwrap_or}
 use Rattle.std.proofs.lemmas.Bool.{cases_lt}
 use Rattle.std.proofs.lemmas.Option.{slice_get-get_or, slice_get_within}
@@ -12,18 +12,14 @@ use Rattle.base_types.specs.declared.request.RequestAttrs.{RequestAttrs}
 use Rattle.base_types.specs.declared.request.User.{User}
 use Rattle.clouds.specs.Clouds.{IsClouded, IsHiddenBy}
 use Rattle.clouds.specs.declared.span.KeyRevision.{KeyRevision}
-use Rattle.clouds.specs.declared.span.OpaqueSpan.{OpaqueSpan}
-use Rattle.rbac_rules.specs.declared.binding.Binding.{Binding}
 use Rattle.rbac_timeline.specs.declared.kind.Kind.{Kind}
-use Rattle.rbac_timeline.specs.declared.version.RbacEnd.{RbacEnd}
 use Rattle.rbac_timeline.specs.declared.version.RbacVersion.{RbacVersion}
 use Rattle.rbac_timeline.specs.declared.way.Way.{Way}
-use Rattle.rbac_timeline.specs.Changing.{IsChange, begins, ends, hides, may_end}
-use Rattle.rbac_timeline.specs.Extents.{IsSubject, MayGrantByKey, MayGrantByRole, MayGrantInWay, MayGrantNameless, MustGrantByKey, MustGrantByRole, MustGrantInWay, bindings_in, by_create, by_key, roles_in}
-use Rattle.rbac_timeline.specs.Kinds.{IsBindingOf, IsKeyOf, kind_of, kind_of_key, role_key}
+use Rattle.rbac_timeline.specs.Changing.{IsChange, begins, hides, may_end}
+use Rattle.rbac_timeline.specs.Extents.{MayGrantByRole, MayGrantInWay, MustGrantByRole, MustGrantInWay, bindings_in, by_create, by_key, roles_in}
+use Rattle.rbac_timeline.specs.Kinds.{IsBindingOf, IsKeyOf, kind_of, role_key}
 use Rattle.rbac_timeline.specs.Known.{Known, key_revision, writes_of}
-use Rattle.rbac_timeline.specs.Sound.{AreSound, IsSoundEnd}
-use Rattle.rbac_timeline.specs.States.{By, Everything, IsEndOf, IsGranted, IsLatestVersion, IsState, IsUnsure, MayBeAbsent, MayBeThere, NoneUpto, Nothing, Reading, ReadsRules, State, gone, not_yet}
+use Rattle.rbac_timeline.specs.States.{By, Everything, IsLatestVersion, IsState, IsUnsure, MayBeAbsent, MayBeThere, Nothing, Reading, ReadsRules, State, gone, not_yet}
 use Rattle.rbac_timeline.proofs.Choosing.{IsGranted-weaker}
 
 -- what a number finds is one of the list

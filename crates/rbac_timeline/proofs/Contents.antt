@@ -1,6 +1,5 @@
 -- From what is stored of a version to what its object grants.
-use Rattle.std.proofs.Common.{◌≡◌, ℕ, ◌<◌, ◌≤◌, ◌⊎◌, ⊎_elim, inl, inr, Bool, true, false, ◌&&◌, ◌↔◌, Option, Some, None, List, [], refl, sym, ◌∙◌, subst, ap, cond, arith}
-use Rattle.std.specs.List.{Any}
+use Rattle.std.proofs.Common.{◌≡◌, ℕ, ◌<◌, ⊎_elim, Bool, true, false, ◌&&◌, ◌↔◌, Option, Some, None, List, [], refl, sym, ◌∙◌, subst, ap, cond, arith}
 use Rattle.std.proofs.lemmas.Bool.{and_from, and_parts}
 use Rattle.base_types.specs.declared.key.ObjectKey.{ObjectKey}
 use Rattle.base_types.specs.declared.request.RequestAttrs.{RequestAttrs}
@@ -16,7 +15,7 @@ use Rattle.rbac_timeline.specs.declared.version.RbacContent.{RbacContent}
 use Rattle.rbac_timeline.specs.declared.version.RbacContent.TheVariants.{Bound, Role, Unreadable}
 use Rattle.rbac_timeline.specs.declared.version.RbacVersion.{RbacVersion}
 use Rattle.rbac_timeline.specs.declared.way.Way.{Way}
-use Rattle.rbac_timeline.specs.Extents.{IsCertain, IsNotGone, IsSubject, MayGrant, MayGrantByKey, MayGrantByRole, MustGrant, MustGrantByKey, MustGrantByRole, roles_in}
+use Rattle.rbac_timeline.specs.Extents.{IsCertain, IsNotGone, IsSubject, MayGrantByKey, MayGrantByRole, MustGrant, MustGrantByKey, MustGrantByRole, roles_in}
 use Rattle.rbac_timeline.specs.Kept.{MayGrantByContent, MayGrantByRules, MustGrantByContent, MustGrantByRules, content_of}
 use Rattle.rbac_timeline.specs.Kinds.{IsBindingOf, IsKeyOf, is_cluster_binding, kind_of_key, role_key}
 use Rattle.rbac_timeline.specs.Known.{Known}

@@ -1,6 +1,6 @@
 -- The possible state of an object that grants least, and the one that grants most.
-use Rattle.std.proofs.Common.{◌≡◌, ℕ, ◌<◌, ◌≤◌, ◌⊎◌, ⊎_elim, inl, inr, Bool, true, false, Option, Some, None, List, [], length, get_or, refl, sym, ◌∙◌, subst, ap, arith}
-use Rattle.std.specs.List.{All, AllPairs, Any, Contains}
+use Rattle.std.proofs.Common.{◌≡◌, ℕ, ◌<◌, ◌≤◌, ◌⊎◌, ⊎_elim, inl, inr, false, Option, Some, None, List, [], get_or, refl, sym, ◌∙◌, subst, ap, arith}
+use Rattle.std.specs.List.{AllPairs, Contains}
 use Rattle.std.specs.declared.cmp.Ordering.{Ordering}
 use Rattle.std.specs.declared.cmp.Ordering.TheVariants.{Equal, Greater, Less}
 use Rattle.std.proofs.lemmas.Bool.{cases_Bool, cases_eq, cases_lt, cases_order}
@@ -19,11 +19,11 @@ use Rattle.rbac_timeline.specs.declared.version.RbacContent.TheVariants.{Bound, 
 use Rattle.rbac_timeline.specs.declared.version.RbacEnd.{RbacEnd}
 use Rattle.rbac_timeline.specs.declared.version.RbacVersion.{RbacVersion}
 use Rattle.rbac_timeline.specs.Index.{key_order}
-use Rattle.rbac_timeline.specs.Kinds.{IsBindingOf, IsKeyOf, kind_of_key}
+use Rattle.rbac_timeline.specs.Kinds.{IsBindingOf, kind_of_key}
 use Rattle.rbac_timeline.specs.Known.{Known, writes_of}
 use Rattle.rbac_timeline.specs.Sound.{AreSound, IsBefore, IsSoundEnd}
-use Rattle.rbac_timeline.specs.States.{By, Everything, IsEndOf, IsGranted, IsLatestVersion, IsState, MayBeAbsent, MayBeThere, NoneUpto, Nothing, Reading, ReadsRules, State, gone, not_yet}
-use Rattle.rbac_timeline.proofs.Deciding.{Decided, decide_any, decide_clouded, decide_key, latest_or_none}
+use Rattle.rbac_timeline.specs.States.{By, Everything, IsEndOf, IsGranted, IsLatestVersion, IsState, NoneUpto, Nothing, Reading, ReadsRules, State, gone, not_yet}
+use Rattle.rbac_timeline.proofs.Decided.{Decided, decide_any, decide_clouded, decide_key, latest_or_none}
 use Rattle.rbac_timeline.specs.Extents.{IsCertain, IsNotGone, MayGrant, MustGrant}
 use Rattle.rbac_timeline.proofs.Granting.{IsHeld, may_missing, must_read, read_there, unread_there}
 

@@ -1,15 +1,15 @@
 -- The least places at which bindings may grant, and at which nothing grants for certain.
-use Rattle.std.proofs.Common.{◌≡◌, ℕ, ◌<◌, ◌≤◌, ◌⊎◌, ⊎_elim, inl, inr, Option, Some, None, refl, sym, ◌∙◌, subst, ap, arith}
+use Rattle.std.proofs.Common.{◌≡◌, ℕ, ◌<◌, ◌≤◌, ⊎_elim, inl, inr, Option, Some, None, refl, sym, ◌∙◌, subst, arith}
 use Rattle.std.proofs.lemmas.Bool.{cases_lt}
 use Rattle.base_types.specs.declared.placed.Places.{Places}
 use Rattle.base_types.specs.declared.request.RequestAttrs.{RequestAttrs}
 use Rattle.base_types.specs.declared.request.User.{User}
-use Rattle.clouds.specs.FirstPlace.{HoldsNowhere, IsFirstPlace, IsLeastPlace}
+use Rattle.clouds.specs.FirstPlace.{HoldsNowhere, IsLeastPlace}
 use Rattle.rbac_timeline.specs.declared.kind.Kind.TheVariants.{ClusterRole, ClusterRoleBinding, Role, RoleBinding}
 use Rattle.rbac_timeline.specs.declared.way.Way.{Way}
 use Rattle.rbac_timeline.specs.declared.way.Way.TheVariants.{ClusterBindings, ClusterRoles, Roles}
-use Rattle.rbac_timeline.specs.Decisions.{AreWithin, ComesFirst, IsUpTo}
-use Rattle.rbac_timeline.specs.Extents.{MayGrantInWay, MustGrantInWay, bindings_in, roles_in}
+use Rattle.rbac_timeline.specs.Decisions.{AreWithin, ComesFirst}
+use Rattle.rbac_timeline.specs.Extents.{MayGrantInWay, bindings_in, roles_in}
 use Rattle.rbac_timeline.specs.Known.{Known}
 use Rattle.rbac_timeline.specs.Searched.{AreFirstOf, AreLeastOf, FreeFrom, FreeWith, IsFirstPair, IsFreeAt, IsFreeCluster, IsFreePlain, IsLeastPair, MayGrantBy, all_at, with_cluster_bindings, with_cluster_roles, with_roles}
 use Rattle.rbac_timeline.proofs.Constancy.{IsQuiet, way_may_before, way_must_after}

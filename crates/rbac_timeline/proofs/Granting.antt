@@ -1,13 +1,12 @@
 -- What an object grants in all of its possible states, and in some.
-use Rattle.std.proofs.Common.{◌≡◌, ◌≢◌, ℕ, ◌<◌, ◌≤◌, ◌⊎◌, ⊎_elim, inl, inr, List, refl, sym, ◌∙◌, subst, ap, arith}
-use Rattle.std.specs.List.{Contains}
+use Rattle.std.proofs.Common.{◌≡◌, ℕ, ◌<◌, ◌≤◌, ⊎_elim, inl, inr, sym, subst, arith}
 use Rattle.base_types.specs.declared.key.ObjectKey.{ObjectKey}
 use Rattle.clouds.specs.Clouds.{IsClouded}
 use Rattle.rbac_timeline.specs.declared.version.RbacEnd.{RbacEnd}
 use Rattle.rbac_timeline.specs.declared.version.RbacVersion.{RbacVersion}
 use Rattle.rbac_timeline.specs.Extents.{IsCertain, IsNotGone, MayGrant, MustGrant}
 use Rattle.rbac_timeline.specs.Known.{Known, writes_of}
-use Rattle.rbac_timeline.specs.States.{By, Everything, IsEndOf, IsGranted, IsLatestVersion, IsState, IsUnsure, MayBeAbsent, MayBeThere, NoneUpto, Nothing, Reading, State, gone, not_yet}
+use Rattle.rbac_timeline.specs.States.{By, Everything, IsEndOf, IsLatestVersion, MayBeAbsent, NoneUpto, Nothing, Reading, gone, not_yet}
 
 -- the one version that counts at a place, and how it is read
 pub record IsHeld {X : Type 0} (reads : Reading X) (known : Known) (key : ObjectKey) (place : ℕ) (version : RbacVersion) : Type 0 where

@@ -1,5 +1,5 @@
 -- From the three ways to the two decisions.
-use Rattle.std.proofs.Common.{◌≡◌, ℕ, ◌↔◌, ◌⊎◌, ⊎_elim, inl, inr, Bool, true, false, not, ◌||◌, refl, sym, ◌∙◌, subst, ap}
+use Rattle.std.proofs.Common.{◌≡◌, ◌↔◌, ⊎_elim, Bool, true, not, ◌||◌}
 use Rattle.std.proofs.lemmas.Bool.{both_ways, cases_Bool, not-true, not_from_false, or_cases, or_left, or_right}
 use Rattle.base_types.specs.declared.placed.Places.{Places}
 use Rattle.base_types.specs.declared.request.Decision.TheVariants.{Allow, Forbid}
@@ -11,7 +11,7 @@ use Rattle.rbac_timeline.specs.Choices.{IsBypassed}
 use Rattle.rbac_timeline.specs.Decisions.{IsPossible}
 use Rattle.rbac_timeline.specs.Known.{Known}
 use Rattle.rbac_timeline.specs.Sound.{AreSound}
-use Rattle.rbac_timeline.proofs.Choosing.{MayAllow, MustAllow, allow_from_may, forbid_from_not_must, may_by_group, may_from_allow, must_by_group, not_must_from_forbid}
+use Rattle.rbac_timeline.proofs.Choosing.{allow_from_may, forbid_from_not_must, may_by_group, may_from_allow, must_by_group, not_must_from_forbid}
 use Rattle.rbac_timeline.proofs.Ways.{MayInWay, MustInWay, may_from_way, must_from_way, way_from_may, way_from_must}
 
 -- a test of each way

@@ -1,5 +1,5 @@
 -- From where on there may be bindings whose names aren't known.
-use Rattle.std.proofs.Common.{◌≡◌, ℕ, ◌<◌, ◌≤◌, ◌↔◌, ◌⊎◌, ⊎_elim, inl, inr, true, false, min, Option, Some, None, List, [], ◌∷◌, ◌++◌, refl, sym, ◌∙◌, subst, ap, arith}
+use Rattle.std.proofs.Common.{◌≡◌, ℕ, ◌<◌, ◌≤◌, ⊎_elim, false, min, Option, Some, None, List, [], ◌∷◌, ◌++◌, sym, subst, ap, arith}
 use Rattle.std.specs.BTreeMap.{BTreeMap, Updates, get}
 use Rattle.std.specs.List.{Any}
 use Rattle.std.specs.Ordering.{is_eq}
@@ -9,7 +9,6 @@ use Rattle.base_types.proofs.Quantifiers.{Any-head}
 use Rattle.clouds.specs.Kept.{text_order}
 use Rattle.clouds.specs.declared.span.OpaqueSpan.{OpaqueSpan}
 use Rattle.clouds.proofs.Quantified.{Any-append_cases, Any-append_left, Any-append_right, Any-cons_cases}
-use Rattle.rbac_timeline.specs.declared.kind.Kind.{Kind}
 use Rattle.rbac_timeline.specs.declared.kind.Kind.TheVariants.{ClusterRoleBinding, RoleBinding}
 use Rattle.rbac_timeline.specs.declared.nameless.Nameless.{Nameless}
 use Rattle.rbac_timeline.specs.Kinds.{nameless_kind}

@@ -1,5 +1,5 @@
 -- Bindings that name a subject, and users that a subject means.
-use Rattle.std.proofs.Common.{◌≡◌, ◌≢◌, ℕ, zero, suc, ◌<◌, ◌≤◌, ◌↔◌, ◌⊎◌, ⊎_elim, inl, inr, Bool, true, false, ◌||◌, cond, Option, Some, None, List, [], ◌∷◌, ◌++◌, length, get_or, map, refl, sym, ◌∙◌, subst, ap, arith}
+use Rattle.std.proofs.Common.{◌≡◌, ℕ, zero, suc, ◌<◌, ◌↔◌, ◌⊎◌, ⊎_elim, inl, inr, Bool, true, false, ◌||◌, cond, Option, Some, None, List, [], ◌∷◌, length, get_or, map, refl, sym, ◌∙◌, subst, ap, arith}
 use Rattle.std.specs.List.{Any, Contains, flat_map}
 use Rattle.std.proofs.lemmas.Bool.{cond-true, or_cases, or_left, or_right}
 use Rattle.std.proofs.lemmas.List.Elements.{Contains-append_cases, Contains-append_left, Contains-append_right}
@@ -24,12 +24,12 @@ use Rattle.rbac_timeline.specs.Choices.{IsKnownKey, has_version}
 use Rattle.rbac_timeline.specs.Extents.{IsSubject, IsWayOf, MayGrantByRole, MayGrantInWay, MayGrantNameless, MustGrantByKey, MustGrantByRole, MustGrantInWay, bindings_in, by_create, by_key}
 use Rattle.rbac_timeline.specs.Index.{AreBindingsOf, AreRising, Names}
 use Rattle.rbac_timeline.specs.Indexed.{IsIndexed, Mention, keys_of, mention_of, mentions_in, mentions_of}
-use Rattle.rbac_timeline.specs.Kept.{IsKnownUnsure, MayGrantByListed, MayGrantOf, MustGrantByListed, MustGrantOf, NamesAccount, NamesGroup, NamesUser, NamesWho}
+use Rattle.rbac_timeline.specs.Kept.{IsKnownUnsure, MayGrantOf, MustGrantOf, NamesAccount, NamesGroup, NamesUser, NamesWho}
 use Rattle.rbac_timeline.specs.Kinds.{IsBindingOf, IsKeyOf, can_bind, kind_of_key, role_key, subjects_of}
 use Rattle.rbac_timeline.specs.Known.{Known}
 use Rattle.rbac_timeline.specs.Sound.{AreSound}
-use Rattle.rbac_timeline.specs.States.{By, Everything, IsBindingState, IsGranted, IsState, Nothing, State}
-use Rattle.rbac_timeline.proofs.Extremes.{Least, least_state, read_binding}
+use Rattle.rbac_timeline.specs.States.{By, Everything, IsBindingState, IsGranted, Nothing, State}
+use Rattle.rbac_timeline.proofs.Extremes.{least_state, read_binding}
 
 -- a subject that is named, of a binding that can be read
 abbrev IsNamedBy : ObjectKey → RbacContent → Subject → Type 0

@@ -5,7 +5,7 @@ use Rattle.std.proofs.lemmas.Bool.{cases_lt, cases_order}
 use Rattle.std.proofs.lemmas.List.{get_or_default}
 use Rattle.clouds.specs.FirstPlace.{HoldsNowhere, IsLeastPlace}
 use Rattle.rbac_timeline.specs.declared.kind.Kind.{Kind}
-use Rattle.rbac_timeline.specs.Changing.{AreChangesBetween, IsChange}
+use Rattle.rbac_timeline.specs.Changing.{AreChangesBetween}
 use Rattle.rbac_timeline.specs.Known.{Known}
 use Rattle.rbac_timeline.proofs.Constancy.{IsQuiet}
 

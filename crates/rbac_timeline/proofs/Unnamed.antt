@@ -1,9 +1,9 @@
 -- From the places where unnamed bindings begin to what they may grant.
-use Rattle.std.proofs.Common.{◌≡◌, ℕ, ◌<◌, ◌↔◌, ◌⊎◌, ⊎_elim, inl, inr, Bool, true, false, ◌&&◌, ◌||◌, cond, Option, Some, None, List, length, get_or, refl, sym, ◌∙◌, subst, ap}
+use Rattle.std.proofs.Common.{◌≡◌, ℕ, ◌<◌, ◌↔◌, ⊎_elim, Bool, true, false, ◌&&◌, ◌||◌, cond, Option, Some, None, List, length, get_or, refl, sym, ◌∙◌, subst, ap}
 use Rattle.std.specs.BTreeMap.{get}
-use Rattle.std.specs.List.{Any, Contains, slice_get}
+use Rattle.std.specs.List.{slice_get}
 use Rattle.std.specs.Option.{MatchOption, unwrap_or}
-use Rattle.std.proofs.lemmas.Bool.{and_from, and_parts, cases_Bool, or_cases, or_left, or_right}
+use Rattle.std.proofs.lemmas.Bool.{and_from, and_parts, or_cases, or_left, or_right}
 use Rattle.std.proofs.lemmas.Option.{slice_get-get_or, slice_get_within}
 use Rattle.base_types.specs.declared.key.Cover.{Cover}
 use Rattle.base_types.specs.declared.key.CoverName.{CoverName}
@@ -19,7 +19,7 @@ use Rattle.rbac_timeline.specs.declared.way.Way.TheVariants.{ClusterBindings, Cl
 use Rattle.rbac_timeline.specs.Extents.{MayGrantNameless, bindings_in}
 use Rattle.rbac_timeline.specs.Kinds.{IsNameless, IsNamelessCreate, IsReachedNameless, everywhere, in_namespace, is_nameless, kind_of, nameless_kind}
 use Rattle.rbac_timeline.specs.Known.{Known}
-use Rattle.rbac_timeline.specs.Nameless.{AreLows, IsUnnamedAnywhere, IsUnnamedIn, IsUnnamedInCluster, is_below, may_grant}
+use Rattle.rbac_timeline.specs.Nameless.{AreLows, is_below, may_grant}
 
 nameless_from : (name : CoverName) → is_nameless name ≡ true → IsNameless name
 nameless_from (Exact name) is = absurd (cc)
@@ -39,20 +39,20 @@ chosen_back : (test : Bool) (o : Option Kind) (kind : Kind) → test ≡ true �
 chosen_back true o kind passed is = is
 chosen_back false o kind passed is = absurd (cc)
 
-create_from : (cover : Cover) (kind : Kind) → nameless_kind cover ≡ Some kind → IsNamelessCreate kind cover
+pub create_from : (cover : Cover) (kind : Kind) → nameless_kind cover ≡ Some kind → IsNamelessCreate kind cover
 create_from cover kind is =
     let parts = chosen (cover.creates && is_nameless cover.name) (kind_of cover.group cover.resource) kind is in
     let both = and_parts cover.creates (is_nameless cover.name) parts.0 in
     record { of_kind = parts.1; creates = both.0; nameless = nameless_from cover.name both.1 }
 
-kind_from : (cover : Cover) (kind : Kind) → IsNamelessCreate kind cover → nameless_kind cover ≡ Some kind
+pub kind_from : (cover : Cover) (kind : Kind) → IsNamelessCreate kind cover → nameless_kind cover ≡ Some kind
 kind_from cover kind create =
     chosen_back (cover.creates && is_nameless cover.name) (kind_of cover.group cover.resource) kind (and_from cover.creates (is_nameless cover.name) create.creates (test_from_nameless cover.name create.nameless)) create.of_kind
 
-get_from : {X : Type 0} (xs : List X) (k : ℕ) (x : X) → k < length xs → get_or xs k x ≡ x → slice_get xs k ≡ Some x
+pub get_from : {X : Type 0} (xs : List X) (k : ℕ) (x : X) → k < length xs → get_or xs k x ≡ x → slice_get xs k ≡ Some x
 get_from {X} xs k x within is = slice_get-get_or xs k x within ∙ ap (λ (y : X). Some y) is
 
-among_from : {X : Type 0} (xs : List X) (n : ℕ) (x : X) → slice_get xs n ≡ Some x → (n < length xs) × (get_or xs n x ≡ x)
+pub among_from : {X : Type 0} (xs : List X) (n : ℕ) (x : X) → slice_get xs n ≡ Some x → (n < length xs) × (get_or xs n x ≡ x)
 among_from xs n x found =
     let within = slice_get_within xs n x found in
     (within, ap (λ o. unwrap_or o x) (sym (slice_get-get_or xs n x within) ∙ found))

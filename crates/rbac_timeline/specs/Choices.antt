@@ -1,5 +1,5 @@
 -- A choice of one possible state for each role and each binding, and what it allows.
-use Rattle.std.specs.Prelude.{◌≡◌, ◌<◌, ℕ, Bool, true, ◌⊎◌, List, Some, Any, Contains, slice_get}
+use Rattle.std.specs.Prelude.{◌≡◌, ◌<◌, ℕ, Bool, true, List, Some, Any, Contains, slice_get}
 use Rattle.base_types.specs.Covers.{NamesExactly}
 use Rattle.base_types.specs.declared.key.ObjectKey.{ObjectKey}
 use Rattle.base_types.specs.declared.placed.Places.{Places}

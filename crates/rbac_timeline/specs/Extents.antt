@@ -1,7 +1,6 @@
 -- What objects grant in some of their possible states, and in all of them.
-use Rattle.std.specs.Prelude.{◌≡◌, ◌<◌, ℕ, Option, Some, None, Any, slice_get}
+use Rattle.std.specs.Prelude.{◌≡◌, ◌<◌, ℕ, Some, Any, slice_get}
 use Rattle.base_types.specs.declared.key.ObjectKey.{ObjectKey}
-use Rattle.base_types.specs.declared.placed.Places.{Places}
 use Rattle.base_types.specs.declared.request.RequestAttrs.{RequestAttrs}
 use Rattle.base_types.specs.declared.request.User.{User}
 use Rattle.clouds.specs.declared.span.OpaqueSpan.{OpaqueSpan}
@@ -14,8 +13,8 @@ use Rattle.rbac_timeline.specs.declared.version.RbacEnd.{RbacEnd}
 use Rattle.rbac_timeline.specs.declared.version.RbacVersion.{RbacVersion}
 use Rattle.rbac_timeline.specs.declared.way.Way.{Way}
 use Rattle.rbac_timeline.specs.declared.way.Way.TheVariants.{Roles, ClusterRoles, ClusterBindings}
-use Rattle.rbac_timeline.specs.Choices.{IsBypassed, IsKnownKey}
-use Rattle.rbac_timeline.specs.Kinds.{IsBindingOf, IsKeyOf, IsReached, IsReachedNameless, kind_of, kind_of_key, role_key}
+use Rattle.rbac_timeline.specs.Choices.{IsKnownKey}
+use Rattle.rbac_timeline.specs.Kinds.{IsBindingOf, IsKeyOf, IsReached, IsReachedNameless, kind_of, role_key}
 use Rattle.rbac_timeline.specs.Known.{Known}
 use Rattle.rbac_timeline.specs.States.{IsEndOf, IsGranted, IsState, Reading, ReadsRules, State}
 

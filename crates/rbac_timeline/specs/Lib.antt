@@ -1,13 +1,16 @@
 pub mod Changing
 pub mod Choices
+pub mod Deciding
 pub mod Decisions
 pub mod Extents
+pub mod Hidden
 pub mod Index
 pub mod Indexed
 pub mod Kept
 pub mod Kinds
 pub mod Known
 pub mod Nameless
+pub mod Requests
 pub mod Searched
 pub mod Sound
 pub mod States

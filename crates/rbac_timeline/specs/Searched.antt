@@ -1,5 +1,5 @@
 -- The least places of two caches at which something holds.
-use Rattle.std.specs.Prelude.{◌≡◌, ◌<◌, ◌≤◌, ◌⊎◌, ℕ, Bool, ◌&&◌, ◌||◌, ◌==◌, nat_lt, nat_le, Option, Some, None, if◌then◌else◌}
+use Rattle.std.specs.Prelude.{◌≡◌, ◌≤◌, ◌⊎◌, ℕ, Bool, ◌&&◌, ◌||◌, ◌==◌, nat_lt, nat_le, Option, Some, None, if◌then◌else◌}
 use Rattle.base_types.specs.declared.placed.Places.{Places}
 use Rattle.base_types.specs.declared.request.RequestAttrs.{RequestAttrs}
 use Rattle.base_types.specs.declared.request.User.{User}

@@ -4,7 +4,6 @@ use Rattle.std.specs.declared.cmp.Ordering.TheVariants.{Less}
 use Rattle.rbac_timeline.specs.declared.version.RbacEnd.{RbacEnd}
 use Rattle.rbac_timeline.specs.declared.version.RbacVersion.{RbacVersion}
 use Rattle.rbac_timeline.specs.Index.{key_order}
-use Rattle.rbac_timeline.specs.States.{IsEndOf}
 
 -- versions rise by key, and those of one key by revision
 abbrev pub IsBefore : RbacVersion → RbacVersion → Type 0

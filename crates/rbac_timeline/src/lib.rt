@@ -3,6 +3,7 @@
 #![tactic(auto)]
 
 mod changes;
+mod deciding;
 mod extent;
 mod history;
 mod index;
@@ -16,5 +17,6 @@ mod unsure;
 mod version;
 mod way;
 
+pub use deciding::deciding_law;
 pub use timeline::Timeline;
 pub use version::{RbacContent, RbacEnd, RbacEnds, RbacVersion, RbacVersions};

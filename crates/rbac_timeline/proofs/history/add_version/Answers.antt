@@ -1,4 +1,4 @@
-use Rattle.std.proofs.Common.{◌≡◌, [], ◌∷◌, Some, ◌∙◌, ap, rules, subst, sym}
+use Rattle.std.proofs.Common.{◌≡◌, [], ◌∷◌, Some, ap, rules, subst, sym}
 use Rattle.std.specs.BTreeMap.{Updates}
 use Rattle.clouds.specs.Kept.{items_at, items_of}
 use Rattle.clouds.proofs.Adding.{AddsAt-updates, Grows, Grows-permuted, Grows-push, key_order_total}

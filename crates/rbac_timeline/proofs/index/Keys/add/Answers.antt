@@ -1,4 +1,4 @@
-use Rattle.std.proofs.Common.{◌≡◌, subst}
+use Rattle.std.proofs.Common.{◌≡◌}
 use Rattle.clouds.proofs.Adding.{same_key}
 use Rattle.rbac_timeline.proofs.Rising.{AreRising-insert, HasOneMore-insert, HasOneMore-same, found_key}
 use Rattle.rbac_timeline.proofs.index.Keys.add.Goals as goal

@@ -1,6 +1,4 @@
-use Rattle.std.proofs.Common.{ℕ, subst}
 use Rattle.std.proofs.lemmas.Bool.{both_ways}
-use Rattle.rbac_timeline.specs.Changing.{AreChangesBetween}
 use Rattle.rbac_timeline.proofs.Firsts.{MayAt, binding_carries}
 use Rattle.rbac_timeline.proofs.Stepping.{FailsUpto-more, FailsUpto-none, least_at, least_low, nowhere_from}
 use Rattle.rbac_timeline.proofs.search.Asked.first_binding.Goals as goal

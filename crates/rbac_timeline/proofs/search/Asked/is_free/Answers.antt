@@ -1,4 +1,3 @@
-use Rattle.std.proofs.Common.{refl, sym, ◌∙◌}
 use Rattle.std.proofs.lemmas.Bool.{both_ways, cases_Bool, false≢true, not-true, not_from_false}
 use Rattle.std.proofs.Common.{⊎_elim}
 use Rattle.rbac_timeline.proofs.search.Asked.is_free.Goals as goal

@@ -5,9 +5,7 @@ use Rattle.rbac_timeline.specs.declared.history.Stored.{Stored}
 use Rattle.rbac_timeline.specs.Kept.{content_of}
 use Rattle.rbac_timeline.specs.Known.{Known, writes_of}
 use Rattle.rbac_timeline.specs.Sound.{AreSound}
-use Rattle.rbac_rules.specs.declared.role.PolicyRule.{PolicyRule}
 use Rattle.rbac_rules.specs.Granting.{Grants}
-use Rattle.std.proofs.Common.{List}
 use Rattle.rbac_timeline.specs.States.{ReadsRules}
 use Rattle.rbac_timeline.proofs.Contents.{role_may, role_may_parts, role_must, role_must_parts, test_of_both}
 use Rattle.rbac_timeline.proofs.Extremes.{held_from}
