@@ -6,6 +6,7 @@ pub mod Comparing
 pub mod Constancy
 pub mod Contents
 pub mod Decided
+pub mod Examples
 pub mod Extremes
 pub mod Finding
 pub mod Firsts
@@ -22,6 +23,7 @@ pub mod Passing
 pub mod Possible
 pub mod Requested
 pub mod Rising
+pub mod Soundness
 pub mod Stepping
 pub mod Storing
 pub mod Telling

@@ -34,7 +34,7 @@ use Rattle.rbac_timeline.proofs.Hiding.{is_clouded-Decides, same_key-Decides}
 use Rattle.rbac_timeline.proofs.Requested.{any_meant-Decides, grants-Decides}
 use Rattle.rbac_timeline.proofs.Telling.{Decides-all, Decides-any, Decides-flag, Decides-implies}
 
-Decides-leb : (a b : ℕ) → Decides (nat_le a b) (a ≤ b)
+pub Decides-leb : (a b : ℕ) → Decides (nat_le a b) (a ≤ b)
 Decides-leb a b = (leb-true a b, le-leb a b)
 
 abbrev IsVersionUpto : ObjectKey → ℕ → RbacVersion → Type 0

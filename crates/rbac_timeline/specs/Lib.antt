@@ -2,6 +2,7 @@ pub mod Changing
 pub mod Choices
 pub mod Deciding
 pub mod Decisions
+pub mod Examples
 pub mod Extents
 pub mod Hidden
 pub mod Index

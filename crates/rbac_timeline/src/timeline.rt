@@ -527,3 +527,6 @@ impl Timeline {
         }
     }
 }
+
+#[cfg(test)]
+mod tests;
