@@ -10,10 +10,10 @@ use Rattle.history_model.proofs.JudgingLemmas.{judged_once}
 use Rattle.history_model.proofs.Members.{here, there, in_cons, not_in_none, pairs_head, pairs_tail, all_at}
 use Rattle.history_model.specs.Clouds.{MayBeUnrecorded}
 use Rattle.history_model.specs.Events as event
-use Rattle.history_model.specs.Groups.{Making, IsMaking, IsMember, IsFirstMaking}
+use Rattle.history_model.specs.Groups.{Making, IsMaking, IsKeyOf, IsMember, IsFirstMaking}
 use Rattle.history_model.specs.Histories as past
 use Rattle.history_model.specs.Judging.{IsJudgedBefore}
-use Rattle.history_model.specs.Makers.{CouldHaveMade, MustHaveMade, NoMaking, IsMakerOf, IsShowing, sole, able, unrecorded, faulty}
+use Rattle.history_model.specs.Makers.{CouldHaveMade, MustHaveMade, NoMaking, IsMakerOf, IsMadeVersion, IsShowing, sole, able, unrecorded, faulty}
 use Rattle.history_model.specs.Making.{HasFault, HasFoundFault, IsEntryBefore, IsLeastFault}
 use Rattle.write_groups.specs.Members.{AreInOrder, IsGroupOf}
 use Rattle.write_groups.specs.Modelled.{HasEvents, event_of}
@@ -22,9 +22,10 @@ use Rattle.write_groups.specs.declared.groups.Group.{Group}
 use Rattle.object_versions.proofs.Entries.{entry_same}
 use Rattle.object_versions.proofs.Mapped.{no_true}
 use Rattle.object_versions.proofs.Numbered.{making_is, making_once}
-use Rattle.object_versions.specs.Chosen.{first_maker, first_able, or_maker, unseen_maker, maker_among}
+use Rattle.object_versions.specs.Chosen.{first_maker, first_able, or_maker, unseen_maker, maker_among, shown_by}
 use Rattle.object_versions.specs.Faults.{IsLeastFoundFault}
-use Rattle.object_past.specs.Modelled.{maker_of}
+use Rattle.object_past.specs.Modelled.{maker_of, version_of}
+use Rattle.object_past.specs.declared.version.Version.{Version}
 use Rattle.object_versions.specs.Written.{making_at, IsJudgement, IsJudgedAt, AreJudged}
 use Rattle.object_versions.specs.declared.maker.Judged.{Judged}
 use Rattle.object_past.specs.declared.version.Maker.{Maker}
@@ -130,9 +131,9 @@ tells_must h Known key revision members = λ m judged making known judgement.
   where
     go : (m : Making) (a : Bool) (finding : Option Reason) → (IsTrue a ↔ CouldHaveMade h key revision m) → IsLeastFoundFault h m finding
         → IsTrue (a && is_some finding) ↔ MustHaveMade h key revision m
-    go m false finding able fault = ((λ t. absurd (no_true t)), λ must. able.1 must.made)
-    go m true None able fault = ((λ t. absurd (no_true t)), λ must. absurd (fault must.code must.not_found))
-    go m true (Some code) able fault = ((λ t. record { made = able.0 refl; code = code; not_found = fault.0 }), λ must. refl)
+    go m false finding told fault = ((λ t. absurd (no_true t)), λ must. told.1 must.made)
+    go m true None told fault = ((λ t. absurd (no_true t)), λ must. absurd (fault must.code must.not_found))
+    go m true (Some code) told fault = ((λ t. record { made = told.0 refl; code = code; not_found = fault.0 }), λ must. refl)
 
 -- a write of the group is a member
 pub of_group : (h : past.History) (group : Group) → IsGroupOf h group → (m : Making) → IsMaking h m → Contains group.members m.number → IsMember h group.key group.revision m
@@ -158,11 +159,6 @@ pub record IsChosen (h : past.History) (group : Group) (maker : Maker) (shown : 
   pub numbered : m.number ≡ shown
   pub making : IsMaking h m
   pub showing : IsShowing h group.key group.revision (maker_of maker) m
-
-abbrev pub shown_by : ℕ → Maker → ℕ
-shown_by first Snapshot = first
-shown_by first (Event number) = number
-shown_by first Unknown = first
 
 pub chosen : (h : past.History) (events : List LogEvent) (group : Group) (judged : List Judged) (first : ℕ) (may : Bool) → HasEvents events h → IsGroupOf h group
     → AreJudged h events group.members judged → option_map (λ one. one.number) (find (λ one. true) judged) ≡ Some first
@@ -198,3 +194,20 @@ chosen h events group judged first may all grouped zipped head told = go (first_
         (able found.m (ap past.ByEvent (sym found.numbered)) (none_found h group (MustHaveMade h group.key group.revision) grouped (λ m must. must.made.member) none)
           (first_found h group (CouldHaveMade h group.key group.revision) n grouped (λ m could. could.member) found))
     go None None none no_able = unseen may refl (none_found h group (CouldHaveMade h group.key group.revision) grouped (λ m could. could.member) no_able)
+
+-- the version that the chosen maker's answer, or the first one, shows
+pub made_version : (h : past.History) (events : List LogEvent) (group : Group) (v : Version) (shown : ℕ) (m : Making) → IsChosen h group v.maker shown → HasEvents events h → IsGroupOf h group
+    → making_at events shown ≡ Some m → v.key ≡ group.key → v.revision ≡ group.revision → v.uid ≡ m.item.uid → v.node.0 ≡ m.item.tree → IsMadeVersion h (version_of v)
+made_version h events group v shown m choice all grouped at key revision uid tree =
+    let is = making_is h events shown m all at in
+    let one : choice.m ≡ m = making_once h choice.m m choice.making is.0 (choice.numbered ∙ sym is.1) in
+    record {
+      above = subst (λ n. h.start < n) (sym revision) grouped.above;
+      belongs = subst (λ k. IsKeyOf h v.revision k) (sym key) (subst (λ n. IsKeyOf h n group.key) (sym revision) grouped.belongs);
+      maker = subst (λ k. IsMakerOf h k v.revision (maker_of v.maker)) (sym key) (subst (λ n. IsMakerOf h group.key n (maker_of v.maker)) (sym revision) choice.made);
+      m = m;
+      shown = subst (λ k. IsShowing h k v.revision (maker_of v.maker) m) (sym key) (subst (λ n. IsShowing h group.key n (maker_of v.maker) m) (sym revision)
+          (subst (IsShowing h group.key group.revision (maker_of v.maker)) one choice.showing));
+      uid = uid;
+      tree = tree;
+    }

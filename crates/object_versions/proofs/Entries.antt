@@ -28,12 +28,12 @@ split h done revision e w among = ⊎_elim
 known : (h : past.History) (done : List Version) (revision : ℕ) → Extends h done revision → (v : Version) → Contains done v → Contains h.versions (version_of v)
 known h done revision e v among = subst (λ l. Contains l (version_of v)) (sym e.whole) (Contains-append_left (map version_of done) e.later (version_of v) (in_map version_of done v among))
 
-pub latest_none : (h : past.History) (done : List Version) (revision : ℕ) (key : ObjectKey) → Extends h done revision → 0 < revision → HasNone done key
+pub latest_none : (h : past.History) (done : List Version) (revision : ℕ) (key : ObjectKey) → Extends h done revision → HasNone done key
     → latest h.versions key (revision - 1) ≡ None
-latest_none h done revision key e positive none = latest_same h.versions key (revision - 1) (latest h.versions key (revision - 1)) None e.rising (latest_is h.versions key (revision - 1))
+latest_none h done revision key e none = latest_same h.versions key (revision - 1) (latest h.versions key (revision - 1)) None e.rising (latest_is h.versions key (revision - 1))
     (λ w among of_key. ⊎_elim
       (λ before. absurd (all_at (λ v. v.key ≢ key) done before.0 none before.1 (ap (λ (x : past.Version). x.key) before.2 ∙ of_key)))
-      (λ up. omega arith)
+      (λ up. let positive = e.positive in omega arith)
       (split h done revision e w among))
 
 pub latest_some : (h : past.History) (done : List Version) (revision : ℕ) (key : ObjectKey) (v : Version) → Extends h done revision → IsLastOf done key v
@@ -76,8 +76,8 @@ entry_same h m a b = go (latest h.versions m.item.key (m.item.revision - 1))
     go (Some v) (inr x) (inl y) = absurd (x.0 y.0)
     go (Some v) (inr x) (inr y) = x.1 ∙ sym y.1
 
-pub entry_none : (h : past.History) (done : List Version) (m : Making) → Extends h done m.item.revision → 0 < m.item.revision → HasNone done m.item.key → IsEntryBefore h m None
-entry_none h done m e positive none = subst (λ found. IsEntryAfter h m found None) (sym (latest_none h done m.item.revision m.item.key e positive none)) refl
+pub entry_none : (h : past.History) (done : List Version) (m : Making) → Extends h done m.item.revision → HasNone done m.item.key → IsEntryBefore h m None
+entry_none h done m e none = subst (λ found. IsEntryAfter h m found None) (sym (latest_none h done m.item.revision m.item.key e none)) refl
 
 pub entry_gone : (h : past.History) (done : List Version) (m : Making) (v : Version) → Extends h done m.item.revision → IsLastOf done m.item.key v
     → IsAnew h m (version_of v) → IsEntryBefore h m None

@@ -183,7 +183,7 @@ flagged_more versions firsts v is_first below flagged flag = record {
         (λ none. absurd (not_in_none none))
         (in_cons (version_of v) [] x among)
 
-rising_in : (versions : List Version) → AllPairs (λ a b. a.revision < b.revision) versions → AllPairs (λ a b. a.revision < b.revision) (map version_of versions)
+pub rising_in : (versions : List Version) → AllPairs (λ a b. a.revision < b.revision) versions → AllPairs (λ a b. a.revision < b.revision) (map version_of versions)
 rising_in [] rising = λ i j d l m. absurd (omega arith)
 rising_in (v ∷ versions) rising = pairs_cons (λ a b. a.revision < b.revision) (version_of v) (map version_of versions)
     (all_from (λ b. v.revision < b.revision) (map version_of versions) (λ b among. let from = from_map version_of versions b among in

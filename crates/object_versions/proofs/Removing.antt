@@ -30,7 +30,7 @@ abbrev pub Precedes : past.History → ℕ → ℕ → Type 0
 Precedes h a b = (x y : event.Event) → past.IsEvent h a x → past.IsEvent h b y → IsJudgedBefore x y
 
 -- two of a list are one, or one of them comes before the other
-in_turn : {X : Type 0} (R : X → X → Type 0) (xs : List X) (a b : X) → AllPairs R xs → Contains xs a → Contains xs b → (a ≡ b) ⊎ (R a b ⊎ R b a)
+pub in_turn : {X : Type 0} (R : X → X → Type 0) (xs : List X) (a b : X) → AllPairs R xs → Contains xs a → Contains xs b → (a ≡ b) ⊎ (R a b ⊎ R b a)
 in_turn R [] a b pairs x y = absurd (not_in_none x)
 in_turn {X} R (z ∷ zs) a b pairs x y = go (in_turn R zs a b (pairs_tail R z zs pairs)) (in_cons z zs a x) (in_cons z zs b y)
   where

@@ -1,10 +1,8 @@
 -- The groups that are made of the events are those of the history.
-use Rattle.std.proofs.Common.{◌≡◌, ◌≢◌, ℕ, ◌<◌, ◌⊎◌, inl, inr, Bool, true, false, List, [], ◌∷◌, map, Option, Some, None, slice_get, Any, All, AllPairs, Contains, refl, sym, ap, ◌∙◌, subst, arith, true≢false}
+use Rattle.std.proofs.Common.{◌≡◌, ◌≢◌, ℕ, ◌<◌, ◌⊎◌, inl, inr, Bool, true, List, [], ◌∷◌, Option, Some, None, slice_get, Any, All, Contains, refl, sym, ap, ◌∙◌, subst, true≢false}
 use Rattle.std.specs.Prelude.{IsSome}
 use Rattle.std.specs.BTreeMap.{BTreeMap}
-use Rattle.std.specs.List.{filter}
 use Rattle.std.specs.Option.{option_map, option_and_then}
-use Rattle.std.proofs.lemmas.List.Elements.{All-contains_itself}
 use Rattle.std.proofs.lemmas.List.Kept.{AllPairs-filter}
 use Rattle.std.proofs.lemmas.Option.{same_Some, slice_get-map, slice_get_within}
 use Rattle.base_types.specs.declared.key.ObjectKey.{ObjectKey}
@@ -13,11 +11,11 @@ use Rattle.history_model.proofs.KeyLemmas.{key_is, key_decides}
 use Rattle.history_model.proofs.Members.{not_in_none, here, in_cons, all_at, all_from, pairs_head}
 use Rattle.history_model.specs.Events as model
 use Rattle.history_model.specs.Events.{Event}
-use Rattle.history_model.specs.Groups.{Making, IsMaking, IsFirstMaking, IsAnsweredWith, IsKeyOf, IsMember}
+use Rattle.history_model.specs.Groups.{Making, IsMaking, IsAnsweredWith, IsKeyOf, IsMember}
 use Rattle.history_model.specs.Histories.{History, IsEvent}
 use Rattle.history_model.specs.Judging.{IsJudgedBefore, IsOrder}
 use Rattle.history_model.specs.Keys.{same_key}
-use Rattle.write_groups.proofs.Grouping.{IsAnswer, IsAnswered, above_is, answered_from, answered_has, IsMade, made_is, made_of}
+use Rattle.write_groups.proofs.Grouping.{IsAnswer, IsAnswered, above_is, answered_from, answered_has, IsMade, made_is}
 use Rattle.write_groups.proofs.Lists.{filter_from, filter_has}
 use Rattle.write_groups.specs.declared.event.Item.{Item}
 use Rattle.write_groups.specs.declared.event.LogEvent.{LogEvent}
@@ -260,15 +258,19 @@ members_write events numbers group made = (some, all_from (λ number. IsSome (it
   where
     members_are : group.members ≡ members_of events made.item.key numbers
     members_are = ap (λ (g : Group). g.members) made.group_is
+
     first_kept : Contains group.members made.first
     first_kept = subst (λ l. Contains l made.first) (sym members_are) (filter_has (is_of_key events made.item.key) numbers made.first
         (subst (λ l. Contains l made.first) (sym made.are) (here made.first made.rest))
         (ap (is_item_of made.item.key) made.found ∙ key_is made.item.key made.item.key refl))
+
     some : group.members ≢ []
     some none = not_in_none (subst (λ l. Contains l made.first) none first_kept)
+
     is_write : (key : ObjectKey) (item : Option Item) → is_item_of key item ≡ true → IsSome item
     is_write key None e = absurd (true≢false (sym e))
     is_write key (Some item) e = refl
+
     each : (number : ℕ) → Contains group.members number → IsSome (item_at events number)
     each number among = is_write made.item.key (item_at events number)
         (filter_from (is_of_key events made.item.key) numbers number (subst (λ l. Contains l number) members_are among)).1
@@ -277,5 +279,5 @@ pub groups_write : (events : List LogEvent) (start : ℕ) (order : List ℕ) (gr
     → All (λ group. AreWrites events group.members) groups
 groups_write events start order groups are = all_from (λ group. AreWrites events group.members) groups (λ group among.
     members_write events (answered_with start events order group.revision) group
-      (made_is events (answered_with start events order group.revision) group
-        (all_at (λ (g : Group). group_in events (answered_with start events order g.revision) ≡ Some g) groups group are.sound among)))
+    (made_is events (answered_with start events order group.revision) group
+    (all_at (λ (g : Group). group_in events (answered_with start events order g.revision) ≡ Some g) groups group are.sound among)))

@@ -1,5 +1,5 @@
 -- The writes that were answered with one revision.
-use Rattle.std.specs.Prelude.{◌≡◌, ◌≢◌, ◌<◌, ◌==◌, ℕ, Bool, true, false, List, [], ◌∷◌, Option, Some, None, if◌then◌else◌, nat_lt, filter, option_map, option_and_then, slice_get, IsSome, All, AllPairs, Any, Contains}
+use Rattle.std.specs.Prelude.{◌≡◌, ◌≢◌, ◌<◌, ◌==◌, ℕ, Bool, false, List, [], ◌∷◌, Option, Some, None, if◌then◌else◌, nat_lt, filter, option_and_then, slice_get, IsSome, All, AllPairs, Any, Contains}
 use Rattle.std.specs.BTreeMap.{BTreeMap, get}
 use Rattle.std.specs.Ordering.{nat_cmp}
 use Rattle.base_types.specs.declared.key.ObjectKey.{ObjectKey}

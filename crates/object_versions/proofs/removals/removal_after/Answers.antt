@@ -5,6 +5,7 @@ use Rattle.clouds.proofs.Adding.{same_key}
 use Rattle.history_model.specs.Incarnations.{IsRemovalBehind}
 use Rattle.object_versions.proofs.Ending.{end_none, end_some, next_none, next_some, recorded_is}
 use Rattle.object_past.specs.Modelled.{recorded}
+use Rattle.object_past.specs.declared.removal.Removal.{Removal}
 use Rattle.object_versions.specs.Ended.{IsEnd, revision_of}
 use Rattle.object_past.specs.Modelled.{version_of}
 use Rattle.object_versions.proofs.removals.removal_after.Goals as goal
@@ -32,5 +33,6 @@ returns c =
     let parts = c.in_ok-clone.ensures.cases in
     let key : c.in_ok-clone.field-0 ≡ c.args.version.now.key = same_key _ _ parts.0 parts.1.0 parts.1.1.0 parts.1.1.1 in
     let copy = recorded_is c.args.version.now c.in-Some-found.range c.in_ok-clone.field-0 c.in_ok-clone-2.field-0 key c.in_ok-clone-2.ensures.cases in
-    (ends, λ h log first. subst (λ n. IsRemovalBehind h (version_of c.args.version.now) n _) next
+    let made : Removal = record { key = c.in_ok-clone.field-0; uid = c.in_ok-clone-2.field-0; last = c.args.version.now.revision; range = c.in-Some-found.range } in
+    (ends, λ h log first. subst (λ n. IsRemovalBehind h (version_of c.args.version.now) n (recorded made)) next
       (subst (IsRemovalBehind h (version_of c.args.version.now) c.match-after.next) (sym copy) (c.in-Some-found.ensures.some h log first)))
