@@ -12,7 +12,8 @@ loop-i-preserved-in_ok-push c =
     let parts = c.in_ok-clone.ensures.cases in
     let key : c.in_ok-clone.field-0 ≡ c.index-versions-i.result.key = same_key _ _ parts.0 parts.1.0 parts.1.1.0 parts.1.1.1 in
     let within : i < length c.args.versions.now = search (rules, arith) in
-    let at : slice_get c.args.versions.now i ≡ Some c.index-versions-i.result = search rules in
+    let at : slice_get c.args.versions.now i ≡ Some c.index-versions-i.result =
+      slice_get-get_or c.args.versions.now i c.index-versions-i.result within ∙ ap Some (sym c.index-versions-i.is) in
     let more : i + 1 ≡ c.loop-i.i = omega (arith, c.loop-i-test.true) in
     let flag = slice_get-get_or c.args.firsts.now i false (let long = c.requires.firsts.all in omega (arith, long, within)) in
     let done = subst (λ n. AreFoundBehind c.args.log.windows.now c.args.log.events.now c.args.log.removed.now c.args.versions.now n c.loop-i.next c.loop-i.removals.items) (sym more) c.loop-i.invariant in
@@ -27,7 +28,8 @@ loop-i-preserved c =
     let parts = c.in_ok-clone.ensures.cases in
     let key : c.in_ok-clone.field-0 ≡ c.index-versions-i.result.key = same_key _ _ parts.0 parts.1.0 parts.1.1.0 parts.1.1.1 in
     let within : i < length c.args.versions.now = search (rules, arith) in
-    let at : slice_get c.args.versions.now i ≡ Some c.index-versions-i.result = search rules in
+    let at : slice_get c.args.versions.now i ≡ Some c.index-versions-i.result =
+      slice_get-get_or c.args.versions.now i c.index-versions-i.result within ∙ ap Some (sym c.index-versions-i.is) in
     let more : i + 1 ≡ c.loop-i.i = omega (arith, c.loop-i-test.true) in
     let flag = slice_get-get_or c.args.firsts.now i false (let long = c.requires.firsts.all in omega (arith, long, within)) in
     let done = subst (λ n. AreFoundBehind c.args.log.windows.now c.args.log.events.now c.args.log.removed.now c.args.versions.now n c.loop-i.next c.loop-i.removals.items) (sym more) c.loop-i.invariant in

@@ -39,10 +39,11 @@ loop-group-preserved g c =
     let version = c.in_ok-version_in.field-0 in
     let events = c.args.log.events.now in
     let within : i < length c.args.groups.now = c.loop-group-test.true in
-    ( subst (AreGrown begun (take (i + 1) c.args.groups.now)) (sym c.in_ok-grown-2.ensures)
+    let pushed : c.in_ok-grown-2.grown ≡ c.loop-group.grown ++ version ∷ [] = c.in_ok-grown-2.ensures ∙ ap (λ l. l ++ version ∷ []) c.grown.view_is in
+    ( subst (AreGrown begun (take (i + 1) c.args.groups.now)) (sym pushed)
         (grown_with begun c.args.groups.now i group c.loop-group.grown version within (sym c.group-item.is) c.loop-group.invariant.0 c.in_ok-version_in.ensures.key c.in_ok-version_in.ensures.revision)
     , (λ h of grouped start on.
-        let on_v : GoesOn h (c.loop-group.grown ++ version ∷ []) = subst (GoesOn h) c.in_ok-grown-2.ensures on in
+        let on_v : GoesOn h (c.loop-group.grown ++ version ∷ []) = subst (GoesOn h) pushed on in
         let is_group : IsGroupOf h group = all_at (IsGroupOf h) c.args.groups.now group grouped.sound (i, within, sym c.group-item.is) in
         let below = before_group c.args.start c.args.snapshot.now items c.args.groups.now i group c.loop-group.grown c.requires.snapshot c.in_ok-order.ensures.same
               c.requires.rising c.requires.above within (sym c.group-item.is) c.loop-group.invariant.0 in
@@ -54,7 +55,7 @@ loop-group-preserved g c =
         let handed : c.deref-in-loop-group.result.now ≡ more = c.deref-in-loop-group.ensures.value in
         let made = c.in_ok-version_in.ensures.made h (record { all = of.surroundings.all; clouds = of.judged.clouds; grouped = is_group; members = subst (AreJudged h events group.members) (sym handed) zipped }) in
         let before = c.loop-group.invariant.1 h of grouped start (goes_on_before h c.loop-group.grown version on_v) in
-        subst (λ l. AreWritten h events begun (take (i + 1) c.args.groups.now) l c.append.new.self.items) (sym c.in_ok-grown-2.ensures)
+        subst (λ l. AreWritten h events begun (take (i + 1) c.args.groups.now) l c.append.new.self.items) (sym pushed)
           (subst (AreWritten h events begun (take (i + 1) c.args.groups.now) (c.loop-group.grown ++ version ∷ [])) (sym c.in_ok-append.ensures.items)
             (written_more h events begun c.args.groups.now i group c.loop-group.grown version c.loop-group.judged.items more within (sym c.group-item.is) before made zipped
               (c.in_ok-members.ensures.numbers ∙ members)))))
