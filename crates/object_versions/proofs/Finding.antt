@@ -50,10 +50,14 @@ next_kept versions i v key None here' other next = λ j w from at. ⊎_elim
   where
     other_key : (j : ℕ) (w : Version) → slice_get versions j ≡ Some w → j ≡ i → w.key ≢ key
     other_key j w at same is = other (ap (λ (x : Version). x.key) (same_Some v w (sym here' ∙ sym (ap (slice_get versions) same) ∙ at)) ∙ is)
-next_kept versions i v key (Some p) here' other next = (omega (arith, next.0), next.1, λ j w from before at. ⊎_elim
-    (λ later. next.2 j w (omega (arith, later)) before at)
-    (λ upto. other_key j w at (omega (arith, from, upto)))
-    (cases_lt i j))
+next_kept versions i v key (Some p) here' other next = (
+  omega (arith, next.0),
+  next.1,
+  λ j w from before at. ⊎_elim
+      (λ later. next.2 j w (omega (arith, later)) before at)
+      (λ upto. other_key j w at (omega (arith, from, upto)))
+      (cases_lt i j),
+)
   where
     other_key : (j : ℕ) (w : Version) → slice_get versions j ≡ Some w → j ≡ i → w.key ≢ key
     other_key j w at same is = other (ap (λ (x : Version). x.key) (same_Some v w (sym here' ∙ sym (ap (slice_get versions) same) ∙ at)) ∙ is)
@@ -63,9 +67,9 @@ pub next_more : (versions : List Version) (i : ℕ) (v : Version) (old new : BTr
     → Updates key_order old new v.key (Some i) → AreNext versions i new
 next_more versions i v old new at next updates key = ⊎_elim
     (λ tied. subst (IsNextAt versions i key) (sym (updates.0 key ∙ cond-true (is_eq (key_order v.key key)) (Some i) (get key_order old key) tied))
-        (omega arith, (v, at, same_key_from v.key key tied), λ j w from before here'. absurd (omega (arith, from, before))))
+    (omega arith, (v, at, same_key_from v.key key tied), λ j w from before here'. absurd (omega (arith, from, before))))
     (λ other. subst (IsNextAt versions i key) (sym (updates.0 key ∙ cond-false (is_eq (key_order v.key key)) (Some i) (get key_order old key) other))
-        (next_kept versions i v key (get key_order old key) at (λ same. true≢false (sym (subst (λ k. is_eq (key_order v.key k) ≡ true) same (tied_self key_order key_order_total v.key)) ∙ other)) (next key)))
+    (next_kept versions i v key (get key_order old key) at (λ same. true≢false (sym (subst (λ k. is_eq (key_order v.key k) ≡ true) same (tied_self key_order key_order_total v.key)) ∙ other)) (next key)))
     (cases_Bool (is_eq (key_order v.key key)))
 
 -- the next version of v's key
@@ -107,24 +111,30 @@ next_of versions i v None rising at next = λ w among of_key. let place = in_at 
 next_of versions i v (Some p) rising at next =
     let n = next.1.0 in
     let is : slice_get versions p ≡ Some n = next.1.1 in
-    subst (IsNextOf versions v) (sym is)
-    (at_in versions p n is, next.1.2, ranked versions i p v n rising at is (omega (arith, next.0)),
+    subst (IsNextOf versions v) (sym is) (
+      at_in versions p n is,
+      next.1.2,
+      ranked versions i p v n rising at is (omega (arith, next.0)),
       λ w among of_key. let place = in_at versions w among in ⊎_elim
-        (λ later. ⊎_elim
+          (λ later. ⊎_elim
           (λ before. absurd (next.2 place.0 w (omega (arith, later)) before place.1 of_key))
           (λ from. inr (ranked_upto versions place.0 p w n rising place.1 is from))
           (cases_lt place.0 p))
-        (λ upto. inl (ranked_upto versions i place.0 v w rising at place.1 upto))
-        (cases_lt i place.0))
+          (λ upto. inl (ranked_upto versions i place.0 v w rising at place.1 upto))
+          (cases_lt i place.0),
+    )
 
 -- a version ends its incarnation where the next one of its key is of another object
 pub ends_if : (versions : List Version) (v : Version) (after : Option Version) → IsNextOf versions v after → IsEnd v after → EndsBefore (map version_of versions) (version_of v) (revision_of after)
 ends_if versions v None next end = λ w among of_key. let from = from_map version_of versions w among in
     let upto = next from.0 from.1 (ap (λ (x : past.Version). x.key) from.2 ∙ of_key) in
     let is = ap (λ (x : past.Version). x.revision) from.2 in omega (arith, upto, is)
-ends_if versions v (Some n) next end = (next.2, (version_of n, in_map version_of versions n next.0, refl, next.1, end),
-    λ w among of_key. let from = from_map version_of versions w among in
-      subst (λ (x : past.Version). (x.revision ≤ v.revision) ⊎ (n.revision ≤ x.revision)) from.2 (next.3 from.0 from.1 (ap (λ (x : past.Version). x.key) from.2 ∙ of_key)))
+ends_if versions v (Some n) next end = (
+  next.2,
+  (version_of n, in_map version_of versions n next.0, refl, next.1, end),
+  λ w among of_key. let from = from_map version_of versions w among in
+      subst (λ (x : past.Version). (x.revision ≤ v.revision) ⊎ (n.revision ≤ x.revision)) from.2 (next.3 from.0 from.1 (ap (λ (x : past.Version). x.key) from.2 ∙ of_key)),
+)
 
 pub end_of : (versions : List Version) (v : Version) (after : Option Version) (next : Option ℕ) → AllPairs (λ a b. a.revision < b.revision) versions → IsNextOf versions v after
     → EndsBefore (map version_of versions) (version_of v) next → (next ≡ revision_of after) × IsEnd v after
@@ -152,9 +162,9 @@ pub first_once : (h : past.History) (Holds : event.Event → Type 0) (n m : ℕ)
 first_once h Holds n m x y order a b = ⊎_elim
     (λ same. same)
     (λ turn. ⊎_elim
-      (λ before. absurd (b.none_before n x a.known a.holds (before x y a.known b.known)))
-      (λ before. absurd (a.none_before m y b.known b.holds (before y x b.known a.known)))
-      turn)
+    (λ before. absurd (b.none_before n x a.known a.holds (before x y a.known b.known)))
+    (λ before. absurd (a.none_before m y b.known b.holds (before y x b.known a.known)))
+    turn)
     (in_turn (Precedes h) h.order n m order.sorted (order.full n (slice_get_within h.events n x a.known)) (order.full m (slice_get_within h.events m y b.known)))
 
 -- behind a version there is one removal
@@ -163,8 +173,8 @@ behind_once h v next a b order x y =
     let numbers : a.range.event ≡ b.range.event = first_once h (IsRemovalOf v.key v.uid) a.range.event b.range.event x.event y.event order x.first y.first in
     let events : x.event ≡ y.event = same_Some x.event y.event (sym x.first.known ∙ ap (slice_get h.events) numbers ∙ y.first.known) in
     same_removal a b (x.of_key ∙ sym y.of_key) (x.of_uid ∙ sym y.of_uid) (x.of_last ∙ sym y.of_last) numbers
-      (x.low ∙ ap (λ (e : event.Event). max (lowest h e.lo) v.revision + 1) events ∙ sym y.low)
-      (x.high ∙ ap (λ (e : event.Event). min (highest h e.hi) (place_before next)) events ∙ sym y.high)
+    (x.low ∙ ap (λ (e : event.Event). max (lowest h e.lo) v.revision + 1) events ∙ sym y.low)
+    (x.high ∙ ap (λ (e : event.Event). min (highest h e.hi) (place_before next)) events ∙ sym y.high)
 
 -- behind the end of an incarnation no version is of the first one with its uid
 not_behind : (versions : List past.Version) (v w : past.Version) (next : Option ℕ) → AllPairs (λ a b. a.revision < b.revision) versions → Contains versions v → Contains versions w
@@ -176,9 +186,9 @@ not_behind versions v w (Some r) rising v_in w_in keys uids ends first below =
     let other : x.uid ≢ v.uid = ends.1.4 in
     let from : r ≤ w.revision = ⊎_elim (λ upto. absurd (omega (arith, upto, below))) (λ up. up) (ends.2 w w_in (sym keys)) in
     ⊎_elim
-      (λ under. other (first v x v_in keys uids ends.1.1 (ends.1.3 ∙ keys) (omega (arith, at, ends.0)) under ∙ sym uids))
-      (λ ge. other (ap (λ (z : past.Version). z.uid) (apart (λ (z : past.Version). z.revision) versions x w rising ends.1.1 w_in (omega (arith, at, from, ge))) ∙ sym uids))
-      (cases_lt x.revision w.revision)
+    (λ under. other (first v x v_in keys uids ends.1.1 (ends.1.3 ∙ keys) (omega (arith, at, ends.0)) under ∙ sym uids))
+    (λ ge. other (ap (λ (z : past.Version). z.uid) (apart (λ (z : past.Version). z.revision) versions x w rising ends.1.1 w_in (omega (arith, at, from, ge))) ∙ sym uids))
+    (cases_lt x.revision w.revision)
 
 -- an event removes one version's object
 pub removal_once : (h : past.History) (v w : past.Version) (next other : Option ℕ) (a b : past.Removal) → AllPairs (λ a b. a.revision < b.revision) h.versions
@@ -190,12 +200,12 @@ removal_once h v w next other a b rising v_in w_in v_ends w_ends x y numbers =
     let keys : v.key ≡ w.key = cc answers in
     let uids : v.uid ≡ w.uid = cc answers in
     ⊎_elim
-      (λ below. absurd (not_behind h.versions v w next rising v_in w_in keys uids v_ends y.only below))
-      (λ from. ⊎_elim
-        (λ below. absurd (not_behind h.versions w v other rising w_in v_in (sym keys) (sym uids) w_ends x.only below))
-        (λ upto. apart (λ (z : past.Version). z.revision) h.versions v w rising v_in w_in (omega (arith, from, upto)))
-        (cases_lt w.revision v.revision))
-      (cases_lt v.revision w.revision)
+    (λ below. absurd (not_behind h.versions v w next rising v_in w_in keys uids v_ends y.only below))
+    (λ from. ⊎_elim
+    (λ below. absurd (not_behind h.versions w v other rising w_in v_in (sym keys) (sym uids) w_ends x.only below))
+    (λ upto. apart (λ (z : past.Version). z.revision) h.versions v w rising v_in w_in (omega (arith, from, upto)))
+    (cases_lt w.revision v.revision))
+    (cases_lt v.revision w.revision)
 
 -- the removal is that behind a version at or after a position
 pub record IsEndedFrom (h : past.History) (versions : List Version) (from : ℕ) (removal : Removal) : Type 0 where
@@ -245,8 +255,8 @@ module _ (windows : timed_history.History) (events : List LogEvent) (removed : B
     sound = all_from (IsEndedFrom h versions i) removals (λ r among. kept r (all_at (IsEndedFrom h versions (i + 1)) removals r done.sound among));
     full = λ j w n removal from at_w ends behind. ⊎_elim
         (λ here'. let this = this_end w n (subst (λ k. slice_get versions k ≡ Some w) here' at_w) ends in
-          absurd (none this.2 h log flag removal (subst (λ o. IsRemovalBehind h (version_of v) o removal) this.1
-            (subst (λ (x : Version). IsRemovalBehind h (version_of x) n removal) this.0 behind))))
+        absurd (none this.2 h log flag removal (subst (λ o. IsRemovalBehind h (version_of v) o removal) this.1
+        (subst (λ (x : Version). IsRemovalBehind h (version_of x) n removal) this.0 behind))))
         (λ later. done.full j w n removal later at_w ends behind)
         (from_here j from);
     apart = done.apart;
@@ -258,21 +268,22 @@ module _ (windows : timed_history.History) (events : List LogEvent) (removed : B
         (Contains-push_cases removals new r among));
     full = λ j w n removal from at_w ends behind. subst (λ l. Contains l removal) (sym (map-append recorded removals (new ∷ []))) (⊎_elim
         (λ here'. let one = this_end w n (subst (λ k. slice_get versions k ≡ Some w) here' at_w) ends in
-          let same : recorded new ≡ removal = behind_once h (version_of v) (revision_of after) (recorded new) removal log.order (behind_v h log flag)
-                (subst (λ o. IsRemovalBehind h (version_of v) o removal) one.1 (subst (λ (x : Version). IsRemovalBehind h (version_of x) n removal) one.0 behind)) in
-          Contains-append_right (map recorded removals) (recorded new ∷ []) removal (subst (Contains (recorded new ∷ [])) same (here (recorded new) [])))
+        let same : recorded new ≡ removal = behind_once h (version_of v) (revision_of after) (recorded new) removal log.order (behind_v h log flag)
+        (subst (λ o. IsRemovalBehind h (version_of v) o removal) one.1 (subst (λ (x : Version). IsRemovalBehind h (version_of x) n removal) one.0 behind)) in
+        Contains-append_right (map recorded removals) (recorded new ∷ []) removal (subst (Contains (recorded new ∷ [])) same (here (recorded new) [])))
         (λ later. Contains-append_left (map recorded removals) (recorded new ∷ []) removal (done.full j w n removal later at_w ends behind))
         (from_here j from));
     apart = pairs_push (λ a b. a.range.event ≢ b.range.event) removals new done.apart (all_from (λ (r : Removal). r.range.event ≢ new.range.event) removals (λ r among numbers.
         let e = all_at (IsEndedFrom h versions (i + 1)) removals r done.sound among in
         let one : version_of e.version ≡ version_of v = removal_once h (version_of e.version) (version_of v) e.next (revision_of after) (recorded r) (recorded new) rising_h
-              (known e.position e.version e.at) (known i v at) e.ends ends_v e.behind (behind_v h log flag) numbers in
+        (known e.position e.version e.at) (known i v at) e.ends ends_v e.behind (behind_v h log flag) numbers in
         let places : e.position ≡ i = at_apart (λ (x : Version). x.revision) versions e.position i e.version v rising e.at at (ap (λ (x : past.Version). x.revision) one) in
         let from = e.upto in omega (arith, places, from)));
   }
     where
       ends_v : EndsBefore h.versions (version_of v) (revision_of after)
       ends_v = subst (λ l. EndsBefore l (version_of v) (revision_of after)) (sym is) (ends_if versions v after next end)
+
       this : IsEndedFrom h versions i new
       this = record { position = i; version = v; next = revision_of after; upto = omega arith; at = at; ends = ends_v; behind = behind_v h log flag }
 
@@ -291,12 +302,12 @@ next_none versions next empty key = subst (IsNextAt versions (length versions) k
 pub all_found : (h : past.History) (versions : List Version) (removals : List Removal) → h.versions ≡ map version_of versions → AreFoundFrom h versions 0 removals → AreFound h removals
 all_found h versions removals is found = record {
   sound = all_from (λ r. IsRemoval h (recorded r)) removals (λ r among. let e = all_at (IsEndedFrom h versions 0) removals r found.sound among in record {
-      version = version_of e.version;
-      next = e.next;
-      known = subst (λ l. Contains l (version_of e.version)) (sym is) (in_map version_of versions e.version (at_in versions e.position e.version e.at));
-      ends = e.ends;
-      behind = e.behind;
-    });
+    version = version_of e.version;
+    next = e.next;
+    known = subst (λ l. Contains l (version_of e.version)) (sym is) (in_map version_of versions e.version (at_in versions e.position e.version e.at));
+    ends = e.ends;
+    behind = e.behind;
+  });
   full = λ removal r. go removal r (from_map version_of versions r.version (subst (λ l. Contains l r.version) is r.known));
   apart = found.apart;
 }
@@ -327,10 +338,11 @@ pub found_behind : (windows : timed_history.History) (events : List LogEvent) (r
     → replaced ≡ get key_order old key → Updates key_order old new key (Some i) → after ≡ option_and_then (slice_get versions) replaced
     → IsFoundAfter windows events removed v is_first after found → AreFoundBehind windows events removed versions (i + 1) old removals
     → AreFoundBehind windows events removed versions i new (with_found removals found)
-found_behind windows events removed versions firsts i v is_first key old new replaced after removals found rising flagged at flag_at key_is replaced_is updates after_is found_after done =
-    ( next_more versions i v old new at done.0 (subst (λ k. Updates key_order old new k (Some i)) key_is updates)
-    , (λ h log is. found_more windows events removed h versions i v is_first after log is rising at next
-        (subst (λ l. IsTrue is_first ↔ IsFirstWithUid l (version_of v)) (sym is) (flagged.each i v is_first at flag_at)) removals (done.1 h log is) found found_after))
+found_behind windows events removed versions firsts i v is_first key old new replaced after removals found rising flagged at flag_at key_is replaced_is updates after_is found_after done = (
+  next_more versions i v old new at done.0 (subst (λ k. Updates key_order old new k (Some i)) key_is updates),
+  (λ h log is. found_more windows events removed h versions i v is_first after log is rising at next
+      (subst (λ l. IsTrue is_first ↔ IsFirstWithUid l (version_of v)) (sym is) (flagged.each i v is_first at flag_at)) removals (done.1 h log is) found found_after),
+)
   where
     next : IsNextOf versions v after
     next = subst (IsNextOf versions v) (sym (after_is ∙ ap (option_and_then (slice_get versions)) (replaced_is ∙ ap (get key_order old) key_is)))

@@ -29,9 +29,9 @@ pub pairs_push : {X : Type 0} (R : X → X → Type 0) (xs : List X) (y : X) →
 pairs_push R [] y pairs all = pairs_cons R y [] (λ k d below. absurd (omega arith)) pairs
 pairs_push R (x ∷ xs) y pairs all = pairs_cons R x (xs ++ y ∷ [])
     (all_from (R x) (xs ++ y ∷ []) (λ z among. ⊎_elim
-      (λ before. all_at (R x) xs z (pairs_head R x xs pairs) before)
-      (λ is. subst (R x) is (all_at (λ w. R w y) (x ∷ xs) x all (here x xs)))
-      (Contains-push_cases xs y z among)))
+    (λ before. all_at (R x) xs z (pairs_head R x xs pairs) before)
+    (λ is. subst (R x) is (all_at (λ w. R w y) (x ∷ xs) x all (here x xs)))
+    (Contains-push_cases xs y z among)))
     (pairs_push R xs y (pairs_tail R x xs pairs) (all_from (λ w. R w y) xs (λ z among. all_at (λ w. R w y) (x ∷ xs) z all (there x z xs among))))
 
 pub any_in : {X : Type 0} (P : X → Type 0) (xs : List X) → Any P xs → (x : X) × Contains xs x × P x

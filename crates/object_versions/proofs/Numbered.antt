@@ -19,6 +19,7 @@ making_is h events number m all at = go (slice_get events number) refl at
   where
     known : (e : LogEvent) → slice_get events number ≡ Some e → IsEvent h number (event_of e)
     known e here = subst (λ es. slice_get es number ≡ Some (event_of e)) (sym all) (slice_get-map event_of events number ∙ ap (option_map event_of) here)
+
     of : (e : LogEvent) → slice_get events number ≡ Some e → (shown : Shown) → e.answer ≡ shown → making_in number e shown ≡ Some m → IsMaking h m × (m.number ≡ number)
     of e here (Made item created) is made = subst (λ x. IsMaking h x × (x.number ≡ number)) (same_Some _ m made)
         (record { known = known e here; made = ap answer_of is }, refl)
@@ -31,6 +32,7 @@ making_is h events number m all at = go (slice_get events number) refl at
     of e here (Listed listing) is made = absurd (cc made)
     of e here Free is made = absurd (cc made)
     of e here Aside is made = absurd (cc made)
+
     go : (found : Option LogEvent) → slice_get events number ≡ found → option_and_then (λ e. making_in number e e.answer) found ≡ Some m → IsMaking h m × (m.number ≡ number)
     go None here made = absurd (cc made)
     go (Some e) here made = of e here e.answer refl made
@@ -85,6 +87,7 @@ number_is events number m at = go (slice_get events number) at
     of e (Listed listing) made = absurd (cc made)
     of e Free made = absurd (cc made)
     of e Aside made = absurd (cc made)
+
     go : (found : Option LogEvent) → option_and_then (λ e. making_in number e e.answer) found ≡ Some m → m.number ≡ number
     go None made = absurd (cc made)
     go (Some e) made = of e e.answer made

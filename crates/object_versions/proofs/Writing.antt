@@ -76,13 +76,13 @@ pub all_judged_more : (h : past.History) (events : List LogEvent) (groups : List
 all_judged_more h events groups i group judged more within is before zipped numbers = record {
   sound = All-append (λ one. IsJudgedAt h events one.number one) judged more before.sound
       (all_from (λ one. IsJudgedAt h events one.number one) more (λ one among.
-        let found = zip_left (IsJudgedAt h events) group.members more one zipped among in
-        subst (λ n. IsJudgedAt h events n one) (sym found.2.0) found.2));
+      let found = zip_left (IsJudgedAt h events) group.members more one zipped among in
+      subst (λ n. IsJudgedAt h events n one) (sym found.2.0) found.2));
   full = λ g number among member. ⊎_elim
       (λ earlier. let found = any_in (λ one. one.number ≡ number) judged (before.full g number earlier member) in
-        in_any (λ one. one.number ≡ number) (judged ++ more) found.0 (Contains-append_left judged more found.0 found.1) found.2)
+      in_any (λ one. one.number ≡ number) (judged ++ more) found.0 (Contains-append_left judged more found.0 found.1) found.2)
       (λ this. let found = from_map (λ (one : Judged). one.number) more number (subst (λ l. Contains l number) (sym numbers) (subst (λ (x : Group). Contains x.members number) (sym this) member)) in
-        in_any (λ one. one.number ≡ number) (judged ++ more) found.0 (Contains-append_right judged more found.0 found.1) found.2)
+      in_any (λ one. one.number ≡ number) (judged ++ more) found.0 (Contains-append_right judged more found.0 found.1) found.2)
       (in_more groups i group within is g among);
 }
 
@@ -132,24 +132,32 @@ are_versions h snapshot items groups versions rising grouped is_snapshot same sn
           maker = refl;
           listed = subst (λ l. Contains l (item_of item)) (sym snapshot_is) (in_map item_of snapshot item listed);
         }
+
     among_versions : (v : Version) → Contains versions v → Contains h.versions (version_of v)
     among_versions v among = subst (λ l. Contains l (version_of v)) (sym versions_is) (in_map version_of versions v among)
+
     sound_at : (v : past.Version) → (w : Version) × Contains versions w × (version_of w ≡ v) → IsSnapshotVersion h v ⊎ IsMadeVersion h v
     sound_at v (w, among, is) = ⊎_elim
         (λ before. let item = from_map snapshot_version items w before in
-          inl (subst (IsSnapshotVersion h) (ap version_of item.2 ∙ is) (begun item.0 item.1)))
+        inl (subst (IsSnapshotVersion h) (ap version_of item.2 ∙ is) (begun item.0 item.1)))
         (λ new. inr (subst (IsMadeVersion h) is new))
         (all_at (λ x. Contains (map snapshot_version items) x ⊎ IsMadeVersion h (version_of x)) versions w made among)
+
     snapshot_at : (item : event.Item) → (i : Item) × Contains snapshot i × (item_of i ≡ item) → (v : past.Version) × Contains h.versions v × (item_in v ≡ item)
-    snapshot_at item (i, among, is) = (version_of (snapshot_version i),
-        among_versions (snapshot_version i) (subst (λ l. Contains l (snapshot_version i)) (sym grown.all)
+    snapshot_at item (i, among, is) = (
+      version_of (snapshot_version i),
+      among_versions (snapshot_version i) (subst (λ l. Contains l (snapshot_version i)) (sym grown.all)
           (Contains-append_left (map snapshot_version items) grown.made (snapshot_version i) (in_map snapshot_version items i (Contains-permutation snapshot items i same among)))),
-        is)
+      is,
+    )
+
     log_at : (m : Making) → (g : Group) × Contains groups g × (g.revision ≡ m.item.revision) → (v : past.Version) × Contains h.versions v × (v.revision ≡ m.item.revision)
     log_at m (g, among, is) =
-        let found = version_of_group groups grown.made grown.each g among in
-        (version_of found.0, among_versions found.0 (subst (λ l. Contains l found.0) (sym grown.all) (Contains-append_right (map snapshot_version items) grown.made found.0 found.1)),
-          found.2.of_revision ∙ is)
+        let found = version_of_group groups grown.made grown.each g among in (
+          version_of found.0,
+          among_versions found.0 (subst (λ l. Contains l found.0) (sym grown.all) (Contains-append_right (map snapshot_version items) grown.made found.0 found.1)),
+          found.2.of_revision ∙ is,
+        )
 
 -- what is known before the first group
 pub begun_grown : (order : List (Bor Item)) (grown : List Version) → grown ≡ map (λ item. snapshot_version item.now) order
@@ -192,10 +200,10 @@ pub before_group : (start : ℕ) (snapshot items : List Item) (groups : List Gro
     → AreGrown (map snapshot_version items) (take i groups) versions → All (λ v. v.revision < group.revision) versions
 before_group start snapshot items groups i group versions is_snapshot same rising above within is grown =
     grown_below start items (take i groups) versions group grown
-      (all_from (λ (item : Item). item.revision ≤ start) items (λ item among. all_at (λ (x : Item). x.revision ≤ start) snapshot item is_snapshot.below
-        (Contains-permutation items snapshot item (IsPermutation-sym snapshot items same) among)))
-      (all_at (λ (g : Group). start < g.revision) groups group above (i, within, is))
-      (all_from (λ (g : Group). g.revision < group.revision) (take i groups) (before_in (λ (a b : Group). a.revision < b.revision) groups i group rising within is))
+    (all_from (λ (item : Item). item.revision ≤ start) items (λ item among. all_at (λ (x : Item). x.revision ≤ start) snapshot item is_snapshot.below
+    (Contains-permutation items snapshot item (IsPermutation-sym snapshot items same) among)))
+    (all_at (λ (g : Group). start < g.revision) groups group above (i, within, is))
+    (all_from (λ (g : Group). g.revision < group.revision) (take i groups) (before_in (λ (a b : Group). a.revision < b.revision) groups i group rising within is))
 
 -- judgements of writes are of writes
 pub shown_write : (events : List LogEvent) (judged : List Judged) (first : ℕ) (may : Bool) → All (λ n. IsSome (item_at events n)) (map (λ j. j.number) judged)
@@ -209,6 +217,7 @@ shown_write events judged first may writes head = go (first_maker judged) (found
         of None known is = absurd (cc is)
         of (Some j) known is = subst (λ k. IsSome (item_at events k)) (same_Some j.number n is)
             (all_at (λ k. IsSome (item_at events k)) (map (λ (x : Judged). x.number) judged) j.number writes (in_map (λ (x : Judged). x.number) judged j (known j refl)))
+
     go : (a : Option ℕ) → ((n : ℕ) → a ≡ Some n → IsSome (item_at events n)) → (b : Option ℕ) → ((n : ℕ) → b ≡ Some n → IsSome (item_at events n)) → (t : Bool)
         → IsSome (item_at events (shown_by first (or_maker a (or_maker b (unseen_maker first t)))))
     go (Some n) made b able t = made n refl

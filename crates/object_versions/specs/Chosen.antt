@@ -1,8 +1,12 @@
 -- Who made a revision, of the writes that were answered with it.
-use Rattle.std.specs.Prelude.{ℕ, ◌&&◌, Bool, List, Option, Some, None, if◌then◌else◌, is_none, is_some, option_map, find}
+use Rattle.std.specs.Prelude.{ℕ, ◌&&◌, Bool, List, Option, Some, None, if◌then◌else◌, is_none, is_some, option_map, slice_get, find}
 use Rattle.object_versions.specs.declared.maker.Judged.{Judged}
 use Rattle.object_past.specs.declared.version.Maker.{Maker}
 use Rattle.object_past.specs.declared.version.Maker.TheVariants.{Snapshot, Event, Unknown}
+
+-- the first write of all
+abbrev pub first_write : List Judged → Option ℕ
+first_write judged = option_map (λ one. one.number) (slice_get judged 0)
 
 -- the first that could have made the revision, and couldn't have found it
 abbrev pub first_maker : List Judged → Option ℕ

@@ -1,4 +1,4 @@
-ghost use Rattle.std.specs.Prelude.{◌≡◌, ◌≢◌, ◌<◌, ℕ, List, IfOk, IsSome, All, AllPairs, Some, find, length, map, option_map, true};
+ghost use Rattle.std.specs.Prelude.{◌≡◌, ◌≢◌, ◌<◌, ℕ, List, IfOk, IsSome, All, AllPairs, Some, length, map, option_map};
 ghost use Rattle.std.specs.List.Sorted.{IsPermutation};
 ghost use Rattle.history_model.specs.Histories.{History};
 ghost use Rattle.history_model.specs.Makers.{AreVersions, IsMadeVersion};
@@ -8,7 +8,7 @@ ghost use Rattle.write_groups.specs.Members.{AreGroupsOf};
 ghost use Rattle.write_groups.specs.Modelled.{item_of};
 ghost use Rattle.object_past.specs.Modelled.{version_of};
 ghost use Rattle.object_past.specs.declared.version.Version.{Version};
-ghost use Rattle.object_versions.specs.Chosen.{shown_by};
+ghost use Rattle.object_versions.specs.Chosen.{first_write, shown_by};
 ghost use Rattle.object_versions.specs.Growing.{AreFlagged, IsLatestIn};
 ghost use Rattle.object_versions.specs.Hidden.{slots_of};
 ghost use Rattle.object_versions.specs.Modelled.{making_of};
@@ -132,19 +132,16 @@ fn judge_each<B: Bodies>(
     Ok(judged)
 }
 
+// The group's first write.
 fn first_number(judged: &[Judged]) -> u32
     requires { 0 < length judged.now }
-    ensures { option_map (λ one. one.number) (find (λ one. true) judged.now) ≡ Some result }
+    ensures { first_write judged.now ≡ Some result }
 {
     judged[0].number
 }
 
 // The version that a group's writes left behind the others.
-fn version_in(
-    log: Log<'_>,
-    group: &Group,
-    judged: &[Judged],
-) -> Result<Version, OutOfMemory>
+fn version_in(log: Log<'_>, group: &Group, judged: &[Judged]) -> Result<Version, OutOfMemory>
     requires writes { AreWrites log.events.now (map (λ one. one.number) judged.now) }
     ensures key { IfOk result (λ version. version.key ≡ group.now.key) }
     ensures revision { IfOk result (λ version. version.revision ≡ group.now.revision) }
@@ -219,6 +216,7 @@ pub fn write_versions<B: Bodies>(
     requires rising { AllPairs (λ a b. a.revision < b.revision) groups.now }
     requires above { All (λ group. start < group.revision) groups.now }
     requires members { All (λ group. AreWrites log.events.now group.members) groups.now }
+    ensures rising { IfOk result (λ written. AllPairs (λ a b. a.revision < b.revision) written.versions) }
     ensures slots { IfOk result (λ written. AreSlots (slots_of snapshot.now groups.now) written.versions) }
     ensures versions { IfOk result (λ written. (h : History) → IsOfLog log.entry (B.body bodies.now) h → AreGroupsOf h groups.now → h.start ≡ start
         → h.snapshot ≡ map item_of snapshot.now → h.versions ≡ map version_of written.versions → AreVersions h) }

@@ -15,5 +15,5 @@ pub returns-clause-rising : goal.returns-clause-rising
 returns-clause-rising c =
     let all : map (λ item. item.now) c.in_ok-order.order.items ≡ c.args.snapshot.now = search rules in
     sorted_apart (λ item. item.now.revision) c.in_ok-order.order.items c.sort_by_key.new.self.items c.in_ok-sort_by_key.ensures.permutation
-      (pairs_unmap (λ item. item.now) (λ (a b : Item). a.revision ≢ b.revision) c.in_ok-order.order.items (subst (AllPairs (λ (a b : Item). a.revision ≢ b.revision)) (sym all) c.requires))
-      (IsNonDecreasingBy-from_sort_by_key (λ item. item.now.revision) _ c.in_ok-sort_by_key.ensures.sorted (λ a r q k. search rules))
+    (pairs_unmap (λ item. item.now) (λ (a b : Item). a.revision ≢ b.revision) c.in_ok-order.order.items (subst (AllPairs (λ (a b : Item). a.revision ≢ b.revision)) (sym all) c.requires))
+    (IsNonDecreasingBy-from_sort_by_key (λ item. item.now.revision) _ c.in_ok-sort_by_key.ensures.sorted (λ a r q k. search rules))

@@ -32,7 +32,7 @@ returns c = λ h done log e latest.
     let v = c.in_ok-latest.latest.version.now in
     let flag = first_in h done c.args.making.item.now.revision v c.in_ok-latest.latest.is_first e last.0.known last.1 in
     entry_there h done (making_of c.args.making) v e last.0 (λ anew. elim c.else-making.branch [
-      else-making-via-then-making+then-ne+else-is_some w ↦
+      | else-making-via-then-making+then-ne+else-is_some w ↦
           no_range w.range_behind.result _ (sym w.if-is_some.ensures) w.range_behind.ensures.none h anew.removal log flag anew.removed
       | else-making-via-then-making+else-ne w ↦ anew.other_uid ((bytes_decides v.uid c.args.making.item.now.uid).0 (unlike (bytes_eq v.uid c.args.making.item.now.uid) w.if-ne.ensures))
       | else-making-via-else-making w ↦ true≢false (sym anew.created ∙ w.if-making.false)

@@ -12,15 +12,16 @@ loop-number-preserved g c =
     let m = making_of c.making_at-making.result in
     let i = c.loop-number.number-index in
     let at : making_at c.args.log.events.now (get_or c.args.members.now i 0) ≡ Some m = c.making_at-making.ensures in
-    let number : c.in_ok-judge.field-0.number ≡ get_or c.args.members.now i 0 = c.in_ok-judge.ensures.number ∙ number_is c.args.log.events.now (get_or c.args.members.now i 0) m at in
-    ( ap (map (λ (one : Judged). one.number)) c.in_ok-push.ensures.items ∙ map-append (λ (one : Judged). one.number) c.loop-number.judged.items (c.in_ok-judge.field-0 ∷ [])
-        ∙ ap (λ l. l ++ c.in_ok-judge.field-0.number ∷ []) c.loop-number.invariant.0 ∙ ap (λ n. take i c.args.members.now ++ n ∷ []) number ∙ sym (take_more c.args.members.now i 0 c.loop-number-test.true)
-    , (λ h revision of e answered.
-        let at_revision = same_revision c.args.log.events.now revision (get_or c.args.members.now i 0) m at (answered i 0 c.loop-number-test.true) in
-        subst (AreJudged h c.args.log.events.now (take (i + 1) c.args.members.now)) (sym c.in_ok-push.ensures.items)
+    let number : c.in_ok-judge.field-0.number ≡ get_or c.args.members.now i 0 = c.in_ok-judge.ensures.number ∙ number_is c.args.log.events.now (get_or c.args.members.now i 0) m at in (
+      ap (map (λ (one : Judged). one.number)) c.in_ok-push.ensures.items ∙ map-append (λ (one : Judged). one.number) c.loop-number.judged.items (c.in_ok-judge.field-0 ∷ [])
+          ∙ ap (λ l. l ++ c.in_ok-judge.field-0.number ∷ []) c.loop-number.invariant.0 ∙ ap (λ n. take i c.args.members.now ++ n ∷ []) number ∙ sym (take_more c.args.members.now i 0 c.loop-number-test.true),
+      (λ h revision of e answered.
+          let at_revision = same_revision c.args.log.events.now revision (get_or c.args.members.now i 0) m at (answered i 0 c.loop-number-test.true) in
+          subst (AreJudged h c.args.log.events.now (take (i + 1) c.args.members.now)) (sym c.in_ok-push.ensures.items)
           (each_more h c.args.log.events.now c.args.members.now i 0 c.loop-number.judged.items m c.in_ok-judge.field-0 c.loop-number-test.true at c.in_ok-judge.ensures.number
-            (c.in_ok-judge.ensures.judged h of (subst (Extends h c.args.grown.now) (sym at_revision) e))
-            (c.loop-number.invariant.1 h revision of e answered))))
+          (c.in_ok-judge.ensures.judged h of (subst (Extends h c.args.grown.now) (sym at_revision) e))
+          (c.loop-number.invariant.1 h revision of e answered))),
+    )
 
 pub returns-clause-judged : goal.returns-clause-judged
 returns-clause-judged g c = λ h revision of e answered.
