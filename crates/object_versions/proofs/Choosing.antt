@@ -10,10 +10,10 @@ use Rattle.history_model.proofs.JudgingLemmas.{judged_once}
 use Rattle.history_model.proofs.Members.{here, there, in_cons, not_in_none, pairs_head, pairs_tail, all_at}
 use Rattle.history_model.specs.Clouds.{MayBeUnrecorded}
 use Rattle.history_model.specs.Events as event
-use Rattle.history_model.specs.Groups.{Making, IsMaking, IsMember, IsFirstMaking}
+use Rattle.history_model.specs.Groups.{Making, IsMaking, IsKeyOf, IsMember, IsFirstMaking}
 use Rattle.history_model.specs.Histories as past
 use Rattle.history_model.specs.Judging.{IsJudgedBefore}
-use Rattle.history_model.specs.Makers.{CouldHaveMade, MustHaveMade, NoMaking, IsMakerOf, IsShowing, sole, able, unrecorded, faulty}
+use Rattle.history_model.specs.Makers.{CouldHaveMade, MustHaveMade, NoMaking, IsMakerOf, IsMadeVersion, IsShowing, sole, able, unrecorded, faulty}
 use Rattle.history_model.specs.Making.{HasFault, HasFoundFault, IsEntryBefore, IsLeastFault}
 use Rattle.write_groups.specs.Members.{AreInOrder, IsGroupOf}
 use Rattle.write_groups.specs.Modelled.{HasEvents, event_of}
@@ -22,9 +22,10 @@ use Rattle.write_groups.specs.declared.groups.Group.{Group}
 use Rattle.object_versions.proofs.Entries.{entry_same}
 use Rattle.object_versions.proofs.Mapped.{no_true}
 use Rattle.object_versions.proofs.Numbered.{making_is, making_once}
-use Rattle.object_versions.specs.Chosen.{first_maker, first_able, or_maker, unseen_maker, maker_among}
+use Rattle.object_versions.specs.Chosen.{first_write, first_maker, first_able, or_maker, unseen_maker, maker_among, shown_by}
 use Rattle.object_versions.specs.Faults.{IsLeastFoundFault}
-use Rattle.object_past.specs.Modelled.{maker_of}
+use Rattle.object_past.specs.Modelled.{maker_of, version_of}
+use Rattle.object_past.specs.declared.version.Version.{Version}
 use Rattle.object_versions.specs.Written.{making_at, IsJudgement, IsJudgedAt, AreJudged}
 use Rattle.object_versions.specs.declared.maker.Judged.{Judged}
 use Rattle.object_past.specs.declared.version.Maker.{Maker}
@@ -61,14 +62,19 @@ searched h events Known Holds test all tells (n ∷ members) (j ∷ judged) know
   where
     m : Making
     m = zipped.0.1.0
+
     at_m : making_at events n ≡ Some m
     at_m = zipped.0.1.1
+
     is_m : IsMaking h m
     is_m = (making_is h events n m all at_m).0
+
     number_m : m.number ≡ n
     number_m = (making_is h events n m all at_m).1
+
     told : IsTrue (test j) ↔ Holds m
     told = tells m j is_m (subst Known (sym number_m) (known n (here n members))) zipped.0.1.2
+
     by : (t : Bool) → test j ≡ t → IsSearched h members Holds (option_map (λ one. one.number) (find test judged))
         → IsSearched h (n ∷ members) Holds (option_map (λ one. one.number) (if t then Some j else find test judged))
     by true is rest = subst (λ k. IsFoundFirst h (n ∷ members) Holds k) (number_m ∙ sym zipped.0.0) (record {
@@ -79,19 +85,21 @@ searched h events Known Holds test all tells (n ∷ members) (j ∷ judged) know
       holds = told.0 is;
       first = λ other making holds among before. ⊎_elim
           (λ same. let one = making_once h other m making is_m (sym same ∙ sym number_m) in
-            judged_once m.event m.event (subst (λ x. IsJudgedBefore x.event m.event) one before) (subst (λ x. IsJudgedBefore x.event m.event) one before))
+          judged_once m.event m.event (subst (λ x. IsJudgedBefore x.event m.event) one before) (subst (λ x. IsJudgedBefore x.event m.event) one before))
           (λ later. judged_once other.event m.event before
-            (all_at (λ b. (x y : event.Event) → past.IsEvent h n x → past.IsEvent h b y → IsJudgedBefore x y) members other.number
-              (pairs_head (λ a b. (x y : event.Event) → past.IsEvent h a x → past.IsEvent h b y → IsJudgedBefore x y) n members order) later
-              m.event other.event (subst (λ k. past.IsEvent h k m.event) number_m is_m.known) making.known))
+          (all_at (λ b. (x y : event.Event) → past.IsEvent h n x → past.IsEvent h b y → IsJudgedBefore x y) members other.number
+          (pairs_head (λ a b. (x y : event.Event) → past.IsEvent h a x → past.IsEvent h b y → IsJudgedBefore x y) n members order) later
+          m.event other.event (subst (λ k. past.IsEvent h k m.event) number_m is_m.known) making.known))
           (in_cons n members other.number among);
     })
     by false is rest = go (option_map (λ one. one.number) (find test judged)) rest
       where
         not_m : Holds m → ⊥
         not_m holds = true≢false (sym (told.1 holds) ∙ is)
+
         not_here : (other : Making) → IsMaking h other → Holds other → n ≡ other.number → ⊥
         not_here other making holds same = not_m (subst Holds (making_once h other m making is_m (sym same ∙ sym number_m)) holds)
+
         go : (found : Option ℕ) → IsSearched h members Holds found → IsSearched h (n ∷ members) Holds found
         go None none = λ other making among holds. ⊎_elim
             (λ same. not_here other making holds same)
@@ -118,6 +126,7 @@ tells_able h Known key revision members = λ m judged making known judgement. (f
         → IsTrue (is_none found) → CouldHaveMade h key revision m
     forth m None member fault t = record { member = member; before = fault.0; entry = fault.1; faultless = fault.2 }
     forth m (Some code) member fault t = absurd (no_true t)
+
     back : (m : Making) (found : Option Reason) → (before : Option past.Version) × IsEntryBefore h m before × IsLeastFault h m before found
         → CouldHaveMade h key revision m → IsTrue (is_none found)
     back m None fault could = refl
@@ -130,9 +139,9 @@ tells_must h Known key revision members = λ m judged making known judgement.
   where
     go : (m : Making) (a : Bool) (finding : Option Reason) → (IsTrue a ↔ CouldHaveMade h key revision m) → IsLeastFoundFault h m finding
         → IsTrue (a && is_some finding) ↔ MustHaveMade h key revision m
-    go m false finding able fault = ((λ t. absurd (no_true t)), λ must. able.1 must.made)
-    go m true None able fault = ((λ t. absurd (no_true t)), λ must. absurd (fault must.code must.not_found))
-    go m true (Some code) able fault = ((λ t. record { made = able.0 refl; code = code; not_found = fault.0 }), λ must. refl)
+    go m false finding told fault = ((λ t. absurd (no_true t)), λ must. told.1 must.made)
+    go m true None told fault = ((λ t. absurd (no_true t)), λ must. absurd (fault must.code must.not_found))
+    go m true (Some code) told fault = ((λ t. record { made = told.0 refl; code = code; not_found = fault.0 }), λ must. refl)
 
 -- a write of the group is a member
 pub of_group : (h : past.History) (group : Group) → IsGroupOf h group → (m : Making) → IsMaking h m → Contains group.members m.number → IsMember h group.key group.revision m
@@ -159,11 +168,6 @@ pub record IsChosen (h : past.History) (group : Group) (maker : Maker) (shown : 
   pub making : IsMaking h m
   pub showing : IsShowing h group.key group.revision (maker_of maker) m
 
-abbrev pub shown_by : ℕ → Maker → ℕ
-shown_by first Snapshot = first
-shown_by first (Event number) = number
-shown_by first Unknown = first
-
 pub chosen : (h : past.History) (events : List LogEvent) (group : Group) (judged : List Judged) (first : ℕ) (may : Bool) → HasEvents events h → IsGroupOf h group
     → AreJudged h events group.members judged → option_map (λ one. one.number) (find (λ one. true) judged) ≡ Some first
     → (IsTrue may ↔ MayBeUnrecorded h group.key group.revision) → IsChosen h group (maker_among judged first may) (shown_by first (maker_among judged first may))
@@ -173,13 +177,17 @@ chosen h events group judged first may all grouped zipped head told = go (first_
   where
     Known : ℕ → Type 0
     Known n = Contains group.members n
+
     members : (m : Making) → IsMaking h m → Contains group.members m.number → IsMember h group.key group.revision m
     members = of_group h group grouped
+
     foremost : IsFoundFirst h group.members (IsMember h group.key group.revision) first
     foremost = subst (IsSearched h group.members (IsMember h group.key group.revision)) head
         (searched h events Known (IsMember h group.key group.revision) (λ one. true) all (λ m one making known judgement. ((λ t. members m making known), λ member. refl)) group.members judged (λ n among. among) grouped.order zipped)
+
     by_event : (n : ℕ) (m : Making) → m.number ≡ n → IsMaking h m → IsMember h group.key group.revision m → IsMakerOf h group.key group.revision (past.ByEvent n) → IsChosen h group (Event n) n
     by_event n m numbered making member made = record { made = made; m = m; numbered = numbered; making = making; showing = (member, numbered) }
+
     unseen : (b : Bool) → may ≡ b → NoMaking (CouldHaveMade h group.key group.revision) → IsChosen h group (unseen_maker first b) (shown_by first (unseen_maker first b))
     unseen true is none = record {
       made = unrecorded refl none (told.0 is);
@@ -190,11 +198,34 @@ chosen h events group judged first may all grouped zipped head told = go (first_
     }
     unseen false is none = by_event first foremost.m foremost.numbered foremost.making foremost.holds
         (faulty foremost.m (ap past.ByEvent (sym foremost.numbered)) none (λ may_be. true≢false (sym (told.1 may_be) ∙ is)) (first_found h group (IsMember h group.key group.revision) first grouped (λ m member. member) foremost))
+
     go : (a b : Option ℕ) → IsSearched h group.members (MustHaveMade h group.key group.revision) a → IsSearched h group.members (CouldHaveMade h group.key group.revision) b
         → IsChosen h group (or_maker a (or_maker b (unseen_maker first may))) (shown_by first (or_maker a (or_maker b (unseen_maker first may))))
     go (Some n) b found rest = by_event n found.m found.numbered found.making found.holds.made.member
         (sole found.m (ap past.ByEvent (sym found.numbered)) (first_found h group (MustHaveMade h group.key group.revision) n grouped (λ m must. must.made.member) found))
     go None (Some n) none found = by_event n found.m found.numbered found.making found.holds.member
         (able found.m (ap past.ByEvent (sym found.numbered)) (none_found h group (MustHaveMade h group.key group.revision) grouped (λ m must. must.made.member) none)
-          (first_found h group (CouldHaveMade h group.key group.revision) n grouped (λ m could. could.member) found))
+        (first_found h group (CouldHaveMade h group.key group.revision) n grouped (λ m could. could.member) found))
     go None None none no_able = unseen may refl (none_found h group (CouldHaveMade h group.key group.revision) grouped (λ m could. could.member) no_able)
+
+-- a search for anything finds the first
+pub first_find : (judged : List Judged) → option_map (λ one. one.number) (find (λ one. true) judged) ≡ first_write judged
+first_find [] = refl
+first_find (one ∷ judged) = refl
+
+-- the version that the chosen maker's answer, or the first one, shows
+pub made_version : (h : past.History) (events : List LogEvent) (group : Group) (v : Version) (shown : ℕ) (m : Making) → IsChosen h group v.maker shown → HasEvents events h → IsGroupOf h group
+    → making_at events shown ≡ Some m → v.key ≡ group.key → v.revision ≡ group.revision → v.uid ≡ m.item.uid → v.node.0 ≡ m.item.tree → IsMadeVersion h (version_of v)
+made_version h events group v shown m choice all grouped at key revision uid tree =
+    let is = making_is h events shown m all at in
+    let one : choice.m ≡ m = making_once h choice.m m choice.making is.0 (choice.numbered ∙ sym is.1) in
+    record {
+      above = subst (λ n. h.start < n) (sym revision) grouped.above;
+      belongs = subst (λ k. IsKeyOf h v.revision k) (sym key) (subst (λ n. IsKeyOf h n group.key) (sym revision) grouped.belongs);
+      maker = subst (λ k. IsMakerOf h k v.revision (maker_of v.maker)) (sym key) (subst (λ n. IsMakerOf h group.key n (maker_of v.maker)) (sym revision) choice.made);
+      m = m;
+      shown = subst (λ k. IsShowing h k v.revision (maker_of v.maker) m) (sym key) (subst (λ n. IsShowing h group.key n (maker_of v.maker) m) (sym revision)
+          (subst (IsShowing h group.key group.revision (maker_of v.maker)) one choice.showing));
+      uid = uid;
+      tree = tree;
+    }

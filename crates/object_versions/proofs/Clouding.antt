@@ -56,7 +56,7 @@ unrecorded_some : (h : History) (events : List LogEvent) (P : OpaqueSpan → Typ
     → slice_get events number ≡ Some event → event.answer ≡ Opaque cover → P (span_with h event cover) → Any P (unrecorded_in h events)
 unrecorded_some h events P number event cover at is holds =
     in_any P (unrecorded_in h events) (span_with h event cover)
-      (made_has (unrecorded_at h) events event (span_with h event cover) (at_in events number event at) (ap (unrecorded_if h event) is)) holds
+    (made_has (unrecorded_at h) events event (span_with h event cover) (at_in events number event at) (ap (unrecorded_if h event) is)) holds
 
 -- an event of the history is one of the log
 logged : (h : History) (events : List LogEvent) (number : ℕ) (found : event.Event) → HasEvents events h → IsEvent h number found
@@ -88,6 +88,7 @@ opaque_in (Opaque given) cover is = ap Opaque (cover_in given cover is)
     covered (event.Listed listing) other = other
     covered event.Free other = other
     covered event.Aside other = other
+
     cover_in : (given cover : Cover) → event.Opaque given ≡ event.Opaque cover → given ≡ cover
     cover_in given cover is = ap (λ answer. covered answer given) is
 opaque_in (Saw item) cover is = absurd (cc is)
@@ -118,27 +119,36 @@ pub are_clouds : (h : History) (events : List LogEvent) (slots : List KeyRevisio
 are_clouds h events slots writes all has spans revisions = record {
   clouded = λ key place. (
     (λ any. let found = some_unrecorded h events (cloud.IsHiddenBy writes.revisions key place) (subst (Any (cloud.IsHiddenBy writes.revisions key place)) spans any) in
-      let hidden = found.5 in
-      (found.0, event_of found.1, in_history h events found.0 found.1 all found.3,
-        record { hides = (found.2, ap answer_of found.4, hidden.hides);
-                 begun = hidden.begun;
-                 unseen = shown h slots key place (high_end h (event_of found.1)) has (subst (λ rs. (r : KeyRevision) → Contains rs r → r.key ≡ key → high_end h (event_of found.1) < r.revision → place < r.revision) revisions hidden.unseen) })),
+        let hidden = found.5 in (
+          found.0,
+          event_of found.1,
+          in_history h events found.0 found.1 all found.3,
+          record {
+            hides = (found.2, ap answer_of found.4, hidden.hides);
+            begun = hidden.begun;
+            unseen = shown h slots key place (high_end h (event_of found.1)) has (subst (λ rs. (r : KeyRevision) → Contains rs r → r.key ≡ key → high_end h (event_of found.1) < r.revision → place < r.revision) revisions hidden.unseen);
+          },
+        )),
     (λ hiding. let e = logged h events hiding.0 hiding.1 all hiding.2 in
-      let hidden : model.IsHiddenBy h key place (event_of e.0) = subst (model.IsHiddenBy h key place) (sym e.2) hiding.3 in
-      let cover = hidden.hides.0 in
-      subst (Any (cloud.IsHiddenBy writes.revisions key place)) (sym spans)
+        let hidden : model.IsHiddenBy h key place (event_of e.0) = subst (model.IsHiddenBy h key place) (sym e.2) hiding.3 in
+        let cover = hidden.hides.0 in
+        subst (Any (cloud.IsHiddenBy writes.revisions key place)) (sym spans)
         (unrecorded_some h events (cloud.IsHiddenBy writes.revisions key place) hiding.0 e.0 cover e.1 (opaque_in e.0.answer cover hidden.hides.1)
-          (record { hides = hidden.hides.2;
-                    begun = hidden.begun;
-                    unseen = subst (λ rs. (r : KeyRevision) → Contains rs r → r.key ≡ key → high_end h (event_of e.0) < r.revision → place < r.revision) (sym revisions) (seen h slots key place (high_end h (event_of e.0)) has hidden.unseen) }))));
+        (record {
+          hides = hidden.hides.2;
+          begun = hidden.begun;
+          unseen = subst (λ rs. (r : KeyRevision) → Contains rs r → r.key ≡ key → high_end h (event_of e.0) < r.revision → place < r.revision) (sym revisions) (seen h slots key place (high_end h (event_of e.0)) has hidden.unseen);
+        }))),
+  );
   unrecorded = λ key revision. (
     (λ any. let found = some_unrecorded h events (λ span. Covers span.cover key × (span.low < revision) × (revision ≤ span.high)) (subst (Any (λ span. Covers span.cover key × (span.low < revision) × (revision ≤ span.high))) spans any) in
-      (found.0, event_of found.1, in_history h events found.0 found.1 all found.3, (found.2, ap answer_of found.4, found.5.0), found.5.1, found.5.2)),
+        (found.0, event_of found.1, in_history h events found.0 found.1 all found.3, (found.2, ap answer_of found.4, found.5.0), found.5.1, found.5.2)),
     (λ hiding. let e = logged h events hiding.0 hiding.1 all hiding.2 in
-      let hides : Hides key (event_of e.0) = subst (Hides key) (sym e.2) hiding.3 in
-      let low : low_end h (event_of e.0) < revision = subst (λ x. low_end h x < revision) (sym e.2) hiding.4 in
-      let high : revision ≤ high_end h (event_of e.0) = subst (λ x. revision ≤ high_end h x) (sym e.2) hiding.5 in
-      subst (Any (λ span. Covers span.cover key × (span.low < revision) × (revision ≤ span.high))) (sym spans)
+        let hides : Hides key (event_of e.0) = subst (Hides key) (sym e.2) hiding.3 in
+        let low : low_end h (event_of e.0) < revision = subst (λ x. low_end h x < revision) (sym e.2) hiding.4 in
+        let high : revision ≤ high_end h (event_of e.0) = subst (λ x. revision ≤ high_end h x) (sym e.2) hiding.5 in
+        subst (Any (λ span. Covers span.cover key × (span.low < revision) × (revision ≤ span.high))) (sym spans)
         (unrecorded_some h events (λ span. Covers span.cover key × (span.low < revision) × (revision ≤ span.high)) hiding.0 e.0 hides.0 e.1
-          (opaque_in e.0.answer hides.0 hides.1) (hides.2, low, high))));
+        (opaque_in e.0.answer hides.0 hides.1) (hides.2, low, high))),
+  );
 }

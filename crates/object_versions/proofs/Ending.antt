@@ -1,6 +1,6 @@
 -- What is found behind a version that may end its incarnation.
-use Rattle.std.proofs.Common.{◌≡◌, ◌≢◌, ℕ, Bool, List, Option, Some, None, option_map, Bor, refl, sym, ap, subst}
-use Rattle.std.specs.Prelude.{◌↔◌, IsTrue}
+use Rattle.std.proofs.Common.{◌≡◌, ◌≢◌, ℕ, Bool, true, false, not, List, Option, Some, None, option_map, Bor, refl, sym, ap, ◌∙◌, subst, true≢false}
+use Rattle.std.specs.Prelude.{◌↔◌, IfNone, IfSome, IsTrue, is_some}
 use Rattle.base_types.specs.declared.claim.Range.{Range}
 use Rattle.base_types.specs.declared.key.ObjectKey.{ObjectKey}
 use Rattle.history_model.specs.Histories as past
@@ -29,3 +29,16 @@ end_some version after v is other = subst (λ o. IsEnd version (option_map (λ x
 
 pub end_none : (version : Version) (after : Option (Bor Version)) → after ≡ None → IsEnd version (option_map (λ x. x.now) after)
 end_none version after is = subst (λ o. IsEnd version (option_map (λ x. x.now) o)) (sym is) tt
+
+-- a range that was found, and none
+pub found_range : (found : Option Range) (P : Range → Type 0) → is_some found ≡ true → IfSome found P → (range : Range) × P range
+found_range None P there held = absurd (true≢false (sym there))
+found_range (Some range) P there held = (range, held)
+
+pub no_range : (found : Option Range) (P : Type 0) → is_some found ≡ false → IfNone found P → P
+no_range None P none held = held
+no_range (Some range) P none held = absurd (true≢false none)
+
+pub unlike : (b : Bool) → false ≡ not b → b ≡ true
+unlike true is = refl
+unlike false is = absurd (true≢false (sym is))

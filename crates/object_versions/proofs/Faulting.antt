@@ -30,24 +30,30 @@ fault_cases h m before code P (unasked is clear wrong) a b c d e f = f is clear 
 
 -- outside its moments a write has the least fault of all
 pub outside_least : (h : History) (m : Making) (before : Option Version) → IsOutside h m → IsLeastFault h m before (Some U3)
-outside_least h m before out = (outside refl out, λ other fault. fault_cases h m before other (3 ≤ code_number other) fault
-    (λ is out. omega (arith, ap code_number is))
-    (λ is clear made there. omega (arith, ap code_number is))
-    (λ is made had. omega (arith, ap code_number is))
-    (λ is clear made differs. omega (arith, ap code_number is))
-    (λ is clear not_met. omega (arith, ap code_number is))
-    (λ is clear wrong. omega (arith, ap code_number is)))
+outside_least h m before out = (
+  outside refl out,
+  λ other fault. fault_cases h m before other (3 ≤ code_number other) fault
+      (λ is out. omega (arith, ap code_number is))
+      (λ is clear made there. omega (arith, ap code_number is))
+      (λ is made had. omega (arith, ap code_number is))
+      (λ is clear made differs. omega (arith, ap code_number is))
+      (λ is clear not_met. omega (arith, ap code_number is))
+      (λ is clear wrong. omega (arith, ap code_number is)),
+)
 
 -- where the key is clouded, only a uid that was used is a fault
 pub clouded_used : (h : History) (m : Making) (before : Option Version) → (IsOutside h m → ⊥) → (IsClear h m → ⊥) → m.created ≡ true → IsUsedUid h m
     → IsLeastFault h m before (Some U5)
-clouded_used h m before inside cloudy made had = (used refl made had, λ other fault. fault_cases h m before other (5 ≤ code_number other) fault
-    (λ is out. absurd (inside out))
-    (λ is clear made there. absurd (cloudy clear))
-    (λ is made had. omega (arith, ap code_number is))
-    (λ is clear made differs. absurd (cloudy clear))
-    (λ is clear not_met. absurd (cloudy clear))
-    (λ is clear wrong. absurd (cloudy clear)))
+clouded_used h m before inside cloudy made had = (
+  used refl made had,
+  λ other fault. fault_cases h m before other (5 ≤ code_number other) fault
+      (λ is out. absurd (inside out))
+      (λ is clear made there. absurd (cloudy clear))
+      (λ is made had. omega (arith, ap code_number is))
+      (λ is clear made differs. absurd (cloudy clear))
+      (λ is clear not_met. absurd (cloudy clear))
+      (λ is clear wrong. absurd (cloudy clear)),
+)
 
 pub clouded_none : (h : History) (m : Making) (before : Option Version) → (IsOutside h m → ⊥) → (IsClear h m → ⊥) → (m.created ≡ true → IsUsedUid h m → ⊥)
     → IsLeastFault h m before None
@@ -72,34 +78,46 @@ pub record AreTold (h : History) (m : Making) (before : Option Version) (created
 
 pub clear_least : (h : History) (m : Making) (before : Option Version) (created used' present' other met right : Bool)
     → AreTold h m before created used' present' other met right → IsLeastFault h m before (object_code created used' present' other (asked_code met right))
-clear_least h m before true used' true other met right t = (present refl t.clear t.made (t.there.0 refl), λ code fault. fault_cases h m before code (4 ≤ code_number code) fault
-    (λ is out. absurd (t.inside out))
-    (λ is clear made there. omega (arith, ap code_number is))
-    (λ is made had. omega (arith, ap code_number is))
-    (λ is clear made differs. omega (arith, ap code_number is))
-    (λ is clear not_met. omega (arith, ap code_number is))
-    (λ is clear wrong. omega (arith, ap code_number is)))
-clear_least h m before true true false other met right t = (used refl t.made (t.had.0 refl), λ code fault. fault_cases h m before code (5 ≤ code_number code) fault
-    (λ is out. absurd (t.inside out))
-    (λ is clear made there. absurd (no_true (t.there.1 there)))
-    (λ is made had. omega (arith, ap code_number is))
-    (λ is clear made differs. omega (arith, ap code_number is))
-    (λ is clear not_met. omega (arith, ap code_number is))
-    (λ is clear wrong. omega (arith, ap code_number is)))
-clear_least h m before true false false other false right t = (unmet refl t.clear (λ met. no_true (t.meets.1 met)), λ code fault. fault_cases h m before code (7 ≤ code_number code) fault
-    (λ is out. absurd (t.inside out))
-    (λ is clear made there. absurd (no_true (t.there.1 there)))
-    (λ is made had. absurd (no_true (t.had.1 had)))
-    (λ is clear made differs. absurd (true≢false (sym t.made ∙ made)))
-    (λ is clear not_met. omega (arith, ap code_number is))
-    (λ is clear wrong. omega (arith, ap code_number is)))
-clear_least h m before true false false other true false t = (unasked refl t.clear t.asked, λ code fault. fault_cases h m before code (8 ≤ code_number code) fault
-    (λ is out. absurd (t.inside out))
-    (λ is clear made there. absurd (no_true (t.there.1 there)))
-    (λ is made had. absurd (no_true (t.had.1 had)))
-    (λ is clear made differs. absurd (true≢false (sym t.made ∙ made)))
-    (λ is clear not_met. absurd (not_met (t.meets.0 refl)))
-    (λ is clear wrong. omega (arith, ap code_number is)))
+clear_least h m before true used' true other met right t = (
+  present refl t.clear t.made (t.there.0 refl),
+  λ code fault. fault_cases h m before code (4 ≤ code_number code) fault
+      (λ is out. absurd (t.inside out))
+      (λ is clear made there. omega (arith, ap code_number is))
+      (λ is made had. omega (arith, ap code_number is))
+      (λ is clear made differs. omega (arith, ap code_number is))
+      (λ is clear not_met. omega (arith, ap code_number is))
+      (λ is clear wrong. omega (arith, ap code_number is)),
+)
+clear_least h m before true true false other met right t = (
+  used refl t.made (t.had.0 refl),
+  λ code fault. fault_cases h m before code (5 ≤ code_number code) fault
+      (λ is out. absurd (t.inside out))
+      (λ is clear made there. absurd (no_true (t.there.1 there)))
+      (λ is made had. omega (arith, ap code_number is))
+      (λ is clear made differs. omega (arith, ap code_number is))
+      (λ is clear not_met. omega (arith, ap code_number is))
+      (λ is clear wrong. omega (arith, ap code_number is)),
+)
+clear_least h m before true false false other false right t = (
+  unmet refl t.clear (λ met. no_true (t.meets.1 met)),
+  λ code fault. fault_cases h m before code (7 ≤ code_number code) fault
+      (λ is out. absurd (t.inside out))
+      (λ is clear made there. absurd (no_true (t.there.1 there)))
+      (λ is made had. absurd (no_true (t.had.1 had)))
+      (λ is clear made differs. absurd (true≢false (sym t.made ∙ made)))
+      (λ is clear not_met. omega (arith, ap code_number is))
+      (λ is clear wrong. omega (arith, ap code_number is)),
+)
+clear_least h m before true false false other true false t = (
+  unasked refl t.clear t.asked,
+  λ code fault. fault_cases h m before code (8 ≤ code_number code) fault
+      (λ is out. absurd (t.inside out))
+      (λ is clear made there. absurd (no_true (t.there.1 there)))
+      (λ is made had. absurd (no_true (t.had.1 had)))
+      (λ is clear made differs. absurd (true≢false (sym t.made ∙ made)))
+      (λ is clear not_met. absurd (not_met (t.meets.0 refl)))
+      (λ is clear wrong. omega (arith, ap code_number is)),
+)
 clear_least h m before true false false other true true t = λ code fault. fault_cases h m before code ⊥ fault
     (λ is out. t.inside out)
     (λ is clear made there. no_true (t.there.1 there))
@@ -107,27 +125,36 @@ clear_least h m before true false false other true true t = λ code fault. fault
     (λ is clear made differs. true≢false (sym t.made ∙ made))
     (λ is clear not_met. not_met (t.meets.0 refl))
     (λ is clear wrong. true≢false (sym t.asked ∙ wrong))
-clear_least h m before false used' present' true met right t = (replaced refl t.clear t.made (t.differs.0 refl), λ code fault. fault_cases h m before code (6 ≤ code_number code) fault
-    (λ is out. absurd (t.inside out))
-    (λ is clear made there. absurd (true≢false (sym made ∙ t.made)))
-    (λ is made had. absurd (true≢false (sym made ∙ t.made)))
-    (λ is clear made differs. omega (arith, ap code_number is))
-    (λ is clear not_met. omega (arith, ap code_number is))
-    (λ is clear wrong. omega (arith, ap code_number is)))
-clear_least h m before false used' present' false false right t = (unmet refl t.clear (λ met. no_true (t.meets.1 met)), λ code fault. fault_cases h m before code (7 ≤ code_number code) fault
-    (λ is out. absurd (t.inside out))
-    (λ is clear made there. absurd (true≢false (sym made ∙ t.made)))
-    (λ is made had. absurd (true≢false (sym made ∙ t.made)))
-    (λ is clear made differs. absurd (no_true (t.differs.1 differs)))
-    (λ is clear not_met. omega (arith, ap code_number is))
-    (λ is clear wrong. omega (arith, ap code_number is)))
-clear_least h m before false used' present' false true false t = (unasked refl t.clear t.asked, λ code fault. fault_cases h m before code (8 ≤ code_number code) fault
-    (λ is out. absurd (t.inside out))
-    (λ is clear made there. absurd (true≢false (sym made ∙ t.made)))
-    (λ is made had. absurd (true≢false (sym made ∙ t.made)))
-    (λ is clear made differs. absurd (no_true (t.differs.1 differs)))
-    (λ is clear not_met. absurd (not_met (t.meets.0 refl)))
-    (λ is clear wrong. omega (arith, ap code_number is)))
+clear_least h m before false used' present' true met right t = (
+  replaced refl t.clear t.made (t.differs.0 refl),
+  λ code fault. fault_cases h m before code (6 ≤ code_number code) fault
+      (λ is out. absurd (t.inside out))
+      (λ is clear made there. absurd (true≢false (sym made ∙ t.made)))
+      (λ is made had. absurd (true≢false (sym made ∙ t.made)))
+      (λ is clear made differs. omega (arith, ap code_number is))
+      (λ is clear not_met. omega (arith, ap code_number is))
+      (λ is clear wrong. omega (arith, ap code_number is)),
+)
+clear_least h m before false used' present' false false right t = (
+  unmet refl t.clear (λ met. no_true (t.meets.1 met)),
+  λ code fault. fault_cases h m before code (7 ≤ code_number code) fault
+      (λ is out. absurd (t.inside out))
+      (λ is clear made there. absurd (true≢false (sym made ∙ t.made)))
+      (λ is made had. absurd (true≢false (sym made ∙ t.made)))
+      (λ is clear made differs. absurd (no_true (t.differs.1 differs)))
+      (λ is clear not_met. omega (arith, ap code_number is))
+      (λ is clear wrong. omega (arith, ap code_number is)),
+)
+clear_least h m before false used' present' false true false t = (
+  unasked refl t.clear t.asked,
+  λ code fault. fault_cases h m before code (8 ≤ code_number code) fault
+      (λ is out. absurd (t.inside out))
+      (λ is clear made there. absurd (true≢false (sym made ∙ t.made)))
+      (λ is made had. absurd (true≢false (sym made ∙ t.made)))
+      (λ is clear made differs. absurd (no_true (t.differs.1 differs)))
+      (λ is clear not_met. absurd (not_met (t.meets.0 refl)))
+      (λ is clear wrong. omega (arith, ap code_number is)),
+)
 clear_least h m before false used' present' false true true t = λ code fault. fault_cases h m before code ⊥ fault
     (λ is out. t.inside out)
     (λ is clear made there. true≢false (sym made ∙ t.made))
@@ -146,17 +173,26 @@ found_cases h m code P (excludes is not_met) a b c = b is not_met
 found_cases h m code P (changes is wrong) a b c = c is wrong
 
 pub found_created : (h : History) (m : Making) → m.created ≡ true → IsLeastFoundFault h m (Some U4)
-found_created h m made = (creates refl made, λ other fault. found_cases h m other (4 ≤ code_number other) fault
-    (λ is made. omega (arith, ap code_number is)) (λ is not_met. omega (arith, ap code_number is)) (λ is wrong. omega (arith, ap code_number is)))
+found_created h m made = (
+  creates refl made,
+  λ other fault. found_cases h m other (4 ≤ code_number other) fault
+      (λ is made. omega (arith, ap code_number is)) (λ is not_met. omega (arith, ap code_number is)) (λ is wrong. omega (arith, ap code_number is)),
+)
 
 pub found_unmet : (h : History) (m : Making) → m.created ≡ false → (AreMet m.event.conditions m.item.revision m.item.uid → ⊥) → IsLeastFoundFault h m (Some U7)
-found_unmet h m found not_met = (excludes refl not_met, λ other fault. found_cases h m other (7 ≤ code_number other) fault
-    (λ is made. absurd (true≢false (sym made ∙ found))) (λ is not_met. omega (arith, ap code_number is)) (λ is wrong. omega (arith, ap code_number is)))
+found_unmet h m found not_met = (
+  excludes refl not_met,
+  λ other fault. found_cases h m other (7 ≤ code_number other) fault
+      (λ is made. absurd (true≢false (sym made ∙ found))) (λ is not_met. omega (arith, ap code_number is)) (λ is wrong. omega (arith, ap code_number is)),
+)
 
 pub found_changed : (h : History) (m : Making) → m.created ≡ false → AreMet m.event.conditions m.item.revision m.item.uid
     → h.body m.number (Some m.item.tree) ≡ false → IsLeastFoundFault h m (Some U8)
-found_changed h m found met wrong = (changes refl wrong, λ other fault. found_cases h m other (8 ≤ code_number other) fault
-    (λ is made. absurd (true≢false (sym made ∙ found))) (λ is not_met. absurd (not_met met)) (λ is wrong. omega (arith, ap code_number is)))
+found_changed h m found met wrong = (
+  changes refl wrong,
+  λ other fault. found_cases h m other (8 ≤ code_number other) fault
+      (λ is made. absurd (true≢false (sym made ∙ found))) (λ is not_met. absurd (not_met met)) (λ is wrong. omega (arith, ap code_number is)),
+)
 
 pub found_there : (h : History) (m : Making) → m.created ≡ false → AreMet m.event.conditions m.item.revision m.item.uid
     → h.body m.number (Some m.item.tree) ≡ true → IsLeastFoundFault h m None

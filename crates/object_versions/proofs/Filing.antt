@@ -54,10 +54,13 @@ filed_in old new key uid number uids new_uids has updates absent inner k u = by 
       where
         one : key ≡ k
         one = (key_decides key k).0 tied
+
         now : get key_order new k ≡ Some new_uids
         now = updates.0 k ∙ cond-true (is_eq (key_order key k)) (Some new_uids) (get key_order old k) (key_ties key k ∙ tied)
+
         before : get key_order old k ≡ Some uids
         before = subst (λ x. get key_order old x ≡ Some uids) one has
+
         inside : (s : Bool) → bytes_eq uid u ≡ s → found_at new k u ≡ or_first (found_at old k u) (if true && s then Some number else None)
         inside false other =
             ap (λ o. uid_in o u) now ∙ inner.0 u ∙ cond-false (is_eq (text_order uid u)) (Some number) (get text_order uids u) (is_eq-slice_cmp uid u ∙ other)
@@ -75,12 +78,14 @@ filed_before old new key uid number uids has updates there k u = kept ∙ by (sa
     kept : found_at new k u ≡ found_at old k u
     kept = ⊎_elim
         (λ tied. ap (λ o. uid_in o u) (updates.0 k ∙ cond-true (is_eq (key_order key k)) (Some uids) (get key_order old k) tied
-          ∙ sym (subst (λ x. get key_order old x ≡ Some uids) (same_key_from key k tied) has)))
+        ∙ sym (subst (λ x. get key_order old x ≡ Some uids) (same_key_from key k tied) has)))
         (λ apart. ap (λ o. uid_in o u) (updates.0 k ∙ cond-false (is_eq (key_order key k)) (Some uids) (get key_order old k) apart))
         (cases_Bool (is_eq (key_order key k)))
+
     some : (found : Option ℕ) (n : Option ℕ) → is_some found ≡ true → found ≡ or_first found n
     some None n is = absurd (true≢false (sym is))
     some (Some m) n is = refl
+
     by : (t : Bool) → same_key key k ≡ t → found_at old k u ≡ or_first (found_at old k u) (if t && bytes_eq uid u then Some number else None)
     by false apart = sym (or_none (found_at old k u))
     by true tied = inside (bytes_eq uid u) refl
@@ -105,8 +110,10 @@ filed_new old new key uid number empty made none updates nothing inner k u = by 
       where
         now : get key_order new k ≡ Some made
         now = updates.0 k ∙ cond-true (is_eq (key_order key k)) (Some made) (get key_order old k) (key_ties key k ∙ tied)
+
         before : found_at old k u ≡ None
         before = ap (λ o. uid_in o u) (subst (λ x. get key_order old x ≡ None) ((key_decides key k).0 tied) none)
+
         inside : (s : Bool) → bytes_eq uid u ≡ s → found_at new k u ≡ or_first (found_at old k u) (if true && s then Some number else None)
         inside false other =
             ap (λ o. uid_in o u) now ∙ inner.0 u ∙ cond-false (is_eq (text_order uid u)) (Some number) (get text_order empty u) (is_eq-slice_cmp uid u ∙ other) ∙ nothing u

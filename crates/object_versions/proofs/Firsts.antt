@@ -13,34 +13,38 @@ use Rattle.std.proofs.lemmas.List.Elements.{Contains-append_cases, Contains-appe
 -- versions of greater revisions don't matter
 pub first_later : (versions more : List past.Version) (v : past.Version) → ((w : past.Version) → Contains more w → v.revision ≤ w.revision)
     → IsFirstWithUid versions v ↔ IsFirstWithUid (versions ++ more) v
-first_later versions more v later =
-    ( (λ first. λ w between w_in w_key w_uid b_in b_key below under. ⊎_elim
-        (λ b_before. ⊎_elim
-          (λ w_before. first w between w_before w_key w_uid b_before b_key below under)
-          (λ w_after. absurd (let up = later w w_after in omega arith))
-          (Contains-append_cases versions more w w_in))
-        (λ b_after. absurd (let up = later between b_after in omega arith))
-        (Contains-append_cases versions more between b_in))
-    , (λ first. λ w between w_in w_key w_uid b_in b_key below under.
-        first w between (Contains-append_left versions more w w_in) w_key w_uid (Contains-append_left versions more between b_in) b_key below under))
+first_later versions more v later = (
+  (λ first. λ w between w_in w_key w_uid b_in b_key below under. ⊎_elim
+      (λ b_before. ⊎_elim
+      (λ w_before. first w between w_before w_key w_uid b_before b_key below under)
+      (λ w_after. absurd (let up = later w w_after in omega arith))
+      (Contains-append_cases versions more w w_in))
+      (λ b_after. absurd (let up = later between b_after in omega arith))
+      (Contains-append_cases versions more between b_in)),
+  (λ first. λ w between w_in w_key w_uid b_in b_key below under.
+      first w between (Contains-append_left versions more w w_in) w_key w_uid (Contains-append_left versions more between b_in) b_key below under),
+)
 
 -- a version that continues its key's latest one
 pub first_continued : (versions : List past.Version) (p v : past.Version) → AllPairs (λ a b. a.revision < b.revision) versions → Contains versions p
     → p.key ≡ v.key → p.uid ≡ v.uid → p.revision < v.revision → ((w : past.Version) → Contains versions w → w.key ≡ v.key → w.revision ≤ p.revision)
     → IsFirstWithUid versions p ↔ IsFirstWithUid (versions ++ v ∷ []) v
-first_continued versions p v rising p_in same_key same_uid below greatest =
-    ( (λ first. λ w between w_in w_key w_uid b_in b_key lower under.
-        let b_before : Contains versions between = among between b_in under in
-        let w_before : Contains versions w = among w w_in (omega arith) in
-        at_or_below first w between w_before w_key w_uid b_before b_key lower (greatest between b_before b_key))
-    , (λ first. λ w between w_in w_key w_uid b_in b_key lower under.
-        first w between (Contains-append_left versions (v ∷ []) w w_in) (w_key ∙ same_key) (w_uid ∙ same_uid)
-          (Contains-append_left versions (v ∷ []) between b_in) (b_key ∙ same_key) lower (omega arith) ∙ sym same_uid))
+first_continued versions p v rising p_in same_key same_uid below greatest = (
+  (λ first. λ w between w_in w_key w_uid b_in b_key lower under.
+      let b_before : Contains versions between = among between b_in under in
+      let w_before : Contains versions w = among w w_in (omega arith) in
+      at_or_below first w between w_before w_key w_uid b_before b_key lower (greatest between b_before b_key)),
+  (λ first. λ w between w_in w_key w_uid b_in b_key lower under.
+      first w between (Contains-append_left versions (v ∷ []) w w_in) (w_key ∙ same_key) (w_uid ∙ same_uid)
+      (Contains-append_left versions (v ∷ []) between b_in) (b_key ∙ same_key) lower (omega arith) ∙ sym same_uid),
+)
   where
     below_or_at : (a b : ℕ) → a ≤ b → (a < b) ⊎ (a ≡ b)
     below_or_at a b upto = ⊎_elim (λ lt. inl lt) (λ ge. inr (omega arith)) (cases_lt a b)
+
     among : (w : past.Version) → Contains (versions ++ v ∷ []) w → w.revision < v.revision → Contains versions w
     among w w_in under = ⊎_elim (λ before. before) (λ is. absurd (let e = ap (λ (x : past.Version). x.revision) is in omega arith)) (Contains-push_cases versions v w w_in)
+
     at_or_below : IsFirstWithUid versions p → (w between : past.Version) → Contains versions w → w.key ≡ v.key → w.uid ≡ v.uid → Contains versions between → between.key ≡ v.key
         → w.revision < between.revision → between.revision ≤ p.revision → between.uid ≡ v.uid
     at_or_below first w between w_in w_key w_uid b_in b_key lower upto = ⊎_elim

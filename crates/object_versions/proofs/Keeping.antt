@@ -90,10 +90,10 @@ pub lasts_more : (versions : List Version) (v : Version) (old new : BTreeMap Obj
     → (key : ObjectKey) → IsLastAt (versions ++ v ∷ []) key (get key_order new key)
 lasts_more versions v old new below lasts updates key = ⊎_elim
     (λ tied. let same : v.key ≡ key = same_key_from v.key key tied in
-      subst (IsLastAt (versions ++ v ∷ []) key) (sym (updates.0 key ∙ cond-true (is_eq (key_order v.key key)) (Some (length versions)) (get key_order old key) tied))
-        (v, get_last versions v, subst (λ k. IsLastOf (versions ++ v ∷ []) k v) same (last_new versions v below)))
+    subst (IsLastAt (versions ++ v ∷ []) key) (sym (updates.0 key ∙ cond-true (is_eq (key_order v.key key)) (Some (length versions)) (get key_order old key) tied))
+    (v, get_last versions v, subst (λ k. IsLastOf (versions ++ v ∷ []) k v) same (last_new versions v below)))
     (λ apart. subst (IsLastAt (versions ++ v ∷ []) key) (sym (updates.0 key ∙ cond-false (is_eq (key_order v.key key)) (Some (length versions)) (get key_order old key) apart))
-        (lasts_kept versions v key (get key_order old key) (λ same. true≢false (sym (tied_at v.key key same) ∙ apart)) (lasts key)))
+    (lasts_kept versions v key (get key_order old key) (λ same. true≢false (sym (tied_at v.key key same) ∙ apart)) (lasts key)))
     (cases_Bool (is_eq (key_order v.key key)))
   where
     tied_at : (a b : ObjectKey) → a ≡ b → is_eq (key_order a b) ≡ true
@@ -110,17 +110,18 @@ set_more {K} order total exact f versions v old new has updates k = (forth, back
     forth yes' = ⊎_elim
         (λ tied. in_any (λ w. f w ≡ k) (versions ++ v ∷ []) v (Contains-push versions v) (exact (f v) k tied))
         (λ apart'. let before = (has k).0 (subst IsTrue (updates.0 k ∙ cond-false (is_eq (order (f v) k)) true (set.contains order old k) apart') yes') in
-          let found = any_in (λ w. f w ≡ k) versions before in
-          in_any (λ w. f w ≡ k) (versions ++ v ∷ []) found.0 (Contains-append_left versions (v ∷ []) found.0 found.1) found.2)
+        let found = any_in (λ w. f w ≡ k) versions before in
+        in_any (λ w. f w ≡ k) (versions ++ v ∷ []) found.0 (Contains-append_left versions (v ∷ []) found.0 found.1) found.2)
         (cases_Bool (is_eq (order (f v) k)))
+
     back : Any (λ w. f w ≡ k) (versions ++ v ∷ []) → IsTrue (set.contains order new k)
     back any = let found = any_in (λ w. f w ≡ k) (versions ++ v ∷ []) any in ⊎_elim
         (λ tied. subst IsTrue (sym (updates.0 k ∙ cond-true (is_eq (order (f v) k)) true (set.contains order old k) tied)) refl)
         (λ apart'. subst IsTrue (sym (updates.0 k ∙ cond-false (is_eq (order (f v) k)) true (set.contains order old k) apart'))
-          (⊎_elim
-            (λ before. (has k).1 (in_any (λ w. f w ≡ k) versions found.0 before found.2))
-            (λ same. absurd (true≢false (sym (subst (λ x. is_eq (order (f v) x) ≡ true) (ap f same ∙ found.2) (tied_self order total (f v))) ∙ apart')))
-            (Contains-push_cases versions v found.0 found.1)))
+        (⊎_elim
+        (λ before. (has k).1 (in_any (λ w. f w ≡ k) versions found.0 before found.2))
+        (λ same. absurd (true≢false (sym (subst (λ x. is_eq (order (f v) x) ≡ true) (ap f same ∙ found.2) (tied_self order total (f v))) ∙ apart')))
+        (Contains-push_cases versions v found.0 found.1)))
         (cases_Bool (is_eq (order (f v) k)))
 
 -- the set, where another version has the same as the one more
@@ -131,6 +132,7 @@ set_same {K} f versions p v Has known same has k = (forth, back)
     forth : Has k → Any (λ w. f w ≡ k) (versions ++ v ∷ [])
     forth held = let found = any_in (λ w. f w ≡ k) versions ((has k).0 held) in
         in_any (λ w. f w ≡ k) (versions ++ v ∷ []) found.0 (Contains-append_left versions (v ∷ []) found.0 found.1) found.2
+
     back : Any (λ w. f w ≡ k) (versions ++ v ∷ []) → Has k
     back any = let found = any_in (λ w. f w ≡ k) (versions ++ v ∷ []) any in ⊎_elim
         (λ before. (has k).1 (in_any (λ w. f w ≡ k) versions found.0 before found.2))
@@ -164,16 +166,17 @@ flagged_more versions firsts v is_first below flagged flag = record {
   all = length-append firsts (is_first ∷ []) ∙ ap (λ n. n + 1) flagged.all ∙ sym (length-append versions (v ∷ []));
   each = λ position w b at_w at_b. ⊎_elim
       (λ before. ⊎_elim
-        (λ flag_before. let old = flagged.each position w b before flag_before in
-          let kept = first_later (map version_of versions) (version_of v ∷ []) (version_of w) (λ x among. later w (at_in versions position w before) x among) in
-          ( (λ t. subst (λ l. IsFirstWithUid l (version_of w)) (sym (map-append version_of versions (v ∷ []))) (kept.0 (old.0 t)))
-          , (λ first. old.1 (kept.1 (subst (λ l. IsFirstWithUid l (version_of w)) (map-append version_of versions (v ∷ [])) first)))))
-        (λ last. absurd (let within = slice_get_within versions position w before in let e = flagged.all in let i = last.0 in omega arith))
-        (get_cases firsts is_first position b at_b))
+      (λ flag_before. let old = flagged.each position w b before flag_before in
+      let kept = first_later (map version_of versions) (version_of v ∷ []) (version_of w) (λ x among. later w (at_in versions position w before) x among) in (
+        (λ t. subst (λ l. IsFirstWithUid l (version_of w)) (sym (map-append version_of versions (v ∷ []))) (kept.0 (old.0 t))),
+        (λ first. old.1 (kept.1 (subst (λ l. IsFirstWithUid l (version_of w)) (map-append version_of versions (v ∷ [])) first))),
+      ))
+      (λ last. absurd (let within = slice_get_within versions position w before in let e = flagged.all in let i = last.0 in omega arith))
+      (get_cases firsts is_first position b at_b))
       (λ last. ⊎_elim
-        (λ flag_before. absurd (let within = slice_get_within firsts position b flag_before in let e = flagged.all in let i = last.0 in omega arith))
-        (λ flag_last. subst (λ x. IsTrue x ↔ IsFirst (versions ++ v ∷ []) w) flag_last.1 (subst (λ x. IsTrue is_first ↔ IsFirst (versions ++ v ∷ []) x) last.1 flag))
-        (get_cases firsts is_first position b at_b))
+      (λ flag_before. absurd (let within = slice_get_within firsts position b flag_before in let e = flagged.all in let i = last.0 in omega arith))
+      (λ flag_last. subst (λ x. IsTrue x ↔ IsFirst (versions ++ v ∷ []) w) flag_last.1 (subst (λ x. IsTrue is_first ↔ IsFirst (versions ++ v ∷ []) x) last.1 flag))
+      (get_cases firsts is_first position b at_b))
       (get_cases versions v position w at_w);
 }
   where
@@ -183,11 +186,11 @@ flagged_more versions firsts v is_first below flagged flag = record {
         (λ none. absurd (not_in_none none))
         (in_cons (version_of v) [] x among)
 
-rising_in : (versions : List Version) → AllPairs (λ a b. a.revision < b.revision) versions → AllPairs (λ a b. a.revision < b.revision) (map version_of versions)
+pub rising_in : (versions : List Version) → AllPairs (λ a b. a.revision < b.revision) versions → AllPairs (λ a b. a.revision < b.revision) (map version_of versions)
 rising_in [] rising = λ i j d l m. absurd (omega arith)
 rising_in (v ∷ versions) rising = pairs_cons (λ a b. a.revision < b.revision) (version_of v) (map version_of versions)
     (all_from (λ b. v.revision < b.revision) (map version_of versions) (λ b among. let from = from_map version_of versions b among in
-      subst (λ (x : past.Version). v.revision < x.revision) from.2 (all_at (λ (w : Version). v.revision < w.revision) versions from.0 (pairs_head (λ a b. a.revision < b.revision) v versions rising) from.1)))
+    subst (λ (x : past.Version). v.revision < x.revision) from.2 (all_at (λ (w : Version). v.revision < w.revision) versions from.0 (pairs_head (λ a b. a.revision < b.revision) v versions rising) from.1)))
     (rising_in versions (pairs_tail (λ a b. a.revision < b.revision) v versions rising))
 
 -- the flag of a version that continues its key's latest one
@@ -195,26 +198,31 @@ continued_flag : (versions : List Version) (p v : Version) (is_first : Bool) →
     → IsLastOf versions v.key p → p.uid ≡ v.uid → (IsTrue is_first ↔ IsFirst versions p) → IsTrue is_first ↔ IsFirst (versions ++ v ∷ []) v
 continued_flag versions p v is_first rising below last same flag =
     let moved = first_continued (map version_of versions) (version_of p) (version_of v) (rising_in versions rising) (in_map version_of versions p last.known) last.of_key same
-      (all_at (λ w. w.revision < v.revision) versions p below last.known)
-      (λ w among of_key. let from = from_map version_of versions w among in
-        subst (λ (x : past.Version). x.revision ≤ p.revision) from.2 (all_at (λ x. x.key ≡ v.key → x.revision ≤ p.revision) versions from.0 last.greatest from.1 (ap (λ (x : past.Version). x.key) from.2 ∙ of_key))) in
-    ( (λ t. subst (λ l. IsFirstWithUid l (version_of v)) (sym (map-append version_of versions (v ∷ []))) (moved.0 (flag.0 t)))
-    , (λ first. flag.1 (moved.1 (subst (λ l. IsFirstWithUid l (version_of v)) (map-append version_of versions (v ∷ [])) first))))
+    (all_at (λ w. w.revision < v.revision) versions p below last.known)
+    (λ w among of_key. let from = from_map version_of versions w among in
+    subst (λ (x : past.Version). x.revision ≤ p.revision) from.2 (all_at (λ x. x.key ≡ v.key → x.revision ≤ p.revision) versions from.0 last.greatest from.1 (ap (λ (x : past.Version). x.key) from.2 ∙ of_key))) in (
+      (λ t. subst (λ l. IsFirstWithUid l (version_of v)) (sym (map-append version_of versions (v ∷ []))) (moved.0 (flag.0 t))),
+      (λ first. flag.1 (moved.1 (subst (λ l. IsFirstWithUid l (version_of v)) (map-append version_of versions (v ∷ [])) first))),
+    )
 
 -- the flag of a version that begins an incarnation
 begun_flag : (versions : List Version) (v : Version) (had : Bool) → AllPairs (λ a b. a.revision < b.revision) versions → All (λ w. w.revision < v.revision) versions
     → ((p : Version) → IsLastOf versions v.key p → p.uid ≢ v.uid) → (at : Option ℕ) → IsLastAt versions v.key at
     → (IsTrue had ↔ Any (λ w. owner_of w ≡ owner_of v) versions) → IsTrue (not had) ↔ IsFirst (versions ++ v ∷ []) v
-begun_flag versions v false rising below other at last owned = ((λ t. subst (λ l. IsFirstWithUid l (version_of v)) (sym (map-append version_of versions (v ∷ [])))
+begun_flag versions v false rising below other at last owned = (
+  (λ t. subst (λ l. IsFirstWithUid l (version_of v)) (sym (map-append version_of versions (v ∷ [])))
       (first_new (map version_of versions) (version_of v)
-        (λ w among. let from = from_map version_of versions w among in
-          subst (λ (x : past.Version). x.revision < v.revision) from.2 (all_at (λ x. x.revision < v.revision) versions from.0 below from.1))
-        (λ w among of_key of_uid. let from = from_map version_of versions w among in
-          no_true (owned.1 (in_any (λ x. owner_of x ≡ owner_of v) versions from.0 from.1
-            (owner_same from.0 v (ap (λ (x : past.Version). x.key) from.2 ∙ of_key) (ap (λ (x : past.Version). x.uid) from.2 ∙ of_uid))))))), λ first. refl)
+      (λ w among. let from = from_map version_of versions w among in
+      subst (λ (x : past.Version). x.revision < v.revision) from.2 (all_at (λ x. x.revision < v.revision) versions from.0 below from.1))
+      (λ w among of_key of_uid. let from = from_map version_of versions w among in
+      no_true (owned.1 (in_any (λ x. owner_of x ≡ owner_of v) versions from.0 from.1
+      (owner_same from.0 v (ap (λ (x : past.Version). x.key) from.2 ∙ of_key) (ap (λ (x : past.Version). x.uid) from.2 ∙ of_uid))))))),
+  λ first. refl,
+)
   where
     owner : ObjectKey → List ℕ → Owner
     owner key uid = record { key = key; uid = uid }
+
     owner_same : (a b : Version) → a.key ≡ b.key → a.uid ≡ b.uid → owner_of a ≡ owner_of b
     owner_same a b key uid = λ i. owner (key i) (uid i)
 begun_flag versions v true rising below other None none owned =
@@ -223,12 +231,14 @@ begun_flag versions v true rising below other None none owned =
 begun_flag versions v true rising below other (Some position) last owned =
     let found = any_in (λ w. owner_of w ≡ owner_of v) versions (owned.0 refl) in
     let p = last.0 in
-    let key_is : found.0.key ≡ v.key = ap (λ (o : Owner). o.key) found.2 in
-    ((λ t. absurd (no_true t)), λ first. absurd (not_first (map version_of versions) (version_of p) (version_of v) (version_of found.0) (rising_in versions rising)
-      (in_map version_of versions p last.2.known) last.2.of_key (other p last.2) (all_at (λ w. w.revision < v.revision) versions p below last.2.known)
-      (in_map version_of versions found.0 found.1) key_is (ap (λ (o : Owner). o.uid) found.2)
-      (all_at (λ x. x.key ≡ v.key → x.revision ≤ p.revision) versions found.0 last.2.greatest found.1 key_is)
-      (subst (λ l. IsFirstWithUid l (version_of v)) (map-append version_of versions (v ∷ [])) first)))
+    let key_is : found.0.key ≡ v.key = ap (λ (o : Owner). o.key) found.2 in (
+      (λ t. absurd (no_true t)),
+      λ first. absurd (not_first (map version_of versions) (version_of p) (version_of v) (version_of found.0) (rising_in versions rising)
+          (in_map version_of versions p last.2.known) last.2.of_key (other p last.2) (all_at (λ w. w.revision < v.revision) versions p below last.2.known)
+          (in_map version_of versions found.0 found.1) key_is (ap (λ (o : Owner). o.uid) found.2)
+          (all_at (λ x. x.key ≡ v.key → x.revision ≤ p.revision) versions found.0 last.2.greatest found.1 key_is)
+          (subst (λ l. IsFirstWithUid l (version_of v)) (map-append version_of versions (v ∷ [])) first)),
+    )
 
 -- how the owners and the flag come of the key's latest version
 pub data IsOwned (versions : List Version) (v : Version) (owners new : set.BTreeSet Owner) (is_first : Bool) : Type 0 where
@@ -252,12 +262,14 @@ kept_more versions firsts last new_last owners new_owners uids new_uids v is_fir
     flag (continued p at same first is) = continued_flag versions p v is_first kept.rising below at same first
     flag (begun other is updates) = subst (λ b. IsTrue b ↔ IsFirst (versions ++ v ∷ []) v) (sym is)
         (begun_flag versions v (set.contains owner_order owners (owner_of v)) kept.rising below other (get key_order last v.key) (kept.last_of v.key) (kept.owned (owner_of v)))
+
     owners_of : IsOwned versions v owners new_owners is_first → (owner : Owner) → IsTrue (set.contains owner_order new_owners owner) ↔ Any (λ w. owner_of w ≡ owner) (versions ++ v ∷ [])
     owners_of (continued p at same first is) = λ owner. subst (λ o. IsTrue (set.contains owner_order o owner) ↔ Any (λ w. owner_of w ≡ owner) (versions ++ v ∷ [])) (sym is)
         (set_same owner_of versions p v (λ k. IsTrue (set.contains owner_order owners k)) at.known (owner_same p v at.of_key same) kept.owned owner)
       where
         owner_at : ObjectKey → List ℕ → Owner
         owner_at key uid = record { key = key; uid = uid }
+
         owner_same : (a b : Version) → a.key ≡ b.key → a.uid ≡ b.uid → owner_of a ≡ owner_of b
         owner_same a b key uid = λ i. owner_at (key i) (uid i)
     owners_of (begun other is updates) = set_more owner_order owner_total owner_exact owner_of versions v owners new_owners kept.owned updates
@@ -294,4 +306,4 @@ latest_flagged versions firsts last owners uids key position kept found none =
 pub last_same : (versions : List Version) (key : ObjectKey) (a b : Version) → AllPairs (λ x y. x.revision < y.revision) versions → IsLastOf versions key a → IsLastOf versions key b → a ≡ b
 last_same versions key a b rising x y = apart (λ (v : Version). v.revision) versions a b rising x.known y.known
     (let up = all_at (λ w. w.key ≡ key → w.revision ≤ a.revision) versions b x.greatest y.known y.of_key in
-     let down = all_at (λ w. w.key ≡ key → w.revision ≤ b.revision) versions a y.greatest x.known x.of_key in omega arith)
+    let down = all_at (λ w. w.key ≡ key → w.revision ≤ b.revision) versions a y.greatest x.known x.of_key in omega arith)

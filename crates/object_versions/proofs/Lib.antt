@@ -4,10 +4,13 @@ pub mod Ending
 pub mod Entries
 pub mod Faulting
 pub mod Filing
+pub mod Finding
 pub mod Firsts
 pub mod Growth
 pub mod Keeping
 pub mod Mapped
 pub mod Numbered
 pub mod Removing
+pub mod Sorting
 pub mod Telling
+pub mod Writing

@@ -1,10 +1,14 @@
 -- A number has one write.
-use Rattle.std.proofs.Common.{◌≡◌, ℕ, Bool, List, Option, Some, None, map, option_map, option_and_then, slice_get, refl, sym, ap, ◌∙◌, subst}
-use Rattle.std.proofs.lemmas.Option.{same_Some, slice_get-map}
+use Rattle.std.proofs.Common.{◌≡◌, ℕ, Bool, true, false, ◌<◌, length, List, Option, Some, None, map, option_map, option_and_then, slice_get, refl, sym, ap, ◌∙◌, subst}
+use Rattle.std.specs.Prelude.{IsSome}
+use Rattle.std.proofs.lemmas.Option.{same_Some, slice_get-map, slice_get_within}
 use Rattle.history_model.specs.Events as event
 use Rattle.history_model.specs.Groups.{Making, IsMaking}
 use Rattle.history_model.specs.Histories.{History, IsEvent}
-use Rattle.write_groups.specs.Modelled.{HasEvents, answer_of, event_of}
+use Rattle.write_groups.proofs.Belonging.{IsFound, item_from}
+use Rattle.write_groups.specs.Grouped.{item_at, made_item}
+use Rattle.write_groups.specs.Modelled.{HasEvents, answer_of, event_of, item_of}
+use Rattle.write_groups.specs.declared.event.Item as logged
 use Rattle.write_groups.specs.declared.event.LogEvent.{LogEvent}
 use Rattle.write_groups.specs.declared.event.Shown.{Shown}
 use Rattle.write_groups.specs.declared.event.Shown.TheVariants.{Made, Removed, Opaque, Saw, SawNone, SawSome, SawOther, Listed, Free, Aside}
@@ -15,6 +19,7 @@ making_is h events number m all at = go (slice_get events number) refl at
   where
     known : (e : LogEvent) → slice_get events number ≡ Some e → IsEvent h number (event_of e)
     known e here = subst (λ es. slice_get es number ≡ Some (event_of e)) (sym all) (slice_get-map event_of events number ∙ ap (option_map event_of) here)
+
     of : (e : LogEvent) → slice_get events number ≡ Some e → (shown : Shown) → e.answer ≡ shown → making_in number e shown ≡ Some m → IsMaking h m × (m.number ≡ number)
     of e here (Made item created) is made = subst (λ x. IsMaking h x × (x.number ≡ number)) (same_Some _ m made)
         (record { known = known e here; made = ap answer_of is }, refl)
@@ -27,11 +32,12 @@ making_is h events number m all at = go (slice_get events number) refl at
     of e here (Listed listing) is made = absurd (cc made)
     of e here Free is made = absurd (cc made)
     of e here Aside is made = absurd (cc made)
+
     go : (found : Option LogEvent) → slice_get events number ≡ found → option_and_then (λ e. making_in number e e.answer) found ≡ Some m → IsMaking h m × (m.number ≡ number)
     go None here made = absurd (cc made)
     go (Some e) here made = of e here e.answer refl made
 
-item_in : event.Answer → event.Item → event.Item
+abbrev item_in : event.Answer → event.Item → event.Item
 item_in (event.Made item created) other = item
 item_in (event.Removed key uid) other = other
 item_in (event.Opaque cover) other = other
@@ -43,7 +49,7 @@ item_in (event.Listed listing) other = other
 item_in event.Free other = other
 item_in event.Aside other = other
 
-created_in : event.Answer → Bool → Bool
+abbrev created_in : event.Answer → Bool → Bool
 created_in (event.Made item created) other = created
 created_in (event.Removed key uid) other = other
 created_in (event.Opaque cover) other = other
@@ -55,7 +61,7 @@ created_in (event.Listed listing) other = other
 created_in event.Free other = other
 created_in event.Aside other = other
 
-making_of : ℕ → event.Event → event.Item → Bool → Making
+abbrev making_of : ℕ → event.Event → event.Item → Bool → Making
 making_of number e item created = record { number = number; event = e; item = item; created = created }
 
 pub making_once : (h : History) (a b : Making) → IsMaking h a → IsMaking h b → a.number ≡ b.number → a ≡ b
@@ -65,3 +71,45 @@ making_once h a b x y same =
     let items : a.item ≡ b.item = ap (λ answer. item_in answer a.item) answers in
     let created : a.created ≡ b.created = ap (λ answer. created_in answer a.created) answers in
     λ i. making_of (same i) (events i) (items i) (created i)
+
+-- a write is what its number says
+pub number_is : (events : List LogEvent) (number : ℕ) (m : Making) → making_at events number ≡ Some m → m.number ≡ number
+number_is events number m at = go (slice_get events number) at
+  where
+    of : (e : LogEvent) (shown : Shown) → making_in number e shown ≡ Some m → m.number ≡ number
+    of e (Made item created) made = sym (ap (λ (x : Making). x.number) (same_Some _ m made))
+    of e (Removed key uid) made = absurd (cc made)
+    of e (Opaque cover) made = absurd (cc made)
+    of e (Saw item) made = absurd (cc made)
+    of e (SawNone key) made = absurd (cc made)
+    of e (SawSome key) made = absurd (cc made)
+    of e (SawOther key) made = absurd (cc made)
+    of e (Listed listing) made = absurd (cc made)
+    of e Free made = absurd (cc made)
+    of e Aside made = absurd (cc made)
+
+    go : (found : Option LogEvent) → option_and_then (λ e. making_in number e e.answer) found ≡ Some m → m.number ≡ number
+    go None made = absurd (cc made)
+    go (Some e) made = of e e.answer made
+
+-- a write of the history is found at its number
+pub making_from : (h : History) (events : List LogEvent) (m : Making) → HasEvents events h → IsMaking h m → making_at events m.number ≡ Some m
+making_from h events m all making = go (item_from events h m all making)
+  where
+    go : IsFound events m → making_at events m.number ≡ Some m
+    go found = ap (option_and_then (λ e. making_in m.number e e.answer)) found.at
+        ∙ ap (making_in m.number found.logged) found.shown
+        ∙ ap Some (λ i. making_of m.number (found.is i) (found.of_item i) m.created)
+
+-- an event that is a write
+pub write_within : (events : List LogEvent) (number : ℕ) → IsSome (item_at events number) → number < length events
+write_within events number some = go (slice_get events number) refl some
+  where
+    go : (found : Option LogEvent) → slice_get events number ≡ found → IsSome (option_and_then made_item found) → number < length events
+    go None at some = absurd (cc some)
+    go (Some e) at some = slice_get_within events number e at
+
+-- the write at a number whose event has this answer
+pub making_there : (events : List LogEvent) (number : ℕ) (e : LogEvent) (item : logged.Item) (created : Bool) → slice_get events number ≡ Some e → e.answer ≡ Made item created
+    → making_at events number ≡ Some (record { number = number; event = event_of e; item = item_of item; created = created })
+making_there events number e item created at is = ap (option_and_then (λ x. making_in number x x.answer)) at ∙ ap (making_in number e) is

@@ -30,7 +30,7 @@ abbrev pub Precedes : past.History → ℕ → ℕ → Type 0
 Precedes h a b = (x y : event.Event) → past.IsEvent h a x → past.IsEvent h b y → IsJudgedBefore x y
 
 -- two of a list are one, or one of them comes before the other
-in_turn : {X : Type 0} (R : X → X → Type 0) (xs : List X) (a b : X) → AllPairs R xs → Contains xs a → Contains xs b → (a ≡ b) ⊎ (R a b ⊎ R b a)
+pub in_turn : {X : Type 0} (R : X → X → Type 0) (xs : List X) (a b : X) → AllPairs R xs → Contains xs a → Contains xs b → (a ≡ b) ⊎ (R a b ⊎ R b a)
 in_turn R [] a b pairs x y = absurd (not_in_none x)
 in_turn {X} R (z ∷ zs) a b pairs x y = go (in_turn R zs a b (pairs_tail R z zs pairs)) (in_cons z zs a x) (in_cons z zs b y)
   where
@@ -64,6 +64,7 @@ found_by h (n ∷ numbers) test pairs = by (test n) refl (found_by h numbers tes
       where
         not_n : (k : ℕ) → n ≡ k → test k ≡ true → ⊥
         not_n k same passes = true≢false (sym passes ∙ sym (ap test same) ∙ is)
+
         go : (found : Option ℕ) → IsFoundBy h numbers test found → IsFoundBy h (n ∷ numbers) test found
         go None none = λ k among passes. ⊎_elim (λ same. not_n k same passes) (λ later. none k later passes) (in_cons n numbers k among)
         go (Some m) found = record {
@@ -80,13 +81,18 @@ gone_tells h events key uid n all passes = go (slice_get events n) refl passes
     of : (e : LogEvent) → slice_get events n ≡ Some e → (shown : Shown) → e.answer ≡ shown → is_gone key uid (gone_in shown) ≡ true
         → (x : LogEvent) × (slice_get events n ≡ Some x) × past.IsEvent h n (event_of x) × IsRemovalOf key uid (event_of x)
     of e at (Made item created) is passes = absurd (true≢false (sym passes))
-    of e at (Removed k u) is passes = (e, at, subst (λ es. slice_get es n ≡ Some (event_of e)) (sym all) (slice_get-map event_of events n ∙ ap (option_map event_of) at),
-        ap answer_of is ∙ removed_as (both_keys (same_key k key) (bytes_eq u uid) passes))
+    of e at (Removed k u) is passes = (
+      e,
+      at,
+      subst (λ es. slice_get es n ≡ Some (event_of e)) (sym all) (slice_get-map event_of events n ∙ ap (option_map event_of) at),
+      ap answer_of is ∙ removed_as (both_keys (same_key k key) (bytes_eq u uid) passes),
+    )
       where
         both_keys : (a b : Bool) → (a && b) ≡ true → (a ≡ true) × (b ≡ true)
         both_keys true true is = (refl, refl)
         both_keys true false is = absurd (true≢false (sym is))
         both_keys false b is = absurd (true≢false (sym is))
+
         removed_as : (same_key k key ≡ true) × (bytes_eq u uid ≡ true) → event.Removed k u ≡ event.Removed key uid
         removed_as tests = λ i. event.Removed (key_of i) ((bytes_decides u uid).0 tests.1 i)
           where
@@ -100,6 +106,7 @@ gone_tells h events key uid n all passes = go (slice_get events n) refl passes
     of e at (Listed listing) is passes = absurd (true≢false (sym passes))
     of e at Free is passes = absurd (true≢false (sym passes))
     of e at Aside is passes = absurd (true≢false (sym passes))
+
     go : (found : Option LogEvent) → slice_get events n ≡ found → is_gone key uid (option_and_then (λ e. gone_in e.answer) found) ≡ true
         → (x : LogEvent) × (slice_get events n ≡ Some x) × past.IsEvent h n (event_of x) × IsRemovalOf key uid (event_of x)
     go None at passes = absurd (true≢false (sym passes))
@@ -124,6 +131,7 @@ tells_gone h events key uid n x all known removal = go (slice_get events n) refl
         key_of (event.Listed listing) = key
         key_of event.Free = key
         key_of event.Aside = key
+
         uid_of : event.Answer → List ℕ
         uid_of (event.Made item created) = uid
         uid_of (event.Removed k u) = u
@@ -135,10 +143,13 @@ tells_gone h events key uid n x all known removal = go (slice_get events n) refl
         uid_of (event.Listed listing) = uid
         uid_of event.Free = uid
         uid_of event.Aside = uid
+
         key_in : (k : ObjectKey) (u : List ℕ) → event.Removed k u ≡ event.Removed key uid → k ≡ key
         key_in k u is = ap key_of is
+
         uid_in : (k : ObjectKey) (u : List ℕ) → event.Removed k u ≡ event.Removed key uid → u ≡ uid
         uid_in k u is = ap uid_of is
+
         both : k ≡ key → u ≡ uid → is_gone key uid (Some (k, u)) ≡ true
         both p q = rw ((key_decides k key).1 p, (bytes_decides u uid).1 q) refl
     of (Opaque cover) is = absurd (cc is)
@@ -149,6 +160,7 @@ tells_gone h events key uid n x all known removal = go (slice_get events n) refl
     of (Listed listing) is = absurd (cc is)
     of Free is = absurd (cc is)
     of Aside is = absurd (cc is)
+
     go : (found : Option LogEvent) → slice_get events n ≡ found → slice_get (map event_of events) n ≡ Some x → is_gone key uid (option_and_then (λ e. gone_in e.answer) found) ≡ true
     go None at here' = absurd (cc (sym (slice_get-map event_of events n ∙ ap (option_map event_of) at) ∙ here'))
     go (Some e) at here' = of e.answer (ap (λ (y : event.Event). y.answer) (same_Some (event_of e) x (sym (slice_get-map event_of events n ∙ ap (option_map event_of) at) ∙ here')) ∙ removal)
@@ -158,7 +170,7 @@ pub none_removed : (h : past.History) (events : List LogEvent) (key : ObjectKey)
     → first_removal events h.order key uid ≡ None → past.IsEvent h n x → IsRemovalOf key uid x → ⊥
 none_removed h events key uid n x all order none known removal =
     subst (IsFoundBy h h.order (λ k. is_gone key uid (gone_at events k))) none (found_by h h.order (λ k. is_gone key uid (gone_at events k)) order.sorted)
-      n (order.full n (slice_get_within h.events n x known)) (tells_gone h events key uid n x all known removal)
+    n (order.full n (slice_get_within h.events n x known)) (tells_gone h events key uid n x all known removal)
 
 abbrev pub IsOnlyFirst : past.History → List LogEvent → ObjectKey → List ℕ → ℕ → Type 0
 IsOnlyFirst h events key uid n = (e : LogEvent) × (slice_get events n ≡ Some e) × IsFirst h (IsRemovalOf key uid) n (event_of e)
@@ -167,28 +179,31 @@ IsOnlyFirst h events key uid n = (e : LogEvent) × (slice_get events n ≡ Some 
 first_from : (h : past.History) (events : List LogEvent) (key : ObjectKey) (uid : List ℕ) (n : ℕ) (e : LogEvent) → HasEvents events h → IsOrder h
     → IsFirstOf h h.order (λ k. is_gone key uid (gone_at events k)) n → slice_get events n ≡ Some e → past.IsEvent h n (event_of e) → IsRemovalOf key uid (event_of e)
     → IsOnlyFirst h events key uid n
-first_from h events key uid n e all order found at known holds = (e, at,
-    record {
-      known = known;
-      holds = holds;
-      none_before = λ k other other_known other_holds before. ⊎_elim
-          (λ same. let one : other ≡ event_of e = same_Some other (event_of e) (sym other_known ∙ ap (slice_get h.events) same ∙ known) in
-            let twice : IsJudgedBefore (event_of e) (event_of e) = subst (λ x. IsJudgedBefore x (event_of e)) one before in
-            judged_once (event_of e) (event_of e) twice twice)
-          (λ later. judged_once other (event_of e) before (later (event_of e) other known other_known))
-          (found.first k (order.full k (slice_get_within h.events k other other_known)) (tells_gone h events key uid k other all other_known other_holds));
-    },
-    λ m x first. ⊎_elim
-        (λ same. (same, same_Some x (event_of e) (sym first.known ∙ ap (slice_get h.events) same ∙ known)))
-        (λ later. absurd (first.none_before n (event_of e) known holds (later (event_of e) x known first.known)))
-        (found.first m (order.full m (slice_get_within h.events m x first.known)) (tells_gone h events key uid m x all first.known first.holds)))
+first_from h events key uid n e all order found at known holds = (
+  e,
+  at,
+  record {
+    known = known;
+    holds = holds;
+    none_before = λ k other other_known other_holds before. ⊎_elim
+        (λ same. let one : other ≡ event_of e = same_Some other (event_of e) (sym other_known ∙ ap (slice_get h.events) same ∙ known) in
+        let twice : IsJudgedBefore (event_of e) (event_of e) = subst (λ x. IsJudgedBefore x (event_of e)) one before in
+        judged_once (event_of e) (event_of e) twice twice)
+        (λ later. judged_once other (event_of e) before (later (event_of e) other known other_known))
+        (found.first k (order.full k (slice_get_within h.events k other other_known)) (tells_gone h events key uid k other all other_known other_holds));
+  },
+  λ m x first. ⊎_elim
+      (λ same. (same, same_Some x (event_of e) (sym first.known ∙ ap (slice_get h.events) same ∙ known)))
+      (λ later. absurd (first.none_before n (event_of e) known holds (later (event_of e) x known first.known)))
+      (found.first m (order.full m (slice_get_within h.events m x first.known)) (tells_gone h events key uid m x all first.known first.holds)),
+)
 
 -- the first removal is the first of the model, and the only one that is
 pub first_is : (h : past.History) (events : List LogEvent) (key : ObjectKey) (uid : List ℕ) (n : ℕ) → HasEvents events h → IsOrder h
     → first_removal events h.order key uid ≡ Some n → IsOnlyFirst h events key uid n
 first_is h events key uid n all order is =
     let found : IsFirstOf h h.order (λ k. is_gone key uid (gone_at events k)) n = subst (IsFoundBy h h.order (λ k. is_gone key uid (gone_at events k))) is
-          (found_by h h.order (λ k. is_gone key uid (gone_at events k)) order.sorted) in
+    (found_by h h.order (λ k. is_gone key uid (gone_at events k)) order.sorted) in
     let told = gone_tells h events key uid n all found.passes in
     first_from h events key uid n told.0 all order found told.1 told.2 told.3
 

@@ -69,19 +69,19 @@ pub clear_is_least : (h : past.History) (body : ℕ → Option ℕ → Bool) (nu
     → IsClear h (record { number = number; event = event_of event; item = item_of item; created = created })
     → (IsTrue is_used ↔ IsUsedUid h (record { number = number; event = event_of event; item = item_of item; created = created }))
     → IsLeastFault h (record { number = number; event = event_of event; item = item_of item; created = created }) (option_map version_of before)
-      (clear_code body number event item created is_used before)
+    (clear_code body number event item created is_used before)
 clear_is_least h body number event item created is_used before bodies inside clear used =
     clear_least h m (option_map version_of before) created is_used (is_some before) (is_other item before) (meets event.preconditions before) (body number (node_of before))
-      (record {
-        inside = inside;
-        clear = clear;
-        made = refl;
-        had = used;
-        there = some_told before;
-        differs = other_told m item before refl;
-        meets = meets_told event.preconditions before;
-        asked = ap (λ f. f number (tree_of (option_map version_of before))) bodies ∙ ap (body number) (node_is before);
-      })
+    (record {
+      inside = inside;
+      clear = clear;
+      made = refl;
+      had = used;
+      there = some_told before;
+      differs = other_told m item before refl;
+      meets = meets_told event.preconditions before;
+      asked = ap (λ f. f number (tree_of (option_map version_of before))) bodies ∙ ap (body number) (node_is before);
+    })
   where
     m : model.Making
     m = record { number = number; event = event_of event; item = item_of item; created = created }

@@ -23,7 +23,7 @@ revision_of after = option_map (λ v. v.revision) after
 abbrev pub IsFoundAfter : timed_history.History → List LogEvent → BTreeMap ObjectKey (BTreeMap (List ℕ) ℕ) → Version → Bool → Option Version → Option Removal → Type 0
 IsFoundAfter windows events removed v is_first after (Some removal) = IsEnd v after
     × ((h : past.History) → HasLog windows events removed h → (IsTrue is_first ↔ IsFirstWithUid h.versions (version_of v))
-      → IsRemovalBehind h (version_of v) (revision_of after) (recorded removal))
+    → IsRemovalBehind h (version_of v) (revision_of after) (recorded removal))
 IsFoundAfter windows events removed v is_first after None = IsEnd v after → (h : past.History) → HasLog windows events removed h
     → (IsTrue is_first ↔ IsFirstWithUid h.versions (version_of v)) → (removal : past.Removal) → IsRemovalBehind h (version_of v) (revision_of after) removal → ⊥
 

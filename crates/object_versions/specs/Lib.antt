@@ -1,6 +1,7 @@
 pub mod Chosen
 pub mod Ended
 pub mod Faults
+pub mod Found
 pub mod Growing
 pub mod Hidden
 pub mod Modelled

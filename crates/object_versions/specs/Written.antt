@@ -50,6 +50,7 @@ pub record IsOfLog (log : Log) (body : ℕ → Option ℕ → Bool) (h : past.Hi
 
 -- the history's versions below the revision are these
 pub record Extends (h : past.History) (done : List Version) (revision : ℕ) : Type 0 where
+  pub positive : 0 < revision
   pub later : List past.Version
   pub whole : h.versions ≡ map version_of done ++ later
   pub rising : AllPairs (λ a b. a.revision < b.revision) h.versions
@@ -70,16 +71,6 @@ AreJudged h events members judged = AllZip (IsJudgedAt h events) members judged
 
 abbrev pub IsAnsweredAt : List LogEvent → ℕ → ℕ → Type 0
 IsAnsweredAt events revision number = (m : Making) × (making_at events number ≡ Some m) × (m.item.revision ≡ revision)
-
--- the version of the group's revision
-pub record IsVersionOf (h : past.History) (group : Group) (v : Version) : Type 0 where
-  pub of_key : v.key ≡ group.key
-  pub of_revision : v.revision ≡ group.revision
-  pub made : IsMadeVersion h (version_of v)
-
-abbrev pub IsVersionIn : past.History → Group → Option Version → Type 0
-IsVersionIn h group None = ⊥
-IsVersionIn h group (Some v) = IsVersionOf h group v
 
 -- a group of the history whose writes are judged
 pub record IsOfGroup (log : Log) (group : Group) (judged : List Judged) (h : past.History) : Type 0 where
@@ -102,7 +93,3 @@ AreSlots slots versions = (key : ObjectKey) (revision : ℕ)
 pub record IsSnapshot (start : ℕ) (snapshot : List Item) : Type 0 where
   pub apart : AllPairs (λ a b. a.revision ≢ b.revision) snapshot
   pub below : All (λ item. item.revision ≤ start) snapshot
-
--- there is at least one number, and each is that of a write
-abbrev pub AreWrites : List LogEvent → List ℕ → Type 0
-AreWrites events numbers = (numbers ≢ []) × All (λ number. (m : Making) × (making_at events number ≡ Some m)) numbers

@@ -9,6 +9,11 @@ pub trait Bodies {
     ghost body: { Self → ℕ → Option ℕ → Bool };
 
     /// Whether the answer of the event of this number is what its body asked of the tree, or of no object.
-    fn is_right(&self, alloc: Global, event: u32, before: Option<NodeId>) -> Result<bool, OutOfMemory>
+    fn is_right(
+        &self,
+        alloc: Global,
+        event: u32,
+        before: Option<NodeId>,
+    ) -> Result<bool, OutOfMemory>
         ensures { IfOk result (λ right. right ≡ body self.now event (option_map (λ node. node.0) before)) };
 }

@@ -4,8 +4,8 @@ ghost use Rattle.object_versions.specs.Growing.{AreFlagged, IsContinued, IsLates
 ghost use Rattle.object_versions.specs.Owners.{owner_order, owner_of};
 
 use crate::owner::Owner;
-use object_past::{Version, Versions};
 use base_types::{ObjectKey, OutOfMemory, Text};
+use object_past::{Version, Versions};
 use std::alloc::Global;
 use std::collections::{BTreeMap, BTreeSet};
 use std::marker::Model;

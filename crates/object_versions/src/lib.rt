@@ -4,6 +4,7 @@
 mod bodies;
 mod grown;
 mod hiding;
+mod log_past;
 mod maker;
 mod making;
 mod owner;
@@ -14,9 +15,13 @@ mod versions;
 
 pub use bodies::Bodies;
 pub use hiding::{clouds_of, slots_of};
+pub use log_past::{LogPast, past_of};
 pub use maker::Judged;
 pub use making::{Making, finding_fault, making_fault};
 pub use removal::range_behind;
 pub use removals::removals_of;
 pub use removed::{Removed, first_removals};
 pub use versions::{Log, Written, write_versions};
+
+#[cfg(test)]
+mod tests;

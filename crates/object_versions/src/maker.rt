@@ -1,8 +1,8 @@
 ghost use Rattle.std.specs.Prelude.{◌≡◌, IfOk, IfSome};
-ghost use Rattle.object_versions.specs.Chosen.{first_maker, first_able, maker_among};
+ghost use Rattle.object_versions.specs.Chosen.{first_maker, first_able, maker_among, shown_by};
 
-use object_past::Maker;
 use base_types::Reason;
+use object_past::Maker;
 
 /// Why a write of a group could not have made its revision, and why it could not have found it.
 #[derive(Clone, Copy, Debug)]
@@ -44,4 +44,14 @@ pub fn maker_among(judged: &[Judged], first: u32, may_be_unrecorded: bool) -> Ma
         return Maker::Unknown;
     }
     Maker::Event(first)
+}
+
+/// The write whose answer shows the version that the maker left, `first` being the group's first write.
+pub fn shown_by(maker: Maker, first: u32) -> u32
+    ensures { result ≡ shown_by first maker }
+{
+    match maker {
+        Maker::Event(number) => number,
+        Maker::Snapshot | Maker::Unknown => first,
+    }
 }

@@ -8,10 +8,10 @@ ghost use Rattle.object_versions.specs.Modelled.{making_of};
 ghost use Rattle.object_versions.specs.Surrounded.{IsJudgedBy};
 
 use crate::bodies::Bodies;
-use object_past::Version;
 use base_types::{OutOfMemory, Reason, Revision, Text};
 use clouds::Clouds;
 use node_pool::NodeId;
+use object_past::Version;
 use std::alloc::Global;
 use time_windows::Windows;
 use write_groups::{Item, LogEvent, Preconditions, highest, lowest};

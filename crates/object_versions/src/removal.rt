@@ -9,8 +9,8 @@ ghost use Rattle.object_versions.specs.Removals.{AreFirstRemovals};
 ghost use Rattle.object_versions.specs.Surrounded.{HasLog};
 
 use crate::removed::{Removed, first_removal};
-use object_past::Version;
 use base_types::{Range, Revision};
+use object_past::Version;
 use time_windows::Windows;
 use write_groups::{LogEvent, highest, lowest};
 

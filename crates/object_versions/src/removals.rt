@@ -1,4 +1,4 @@
-ghost use Rattle.std.specs.Prelude.{◌≡◌, ◌<◌, IfOk, AllPairs, map, option_map};
+ghost use Rattle.std.specs.Prelude.{◌≡◌, ◌<◌, IfOk, AllPairs, map, option_and_then, option_map, slice_get};
 ghost use Rattle.std.specs.List.Sorted.{IsPermutation};
 ghost use Rattle.history_model.specs.Histories.{History};
 ghost use Rattle.history_model.specs.Incarnations.{AreRemovals};
@@ -9,9 +9,9 @@ ghost use Rattle.object_past.specs.Modelled.{version_of};
 ghost use Rattle.object_versions.specs.Surrounded.{HasLog};
 
 use crate::removal::range_behind;
-use object_past::{Removal, Removals, Version};
 use crate::versions::Log;
 use base_types::{ObjectKey, OutOfMemory};
+use object_past::{Removal, Removals, Version};
 use std::alloc::Global;
 use std::collections::BTreeMap;
 
@@ -52,6 +52,12 @@ fn removal_after(
     }))
 }
 
+fn version_at(versions: &[Version], position: Option<usize>) -> Option<&Version>
+    ensures { option_map (λ v. v.now) result ≡ option_and_then (slice_get versions.now) position }
+{
+    versions.get(position?)
+}
+
 // The removals of all versions, from the latest version on.
 fn find_removals(
     alloc: Global,
@@ -68,10 +74,7 @@ fn find_removals(
     let mut removals = Vec::new(alloc);
     for i in (0..versions.len()).rev() {
         let version = &versions[i];
-        let after = match next.insert(version.key.clone()?, i)? {
-            Some(position) => versions.get(position),
-            None => None,
-        };
+        let after = version_at(versions, next.insert(version.key.clone()?, i)?);
         if let Some(removal) = removal_after(log, version, firsts[i], after)? {
             removals.push(removal)?;
         }

@@ -1,27 +1,29 @@
-ghost use Rattle.std.specs.Prelude.{◌≡◌, ◌≢◌, ◌<◌, ℕ, List, IfOk, All, AllPairs, map, option_map};
+ghost use Rattle.std.specs.Prelude.{◌≡◌, ◌≢◌, ◌<◌, ℕ, List, IfOk, IsSome, All, AllPairs, Some, length, map, option_map};
 ghost use Rattle.std.specs.List.Sorted.{IsPermutation};
 ghost use Rattle.history_model.specs.Histories.{History};
-ghost use Rattle.history_model.specs.Makers.{AreVersions};
+ghost use Rattle.history_model.specs.Makers.{AreVersions, IsMadeVersion};
 ghost use Rattle.history_model.specs.Making.{IsEntryBefore};
+ghost use Rattle.write_groups.specs.Grouped.{item_at, AreWrites};
 ghost use Rattle.write_groups.specs.Members.{AreGroupsOf};
 ghost use Rattle.write_groups.specs.Modelled.{item_of};
+ghost use Rattle.object_past.specs.Modelled.{version_of};
+ghost use Rattle.object_past.specs.declared.version.Version.{Version};
+ghost use Rattle.object_versions.specs.Chosen.{first_write, shown_by};
 ghost use Rattle.object_versions.specs.Growing.{AreFlagged, IsLatestIn};
 ghost use Rattle.object_versions.specs.Hidden.{slots_of};
-ghost use Rattle.object_past.specs.Modelled.{version_of};
 ghost use Rattle.object_versions.specs.Modelled.{making_of};
 ghost use Rattle.object_versions.specs.Surrounded.{HasLog};
-ghost use Rattle.object_past.specs.declared.version.Version.{Version};
-ghost use Rattle.object_versions.specs.Written.{making_at, snapshot_version, IsOfLog, Extends, IsAnsweredAt, IsJudgement, AreJudged, AreAllJudged, AreSlots, IsOfGroup, IsSnapshot, IsVersionIn, AreWrites};
+ghost use Rattle.object_versions.specs.Written.{making_at, snapshot_version, IsOfLog, Extends, IsAnsweredAt, IsJudgement, AreJudged, AreAllJudged, AreSlots, IsOfGroup, IsSnapshot};
 
 use crate::bodies::Bodies;
 use crate::grown::{Grown, Latest};
-use crate::maker::{Judged, maker_among};
+use crate::maker::{Judged, maker_among, shown_by};
 use crate::making::{Making, finding_fault, making_fault};
 use crate::removal::range_behind;
 use crate::removed::Removed;
-use object_past::{Maker, Version, Versions};
 use base_types::{OutOfMemory, Revision};
 use clouds::Clouds;
+use object_past::{Maker, Version, Versions};
 use std::alloc::Global;
 use time_windows::Windows;
 use write_groups::{Group, Item, LogEvent, Shown};
@@ -36,18 +38,19 @@ pub struct Log<'a> {
 }
 
 // The write of this number.
-fn making_at(events: &[LogEvent], number: u32) -> Option<Making<'_>>
-    ensures { option_map making_of result ≡ making_at events.now number }
+fn making_at(events: &[LogEvent], number: u32) -> Making<'_>
+    requires { IsSome (item_at events.now number) }
+    ensures { making_at events.now number ≡ Some (making_of result) }
 {
-    let event = events.get(number as usize)?;
+    let event = &events[number as usize];
     match &event.answer {
-        Shown::Made { item, created } => Some(Making {
+        Shown::Made { item, created } => Making {
             number,
             event,
             item,
             created: *created,
-        }),
-        _ => None,
+        },
+        _ => unreachable!(),
     }
 }
 
@@ -116,45 +119,45 @@ fn judge_each<B: Bodies>(
     grown: &Grown,
     members: &[u32],
 ) -> Result<Vec<Judged>, OutOfMemory>
-    ensures { IfOk result (λ judged. (h : History) (revision : ℕ) → IsOfLog log.entry (B.body bodies.now) h → Extends h grown.now revision
+    requires writes { AreWrites log.events.now members.now }
+    ensures numbers { IfOk result (λ judged. map (λ one. one.number) judged.items ≡ members.now) }
+    ensures judged { IfOk result (λ judged. (h : History) (revision : ℕ) → IsOfLog log.entry (B.body bodies.now) h → Extends h grown.now revision
         → All (IsAnsweredAt log.entry.events.now revision) members.now → AreJudged h log.entry.events.now members.now judged.items) }
 {
     let mut judged = Vec::with_capacity(alloc, members.len())?;
     for number in members {
-        if let Some(making) = making_at(log.events, *number) {
-            judged.push(judge(alloc, log, bodies, grown, making)?)?;
-        }
+        let making = making_at(log.events, *number);
+        judged.push(judge(alloc, log, bodies, grown, making)?)?;
     }
     Ok(judged)
 }
 
-// The version that a group's writes left behind the others.
-fn version_in(
-    log: Log<'_>,
-    group: &Group,
-    judged: &[Judged],
-) -> Result<Option<Version>, OutOfMemory>
-    ensures { IfOk result (λ version. (h : History) → IsOfGroup log.entry group.now judged.now h → IsVersionIn h group.now version) }
+// The group's first write.
+fn first_number(judged: &[Judged]) -> u32
+    requires { 0 < length judged.now }
+    ensures { first_write judged.now ≡ Some result }
 {
-    let Some(first) = judged.first() else {
-        return Ok(None);
-    };
+    judged[0].number
+}
+
+// The version that a group's writes left behind the others.
+fn version_in(log: Log<'_>, group: &Group, judged: &[Judged]) -> Result<Version, OutOfMemory>
+    requires writes { AreWrites log.events.now (map (λ one. one.number) judged.now) }
+    ensures key { IfOk result (λ version. version.key ≡ group.now.key) }
+    ensures revision { IfOk result (λ version. version.revision ≡ group.now.revision) }
+    ensures made { IfOk result (λ version. (h : History) → IsOfGroup log.entry group.now judged.now h → IsMadeVersion h (version_of version)) }
+{
+    let first = first_number(judged);
     let may_be_unrecorded = log.clouds.may_make(&group.key, group.revision);
-    let maker = maker_among(judged, first.number, may_be_unrecorded);
-    let shown = match maker {
-        Maker::Event(number) => number,
-        _ => first.number,
-    };
-    let Some(making) = making_at(log.events, shown) else {
-        return Ok(None);
-    };
-    Ok(Some(Version {
+    let maker = maker_among(judged, first, may_be_unrecorded);
+    let making = making_at(log.events, shown_by(maker, first));
+    Ok(Version {
         key: group.key.clone()?,
         revision: group.revision,
         uid: making.item.uid.clone()?,
         node: making.item.node,
         maker,
-    }))
+    })
 }
 
 fn snapshot_version(item: &Item) -> Result<Version, OutOfMemory>
@@ -212,7 +215,8 @@ pub fn write_versions<B: Bodies>(
     requires snapshot { IsSnapshot start snapshot.now }
     requires rising { AllPairs (λ a b. a.revision < b.revision) groups.now }
     requires above { All (λ group. start < group.revision) groups.now }
-    requires members { All (λ group. AreWrites log.entry.events.now group.members) groups.now }
+    requires members { All (λ group. AreWrites log.events.now group.members) groups.now }
+    ensures rising { IfOk result (λ written. AllPairs (λ a b. a.revision < b.revision) written.versions) }
     ensures slots { IfOk result (λ written. AreSlots (slots_of snapshot.now groups.now) written.versions) }
     ensures versions { IfOk result (λ written. (h : History) → IsOfLog log.entry (B.body bodies.now) h → AreGroupsOf h groups.now → h.start ≡ start
         → h.snapshot ≡ map item_of snapshot.now → h.versions ≡ map version_of written.versions → AreVersions h) }
@@ -220,13 +224,12 @@ pub fn write_versions<B: Bodies>(
     ensures judged { IfOk result (λ written. (h : History) → IsOfLog log.entry (B.body bodies.now) h → AreGroupsOf h groups.now → h.start ≡ start
         → h.versions ≡ map version_of written.versions → AreAllJudged h log.entry.events.now groups.now written.judged.items) }
 {
-    let mut grown = begin(alloc, &by_revision(alloc, snapshot)?)?;
+    let order = by_revision(alloc, snapshot)?;
+    let mut grown = begin(alloc, &order)?;
     let mut judged = Vec::new(alloc);
     for group in groups {
         let mut members = judge_each(alloc, log, bodies, &grown, group.members.as_slice())?;
-        if let Some(version) = version_in(log, group, &members)? {
-            grown = grown.with(version)?;
-        }
+        grown = grown.with(version_in(log, group, &members)?)?;
         judged.append(&mut members)?;
     }
     let (versions, firsts) = grown.into_parts();

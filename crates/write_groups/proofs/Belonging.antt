@@ -1,9 +1,8 @@
 -- The groups that are made of the events are those of the history.
-use Rattle.std.proofs.Common.{◌≡◌, ◌≢◌, ℕ, ◌<◌, ◌⊎◌, inl, inr, Bool, true, false, List, [], ◌∷◌, map, Option, Some, None, slice_get, Any, All, AllPairs, Contains, refl, sym, ap, ◌∙◌, subst, arith}
+use Rattle.std.proofs.Common.{◌≡◌, ◌≢◌, ℕ, ◌<◌, ◌⊎◌, inl, inr, Bool, true, List, [], ◌∷◌, Option, Some, None, slice_get, Any, All, Contains, refl, sym, ap, ◌∙◌, subst, true≢false}
+use Rattle.std.specs.Prelude.{IsSome}
 use Rattle.std.specs.BTreeMap.{BTreeMap}
-use Rattle.std.specs.List.{filter}
 use Rattle.std.specs.Option.{option_map, option_and_then}
-use Rattle.std.proofs.lemmas.List.Elements.{All-contains_itself}
 use Rattle.std.proofs.lemmas.List.Kept.{AllPairs-filter}
 use Rattle.std.proofs.lemmas.Option.{same_Some, slice_get-map, slice_get_within}
 use Rattle.base_types.specs.declared.key.ObjectKey.{ObjectKey}
@@ -12,18 +11,18 @@ use Rattle.history_model.proofs.KeyLemmas.{key_is, key_decides}
 use Rattle.history_model.proofs.Members.{not_in_none, here, in_cons, all_at, all_from, pairs_head}
 use Rattle.history_model.specs.Events as model
 use Rattle.history_model.specs.Events.{Event}
-use Rattle.history_model.specs.Groups.{Making, IsMaking, IsFirstMaking, IsAnsweredWith, IsKeyOf, IsMember}
+use Rattle.history_model.specs.Groups.{Making, IsMaking, IsAnsweredWith, IsKeyOf, IsMember}
 use Rattle.history_model.specs.Histories.{History, IsEvent}
 use Rattle.history_model.specs.Judging.{IsJudgedBefore, IsOrder}
 use Rattle.history_model.specs.Keys.{same_key}
-use Rattle.write_groups.proofs.Grouping.{IsAnswer, IsAnswered, above_is, answered_from, answered_has, IsMade, made_is, made_of}
+use Rattle.write_groups.proofs.Grouping.{IsAnswer, IsAnswered, above_is, answered_from, answered_has, IsMade, made_is}
 use Rattle.write_groups.proofs.Lists.{filter_from, filter_has}
 use Rattle.write_groups.specs.declared.event.Item.{Item}
 use Rattle.write_groups.specs.declared.event.LogEvent.{LogEvent}
 use Rattle.write_groups.specs.declared.event.Shown.{Shown}
 use Rattle.write_groups.specs.declared.event.Shown.TheVariants.{Made, Removed, Opaque, Saw, SawNone, SawSome, SawOther, Listed, Free, Aside}
 use Rattle.write_groups.specs.declared.groups.Group.{Group}
-use Rattle.write_groups.specs.Grouped.{item_in, made_item, item_at, revision_above, is_this, is_item_of, is_of_key, members_of, answered_with, group_in, AreGathered, AreGroups}
+use Rattle.write_groups.specs.Grouped.{item_in, made_item, item_at, revision_above, is_this, is_item_of, is_of_key, members_of, answered_with, group_in, AreGathered, AreGroups, AreWrites}
 use Rattle.write_groups.specs.Members.{AreInOrder, IsGroupOf, AreGroupsOf}
 use Rattle.write_groups.specs.Modelled.{HasEvents, item_of, answer_of, event_of}
 
@@ -252,3 +251,33 @@ pub groups_found : (events : List LogEvent) (start : ℕ) (order : List ℕ) (ma
     → (h : History) → HasEvents events h → h.start ≡ start → h.order ≡ order → IsOrder h → AreGroupsOf h groups
 groups_found events start order made groups gathered f h has s o is =
     groups_belong h events has is groups (f h.start h.order (subst (λ n. AreGathered n events h.order made) (sym s) (subst (λ l. AreGathered start events l made) (sym o) gathered)))
+
+-- the members of a group are writes of the log
+members_write : (events : List LogEvent) (numbers : List ℕ) (group : Group) → IsMade events numbers group → AreWrites events group.members
+members_write events numbers group made = (some, all_from (λ number. IsSome (item_at events number)) group.members each)
+  where
+    members_are : group.members ≡ members_of events made.item.key numbers
+    members_are = ap (λ (g : Group). g.members) made.group_is
+
+    first_kept : Contains group.members made.first
+    first_kept = subst (λ l. Contains l made.first) (sym members_are) (filter_has (is_of_key events made.item.key) numbers made.first
+        (subst (λ l. Contains l made.first) (sym made.are) (here made.first made.rest))
+        (ap (is_item_of made.item.key) made.found ∙ key_is made.item.key made.item.key refl))
+
+    some : group.members ≢ []
+    some none = not_in_none (subst (λ l. Contains l made.first) none first_kept)
+
+    is_write : (key : ObjectKey) (item : Option Item) → is_item_of key item ≡ true → IsSome item
+    is_write key None e = absurd (true≢false (sym e))
+    is_write key (Some item) e = refl
+
+    each : (number : ℕ) → Contains group.members number → IsSome (item_at events number)
+    each number among = is_write made.item.key (item_at events number)
+        (filter_from (is_of_key events made.item.key) numbers number (subst (λ l. Contains l number) members_are among)).1
+
+pub groups_write : (events : List LogEvent) (start : ℕ) (order : List ℕ) (groups : List Group) → AreGroups start events order groups
+    → All (λ group. AreWrites events group.members) groups
+groups_write events start order groups are = all_from (λ group. AreWrites events group.members) groups (λ group among.
+    members_write events (answered_with start events order group.revision) group
+    (made_is events (answered_with start events order group.revision) group
+    (all_at (λ (g : Group). group_in events (answered_with start events order g.revision) ≡ Some g) groups group are.sound among)))

@@ -1,5 +1,5 @@
 -- When the first of the unrecorded writes that cover a key may have begun.
-use Rattle.std.proofs.Common.{◌≡◌, ℕ, ℤ, zero, suc, ◌+◌, ◌-◌, ◌^◌, ◌<◌, ◌≤◌, ◌≤ℤ◌, ◌⊎◌, inl, inr, List, [], ◌∷◌, length, get_or, map, Option, Some, None, slice_get, Any, All, Contains, refl, sym, ap, ap₂, ◌∙◌, subst, arith}
+use Rattle.std.proofs.Common.{◌≡◌, ℕ, zero, suc, ◌+◌, ◌-◌, ◌<◌, ◌≤◌, ◌≤ℤ◌, ◌⊎◌, inl, inr, List, [], ◌∷◌, length, get_or, map, Option, Some, None, slice_get, Contains, refl, sym, ap, ap₂, ◌∙◌, subst, arith}
 use Rattle.std.specs.Cmp.{int_cmp_total}
 use Rattle.std.specs.List.Sorted.{IsSortedBy}
 use Rattle.std.specs.Option.{option_map}
@@ -15,7 +15,6 @@ use Rattle.base_types.proofs.Quantifiers.{Any-contains}
 use Rattle.clouds.specs.Clouds.{IsHiddenBy, IsClouded}
 use Rattle.clouds.specs.FirstPlace.{HoldsNowhere, IsLeastPlace}
 use Rattle.clouds.specs.Writes.{Writes}
-use Rattle.clouds.specs.declared.span.KeyRevision.{KeyRevision}
 use Rattle.clouds.specs.declared.span.OpaqueSpan.{OpaqueSpan}
 use Rattle.history_model.proofs.Members.{not_in_none, all_from, at_in, in_at}
 use Rattle.write_groups.specs.declared.hidden.Hiding.{Hiding}

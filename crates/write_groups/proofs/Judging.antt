@@ -1,11 +1,11 @@
 -- The turns of the events, once they are sorted, are the order of judgement.
-use Rattle.std.proofs.Common.{◌≡◌, ◌≢◌, ℕ, ℤ, zero, suc, ◌+◌, ◌<◌, ◌<ℤ◌, ◌⊎◌, inl, inr, Bool, true, false, eqb, List, [], ◌∷◌, length, get_or, map, Option, Some, None, slice_get, AllPairs, Contains, refl, sym, ap, ◌∙◌, subst, true≢false, arith}
+use Rattle.std.proofs.Common.{◌≡◌, ◌≢◌, ℕ, ℤ, zero, suc, ◌+◌, ◌<◌, ◌<ℤ◌, ◌⊎◌, inl, inr, true, false, eqb, List, [], ◌∷◌, length, get_or, map, Option, Some, None, slice_get, AllPairs, Contains, refl, sym, ap, ◌∙◌, subst, true≢false, arith}
 use Rattle.std.specs.Cmp.{IsStrictWeakOrder, int_cmp_is, int_cmp_total, nat_cmp_total, bool_cmp_total, nat_eq_equiv}
 use Rattle.std.specs.List.Sorted.{IsPermutation, IsSorted}
 use Rattle.std.specs.Option.{option_map}
 use Rattle.std.specs.Ordering.{ordering_then, is_lt, int_cmp, nat_cmp}
 use Rattle.std.specs.declared.cmp.Ordering.{Ordering}
-use Rattle.std.specs.declared.cmp.Ordering.TheVariants.{Less, Equal, Greater}
+use Rattle.std.specs.declared.cmp.Ordering.TheVariants.{Less, Equal}
 use Rattle.std.proofs.lemmas.Bool.Decides.{Decides-eqb, nat_tests}
 use Rattle.std.proofs.lemmas.Cmp.{on_total, then_total}
 use Rattle.std.proofs.lemmas.List.{length-map}
@@ -113,7 +113,7 @@ turn_in events number event e = at_in (turns_of 0 events) number (turn_of number
     (turn_at 0 events number ∙ ap (option_map (turn_of (0 + number))) e ∙ ap (λ n. Some (turn_of n event)) (let zero_plus : 0 + number ≡ number = omega arith in zero_plus))
 
 -- numbers that differ keep doing so in another order
-apart_moved : {X : Type 0} (n : X → ℕ) (xs ys : List X) → IsPermutation xs ys → AllPairs (λ a b. n a ≢ n b) xs → AllPairs (λ a b. n a ≢ n b) ys
+pub apart_moved : {X : Type 0} (n : X → ℕ) (xs ys : List X) → IsPermutation xs ys → AllPairs (λ a b. n a ≢ n b) xs → AllPairs (λ a b. n a ≢ n b) ys
 apart_moved {X} n xs ys same apart = pairs_unmap n (λ a b. a ≢ b) ys
     (AllPairs-from_IsDistinct Decides-eqb (map n ys)
     (IsDistinct-IsPermutation eqb nat_eq_equiv.symm (map n xs) (map n ys) (IsPermutation-map n xs ys same) (IsDistinct-from_AllPairs Decides-eqb (map n xs) (pairs_map n (λ a b. a ≢ b) xs apart))))

@@ -1,7 +1,6 @@
 -- The spans of the groups are those of the history.
-use Rattle.std.proofs.Common.{◌≡◌, ◌≢◌, ℕ, ℤ, ◌+◌, ◌<◌, ◌≤◌, ◌<ℤ◌, ◌≤ℤ◌, ◌⊎◌, inl, inr, Bool, true, false, not, ◌||◌, ◌==◌, List, [], ◌∷◌, ◌++◌, length, get_or, take, map, Option, Some, None, slice_get, Any, All, AllPairs, Contains, refl, sym, ap, ◌∙◌, subst, true≢false, arith}
+use Rattle.std.proofs.Common.{◌≡◌, ◌≢◌, ℕ, ℤ, ◌+◌, ◌<◌, ◌<ℤ◌, ◌≤ℤ◌, ◌⊎◌, inl, inr, Bool, true, false, not, ◌||◌, ◌==◌, List, [], ◌∷◌, ◌++◌, length, get_or, take, map, Option, Some, None, slice_get, Any, All, AllPairs, Contains, refl, sym, ap, ◌∙◌, subst, true≢false, arith}
 use Rattle.std.specs.Prelude.{int_lt}
-use Rattle.std.specs.List.{list_any, filter_map}
 use Rattle.std.specs.List.Sorted.{IsPermutation}
 use Rattle.std.specs.Option.{IsSomeAnd, option_map}
 use Rattle.std.proofs.lemmas.Bool.Decides.{Decides-eqb}
@@ -14,7 +13,6 @@ use Rattle.std.proofs.lemmas.List.Sorted.{Contains-permutation, IsPermutation-sy
 use Rattle.std.proofs.lemmas.Option.{same_Some}
 use Rattle.base_types.specs.Covers.{Covers}
 use Rattle.base_types.specs.declared.key.Cover.{Cover}
-use Rattle.base_types.specs.declared.key.ObjectKey.{ObjectKey}
 use Rattle.base_types.specs.declared.revision.Moment.{Moment}
 use Rattle.base_types.proofs.Quantifiers.{Any-contains}
 use Rattle.history_model.proofs.Members.{here, all_at, all_from, at_in, in_at}
@@ -29,7 +27,6 @@ use Rattle.write_groups.proofs.Belonging.{IsLogged, logged_from, event_from, IsF
 use Rattle.write_groups.proofs.Comparing.{int_tells}
 use Rattle.write_groups.proofs.Earliest.{IsLeast, least_some, least_none}
 use Rattle.write_groups.proofs.Lists.{made_from, made_has, map_from, map_has, pairs_map}
-use Rattle.write_groups.specs.declared.event.Item.{Item}
 use Rattle.write_groups.specs.declared.event.LogEvent.{LogEvent}
 use Rattle.write_groups.specs.declared.event.Shown.{Shown}
 use Rattle.write_groups.specs.declared.event.Shown.TheVariants.{Made, Removed, Opaque, Saw, SawNone, SawSome, SawOther, Listed, Free, Aside}
@@ -38,7 +35,7 @@ use Rattle.write_groups.specs.declared.hidden.Hiding.{Hiding}
 use Rattle.write_groups.specs.Hiding.{hiding_if, hiding_at, hidings_of, IsFirstSince}
 use Rattle.write_groups.specs.Members.{IsGroupOf, AreGroupsOf}
 use Rattle.write_groups.specs.Modelled.{HasEvents, answer_of, event_of, span_of}
-use Rattle.write_groups.specs.Spanned.{end_at, start_at, least_by, first_end, first_start, creates, is_other, made_surely, made_surely_if, made_surely_at, is_sure, or_earlier, IsBeginningOf, IsSpan, IsSpanIn, AreSpansOf}
+use Rattle.write_groups.specs.Spanned.{least_by, first_start, creates, is_other, made_surely, made_surely_if, made_surely_at, is_sure, or_earlier, IsBeginningOf, IsSpan, IsSpanIn, AreSpansOf}
 
 pub no_spans : (events : List LogEvent) (hidings : List Hiding) → AreSpansOf events hidings [] []
 no_spans events hidings = record { sound = λ span c. absurd (let l = c.1 in omega arith); full = λ group c. absurd (let l = c.1 in omega arith); rising = λ i j d l m. absurd (omega arith) }

@@ -1,5 +1,5 @@
 -- The writes that were answered with one revision.
-use Rattle.std.specs.Prelude.{◌≡◌, ◌<◌, ◌==◌, ℕ, Bool, true, false, List, [], ◌∷◌, Option, Some, None, if◌then◌else◌, nat_lt, filter, option_map, option_and_then, slice_get, IsSome, All, AllPairs, Any, Contains}
+use Rattle.std.specs.Prelude.{◌≡◌, ◌≢◌, ◌<◌, ◌==◌, ℕ, Bool, false, List, [], ◌∷◌, Option, Some, None, if◌then◌else◌, nat_lt, filter, option_and_then, slice_get, IsSome, All, AllPairs, Any, Contains}
 use Rattle.std.specs.BTreeMap.{BTreeMap, get}
 use Rattle.std.specs.Ordering.{nat_cmp}
 use Rattle.base_types.specs.declared.key.ObjectKey.{ObjectKey}
@@ -69,6 +69,10 @@ is_of_key events key number = is_item_of key (item_at events number)
 
 abbrev pub members_of : List LogEvent → ObjectKey → List ℕ → List ℕ
 members_of events key numbers = filter (is_of_key events key) numbers
+
+-- there is at least one number, and each is that of a write
+abbrev pub AreWrites : List LogEvent → List ℕ → Type 0
+AreWrites events numbers = (numbers ≢ []) × All (λ number. IsSome (item_at events number)) numbers
 
 abbrev pub group_by : List LogEvent → List ℕ → Option Item → Option Group
 group_by events numbers None = None

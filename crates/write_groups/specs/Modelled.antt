@@ -1,6 +1,5 @@
 -- Events in the terms of the model of history.
-use Rattle.std.specs.Prelude.{◌≡◌, ℕ, List, map}
-use Rattle.base_types.specs.declared.key.ObjectKey.{ObjectKey}
+use Rattle.std.specs.Prelude.{◌≡◌, List, map}
 use Rattle.history_model.specs.Events as model
 use Rattle.history_model.specs.Histories.{History, Span}
 use Rattle.time_windows.specs.declared.span.Span as timed

@@ -3,7 +3,7 @@ ghost use Rattle.std.specs.BTreeMap.{Updates};
 ghost use Rattle.std.specs.Ordering.{nat_cmp};
 ghost use Rattle.history_model.specs.Histories.{History};
 ghost use Rattle.history_model.specs.Judging.{IsOrder};
-ghost use Rattle.write_groups.specs.Grouped.{made_item, item_at, is_of_key, members_of, group_in, numbers_at, number_if, revision_above, AreGathered, AreGroups};
+ghost use Rattle.write_groups.specs.Grouped.{made_item, item_at, is_of_key, members_of, group_in, numbers_at, number_if, revision_above, AreGathered, AreGroups, AreWrites};
 ghost use Rattle.write_groups.specs.Members.{AreGroupsOf};
 ghost use Rattle.write_groups.specs.Modelled.{HasEvents};
 
@@ -169,6 +169,7 @@ pub fn groups_of(
 ) -> Result<Groups, OutOfMemory>
     ensures rising { IfOk result (λ groups. AllPairs (λ a b. a.revision < b.revision) groups) }
     ensures above { IfOk result (λ groups. All (λ group. start < group.revision) groups) }
+    ensures members { IfOk result (λ groups. All (λ group. AreWrites events.now group.members) groups) }
     ensures groups { IfOk result (λ groups. (h : History) → HasEvents events.now h → h.start ≡ start → h.order ≡ order.now → IsOrder h → AreGroupsOf h groups) }
 {
     let made = gather(alloc, start, events, order)?;

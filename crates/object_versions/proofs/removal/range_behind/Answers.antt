@@ -19,11 +19,11 @@ returns-then-high-before-clause-none c = λ h removal log first behind.
     let high : c.min-high.result ≡ min (highest h c.in_ok-event.event.now.hi.0) (place_before c.args.next) = c.min-high.ensures ∙ ap₂ min (c.highest.ensures h log.times) c.place_before.ensures in
     let low : c.max-before.result ≡ max (lowest h c.in_ok-event.event.now.lo.0) c.args.version.now.revision = c.max-before.ensures ∙ ap₂ max (c.lowest.ensures h log.times) c.get.ensures.value in
     behind_none h c.args.events.now c.args.version.now c.args.next c.in_ok-number.number c.in_ok-event.event.now removal known.1
-      (let short = c.if-high-before.true in omega arith) behind
+    (let short = c.if-high-before.true in omega arith) behind
 
 pub returns-clause-some : goal.returns-clause-some
 returns-clause-some c = λ h log first.
     let known = kept_first c.args.windows.now c.args.events.now c.args.removed.now h c.args.version.now c.in_ok-number.number c.in_ok-event.event.now log (sym c.in_ok-number.ensures) (sym c.in_ok-event.ensures) in
     behind_is h c.args.events.now c.args.version.now c.args.next c.in_ok-number.number c.in_ok-event.event.now _ (first.0 c.if-not-is_first.false) known.0 refl
-      (ap (λ n. n + 1) (c.max-before.ensures ∙ ap₂ max (c.lowest.ensures h log.times) c.get.ensures.value))
-      (c.min-high.ensures ∙ ap₂ min (c.highest.ensures h log.times) c.place_before.ensures)
+    (ap (λ n. n + 1) (c.max-before.ensures ∙ ap₂ max (c.lowest.ensures h log.times) c.get.ensures.value))
+    (c.min-high.ensures ∙ ap₂ min (c.highest.ensures h log.times) c.place_before.ensures)

@@ -5,6 +5,7 @@ use Rattle.clouds.proofs.Adding.{same_key}
 use Rattle.history_model.specs.Incarnations.{IsRemovalBehind}
 use Rattle.object_versions.proofs.Ending.{end_none, end_some, next_none, next_some, recorded_is}
 use Rattle.object_past.specs.Modelled.{recorded}
+use Rattle.object_past.specs.declared.removal.Removal.{Removal}
 use Rattle.object_versions.specs.Ended.{IsEnd, revision_of}
 use Rattle.object_past.specs.Modelled.{version_of}
 use Rattle.object_versions.proofs.removals.removal_after.Goals as goal
@@ -13,7 +14,7 @@ use Rattle.object_versions.proofs.removals.removal_after.Goals.{in-Some+else-eq,
 pub returns-in_default : goal.returns-in_default
 returns-in_default c = λ ends h log first removal behind.
     let next : c.match-after.next ≡ revision_of (option_map (λ v. v.now) c.args.after) = elim c.match-after.branch [
-      in-Some+else-eq w ↦ w.next-is ∙ sym (next_some c.args.after w.in-Some.after w.in-Some.is)
+      | in-Some+else-eq w ↦ w.next-is ∙ sym (next_some c.args.after w.in-Some.after w.in-Some.is)
       | in-None w ↦ w.next-is ∙ sym (next_none c.args.after w.in-None.is)
     ] in
     c.in_default.ensures.none h removal log first (subst (λ n. IsRemovalBehind h (version_of c.args.version.now) n removal) (sym next) behind)
@@ -21,16 +22,19 @@ returns-in_default c = λ ends h log first removal behind.
 pub returns : goal.returns
 returns c =
     let next : c.match-after.next ≡ revision_of (option_map (λ v. v.now) c.args.after) = elim c.match-after.branch [
-      in-Some+else-eq w ↦ w.next-is ∙ sym (next_some c.args.after w.in-Some.after w.in-Some.is)
+      | in-Some+else-eq w ↦ w.next-is ∙ sym (next_some c.args.after w.in-Some.after w.in-Some.is)
       | in-None w ↦ w.next-is ∙ sym (next_none c.args.after w.in-None.is)
     ] in
     let ends : IsEnd c.args.version.now (option_map (λ v. v.now) c.args.after) = elim c.match-after.branch [
-      in-Some+else-eq w ↦ end_some c.args.version.now c.args.after w.in-Some.after w.in-Some.is
-        (λ same. true≢false (sym ((bytes_decides w.in-Some.after.now.uid c.args.version.now.uid).1 same) ∙ sym w.if-eq.ensures))
+      | in-Some+else-eq w ↦ end_some c.args.version.now c.args.after w.in-Some.after w.in-Some.is
+          (λ same. true≢false (sym ((bytes_decides w.in-Some.after.now.uid c.args.version.now.uid).1 same) ∙ sym w.if-eq.ensures))
       | in-None w ↦ end_none c.args.version.now c.args.after w.in-None.is
     ] in
     let parts = c.in_ok-clone.ensures.cases in
     let key : c.in_ok-clone.field-0 ≡ c.args.version.now.key = same_key _ _ parts.0 parts.1.0 parts.1.1.0 parts.1.1.1 in
     let copy = recorded_is c.args.version.now c.in-Some-found.range c.in_ok-clone.field-0 c.in_ok-clone-2.field-0 key c.in_ok-clone-2.ensures.cases in
-    (ends, λ h log first. subst (λ n. IsRemovalBehind h (version_of c.args.version.now) n _) next
-      (subst (IsRemovalBehind h (version_of c.args.version.now) c.match-after.next) (sym copy) (c.in-Some-found.ensures.some h log first)))
+    let made : Removal = record { key = c.in_ok-clone.field-0; uid = c.in_ok-clone-2.field-0; last = c.args.version.now.revision; range = c.in-Some-found.range } in (
+      ends,
+      λ h log first. subst (λ n. IsRemovalBehind h (version_of c.args.version.now) n (recorded made)) next
+          (subst (IsRemovalBehind h (version_of c.args.version.now) c.match-after.next) (sym copy) (c.in-Some-found.ensures.some h log first)),
+    )

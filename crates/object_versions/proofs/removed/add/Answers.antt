@@ -9,7 +9,7 @@ pub returns-in_ok-_none-in-Some : goal.returns-in_ok-_none-in-Some
 returns-in_ok-_none-in-Some c =
     let writes = c.get_mut.follows.holds c.insert.new.self in
     filed_in c.args.removed.now (c.get_mut.follows.lender c.insert.new.self) c.args.key.now c.args.uid.now c.args.number c.in-Some.uids.now c.insert.new.self (sym c.in-Some.ensures.value) (writes.3 (search rules)) (search rules)
-      (subst (λ t. Updates text_order c.in-Some.uids.now c.insert.new.self t (Some c.args.number)) c.in_ok-clone-in-Some.ensures.cases c.in_ok-_none-in-Some.ensures.updates)
+    (subst (λ t. Updates text_order c.in-Some.uids.now c.insert.new.self t (Some c.args.number)) c.in_ok-clone-in-Some.ensures.cases c.in_ok-_none-in-Some.ensures.updates)
 
 pub returns-else-not-contains_key : goal.returns-else-not-contains_key
 returns-else-not-contains_key c =
@@ -22,6 +22,6 @@ returns c =
     let copy : c.in_ok-clone-in-None-2.field-0 ≡ c.args.key.now = same_key _ _ parts.0 parts.1.0 parts.1.1.0 parts.1.1.1 in
     let updates = rw c.get_mut.follows.holds-at-none at c.in_ok-_none-in-None-2.ensures.updates in
     let here : Updates key_order c.args.removed.now c.insert-in-None-2.new.self c.args.key.now (Some c.insert-in-None.new.self) =
-      subst (λ k. Updates key_order c.args.removed.now c.insert-in-None-2.new.self k (Some c.insert-in-None.new.self)) copy updates in
+    subst (λ k. Updates key_order c.args.removed.now c.insert-in-None-2.new.self k (Some c.insert-in-None.new.self)) copy updates in
     filed_new c.args.removed.now c.insert-in-None-2.new.self c.args.key.now c.args.uid.now c.args.number c.new-uids.result c.insert-in-None.new.self (sym c.in-None.ensures.value) here (search rules)
-      (subst (λ t. Updates text_order c.new-uids.result c.insert-in-None.new.self t (Some c.args.number)) c.in_ok-clone-in-None.ensures.cases c.in_ok-_none-in-None.ensures.updates)
+    (subst (λ t. Updates text_order c.new-uids.result c.insert-in-None.new.self t (Some c.args.number)) c.in_ok-clone-in-None.ensures.cases c.in_ok-_none-in-None.ensures.updates)

@@ -6,7 +6,7 @@ use Rattle.object_versions.proofs.removed.first_removals.Goals.{in-Some+in_ok-ad
 
 pub loop-number-preserved : goal.loop-number-preserved
 loop-number-preserved c = λ key uid. elim c.match-gone_at.branch [
-  in-Some+in_ok-add w ↦
+  | in-Some+in_ok-add w ↦
       rw w.removed-is (w.in_ok-add.ensures key uid
       ∙ ap (λ found. or_first found (number_if w.in-Some.gone.key.now w.in-Some.gone.uid.now (slice_index_or c.args.order.now c.loop-number.number-index 0) key uid)) (c.loop-number.invariant key uid)
       ∙ sym (first_with c.args.events.now c.args.order.now c.loop-number.number-index (slice_index_or c.args.order.now c.loop-number.number-index 0) 0 w.in-Some.gone.key.now key w.in-Some.gone.uid.now uid c.loop-number-test.true refl (search rules)))

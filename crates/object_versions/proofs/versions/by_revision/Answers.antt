@@ -1,23 +1,19 @@
-use Rattle.std.proofs.Common.{rules, ◌≡◌, ◌≢◌, ◌<◌, ℕ, List, IfOk, All, AllPairs, map, option_map, ◌+◌, ◌-◌, ◌*◌, ◌≤◌, length, ◌/◌, ◌%◌, Bool, true, false, nat_eq, nat_lt, [], ◌∷◌, ◌++◌, slice_index_or, slice_set, bit_and, bit_or, Fits, w8, w32, w64, Bor, MutBor}
+use Rattle.std.proofs.Common.{◌≡◌, ◌≢◌, AllPairs, map, rules, subst, sym}
 use Rattle.std.specs.List.Sorted.{IsPermutation}
-use Rattle.history_model.specs.Histories.{History}
-use Rattle.history_model.specs.Makers.{AreVersions}
-use Rattle.history_model.specs.Making.{IsEntryBefore}
-use Rattle.write_groups.specs.Members.{AreGroupsOf}
-use Rattle.write_groups.specs.Modelled.{item_of}
-use Rattle.object_versions.specs.Growing.{AreFlagged, IsLatestIn}
-use Rattle.object_versions.specs.Hidden.{slots_of}
-use Rattle.object_past.specs.Modelled.{version_of}
-use Rattle.object_versions.specs.Modelled.{making_of}
-use Rattle.object_versions.specs.Surrounded.{HasLog}
-use Rattle.object_past.specs.declared.version.Version.{Version}
-use Rattle.object_versions.specs.Written.{making_at, snapshot_version, IsOfLog, Extends, IsAnsweredAt, IsJudgement, AreJudged, AreAllJudged, AreSlots, IsOfGroup, IsSnapshot, IsVersionIn, AreWrites}
+use Rattle.std.proofs.lemmas.List.Sorted.{IsNonDecreasingBy-from_sort_by_key, IsPermutation-map}
+use Rattle.write_groups.proofs.Lists.{pairs_unmap}
+use Rattle.write_groups.specs.declared.event.Item.{Item}
+use Rattle.object_versions.proofs.Sorting.{sorted_apart}
 use Rattle.object_versions.proofs.versions.by_revision.Goals as goal
 
--- src/versions.rt:171:1
 pub returns-clause-same : goal.returns-clause-same
-returns-clause-same c = ?
+returns-clause-same c =
+    let all : map (λ item. item.now) c.in_ok-order.order.items ≡ c.args.snapshot.now = search rules in
+    subst (λ l. IsPermutation l (map (λ item. item.now) c.sort_by_key.new.self.items)) all (IsPermutation-map (λ item. item.now) _ _ c.in_ok-sort_by_key.ensures.permutation)
 
--- src/versions.rt:171:1
 pub returns-clause-rising : goal.returns-clause-rising
-returns-clause-rising c = ?
+returns-clause-rising c =
+    let all : map (λ item. item.now) c.in_ok-order.order.items ≡ c.args.snapshot.now = search rules in
+    sorted_apart (λ item. item.now.revision) c.in_ok-order.order.items c.sort_by_key.new.self.items c.in_ok-sort_by_key.ensures.permutation
+    (pairs_unmap (λ item. item.now) (λ (a b : Item). a.revision ≢ b.revision) c.in_ok-order.order.items (subst (AllPairs (λ (a b : Item). a.revision ≢ b.revision)) (sym all) c.requires))
+    (IsNonDecreasingBy-from_sort_by_key (λ item. item.now.revision) _ c.in_ok-sort_by_key.ensures.sorted (λ a r q k. search rules))

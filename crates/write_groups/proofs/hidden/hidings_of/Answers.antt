@@ -1,4 +1,4 @@
-use Rattle.std.proofs.Common.{◌≡◌, ◌∙◌, sym, ap, Some, None, arith}
+use Rattle.std.proofs.Common.{◌≡◌, ◌∙◌, sym, Some, None, arith}
 use Rattle.write_groups.proofs.Lists.{made_one, made_none}
 use Rattle.write_groups.specs.Hiding.{hiding_at}
 use Rattle.write_groups.proofs.hidden.hidings_of.Goals as goal

@@ -1,4 +1,4 @@
-use Rattle.std.proofs.Common.{◌≡◌, ◌∙◌, map, ap, subst}
+use Rattle.std.proofs.Common.{◌∙◌, map, ap, subst}
 use Rattle.std.specs.List.Sorted.{IsPermutation}
 use Rattle.write_groups.proofs.Judging.{order_found}
 use Rattle.write_groups.specs.declared.order.Turn.{Turn}

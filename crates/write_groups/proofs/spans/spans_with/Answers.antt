@@ -1,4 +1,4 @@
-use Rattle.std.proofs.Common.{◌≡◌, ◌+◌, List, length, take, Some, None, subst, arith}
+use Rattle.std.proofs.Common.{List, None, subst}
 use Rattle.std.proofs.lemmas.List.{take_all}
 use Rattle.write_groups.proofs.Timing.{no_spans, none_more, one_more}
 use Rattle.write_groups.specs.declared.groups.Group.{Group}

@@ -1,4 +1,4 @@
-use Rattle.std.proofs.Common.{◌≡◌, ◌∙◌, List, sym, ap, map, subst}
+use Rattle.std.proofs.Common.{◌∙◌, List, sym, ap, map, subst}
 use Rattle.std.specs.List.Sorted.{IsPermutation}
 use Rattle.write_groups.proofs.Covering.{kept_as, numbered_as}
 use Rattle.write_groups.specs.declared.hidden.Hiding.{Hiding}

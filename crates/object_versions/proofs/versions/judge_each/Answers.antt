@@ -1,0 +1,29 @@
+use Rattle.std.proofs.Common.{◌≡◌, ◌+◌, ◌++◌, ◌∷◌, [], ℕ, Some, map, take, get_or, sym, ap, ◌∙◌, subst}
+use Rattle.std.proofs.lemmas.List.{map-append, take_all, take_more}
+use Rattle.object_versions.proofs.Numbered.{number_is}
+use Rattle.object_versions.proofs.Writing.{each_more, same_revision}
+use Rattle.object_versions.specs.Modelled.{making_of}
+use Rattle.object_versions.specs.Written.{making_at, AreJudged, Extends}
+use Rattle.object_versions.specs.declared.maker.Judged.{Judged}
+use Rattle.object_versions.proofs.versions.judge_each.Goals as goal
+
+pub loop-number-preserved : goal.loop-number-preserved
+loop-number-preserved g c =
+    let m = making_of c.making_at-making.result in
+    let i = c.loop-number.number-index in
+    let at : making_at c.args.log.events.now (get_or c.args.members.now i 0) ≡ Some m = c.making_at-making.ensures in
+    let number : c.in_ok-judge.field-0.number ≡ get_or c.args.members.now i 0 = c.in_ok-judge.ensures.number ∙ number_is c.args.log.events.now (get_or c.args.members.now i 0) m at in (
+      ap (map (λ (one : Judged). one.number)) c.in_ok-push.ensures.items ∙ map-append (λ (one : Judged). one.number) c.loop-number.judged.items (c.in_ok-judge.field-0 ∷ [])
+          ∙ ap (λ l. l ++ c.in_ok-judge.field-0.number ∷ []) c.loop-number.invariant.0 ∙ ap (λ n. take i c.args.members.now ++ n ∷ []) number ∙ sym (take_more c.args.members.now i 0 c.loop-number-test.true),
+      (λ h revision of e answered.
+          let at_revision = same_revision c.args.log.events.now revision (get_or c.args.members.now i 0) m at (answered i 0 c.loop-number-test.true) in
+          subst (AreJudged h c.args.log.events.now (take (i + 1) c.args.members.now)) (sym c.in_ok-push.ensures.items)
+          (each_more h c.args.log.events.now c.args.members.now i 0 c.loop-number.judged.items m c.in_ok-judge.field-0 c.loop-number-test.true at c.in_ok-judge.ensures.number
+          (c.in_ok-judge.ensures.judged h of (subst (Extends h c.args.grown.now) (sym at_revision) e))
+          (c.loop-number.invariant.1 h revision of e answered))),
+    )
+
+pub returns-clause-judged : goal.returns-clause-judged
+returns-clause-judged g c = λ h revision of e answered.
+    let all : take c.loop-number.number-index c.args.members.now ≡ c.args.members.now = take_all c.loop-number.number-index c.args.members.now c.loop-number-test.false in
+    subst (λ l. AreJudged h c.args.log.events.now l c.loop-number.judged.items) all (c.loop-number.invariant.1 h revision of e answered)

@@ -1,0 +1,31 @@
+use Rattle.std.proofs.Common.{◌≡◌, Some, option_map, refl, sym, ap, ◌∙◌, subst}
+use Rattle.std.specs.Prelude.{IsSome}
+use Rattle.clouds.proofs.Adding.{same_key}
+use Rattle.write_groups.specs.Grouped.{item_at}
+use Rattle.object_versions.proofs.Choosing.{IsChosen, chosen, first_find, made_version}
+use Rattle.object_versions.proofs.Writing.{shown_write}
+use Rattle.object_versions.specs.Chosen.{maker_among, shown_by}
+use Rattle.object_versions.specs.Modelled.{making_of}
+use Rattle.object_versions.specs.Written.{making_at}
+use Rattle.object_versions.proofs.versions.version_in.Goals as goal
+
+pub making_at-making-requires : goal.making_at-making-requires
+making_at-making-requires c =
+    let first = c.first_number-first.result in
+    let shown : c.shown_by.result ≡ shown_by first (maker_among c.args.judged.now first c.may_make-may_be_unrecorded.result) =
+    c.shown_by.ensures ∙ ap (shown_by first) c.maker_among-maker.ensures in
+    subst (λ n. IsSome (item_at c.args.log.events.now n)) (sym shown) (shown_write c.args.log.events.now c.args.judged.now first c.may_make-may_be_unrecorded.result c.requires.writes.1 (first_find c.args.judged.now ∙ c.first_number-first.ensures))
+
+pub returns-clause-made : goal.returns-clause-made
+returns-clause-made c = λ h of.
+    let first = c.first_number-first.result in
+    let parts = c.in_ok-clone.ensures.cases in
+    let key : c.in_ok-clone.field-0 ≡ c.args.group.now.key = same_key _ _ parts.0 parts.1.0 parts.1.1.0 parts.1.1.1 in
+    let told = of.clouds.unrecorded c.args.group.now.key c.args.group.now.revision in
+    let may = c.may_make-may_be_unrecorded.ensures in
+    let choice = chosen h c.args.log.events.now c.args.group.now c.args.judged.now first c.may_make-may_be_unrecorded.result of.all of.grouped of.members (first_find c.args.judged.now ∙ c.first_number-first.ensures)
+    (λ t. told.0 (may.0 t), λ m. may.1 (told.1 m)) in
+    made_version h c.args.log.events.now c.args.group.now _ (shown_by first c.maker_among-maker.result) (making_of c.making_at-making.result)
+    (subst (λ m. IsChosen h c.args.group.now m (shown_by first m)) (sym c.maker_among-maker.ensures) choice) of.all of.grouped
+    (subst (λ n. making_at c.args.log.events.now n ≡ Some (making_of c.making_at-making.result)) c.shown_by.ensures c.making_at-making.ensures)
+    key refl c.in_ok-clone-2.ensures.cases refl
