@@ -1,1 +1,5 @@
--- Lemmas.
+pub mod Children
+pub mod Fitting
+pub mod IndexTexts
+pub mod RightLemmas
+pub mod Tested
