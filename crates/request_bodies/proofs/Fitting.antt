@@ -1,10 +1,10 @@
 -- The tests of the classes are what the classes want.
-use Rattle.std.proofs.Common.{◌≡◌, ℕ, Bool, true, false, List, Option, Some, None, refl, ap}
+use Rattle.std.proofs.Common.{◌≡◌, ℕ, Bool, true, false, not, ◌||◌, IsTrue, List, Option, Some, None, refl, ap}
 use Rattle.std.specs.Bool.{Decides}
 use Rattle.std.proofs.lemmas.Bool.{false≢true}
 use Rattle.std.proofs.lemmas.Bool.Decides.{Decides-like}
 use Rattle.json_tree.specs.Meaning.{Meaning}
-use Rattle.json_tree.specs.Same.{same-Decides}
+use Rattle.json_tree.specs.Same.{same, same-Decides}
 use Rattle.path_shape.specs.declared.shape.FieldClass.{FieldClass}
 use Rattle.path_shape.specs.declared.shape.FieldClass.TheVariants.{Asked, Defaulted, Owned, Kept}
 use Rattle.path_shape.specs.Agreement.{kind_of, kind, Holds, HasKind, FitsClosed, FitsOpen, FitsHere, FitsAt}

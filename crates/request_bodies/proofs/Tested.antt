@@ -37,11 +37,11 @@ module _ (root : FieldClass) (patterns : List Pattern) (had : Bool) (o a r : Opt
 
   fits : does_fit root patterns had o a r ≡ true → Fits root patterns had o a r
   fits passed =
-      let parts = and_parts _ _ passed in
-      let first = and_parts _ _ (sym (list_all-append test (children o) (children a ++ children r)) ∙ parts.1) in
-      let second = and_parts _ _ (sym (list_all-append test (children a) (children r)) ∙ first.1) in record {
+      let parts = and_parts (fits_at root patterns had o a r []) (list_all test (children o ++ children a ++ children r)) passed in
+      let last = and_parts (list_all test (children o ++ children a)) (list_all test (children r)) (sym (list_all-append test (children o ++ children a) (children r)) ∙ parts.1) in
+      let first = and_parts (list_all test (children o)) (list_all test (children a)) (sym (list_all-append test (children o) (children a)) ∙ last.0) in record {
         here = (fits_at-Decides root patterns had o a r []).0 parts.0;
-        below = below first.0 second.0 second.1;
+        below = below first.0 first.1 last.1;
       }
 
   each_passes : Fits root patterns had o a r → (child : Child) → test child ≡ true
@@ -54,7 +54,7 @@ module _ (root : FieldClass) (patterns : List Pattern) (had : Bool) (o a r : Opt
   pub fit-Decides : Decides (does_fit root patterns had o a r) (Fits root patterns had o a r)
   fit-Decides = (
     fits,
-    λ h. and_from _ _ ((fits_at-Decides root patterns had o a r []).1 h.here) (list_all-each test (each_passes h) (children o ++ children a ++ children r)),
+    λ h. and_from (fits_at root patterns had o a r []) (list_all test (children o ++ children a ++ children r)) ((fits_at-Decides root patterns had o a r []).1 h.here) (list_all-each test (each_passes h) (children o ++ children a ++ children r)),
   )
 
 pub agree-Decides : (shape : Shape) (old : Option Meaning) (asked answered : Meaning) → Decides (does_agree shape old asked answered) (Agrees shape old asked answered)

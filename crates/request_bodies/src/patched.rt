@@ -1,5 +1,6 @@
 ghost use Rattle.std.specs.Prelude.{◌≡◌, OnOk, IfOk};
 ghost use Rattle.std.specs.List.{list_any};
+ghost use Rattle.json_tree.specs.Meaning.{words};
 ghost use Rattle.json_tree.specs.Stored.{without};
 ghost use Rattle.setup_file.specs.Objects.{api_version_of};
 ghost use Rattle.request_bodies.specs.Patched.{put_in, typed, untyped, is_managed, touches_managed};
