@@ -39,8 +39,8 @@ for-Decides None event answered old = (λ _ tracked shape is. absurd (cc), λ _.
 for-Decides (Some found) event answered old =
     let decided = in-Decides (shape_of found event.attrs) found event answered old in (
       λ e tracked shape is.
-      let same : found ≡ tracked = cc in
-      subst (λ t. (s : Shape) → shape_of t event.attrs ≡ Some s → IsAsked s old answered (asked_of t event old)) same (decided.0 e) shape,
+          let same : found ≡ tracked = cc in
+          subst (λ t. (s : Shape) → shape_of t event.attrs ≡ Some s → IsAsked s old answered (asked_of t event old)) same (decided.0 e) shape,
       λ h. decided.1 (λ shape. h found shape refl),
     )
 

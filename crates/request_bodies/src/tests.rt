@@ -2,7 +2,7 @@ use super::*;
 use audit_event::{Event, read_item};
 use json_tree::{Tree, from_value};
 use serde_json::Value;
-use setup_file::read_setup;
+use setup_file::{Setup, read_setup};
 use std::alloc::Global;
 use std::test::Fail;
 
@@ -48,8 +48,7 @@ const REFUSED: &str = r#"[{"op":"remove","path":"/data/z"}]"#;
 
 const UNREAD: &str = r#"[{"op":"drop","path":"/metadata/managedFields"}]"#;
 
-const MANAGED: &str =
-    r#"[{"op":"copy","from":"/metadata/managedFields/0","path":"/data/k"}]"#;
+const MANAGED: &str = r#"[{"op":"copy","from":"/metadata/managedFields/0","path":"/data/k"}]"#;
 
 const DELETED: &str =
     r#"{"metadata":{"deletionTimestamp":"2024-05-01T10:00:03Z","finalizers":["x/y"]},"data":{"k":"1"}}"#;
@@ -106,20 +105,37 @@ fn event(alloc: Global, request: (&str, &str, &str), code: u16) -> Result<Event,
     Ok(read_item(alloc, &value, 1)?)
 }
 
+fn is_right(
+    alloc: Global,
+    setup: &Setup,
+    event: &Event,
+    before: &Tree,
+    answered: &Tree,
+) -> Result<bool, Fail> {
+    let old = if before.is_null() { None } else { Some(before) };
+    Ok(is_body_right(alloc, setup, event, answered, old)?)
+}
+
+// Whether the answer to a request is what was asked of the object before.
+fn judged(
+    alloc: Global,
+    setup: &Setup,
+    event: &Event,
+    before: &str,
+    answered: &str,
+) -> Result<bool, Fail> {
+    let before = tree(alloc, before)?;
+    let answered = tree(alloc, answered)?;
+    is_right(alloc, setup, event, &before, &answered)
+}
+
 #[test]
 fn bodies_are_judged(rt: HostRuntime) -> Result<(), Fail> {
     let setup = read_setup(rt.alloc(), SETUP.as_bytes())?;
     for (request, code, before, answered, right) in &BODIES {
         let event = event(rt.alloc(), *request, *code)?;
-        let before = tree(rt.alloc(), before)?;
-        let answered = tree(rt.alloc(), answered)?;
-        let old = if before.is_null() {
-            None
-        } else {
-            Some(&before)
-        };
-        let found = is_body_right(rt.alloc(), &setup, &event, &answered, old)?;
-        assert_eq!(rt; found, *right);
+        let found = judged(rt.alloc(), &setup, &event, before, answered)?;
+        assert_eq!(rt; found, *right, "of {before}");
     }
     Ok(())
 }
