@@ -1,8 +1,9 @@
 -- Objects that are patched. Versions are kept without their version and kind, which a patch may read and write, so that
 -- they are put in before it and taken out behind it.
-use Rattle.std.specs.Prelude.{ℕ, Bool, false, ◌&&◌, ◌||◌, List, [], ◌∷◌, bytes_eq, codes}
+use Rattle.std.specs.Prelude.{⊤, ℕ, Bool, false, ◌&&◌, ◌||◌, List, [], ◌∷◌, bytes_eq, codes}
 use Rattle.json_tree.specs.Edits.{put}
-use Rattle.json_tree.specs.Meaning.{Meaning, null, flag, whole, words, items, members}
+use Rattle.json_tree.specs.Meaning.{Meaning, null, flag, whole, words, items, members, fields_list}
+use Rattle.json_tree.specs.Names.{AreSorted}
 use Rattle.json_tree.specs.Stored.{without}
 use Rattle.json_patch.specs.declared.op.Op.{Op}
 use Rattle.json_patch.specs.declared.op.Op.TheVariants.{Add, Remove, Replace, Move, Copy, Test}
@@ -25,6 +26,15 @@ typed tracked object =
 
 abbrev pub untyped : Meaning → Meaning
 untyped object = without (codes "kind") (without (codes "apiVersion") object)
+
+-- the members of an object stand in the order of their names
+abbrev pub IsOrdered : Meaning → Type 0
+IsOrdered null = ⊤
+IsOrdered (flag b) = ⊤
+IsOrdered (whole z) = ⊤
+IsOrdered (words s) = ⊤
+IsOrdered (items ts) = ⊤
+IsOrdered (members ms) = AreSorted (fields_list ms)
 
 -- at or under `/metadata/managedFields`
 abbrev pub is_managed : List (List ℕ) → Bool

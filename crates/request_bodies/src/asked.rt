@@ -1,14 +1,14 @@
 ghost use Rattle.std.specs.Prelude.{◌≡◌, IfOk, IfErr, option_map};
 ghost use Rattle.json_patch.specs.Reading.{patch_of};
+ghost use Rattle.setup_file.specs.declared.setup.Tracked.{Tracked as Resource};
 ghost use Rattle.request_bodies.specs.Asked.{asked_by_object, asked_by_operations, asked_by_json_patch, asked_by_merge_patch, asked_by_patch, asked_by, asked_of};
 
-use crate::patched::{is_of_managed, typed, untyped};
+use crate::patched::{is_of_managed, merged, typed, untyped};
 use crate::requests::{Write, is_created, is_merge, is_of_another, kept, write_of};
 use audit_event::Event;
 use base_types::OutOfMemory;
 use json_patch::{ApplyFault, Patch, PatchFault, apply, read_patch};
 use json_tree::{Tree, copy, stored_form};
-use merge_patch::merge;
 use setup_file::Tracked;
 use std::alloc::Global;
 
@@ -76,18 +76,15 @@ fn asked_by_json_patch(
 
 fn asked_by_merge_patch(
     alloc: Global,
-    tracked: &Tracked,
     body: &Tree,
     old: Option<&Tree>,
 ) -> Result<Asking, OutOfMemory>
-    ensures { IfOk result (λ asking. asking ≡ asked_by_merge_patch tracked.now body.now (option_map (λ tree. tree.now) old.entry)) }
+    ensures { IfOk result (λ asking. (tracked : Resource) → asking ≡ asked_by_merge_patch tracked body.now (option_map (λ tree. tree.now) old.entry)) }
 {
-    let Some(old) = old else {
-        return Ok(Asking::Wrong);
-    };
-    let old = typed(alloc, tracked, old)?;
-    let made = merge(alloc, Some(&old), body)?;
-    Ok(Asking::Whole(untyped(made)))
+    match old {
+        Some(old) => Ok(Asking::Whole(merged(alloc, old, body)?)),
+        None => Ok(Asking::Wrong),
+    }
 }
 
 fn asked_by_patch(
@@ -103,7 +100,7 @@ fn asked_by_patch(
         return asked_by_json_patch(alloc, tracked, body, old);
     }
     if is_merge(tracked, &event.attrs, body) {
-        return asked_by_merge_patch(alloc, tracked, body, old);
+        return asked_by_merge_patch(alloc, body, old);
     }
     Ok(Asking::NotJudged)
 }

@@ -1,13 +1,16 @@
-ghost use Rattle.std.specs.Prelude.{◌≡◌, OnOk, IfOk};
+ghost use Rattle.std.specs.Prelude.{◌≡◌, Some, OnOk, IfOk};
 ghost use Rattle.std.specs.List.{list_any};
 ghost use Rattle.json_tree.specs.Meaning.{words};
 ghost use Rattle.json_tree.specs.Stored.{without};
+ghost use Rattle.merge_patch.specs.Merging.{merged};
 ghost use Rattle.setup_file.specs.Objects.{api_version_of};
-ghost use Rattle.request_bodies.specs.Patched.{put_in, typed, untyped, is_managed, touches_managed};
+ghost use Rattle.setup_file.specs.declared.setup.Tracked.{Tracked as Resource};
+ghost use Rattle.request_bodies.specs.Patched.{IsOrdered, put_in, typed, untyped, is_managed, touches_managed};
 
 use base_types::{OutOfMemory, Text};
 use json_patch::{Op, Patch};
 use json_tree::{Node, Pointer, Tree, copy};
+use merge_patch::merge;
 use setup_file::Tracked;
 use std::alloc::Global;
 
@@ -69,6 +72,24 @@ pub fn untyped(object: Tree) -> Tree
     take_out(&mut object, "apiVersion");
     take_out(&mut object, "kind");
     object
+}
+
+// The members of an object stand in the order of their names.
+fn order_law(tree: &Tree)
+    ensures { IsOrdered tree.now }
+{
+    if let Node::Members(list) = &tree.node {
+        let _all = list.all.as_slice();
+    }
+}
+
+/// The old object after a merge patch, without its version and kind. They needn't be put in before, since it doesn't
+/// matter to other members what they are.
+pub fn merged(alloc: Global, old: &Tree, body: &Tree) -> Result<Tree, OutOfMemory>
+    ensures { IfOk result (λ made. (tracked : Resource) → made ≡ untyped (merged (Some (typed tracked old.now)) body.now)) }
+{
+    order_law(old);
+    Ok(untyped(merge(alloc, Some(old), body)?))
 }
 
 fn is_managed(path: &Pointer) -> bool
