@@ -1,6 +1,6 @@
 -- What an audited write is for, and what it sends (Kubernetes API concepts, "Resource URIs"; "Authorization", "Request
 -- verbs").
-use Rattle.std.specs.Prelude.{ℕ, ◌==◌, Bool, true, false, not, ◌&&◌, ◌||◌, List, length, Option, Some, None, find, bytes_eq, codes, is_some, option_map, if◌then◌else◌}
+use Rattle.std.specs.Prelude.{ℕ, ◌==◌, Bool, false, not, ◌&&◌, ◌||◌, List, length, Option, Some, None, find, bytes_eq, codes, is_some, option_map, if◌then◌else◌}
 use Rattle.std.specs.List.{list_any}
 use Rattle.json_tree.specs.Meaning.{Meaning}
 use Rattle.json_tree.specs.Parts.{members_of}
