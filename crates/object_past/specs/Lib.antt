@@ -1,1 +1,4 @@
+pub mod Endings
+pub mod Indexed
 pub mod Modelled
+pub mod Past

@@ -1,0 +1,179 @@
+ghost use Rattle.std.specs.Prelude.{◌≡◌, ◌≢◌, ◌<◌, ◌^◌, ◌==◌, ◌&&◌, ◌↔◌, length, map, find, option_map, option_and_then, slice_get, IfOk, IfSome, IsTrue, All, AllPairs, Any, Contains};
+ghost use Rattle.std.specs.Option.{option_copied};
+ghost use Rattle.history_model.specs.Keys.{same_key};
+ghost use Rattle.history_model.specs.States.{latest};
+ghost use Rattle.object_past.specs.Endings.{ByLast};
+ghost use Rattle.object_past.specs.Indexed.{found_at, found_in};
+ghost use Rattle.object_past.specs.Modelled.{version_of};
+ghost use Rattle.object_past.specs.Past.{AreEnds, AreRising, IsRemovalOf};
+
+use crate::ending::{Ending, ending_behind, endings_of};
+use crate::entry::entry_upto;
+use crate::filing::{ByKey, file_versions};
+use crate::removal::{Removal, Removals};
+use crate::version::{Maker, Version, Versions};
+use base_types::{ObjectKey, OutOfMemory, Range};
+use std::alloc::Global;
+use std::marker::Model;
+
+/// All versions and removals, and where they are found. Contracts see the versions and the removals.
+#[derive(Drop)]
+pub struct Past {
+    versions: Versions,
+    removals: Removals,
+    ranges: Vec<Range>,
+    endings: Vec<Ending>,
+    by_key: ByKey,
+}
+
+impl Model for Past {
+    ghost use Rattle.object_past.specs.Past.{Recorded};
+
+    ghost Value = { Recorded };
+
+    ghost use Rattle.object_past.specs.Indexed.{IsKept};
+
+    ghost view = { λ p. record { versions = p.versions; removals = p.removals } };
+
+    ghost invariant = { λ p. IsKept (record { versions = p.versions; removals = p.removals }) p.ranges.items p.endings.items p.by_key };
+}
+
+fn ranges_of(alloc: Global, removals: &[Removal]) -> Result<Vec<Range>, OutOfMemory>
+    ensures { IfOk result (λ ranges. ranges.items ≡ map (λ removal. removal.range) removals.now) }
+{
+    let ranges = removals.iter().map(|removal| removal.range).collect(alloc)?;
+    Ok(ranges)
+}
+
+// The version of this revision.
+fn version_with(versions: &[Version], revision: u64) -> Option<&Version>
+    requires { AreRising versions.now }
+    ensures { option_map (λ v. v.now) result ≡ find (λ v. v.revision == revision) versions.now }
+{
+    let upto = versions.partition_point(|version| version.revision.get() <= revision);
+    if upto == 0 {
+        return None;
+    }
+    let version = &versions[upto - 1];
+    if version.revision.get() != revision {
+        return None;
+    }
+    Some(version)
+}
+
+// The position of the removal by the event of this number.
+fn position_by(removals: &[Removal], event: u32) -> Option<u32>
+    requires rising { AllPairs (λ a b. a.range.event < b.range.event) removals.now }
+    requires count { length removals.now < 2 ^ 32 }
+    ensures removal { option_and_then (slice_get removals.now) result ≡ find (λ r. r.range.event == event) removals.now }
+    ensures within { IfSome result (λ position. position < length removals.now) }
+{
+    let upto = removals.partition_point(|removal| removal.range.event <= event);
+    if upto == 0 {
+        return None;
+    }
+    if removals[upto - 1].range.event != event {
+        return None;
+    }
+    Some((upto - 1) as u32)
+}
+
+impl Past {
+    /// Keeps versions by revision, and removals by event.
+    pub fn build(
+        alloc: Global,
+        versions: Versions,
+        removals: Removals,
+    ) -> Result<Past, OutOfMemory>
+        requires rising { AllPairs (λ a b. a.revision < b.revision) versions }
+        requires ends { AreEnds versions removals }
+        requires few_versions { length versions < 2 ^ 32 }
+        requires few_removals { length removals < 2 ^ 32 }
+        ensures versions { IfOk result (λ past. past.versions ≡ versions) }
+        ensures removals { IfOk result (λ past. past.removals ≡ removals) }
+    {
+        let ranges = ranges_of(alloc, removals.as_slice())?;
+        let endings = endings_of(alloc, removals.as_slice())?;
+        let by_key = file_versions(alloc, versions.as_slice(), &endings)?;
+        Ok(Past {
+            versions,
+            removals,
+            ranges,
+            endings,
+            by_key,
+        })
+    }
+
+    /// All versions by revision.
+    pub fn versions(&self) -> &[Version]
+        ensures versions { result.now ≡ self.now.versions }
+        ensures rising { AllPairs (λ a b. a.revision < b.revision) result.now }
+    {
+        self.versions.as_slice()
+    }
+
+    /// All removals by event.
+    pub fn removals(&self) -> &[Removal]
+        ensures removals { result.now ≡ self.now.removals }
+        ensures ends { AreEnds self.now.versions result.now }
+    {
+        self.removals.as_slice()
+    }
+
+    /// The ranges of all removals.
+    pub fn ranges(&self) -> &[Range]
+        ensures { result.now ≡ map (λ r. r.range) self.now.removals }
+    {
+        self.ranges.as_slice()
+    }
+
+    /// The version of this revision.
+    pub fn at(&self, revision: u64) -> Option<&Version>
+        ensures { option_map (λ v. v.now) result ≡ find (λ v. v.revision == revision) self.now.versions }
+    {
+        version_with(self.versions.as_slice(), revision)
+    }
+
+    /// The version of this key and revision.
+    pub fn version(&self, key: &ObjectKey, revision: u64) -> Option<&Version>
+        ensures { option_map (λ v. v.now) result
+            ≡ find (λ v. same_key v.key key.now && v.revision == revision) self.now.versions }
+    {
+        let version = self.at(revision)?;
+        if version.key != *key {
+            return None;
+        }
+        Some(version)
+    }
+
+    /// The key's latest version at or below a place.
+    pub fn latest(&self, key: &ObjectKey, place: u64) -> Option<&Version>
+        ensures latest { option_map (λ v. version_of v.now) result ≡ latest (map version_of self.now.versions) key.now place }
+        ensures known { IfSome result (λ v. Contains self.now.versions v.now) }
+    {
+        let entry = entry_upto(self.by_key.get(key)?.entries(), place)?;
+        self.versions.as_slice().get(entry.position as usize)
+    }
+
+    /// Who wrote the version of this revision.
+    pub fn maker(&self, revision: u64) -> Option<Maker>
+        ensures { result ≡ option_map (λ v. v.maker) (find (λ v. v.revision == revision) self.now.versions) }
+    {
+        Some(self.at(revision)?.maker)
+    }
+
+    /// The position of the removal of the version of this revision.
+    pub fn removal_of(&self, last: u64) -> Option<u32>
+        ensures { IsRemovalOf self.now.removals last result }
+    {
+        Some(ending_behind(&self.endings, last)?.position)
+    }
+
+    /// The position of the removal by the event of this number.
+    pub fn removal_by(&self, event: u32) -> Option<u32>
+        ensures removal { option_and_then (slice_get self.now.removals) result ≡ find (λ r. r.range.event == event) self.now.removals }
+        ensures within { IfSome result (λ position. position < length self.now.removals) }
+    {
+        position_by(self.removals.as_slice(), event)
+    }
+}
