@@ -1,0 +1,4 @@
+pub mod Searching
+pub mod Ended
+pub mod Filed
+pub mod Looking

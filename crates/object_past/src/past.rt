@@ -3,12 +3,12 @@ ghost use Rattle.std.specs.Option.{option_copied};
 ghost use Rattle.history_model.specs.Keys.{same_key};
 ghost use Rattle.history_model.specs.States.{latest};
 ghost use Rattle.object_past.specs.Endings.{ByLast};
-ghost use Rattle.object_past.specs.Indexed.{found_at, found_in};
+ghost use Rattle.object_past.specs.Indexed.{AreEntries};
 ghost use Rattle.object_past.specs.Modelled.{version_of};
 ghost use Rattle.object_past.specs.Past.{AreEnds, AreRising, IsRemovalOf};
 
 use crate::ending::{Ending, ending_behind, endings_of};
-use crate::entry::entry_upto;
+use crate::entry::{Entry, entry_upto};
 use crate::filing::{ByKey, file_versions};
 use crate::removal::{Removal, Removals};
 use crate::version::{Maker, Version, Versions};
@@ -43,6 +43,18 @@ fn ranges_of(alloc: Global, removals: &[Removal]) -> Result<Vec<Range>, OutOfMem
 {
     let ranges = removals.iter().map(|removal| removal.range).collect(alloc)?;
     Ok(ranges)
+}
+
+fn has_key(version: &Version, key: &ObjectKey) -> bool
+    ensures { result ≡ same_key version.now.key key.now }
+{
+    version.key == *key
+}
+
+fn version_at(versions: &[Version], position: u32) -> Option<&Version>
+    ensures { option_map (λ v. v.now) result ≡ slice_get versions.now position }
+{
+    versions.get(position as usize)
 }
 
 // The version of this revision.
@@ -80,11 +92,7 @@ fn position_by(removals: &[Removal], event: u32) -> Option<u32>
 
 impl Past {
     /// Keeps versions by revision, and removals by event.
-    pub fn build(
-        alloc: Global,
-        versions: Versions,
-        removals: Removals,
-    ) -> Result<Past, OutOfMemory>
+    pub fn build(alloc: Global, versions: Versions, removals: Removals) -> Result<Past, OutOfMemory>
         requires rising { AllPairs (λ a b. a.revision < b.revision) versions }
         requires ends { AreEnds versions removals }
         requires few_versions { length versions < 2 ^ 32 }
@@ -139,11 +147,21 @@ impl Past {
         ensures { option_map (λ v. v.now) result
             ≡ find (λ v. same_key v.key key.now && v.revision == revision) self.now.versions }
     {
-        let version = self.at(revision)?;
-        if version.key != *key {
+        let version = version_with(self.versions.as_slice(), revision)?;
+        if !has_key(version, key) {
             return None;
         }
         Some(version)
+    }
+
+    // The key's versions in order.
+    fn entries_of(&self, key: &ObjectKey) -> &[Entry]
+        ensures { AreEntries self.now.versions key.now result.now }
+    {
+        match self.by_key.get(key) {
+            Some(found) => found.entries(),
+            None => &[],
+        }
     }
 
     /// The key's latest version at or below a place.
@@ -151,8 +169,9 @@ impl Past {
         ensures latest { option_map (λ v. version_of v.now) result ≡ latest (map version_of self.now.versions) key.now place }
         ensures known { IfSome result (λ v. Contains self.now.versions v.now) }
     {
-        let entry = entry_upto(self.by_key.get(key)?.entries(), place)?;
-        self.versions.as_slice().get(entry.position as usize)
+        let versions = self.versions.as_slice();
+        let entry = entry_upto(self.entries_of(key), place)?;
+        version_at(versions, entry.position)
     }
 
     /// Who wrote the version of this revision.
