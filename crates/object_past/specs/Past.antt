@@ -30,6 +30,10 @@ pub record AreEnds (versions : List Version) (removals : List Removal) : Type 0 
   pub behind : All (λ removal. removal.last < removal.range.low) removals
   pub before_next : All (λ removal. All (λ w. w.key ≡ removal.key → removal.last < w.revision → removal.range.high < w.revision) versions) removals
 
+-- the version of the key and this revision
+abbrev pub HasVersionAt : List Version → ObjectKey → ℕ → Type 0
+HasVersionAt versions key revision = Any (λ v. (v.key ≡ key) × (v.revision ≡ revision)) versions
+
 -- the removal at this position has this last version; none has it
 abbrev pub IsRemovalOf : List Removal → ℕ → Option ℕ → Type 0
 IsRemovalOf removals last None = All (λ removal. removal.last ≢ last) removals

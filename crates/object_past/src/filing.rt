@@ -1,7 +1,11 @@
-ghost use Rattle.std.specs.Prelude.{◌≡◌, ◌<◌, ◌^◌, List, length, IfOk, OnOk};
+ghost use Rattle.std.specs.Prelude.{◌<◌, ◌^◌, ◌↔◌, List, length, Contains, IsSome, IfOk, OnOk};
+ghost use Rattle.std.specs.BTreeMap.{get};
+ghost use Rattle.base_types.specs.declared.key.ObjectKey.{ObjectKey};
+ghost use Rattle.clouds.specs.Kept.{key_order};
 ghost use Rattle.object_past.specs.Endings.{AreEndings, ByLast};
 ghost use Rattle.object_past.specs.Indexed.{AreFound, ChangesAt, IsGrown};
 ghost use Rattle.object_past.specs.Past.{AreEnds, AreRising};
+ghost use Rattle.object_past.specs.Scopes.{AreInOrder};
 ghost use Rattle.object_past.specs.declared.removal.Removal.{Removal};
 
 use crate::ending::{Ending, ending_behind};
@@ -54,4 +58,16 @@ pub fn file_versions(
         file(alloc, &mut by_key, i as u32, version, ending)?;
     }
     Ok(by_key)
+}
+
+/// The keys in order.
+pub fn keys_of(alloc: Global, by_key: &ByKey) -> Result<Vec<ObjectKey>, OutOfMemory>
+    ensures order { IfOk result (λ keys. AreInOrder keys.items) }
+    ensures exact { IfOk result (λ keys. (key : ObjectKey) → Contains keys.items key ↔ IsSome (get key_order by_key.now key)) }
+{
+    let mut keys = Vec::with_capacity(alloc, by_key.len())?;
+    for key in by_key.keys() {
+        keys.push(key.clone()?)?;
+    }
+    Ok(keys)
 }

@@ -5,10 +5,16 @@ mod ending;
 mod entry;
 mod filing;
 mod found;
+mod incarnation;
 mod past;
 mod removal;
+mod scope;
 mod version;
 
+pub use incarnation::Incarnation;
 pub use past::Past;
 pub use removal::{Removal, Removals};
 pub use version::{Maker, Version, Versions};
+
+#[cfg(test)]
+mod tests;

@@ -1,18 +1,26 @@
-ghost use Rattle.std.specs.Prelude.{◌≡◌, ◌≢◌, ◌<◌, ◌^◌, ◌==◌, ◌&&◌, ◌↔◌, length, map, find, option_map, option_and_then, slice_get, IfOk, IfSome, IsTrue, All, AllPairs, Any, Contains};
+ghost use Rattle.std.specs.Prelude.{◌≡◌, ◌≢◌, ◌<◌, ◌^◌, ◌==◌, ◌&&◌, ◌↔◌, length, map, find, option_map, option_and_then, slice_get, IfOk, IfSome, IsSomeAnd, IsTrue, AllPairs, Any, Contains, ◌≤◌};
 ghost use Rattle.std.specs.Option.{option_copied};
+ghost use Rattle.std.specs.List.Sorted.{IsNonDecreasing};
+ghost use Rattle.base_types.specs.declared.key.ObjectKey.{ObjectKey};
+ghost use Rattle.history_model.specs.Bounding.{IsAbsentAnyway, SomewhereIn};
+ghost use Rattle.history_model.specs.Histories.{History};
 ghost use Rattle.history_model.specs.Keys.{same_key};
 ghost use Rattle.history_model.specs.States.{latest};
 ghost use Rattle.object_past.specs.Endings.{ByLast};
-ghost use Rattle.object_past.specs.Indexed.{AreEntries};
+ghost use Rattle.object_past.specs.Indexed.{AreEntries, AreGone, HasVersion};
+ghost use Rattle.object_past.specs.Incarnated.{AreIncarnations};
 ghost use Rattle.object_past.specs.Modelled.{version_of};
-ghost use Rattle.object_past.specs.Past.{AreEnds, AreRising, IsRemovalOf};
+ghost use Rattle.object_past.specs.Past.{AreEnds, AreRising, HasPast, IsAbsentIn, IsRemovalOf};
+ghost use Rattle.object_past.specs.Scopes.{AreInOrder, IsInScope};
 
 use crate::ending::{Ending, ending_behind, endings_of};
 use crate::entry::{Entry, entry_upto};
-use crate::filing::{ByKey, file_versions};
+use crate::filing::{ByKey, file_versions, keys_of};
+use crate::incarnation::Incarnation;
 use crate::removal::{Removal, Removals};
+use crate::scope::keys_in;
 use crate::version::{Maker, Version, Versions};
-use base_types::{ObjectKey, OutOfMemory, Range};
+use base_types::{ObjectKey, OutOfMemory, Range, Text};
 use std::alloc::Global;
 use std::marker::Model;
 
@@ -23,6 +31,8 @@ pub struct Past {
     removals: Removals,
     ranges: Vec<Range>,
     endings: Vec<Ending>,
+    // All keys in order, so that those of a scope are one slice.
+    keys: Vec<ObjectKey>,
     by_key: ByKey,
 }
 
@@ -35,7 +45,7 @@ impl Model for Past {
 
     ghost view = { λ p. record { versions = p.versions; removals = p.removals } };
 
-    ghost invariant = { λ p. IsKept (record { versions = p.versions; removals = p.removals }) p.ranges.items p.endings.items p.by_key };
+    ghost invariant = { λ p. IsKept (record { versions = p.versions; removals = p.removals }) p.ranges.items p.endings.items p.keys.items p.by_key };
 }
 
 fn ranges_of(alloc: Global, removals: &[Removal]) -> Result<Vec<Range>, OutOfMemory>
@@ -90,6 +100,15 @@ fn position_by(removals: &[Removal], event: u32) -> Option<u32>
     Some((upto - 1) as u32)
 }
 
+// Whether one of the places lies from `low` to `high`.
+fn has_within(places: &[u64], low: u64, high: u64) -> bool
+    requires { IsNonDecreasing places.now }
+    ensures { IsTrue result ↔ Any (λ place. (low ≤ place) × (place ≤ high)) places.now }
+{
+    let upto = places.partition_point(|place| *place <= high);
+    upto > 0 && low <= places[upto - 1]
+}
+
 impl Past {
     /// Keeps versions by revision, and removals by event.
     pub fn build(alloc: Global, versions: Versions, removals: Removals) -> Result<Past, OutOfMemory>
@@ -103,11 +122,13 @@ impl Past {
         let ranges = ranges_of(alloc, removals.as_slice())?;
         let endings = endings_of(alloc, removals.as_slice())?;
         let by_key = file_versions(alloc, versions.as_slice(), &endings)?;
+        let keys = keys_of(alloc, &by_key)?;
         Ok(Past {
             versions,
             removals,
             ranges,
             endings,
+            keys,
             by_key,
         })
     }
@@ -194,5 +215,90 @@ impl Past {
         ensures within { IfSome result (λ position. position < length self.now.removals) }
     {
         position_by(self.removals.as_slice(), event)
+    }
+
+    // Where the ranges of the key's removals end.
+    fn gone_of(&self, key: &ObjectKey) -> &[u64]
+        ensures { AreGone self.now.versions self.now.removals key.now result.now }
+    {
+        match self.by_key.get(key) {
+            Some(found) => found.gone(),
+            None => &[],
+        }
+    }
+
+    // Whether the key is absent at a place whatever is chosen.
+    fn is_absent_at(&self, key: &ObjectKey, place: u64) -> bool
+        ensures { IsTrue result ↔ IsAbsentIn self.now key.now place }
+    {
+        let endings = self.endings.as_slice();
+        let Some(version) = self.latest(key, place) else {
+            return true;
+        };
+        let Some(ending) = ending_behind(endings, version.revision.get()) else {
+            return false;
+        };
+        ending.high <= place
+    }
+
+    /// Whether the key is absent at some place from `low` to `high` whatever places its removals have: before its first
+    /// version, or behind a removal's range.
+    pub fn is_absent_within(&self, key: &ObjectKey, low: u64, high: u64) -> bool
+        ensures { (h : History) → HasPast self.now h → IsTrue result ↔ SomewhereIn low high (IsAbsentAnyway h key.now) }
+    {
+        let _ = &self.versions;
+        if low > high {
+            return false;
+        }
+        self.is_absent_at(key, low) || has_within(self.gone_of(key), low, high)
+    }
+
+    /// The incarnations of a key's object, in order.
+    pub fn incarnations(&self, key: &ObjectKey) -> &[Incarnation]
+        ensures { AreIncarnations self.now key.now result.now }
+    {
+        match self.by_key.get(key) {
+            Some(found) => found.incarnations(),
+            None => &[],
+        }
+    }
+
+    /// Whether at some place from `low` to `high` the key's latest version has another uid.
+    pub fn has_other_uid(&self, key: &ObjectKey, low: u64, high: u64, uid: &Text) -> bool
+        ensures { IsTrue result ↔ SomewhereIn low high (λ place.
+            IsSomeAnd (latest (map version_of self.now.versions) key.now place) (λ v. v.uid ≢ uid.now)) }
+    {
+        let _ = &self.versions;
+        if low > high {
+            return false;
+        }
+        let incarnations = self.incarnations(key);
+        let begun = incarnations.partition_point(|incarnation| incarnation.first.get() <= high);
+        if begun == 0 {
+            return false;
+        }
+        let last = &incarnations[begun - 1];
+        if last.uid != *uid {
+            return true;
+        }
+        begun > 1 && low < last.first.get()
+    }
+
+    /// The keys that have a version, in order.
+    pub fn keys(&self) -> &[ObjectKey]
+        ensures order { AreInOrder result.now }
+        ensures exact { (key : ObjectKey) → Contains result.now key ↔ HasVersion self.now.versions key }
+    {
+        self.keys.as_slice()
+    }
+
+    /// The keys that have a version and that a list of this group, resource and namespace is about, in order. The empty
+    /// namespace stands for all.
+    pub fn scope(&self, group: &Text, resource: &Text, namespace: &Text) -> &[ObjectKey]
+        ensures order { AreInOrder result.now }
+        ensures exact { (key : ObjectKey) → Contains result.now key
+            ↔ (HasVersion self.now.versions key × IsInScope group.now resource.now namespace.now key) }
+    {
+        keys_in(&self.keys, group, resource, namespace)
     }
 }
