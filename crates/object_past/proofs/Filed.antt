@@ -15,12 +15,15 @@ use Rattle.clouds.specs.Kept.{key_order}
 use Rattle.history_model.proofs.KeyLemmas.{key_tells}
 use Rattle.history_model.proofs.Members.{at_in, not_in_none}
 use Rattle.node_pool.proofs.Fronts.{slice_get-front, slice_get-last}
-use Rattle.object_past.specs.Indexed.{AreEntries, AreFound, ChangesAt, Found, HasVersion, IsFoundBy, IsGrown, entry_of, found_at, found_in}
+use Rattle.object_past.specs.Indexed.{AreEntries, AreFound, AreGone, ChangesAt, Found, HasVersion, IsFoundBy, IsGrown, entry_of, found_at, found_in, position_of}
+use Rattle.object_past.specs.Incarnated.{AreIncarnations}
 use Rattle.object_past.specs.Past.{AreRising}
 use Rattle.object_past.specs.declared.ending.Ending.{Ending}
 use Rattle.object_past.specs.declared.entry.Entry.{Entry}
 use Rattle.object_past.specs.declared.removal.Removal.{Removal}
 use Rattle.object_past.specs.declared.version.Version.{Version}
+use Rattle.object_past.proofs.Cut.{AreBelow, AreIncarnations-none, AreIncarnations-other, AreIncarnations-same, recorded_of}
+use Rattle.object_past.proofs.Gone.{AreGone-none, AreGone-other, AreGone-same, IsEnded}
 
 pub ChangesAt-updates : (old new : BTreeMap ObjectKey Found) (key : ObjectKey) (found : Found) (Changes : Found → Found → Type 0) → Updates key_order old new key (Some found)
     → Changes (found_at old key) found → ChangesAt old new key Changes
@@ -88,7 +91,7 @@ HasVersion-more done v key any =
 -- nothing is found of no versions
 pub AreFound-none : (removals : List Removal) (by_key : BTreeMap ObjectKey Found) → by_key.entries ≡ [] → AreFound [] removals by_key
 AreFound-none removals by_key none = record {
-  each = λ key. subst (IsFoundBy [] removals key) (sym (ap found_in (unfound key))) (record { entries = AreEntries-none key });
+  each = λ key. subst (IsFoundBy [] removals key) (sym (ap found_in (unfound key))) (record { entries = AreEntries-none key; incarnations = AreIncarnations-none removals key; gone = AreGone-none removals key });
   used = λ key some. absurd (nowhere (subst IsSome (unfound key) some));
 }
   where
@@ -99,12 +102,15 @@ AreFound-none removals by_key none = record {
     nowhere some = false≢true some
 
 pub AreFound-more : (done : List Version) (v : Version) (removals : List Removal) (ending : Option Ending) (old new : BTreeMap ObjectKey Found)
-    → ((w : Version) → Contains done w → w.revision < v.revision) → ChangesAt old new v.key (IsGrown (length done) v ending) → AreFound done removals old → AreFound (done ++ v ∷ []) removals new
-AreFound-more done v removals ending old new below changes found = record {
+    → AreBelow done v → IsEnded removals v ending → ChangesAt old new v.key (IsGrown (length done) v ending) → AreFound done removals old → AreFound (done ++ v ∷ []) removals new
+AreFound-more done v removals ending old new below ended changes found = record {
   each = λ key. ⊎_elim
       (λ same. subst (λ k. IsFoundBy (done ++ v ∷ []) removals k (found_at new k)) (sym same.1) here)
       (λ other. record {
         entries = subst (λ (f : Found). AreEntries (done ++ v ∷ []) key f.entries) (sym (changes.others key other.1)) (AreEntries-other done v key (found_at old key).entries other.1 (found.each key).entries);
+        incarnations = subst (λ (f : Found). AreIncarnations (recorded_of (done ++ v ∷ []) removals) key f.incarnations) (sym (changes.others key other.1))
+            (AreIncarnations-other done v removals key (found_at old key).incarnations below other.1 (found.each key).incarnations);
+        gone = subst (λ (f : Found). AreGone (done ++ v ∷ []) removals key f.gone) (sym (changes.others key other.1)) (AreGone-other done v removals key (found_at old key).gone other.1 (found.each key).gone);
       })
       (key_tells key v.key);
   used = λ key some. ⊎_elim
@@ -116,6 +122,8 @@ AreFound-more done v removals ending old new below changes found = record {
     here : IsFoundBy (done ++ v ∷ []) removals v.key (found_at new v.key)
     here = record {
       entries = subst (λ l. AreEntries (done ++ v ∷ []) v.key l) (sym changes.here.entries) (AreEntries-same done v (found_at old v.key).entries below (found.each v.key).entries);
+      incarnations = AreIncarnations-same done v removals (found_at old v.key).incarnations (found_at new v.key).incarnations (position_of ending) below ended.range changes.here.incarnations (found.each v.key).incarnations;
+      gone = subst (AreGone (done ++ v ∷ []) removals v.key) (sym changes.here.gone) (AreGone-same done v removals ending (found_at old v.key).gone below ended (found.each v.key).gone);
     }
 
 -- the versions before one of a list that rises

@@ -35,7 +35,10 @@ begun v range = record { uid = v.uid; first = v.revision; last = v.revision; ran
 abbrev pub continued : Incarnation → Version → Option ℕ → Incarnation
 continued i v range = record { uid = i.uid; first = i.first; last = v.revision; range = range }
 
+abbrev pub HasOtherLast : List Incarnation → Version → Type 0
+HasOtherLast incarnations v = (i : Incarnation) → last_of incarnations ≡ Some i → i.uid ≢ v.uid
+
 -- the key's next version goes on with the last incarnation, or begins one
 pub data IsExtended (old new : List Incarnation) (v : Version) (range : Option ℕ) : Type 0 where
   continues : (i : Incarnation) → last_of old ≡ Some i → i.uid ≡ v.uid → new ≡ slice_set old (length old - 1) (continued i v range) → IsExtended old new v range
-  begins : ((i : Incarnation) → last_of old ≡ Some i → i.uid ≢ v.uid) → new ≡ old ++ begun v range ∷ [] → IsExtended old new v range
+  begins : HasOtherLast old v → new ≡ old ++ begun v range ∷ [] → IsExtended old new v range

@@ -16,7 +16,7 @@ ghost use Rattle.object_past.specs.Scopes.{AreInOrder, IsInScope};
 use crate::ending::{Ending, ending_behind, endings_of};
 use crate::entry::{Entry, entry_upto};
 use crate::filing::{ByKey, file_versions, keys_of};
-use crate::incarnation::Incarnation;
+use crate::incarnation::{Incarnation, has_uid};
 use crate::removal::{Removal, Removals};
 use crate::scope::keys_in;
 use crate::version::{Maker, Version, Versions};
@@ -268,7 +268,6 @@ impl Past {
         ensures { IsTrue result ↔ SomewhereIn low high (λ place.
             IsSomeAnd (latest (map version_of self.now.versions) key.now place) (λ v. v.uid ≢ uid.now)) }
     {
-        let _ = &self.versions;
         if low > high {
             return false;
         }
@@ -278,7 +277,7 @@ impl Past {
             return false;
         }
         let last = &incarnations[begun - 1];
-        if last.uid != *uid {
+        if !has_uid(last, uid) {
             return true;
         }
         begun > 1 && low < last.first.get()

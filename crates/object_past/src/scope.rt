@@ -30,13 +30,9 @@ pub fn keys_in<'a>(
     ensures order { AreInOrder result.now }
     ensures exact { (key : ObjectKey) → Contains result.now key ↔ (Contains keys.now key × IsInScope group.now resource.now namespace.now key) }
 {
-    let before = keys.partition_point(|key| {
-        scope_order(key, group, resource, namespace) == Ordering::Less
-    });
+    let before = keys.partition_point(|key| scope_order(key, group, resource, namespace).is_lt());
     let (_, rest) = keys.split_at(before);
-    let within = rest.partition_point(|key| {
-        scope_order(key, group, resource, namespace) != Ordering::Greater
-    });
+    let within = rest.partition_point(|key| scope_order(key, group, resource, namespace).is_le());
     let (scope, _) = rest.split_at(within);
     scope
 }
