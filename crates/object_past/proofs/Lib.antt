@@ -1,0 +1,10 @@
+pub mod Searching
+pub mod Ended
+pub mod Cut
+pub mod Gone
+pub mod Filed
+pub mod Looking
+pub mod Kept
+pub mod Scoping
+pub mod Absent
+pub mod Uids

@@ -1,1 +1,6 @@
+pub mod Endings
+pub mod Incarnated
+pub mod Indexed
 pub mod Modelled
+pub mod Past
+pub mod Scopes

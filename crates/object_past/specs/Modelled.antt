@@ -1,5 +1,4 @@
 -- Versions and removals in the terms of the model of history.
-use Rattle.base_types.specs.declared.claim.Range.{Range}
 use Rattle.history_model.specs.Histories as past
 use Rattle.object_past.specs.declared.removal.Removal.{Removal}
 use Rattle.object_past.specs.declared.version.Maker.{Maker}

@@ -1,8 +1,17 @@
 //! The past of each object: its versions, cut into incarnations, and the removals that ended these.
 #![tactic(auto)]
 
+mod ending;
+mod entry;
+mod filing;
+mod found;
+mod incarnation;
+mod past;
 mod removal;
+mod scope;
 mod version;
 
+pub use incarnation::Incarnation;
+pub use past::Past;
 pub use removal::{Removal, Removals};
 pub use version::{Maker, Version, Versions};
