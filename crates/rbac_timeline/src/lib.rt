@@ -18,5 +18,6 @@ mod version;
 mod way;
 
 pub use deciding::deciding_law;
+pub use kind::{Kind, kind_of_key};
 pub use timeline::Timeline;
 pub use version::{RbacContent, RbacEnd, RbacEnds, RbacVersion, RbacVersions};

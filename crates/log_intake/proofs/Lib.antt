@@ -1,0 +1,10 @@
+mod BatchFacts
+mod EventFacts
+mod LineFacts
+mod LogFacts
+mod NumberFacts
+mod OneReadingFacts
+mod ReadFacts
+mod SetupFacts
+mod StepFacts
+mod StreamFacts

@@ -1,0 +1,13 @@
+pub mod LineLemmas
+pub mod LogLemmas
+pub mod LoggedLemmas
+pub mod PoolLemmas
+pub mod ReadingLemmas
+pub mod SelectorLemmas
+pub mod ShownLemmas
+pub mod Ranked
+pub mod Blaming
+pub mod Coding
+pub mod RoleEnds
+pub mod Keying
+pub mod Built

@@ -1,0 +1,15 @@
+pub mod Contexts
+pub mod Histories
+pub mod Judged
+pub mod Keyed
+pub mod Known
+pub mod Log
+pub mod LogFaults
+pub mod LogLevels
+pub mod LogSelectors
+pub mod LogTrees
+pub mod Logged
+pub mod Makings
+pub mod Readings
+pub mod Roles
+pub mod Shown

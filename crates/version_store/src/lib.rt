@@ -1,0 +1,18 @@
+//! What is found of a cluster's setup and its log: the events in the terms of the model of history, with each tree of
+//! an object kept once.
+#![tactic(auto)]
+
+mod bodies;
+mod build;
+mod context;
+mod faults;
+mod keys;
+mod log;
+mod roles;
+
+pub use bodies::RequestBodies;
+pub use context::Context;
+pub use faults::{Makings, faults_of, makings_of};
+pub use keys::keys_of;
+pub use log::{BuildFault, Log, Selectors, is_listable, log_of};
+pub use roles::{role_ends, roles_of};
