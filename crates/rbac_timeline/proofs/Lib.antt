@@ -1,10 +1,12 @@
 pub mod Answering
+pub mod Beginning
 pub mod Changed
 pub mod Choosing
 pub mod Clouding
 pub mod Comparing
 pub mod Constancy
 pub mod Contents
+pub mod Cutting
 pub mod Decided
 pub mod Examples
 pub mod Extremes
@@ -19,6 +21,7 @@ pub mod Lows
 pub mod Mentions
 pub mod Naming
 pub mod Ordered
+pub mod Pairing
 pub mod Passing
 pub mod Possible
 pub mod Requested

@@ -11,6 +11,7 @@ pub mod Kept
 pub mod Kinds
 pub mod Known
 pub mod Nameless
+pub mod Pairs
 pub mod Requests
 pub mod Searched
 pub mod Sound

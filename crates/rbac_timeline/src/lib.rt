@@ -5,12 +5,14 @@
 mod changes;
 mod deciding;
 mod extent;
+mod first;
 mod history;
 mod index;
 mod kind;
 mod lookups;
 mod named;
 mod nameless;
+mod pairs;
 mod search;
 mod timeline;
 mod unsure;
@@ -18,6 +20,5 @@ mod version;
 mod way;
 
 pub use deciding::deciding_law;
-pub use kind::{Kind, kind_of_key};
 pub use timeline::Timeline;
 pub use version::{RbacContent, RbacEnd, RbacEnds, RbacVersion, RbacVersions};
