@@ -1,12 +1,10 @@
 pub mod Answering
-pub mod Beginning
 pub mod Changed
 pub mod Choosing
 pub mod Clouding
 pub mod Comparing
 pub mod Constancy
 pub mod Contents
-pub mod Cutting
 pub mod Decided
 pub mod Examples
 pub mod Extremes
@@ -21,7 +19,6 @@ pub mod Lows
 pub mod Mentions
 pub mod Naming
 pub mod Ordered
-pub mod Pairing
 pub mod Passing
 pub mod Possible
 pub mod Requested

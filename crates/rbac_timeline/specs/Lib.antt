@@ -11,7 +11,6 @@ pub mod Kept
 pub mod Kinds
 pub mod Known
 pub mod Nameless
-pub mod Pairs
 pub mod Requests
 pub mod Searched
 pub mod Sound

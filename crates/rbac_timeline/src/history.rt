@@ -1,5 +1,5 @@
 ghost use Rattle.std.specs.Prelude.{◌≡◌, ◌≢◌, ◌<◌, [], ◌∷◌, IfOk, IfSome, IfNone, OnOk, List, Contains};
-ghost use Rattle.std.specs.List.Sorted.{IsNonDecreasingBy, IsPermutation};
+ghost use Rattle.std.specs.List.Sorted.{IsPermutation};
 ghost use Rattle.clouds.specs.Kept.{AddsAt};
 
 use crate::kind::{is_cluster_binding, kind_of_key, role_key};
@@ -36,19 +36,6 @@ pub struct Gap {
 
 ghost use Rattle.rbac_timeline.specs.Index.{key_order};
 ghost use Rattle.rbac_timeline.specs.Kept.{AreGaps, AreStored, content_of, gap_of, stored_of};
-ghost use Rattle.rbac_timeline.specs.Pairs.{AreStoredBetween};
-
-// Those above `low` and not above `high`.
-fn between(all: &[Stored], low: u64, high: u64) -> &[Stored]
-    requires { IsNonDecreasingBy (λ s. s.revision) all.now }
-    ensures { AreStoredBetween all.now low high result.now }
-{
-    let upto = all.partition_point(|stored| stored.revision <= high);
-    let (front, _) = all.split_at(upto);
-    let begun = front.partition_point(|stored| stored.revision <= low);
-    let (_, between) = front.split_at(begun);
-    between
-}
 
 /// The versions of one key, by revision.
 #[derive(Drop)]
@@ -101,13 +88,6 @@ impl History {
             return None;
         }
         Some(&self.stored[upto - 1])
-    }
-
-    /// The versions above `low` and not above `high`.
-    pub fn between(&self, low: u64, high: u64) -> &[Stored]
-        ensures { AreStoredBetween self.now low high result.now }
-    {
-        between(self.stored.as_slice(), low, high)
     }
 }
 

@@ -5,14 +5,12 @@
 mod changes;
 mod deciding;
 mod extent;
-mod first;
 mod history;
 mod index;
 mod kind;
 mod lookups;
 mod named;
 mod nameless;
-mod pairs;
 mod search;
 mod timeline;
 mod unsure;

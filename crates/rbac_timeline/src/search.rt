@@ -87,6 +87,17 @@ impl<'a> Asked<'a> {
         self.timeline.changes_between(kind, self.low, self.high)
     }
 
+    fn may(&self, way: Way, role_place: u64, binding_place: u64) -> bool
+        ensures { IsTrue result ↔ MayGrantInWay self.now.timeline.now way role_place binding_place self.now.who.now self.now.attrs.now }
+    {
+        let link = Link {
+            way,
+            role_place,
+            binding_place,
+        };
+        self.timeline.may(link, self.who, self.attrs)
+    }
+
     fn must(&self, way: Way, role_place: u64, binding_place: u64) -> bool
         ensures { IsTrue result ↔ MustGrantInWay self.now.timeline.now way role_place binding_place self.now.who.now self.now.attrs.now }
     {
@@ -96,6 +107,38 @@ impl<'a> Asked<'a> {
             binding_place,
         };
         self.timeline.must(link, self.who, self.attrs)
+    }
+
+    // The least place of the bindings at which they may grant, with the roles at this place.
+    fn first_binding(&self, way: Way, role_place: u64) -> Option<u64>
+        requires { self.now.low ≤ self.now.high }
+        ensures { IsFirstPlace (λ place. MayGrantInWay self.now.timeline.now way role_place place self.now.who.now self.now.attrs.now) self.now.low self.now.high result }
+    {
+        if self.may(way, role_place, self.low) {
+            return Some(self.low);
+        }
+        for place in self.later(way.bindings()) {
+            if self.may(way, role_place, *place) {
+                return Some(*place);
+            }
+        }
+        None
+    }
+
+    // The least places of roles and then of bindings at which they may grant.
+    fn first_pair(&self, way: Way) -> Option<(u64, u64)>
+        requires { self.now.low ≤ self.now.high }
+        ensures { IsFirstPair (λ r b. MayGrantInWay self.now.timeline.now way r b self.now.who.now self.now.attrs.now) self.now.low self.now.high result }
+    {
+        if let Some(binding_place) = self.first_binding(way, self.low) {
+            return Some((self.low, binding_place));
+        }
+        for role_place in self.later(way.roles()) {
+            if let Some(binding_place) = self.first_binding(way, *role_place) {
+                return Some((*role_place, binding_place));
+            }
+        }
+        None
     }
 
     fn first_by_roles(&self) -> Option<Places>

@@ -1,5 +1,4 @@
 ghost use Rattle.std.specs.Prelude.{◌≡◌, ◌↔◌, IsTrue, IfOk, IfSome, IfNone, Any, Contains, MatchOption, map, [], false, ⊤, ◌<◌, ◌≤◌, ◌||◌};
-ghost use Rattle.clouds.specs.FirstPlace.{IsFirstPlace};
 ghost use Rattle.rbac_timeline.specs.Kept.{MayGrantByRules, MustGrantByRules};
 ghost use Rattle.rbac_rules.specs.Matching.{Matches};
 ghost use Rattle.rbac_timeline.specs.Known.{key_revision, known_of, writes_of};
@@ -106,17 +105,6 @@ fn rules_extent(content: &Content, attrs: &RequestAttrs) -> Extent
     }
 }
 
-// The first place of a range behind another.
-fn first_behind(place: u64, low: u64, high: u64) -> Option<u64>
-    requires { low ≤ high }
-    ensures { IsFirstPlace (λ n. place < n) low high result }
-{
-    if place >= high {
-        return None;
-    }
-    Some(low.max(place + 1))
-}
-
 fn any_group(groups: &[Text], bypass: &Texts) -> bool
     ensures { IsTrue result ↔ Any (Contains bypass.now) groups.now }
 {
@@ -141,30 +129,21 @@ fn any_subject(subjects: &[Subject], who: &User) -> bool
     subjects.iter().any(|subject| subject_matches(subject, who))
 }
 
-pub(crate) fn names(binding: &Binding, who: &User) -> bool
+fn names(binding: &Binding, who: &User) -> bool
     ensures { IsTrue result ↔ Any (λ subject. Matches subject who.now) binding.now.subjects }
 {
     any_subject(binding.subjects.as_slice(), who)
 }
 
 impl Timeline {
-    ghost use Rattle.std.specs.Prelude.{ℕ};
-    ghost use Rattle.base_types.specs.declared.key.ObjectKey.{ObjectKey};
-    ghost use Rattle.clouds.specs.Clouds.{IsClouded};
-    ghost use Rattle.rbac_timeline.specs.declared.way.Way.{Way};
-    ghost use Rattle.base_types.specs.declared.request.RequestAttrs.{RequestAttrs};
-    ghost use Rattle.base_types.specs.declared.request.User.{User};
-    ghost use Rattle.rbac_timeline.specs.Kinds.{IsKeyOf, IsReached};
-    ghost use Rattle.rbac_timeline.specs.Unsure.{last_place};
     ghost use Rattle.rbac_timeline.specs.Decisions.{AreLeastPlaces, IsDecidedAt, IsPossible};
     ghost use Rattle.rbac_timeline.specs.Index.{AreBindingsOf};
     ghost use Rattle.rbac_timeline.specs.Sound.{AreSound};
     ghost use Rattle.rbac_timeline.specs.declared.version.RbacVersion.{RbacVersion};
     ghost use Rattle.rbac_timeline.specs.Changing.{AreChangesBetween};
     ghost use Rattle.rbac_timeline.specs.Choices.{IsBypassed, IsKnownKey};
-    ghost use Rattle.rbac_timeline.specs.Extents.{IsCertain, IsNotGone, MayGrantByKey, MayGrantByRole, MayGrantInWay, MayGrantNameless, MustGrantByRole, MustGrantInWay, bindings_in};
+    ghost use Rattle.rbac_timeline.specs.Extents.{IsCertain, IsNotGone, MayGrantByRole, MayGrantInWay, MayGrantNameless, MustGrantByRole, MustGrantInWay};
     ghost use Rattle.rbac_timeline.specs.Kept.{IsKnownUnsure, IsRemovalOf, MayGrantByContent, MayGrantByListed, MayGrantOf, MustGrantByContent, MustGrantByListed, MustGrantOf, NamesAccount, NamesGroup, NamesUser, NamesWho, stored_of};
-    ghost use Rattle.rbac_timeline.specs.Pairs.{AreVersionsBetween};
     ghost use Rattle.rbac_timeline.specs.Searched.{AreFirstOf};
     ghost use Rattle.rbac_timeline.specs.States.{IsLatestVersion, NoneUpto};
 
@@ -240,7 +219,7 @@ impl Timeline {
         presence(self.removal(key, stored.revision), place)
     }
 
-    pub(crate) fn role_extent(&self, key: &ObjectKey, place: u64, attrs: &RequestAttrs) -> Extent
+    fn role_extent(&self, key: &ObjectKey, place: u64, attrs: &RequestAttrs) -> Extent
         ensures may { IsTrue result.may ↔ MayGrantByRole self.now key.now place attrs.now }
         ensures must { IsTrue result.must ↔ MustGrantByRole self.now key.now place attrs.now }
     {
@@ -424,91 +403,6 @@ impl Timeline {
         self.changes.between(kind, low, high)
     }
 
-    pub(crate) fn is_clouded(&self, key: &ObjectKey, place: u64) -> bool
-        ensures { IsTrue result ↔ IsClouded (writes_of self.now) key.now place }
-    {
-        self.clouds.clouded(key, place)
-    }
-
-    // The least place of a range at which the object is clouded.
-    pub(crate) fn first_clouded(&self, key: &ObjectKey, low: u64, high: u64) -> Option<u64>
-        ensures { IsFirstPlace (IsClouded (writes_of self.now) key.now) low high result }
-    {
-        self.clouds.meets(key, low, high)
-    }
-
-    // The key's versions above `low` and not above `high`.
-    pub(crate) fn versions_between(&self, key: &ObjectKey, low: u64, high: u64) -> &[Stored]
-        ensures { AreVersionsBetween self.now.versions key.now low high result.now }
-    {
-        match self.histories.get(key) {
-            Some(history) => history.between(low, high),
-            None => &[],
-        }
-    }
-
-    pub(crate) fn named_user(&self, name: &Text) -> &[ObjectKey]
-        ensures { (key : ObjectKey) → Contains result.now key ↔ NamesUser self.now.versions name.now key }
-    {
-        self.index.by_user(name)
-    }
-
-    // By the account that a user is.
-    pub(crate) fn named_account(&self, name: &Text) -> &[ObjectKey]
-        ensures { (key : ObjectKey) → Contains result.now key ↔ NamesAccount self.now.versions name.now key }
-    {
-        self.index.by_account_user(name)
-    }
-
-    pub(crate) fn named_group(&self, group: &Text) -> &[ObjectKey]
-        ensures { (key : ObjectKey) → Contains result.now key ↔ NamesGroup self.now.versions group.now key }
-    {
-        self.index.by_group(group)
-    }
-
-    // The bindings that may be clouded or unreadable somewhere and can reach the request, and maybe others.
-    pub(crate) fn unsure_keys(&self, way: Way, attrs: &RequestAttrs) -> &[ObjectKey]
-        ensures known { (key : ObjectKey) → Contains result.now key → IsKnownKey self.now key }
-        ensures full { (place : ℕ) (key : ObjectKey) → place ≤ last_place → IsKeyOf (bindings_in way) key → IsReached key attrs.now → IsKnownUnsure self.now place key → Contains result.now key }
-    {
-        self.unsure.keys(way.bindings(), attrs)
-    }
-
-    // The least place of a range from which on a binding whose name isn't known may grant the request.
-    pub(crate) fn first_nameless(
-        &self,
-        way: Way,
-        low: u64,
-        high: u64,
-        attrs: &RequestAttrs,
-    ) -> Option<u64>
-        requires { low ≤ high }
-        ensures { IsFirstPlace (λ place. MayGrantNameless self.now way place attrs.now) low high result }
-    {
-        match self.nameless.least(way.bindings(), attrs) {
-            Some(least) => first_behind(least, low, high),
-            None => None,
-        }
-    }
-
-    // What the binding holds, where it may be there.
-    pub(crate) fn held(&self, key: &ObjectKey, place: u64) -> Option<&Content>
-        requires { IsClouded (writes_of self.now) key.now place → ⊥ }
-        ensures some { IfSome result (λ content. (way : Way) (role_place : ℕ) (who : User) (attrs : RequestAttrs) → MayGrantByKey self.now way role_place place who attrs key.now ↔ MayGrantByContent self.now way role_place who attrs content.now) }
-        ensures none { IfNone result ((way : Way) (role_place : ℕ) (who : User) (attrs : RequestAttrs) → MayGrantByKey self.now way role_place place who attrs key.now → ⊥) }
-    {
-        let _known = &self.clouds;
-        match self.latest(key, place) {
-            Some(stored) => {
-                if !self.presence(key, stored, place).may {
-                    return None;
-                }
-                Some(&stored.content)
-            }
-            None => None,
-        }
-    }
-
     fn is_bypassed(&self, who: &User) -> bool
         ensures { IsTrue result ↔ IsBypassed self.now who.now }
     {
@@ -633,3 +527,6 @@ impl Timeline {
         }
     }
 }
+
+#[cfg(test)]
+mod tests;
