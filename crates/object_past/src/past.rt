@@ -246,6 +246,7 @@ impl Past {
     pub fn is_absent_within(&self, key: &ObjectKey, low: u64, high: u64) -> bool
         ensures { (h : History) → HasPast self.now h → IsTrue result ↔ SomewhereIn low high (IsAbsentAnyway h key.now) }
     {
+        // For the proof alone: what a past keeps is known where a field of it is looked at.
         let _ = &self.versions;
         if low > high {
             return false;
