@@ -6,13 +6,13 @@ use Rattle.base_types.specs.declared.placed.Places.{Places}
 use Rattle.rbac_timeline.specs.Decisions.{ComesFirst, IsUpTo}
 use Rattle.rbac_timeline.specs.Searched.{AreFirstOf, AreLeastOf, earlier_of, is_upto, lesser_number}
 
-first_by_test : (a b : ℕ) (rest : Bool) → lesser_number a b rest ≡ true → ComesFirst a b (rest ≡ true)
+pub first_by_test : (a b : ℕ) (rest : Bool) → lesser_number a b rest ≡ true → ComesFirst a b (rest ≡ true)
 first_by_test a b rest passed = ⊎_elim
     (λ less. inl (ltb-true a b less))
     (λ same. let both = and_parts (eqb a b) rest same in inr ((Decides-eqb a b).0 both.0, both.1))
     (or_cases (ltb a b) (eqb a b && rest) passed)
 
-back_by_test : (a b : ℕ) (rest : Bool) → lesser_number a b rest ≡ false → ComesFirst b a (rest ≡ false)
+pub back_by_test : (a b : ℕ) (rest : Bool) → lesser_number a b rest ≡ false → ComesFirst b a (rest ≡ false)
 back_by_test a b rest failed = ⊎_elim
     (λ (less : a < b). absurd (let yes = or_left (ltb a b) (eqb a b && rest) (lt-ltb a b less) in cc))
     (λ (upto : b ≤ a). ⊎_elim
@@ -29,7 +29,7 @@ back_by_test a b rest failed = ⊎_elim
     both_from : (a b : ℕ) (rest : Bool) → a ≡ b → rest ≡ true → (eqb a b && rest) ≡ true
     both_from a b rest same passing = ap (λ r. eqb a b && r) passing ∙ ap (λ e. e && true) ((Decides-eqb a b).1 same)
 
-first_weaker : (a b : ℕ) (R S : Type 0) → (R → S) → ComesFirst a b R → ComesFirst a b S
+pub first_weaker : (a b : ℕ) (R S : Type 0) → (R → S) → ComesFirst a b R → ComesFirst a b S
 first_weaker a b R S weaker first = ⊎_elim (λ less. inl less) (λ same. inr (same.0, weaker same.1)) first
 
 pub upto_from_test : (a b : Places) → is_upto a b ≡ true → IsUpTo a b
@@ -37,7 +37,7 @@ upto_from_test a b passed =
     first_weaker a.roles b.roles _ _ (λ r1. first_weaker a.cluster_roles b.cluster_roles _ _ (λ r2. first_weaker a.bindings b.bindings _ _ (λ r3. leb-true a.cluster_bindings b.cluster_bindings r3)
     (first_by_test a.bindings b.bindings _ r2)) (first_by_test a.cluster_roles b.cluster_roles _ r1)) (first_by_test a.roles b.roles _ passed)
 
-below_from_not : (a b : ℕ) → leb a b ≡ false → b ≤ a
+pub below_from_not : (a b : ℕ) → leb a b ≡ false → b ≤ a
 below_from_not a b fails = let less : b < a = leb-false a b fails in omega arith
 
 pub upto_from_not : (a b : Places) → is_upto a b ≡ false → IsUpTo b a
@@ -45,13 +45,13 @@ upto_from_not a b failed =
     first_weaker b.roles a.roles _ _ (λ r1. first_weaker b.cluster_roles a.cluster_roles _ _ (λ r2. first_weaker b.bindings a.bindings _ _ (λ r3. below_from_not a.cluster_bindings b.cluster_bindings r3)
     (back_by_test a.bindings b.bindings _ r2)) (back_by_test a.cluster_roles b.cluster_roles _ r1)) (back_by_test a.roles b.roles _ failed)
 
-first_trans : (a b c : ℕ) (R S T : Type 0) → (R → S → T) → ComesFirst a b R → ComesFirst b c S → ComesFirst a c T
+pub first_trans : (a b c : ℕ) (R S T : Type 0) → (R → S → T) → ComesFirst a b R → ComesFirst b c S → ComesFirst a c T
 first_trans a b c R S T join first second = ⊎_elim
     (λ (less : a < b). ⊎_elim (λ (more : b < c). inl (omega arith)) (λ same. let is : b ≡ c = same.0 in inl (omega arith)) second)
     (λ same. let is : a ≡ b = same.0 in ⊎_elim (λ (more : b < c). inl (omega arith)) (λ other. inr (same.0 ∙ other.0, join same.1 other.1)) second)
     first
 
-at_most : (a b c : ℕ) → a ≤ b → b ≤ c → a ≤ c
+pub at_most : (a b c : ℕ) → a ≤ b → b ≤ c → a ≤ c
 at_most a b c ab bc = omega arith
 
 pub upto_trans : (a b c : Places) → IsUpTo a b → IsUpTo b c → IsUpTo a c

@@ -1,60 +1,21 @@
 -- The least places at which bindings may grant, and at which nothing grants for certain.
-use Rattle.std.proofs.Common.{◌≡◌, ℕ, ◌<◌, ◌≤◌, ⊎_elim, inl, inr, Option, Some, None, refl, sym, ◌∙◌, subst, arith}
+use Rattle.std.proofs.Common.{◌≡◌, ℕ, ◌+◌, ◌<◌, ◌≤◌, ⊎_elim, inl, inr, Option, Some, None, refl, sym, ◌∙◌, subst, arith}
 use Rattle.std.proofs.lemmas.Bool.{cases_lt}
 use Rattle.base_types.specs.declared.placed.Places.{Places}
 use Rattle.base_types.specs.declared.request.RequestAttrs.{RequestAttrs}
 use Rattle.base_types.specs.declared.request.User.{User}
 use Rattle.clouds.specs.FirstPlace.{HoldsNowhere, IsLeastPlace}
-use Rattle.rbac_timeline.specs.declared.kind.Kind.TheVariants.{ClusterRole, ClusterRoleBinding, Role, RoleBinding}
 use Rattle.rbac_timeline.specs.declared.way.Way.{Way}
 use Rattle.rbac_timeline.specs.declared.way.Way.TheVariants.{ClusterBindings, ClusterRoles, Roles}
 use Rattle.rbac_timeline.specs.Decisions.{AreWithin, ComesFirst}
-use Rattle.rbac_timeline.specs.Extents.{MayGrantInWay, bindings_in, roles_in}
+use Rattle.rbac_timeline.specs.Extents.{MayGrantInWay}
 use Rattle.rbac_timeline.specs.Known.{Known}
-use Rattle.rbac_timeline.specs.Searched.{AreFirstOf, AreLeastOf, FreeFrom, FreeWith, IsFirstPair, IsFreeAt, IsFreeCluster, IsFreePlain, IsLeastPair, MayGrantBy, all_at, with_cluster_bindings, with_cluster_roles, with_roles}
-use Rattle.rbac_timeline.proofs.Constancy.{IsQuiet, way_may_before, way_must_after}
-use Rattle.rbac_timeline.proofs.Stepping.{quiet_here}
-
--- the second number at some place of the range
-abbrev pub SomeSecond : (ℕ → ℕ → Type 0) → ℕ → ℕ → ℕ → Type 0
-SomeSecond holds low high first = (second : ℕ) × (low ≤ second) × (second ≤ high) × holds first second
-
-pub some_from_first : (holds : ℕ → ℕ → Type 0) (low high first second : ℕ) → IsLeastPlace (holds first) low high second → SomeSecond holds low high first
-some_from_first holds low high first second is = (second, is.from_low, is.upto_high, is.here)
-
-pub none_from_nowhere : (holds : ℕ → ℕ → Type 0) (low high first : ℕ) → HoldsNowhere (holds first) low high → SomeSecond holds low high first → ⊥
-none_from_nowhere holds low high first nowhere some = nowhere some.0 some.1 some.2 some.3
-
-pub IsLeastPair-from : (holds : ℕ → ℕ → Type 0) (low high first second : ℕ) → IsLeastPlace (SomeSecond holds low high) low high first → IsLeastPlace (holds first) low high second
-    → IsLeastPair holds low high first second
-IsLeastPair-from holds low high first second is inner = record {
-  first_from = is.from_low;
-  first_upto = is.upto_high;
-  second_from = inner.from_low;
-  second_upto = inner.upto_high;
-  here = inner.here;
-  least = λ a b a_from a_upto b_from b_upto holds_ab.
-      let upto : first ≤ a = is.least a a_from (b, b_from, b_upto, holds_ab) in
-      ⊎_elim
-      (λ (less : first < a). inl less)
-      (λ (other : a ≤ first). let same : first ≡ a = omega arith in inr (same, inner.least b b_from (subst (λ n. holds n b) (sym same) holds_ab)))
-      (cases_lt first a);
-}
-
-pub no_pair : (holds : ℕ → ℕ → Type 0) (low high : ℕ) → HoldsNowhere (SomeSecond holds low high) low high → IsFirstPair holds low high None
-no_pair holds low high nowhere = λ a b a_from a_upto b_from b_upto holds_ab. nowhere a a_from a_upto (b, b_from, b_upto, holds_ab)
+use Rattle.rbac_timeline.specs.Lasting.{IsLast}
+use Rattle.rbac_timeline.specs.Searched.{AreFirstOf, AreLeastOf, FreeFrom, FreeWith, IsFirstPair, IsFreeAt, IsFreeCluster, IsFreePlain, MayGrantBy, NoneFreeFrom, NoneFreeWith, all_at, with_cluster_bindings, with_cluster_roles, with_roles}
 
 module _ (known : Known) (who : User) (attrs : RequestAttrs) where
-  pub binding_carries : (way : Way) (role_place before place : ℕ) → IsQuiet known (bindings_in way) before place → MayGrantInWay known way role_place place who attrs
-      → MayGrantInWay known way role_place before who attrs
-  binding_carries way role_place before place quiet may = way_may_before known way role_place role_place before place who attrs (quiet_here known (roles_in way) role_place) quiet may
-
   abbrev pub MayAt : Way → ℕ → ℕ → Type 0
   MayAt way role_place binding_place = MayGrantInWay known way role_place binding_place who attrs
-
-  pub roles_carry : (way : Way) (low high before place : ℕ) → IsQuiet known (roles_in way) before place → SomeSecond (MayAt way) low high place → SomeSecond (MayAt way) low high before
-  roles_carry way low high before place quiet some =
-      (some.0, some.1, some.2, way_may_before known way before place some.0 some.0 who attrs quiet (quiet_here known (bindings_in way) some.0) some.3)
 
   -- one way's pair among four places
   pub by_roles : (low high : ℕ) → low ≤ high → (pair : Option (ℕ × ℕ)) → IsFirstPair (MayAt Roles) low high pair → AreFirstOf (MayGrantBy known who attrs Roles) low high (with_roles pair (all_at low))
@@ -152,60 +113,6 @@ module _ (known : Known) (who : User) (attrs : RequestAttrs) where
         (cases_lt low other.roles);
   }
 
-  -- what grants nothing for certain at a place granted nothing before, up to the last change
-  pub cluster_carries : (cluster_roles before place : ℕ) → IsQuiet known ClusterRoleBinding before place → IsFreeCluster known who attrs cluster_roles place
-      → IsFreeCluster known who attrs cluster_roles before
-  cluster_carries cluster_roles before place quiet free = λ must. free (way_must_after known ClusterBindings cluster_roles cluster_roles before place who attrs (quiet_here known ClusterRole cluster_roles) quiet must)
-
-  pub plain_carries : (roles cluster_roles before place : ℕ) → IsQuiet known RoleBinding before place → IsFreePlain known who attrs roles cluster_roles place → IsFreePlain known who attrs roles cluster_roles before
-  plain_carries roles cluster_roles before place quiet free = (
-    (λ must. free.0 (way_must_after known Roles roles roles before place who attrs (quiet_here known Role roles) quiet must)),
-    (λ must. free.1 (way_must_after known ClusterRoles cluster_roles cluster_roles before place who attrs (quiet_here known ClusterRole cluster_roles) quiet must)),
-  )
-
-  -- some places of the bindings are free with these of the roles
-  pub record FreeOf (low high roles cluster_roles : ℕ) : Type 0 where
-    pub plain : SomeSecond (IsFreePlain known who attrs roles) low high cluster_roles
-    pub cluster : SomeSecond (IsFreeCluster known who attrs) low high cluster_roles
-
-  pub clusters_carry : (low high roles before place : ℕ) → IsQuiet known ClusterRole before place → FreeOf low high roles place → FreeOf low high roles before
-  clusters_carry low high roles before place quiet free =
-      let plain = free.plain in
-      let cluster = free.cluster in
-      record {
-        plain = (
-          plain.0,
-          plain.1,
-          plain.2,
-          (
-            plain.3.0,
-            λ must. plain.3.1 (way_must_after known ClusterRoles before place plain.0 plain.0 who attrs quiet (quiet_here known RoleBinding plain.0) must),
-          ),
-        );
-        cluster = (
-          cluster.0,
-          cluster.1,
-          cluster.2,
-          λ must. cluster.3 (way_must_after known ClusterBindings before place cluster.0 cluster.0 who attrs quiet (quiet_here known ClusterRoleBinding cluster.0) must),
-        );
-      }
-
-  abbrev pub FreeSome : ℕ → ℕ → ℕ → Type 0
-  FreeSome low high roles = SomeSecond (FreeOf low high) low high roles
-
-  pub roles_carry_free : (low high before place : ℕ) → IsQuiet known Role before place → FreeSome low high place → FreeSome low high before
-  roles_carry_free low high before place quiet some =
-      let free = some.3 in
-      let plain = free.plain in (
-        some.0,
-        some.1,
-        some.2,
-        record {
-          plain = (plain.0, plain.1, plain.2, ((λ must. plain.3.0 (way_must_after known Roles before place plain.0 plain.0 who attrs quiet (quiet_here known RoleBinding plain.0) must)), plain.3.1));
-          cluster = free.cluster;
-        },
-      )
-
   -- the least places with these of the roles
   pub least_with : (low high roles cluster_roles bindings cluster_bindings : ℕ) → low ≤ roles → roles ≤ high → low ≤ cluster_roles → cluster_roles ≤ high
       → IsLeastPlace (IsFreePlain known who attrs roles cluster_roles) low high bindings → IsLeastPlace (IsFreeCluster known who attrs cluster_roles) low high cluster_bindings
@@ -239,101 +146,67 @@ module _ (known : Known) (who : User) (attrs : RequestAttrs) where
   none_cluster low high roles cluster_roles nowhere = λ places within free.
       nowhere places.cluster_bindings within.cluster_bindings_from within.cluster_bindings_upto (subst (λ n. IsFreeCluster known who attrs n places.cluster_bindings) free.0 free.1.1.1)
 
-  free_of_places : (low high : ℕ) (places : Places) → AreWithin low high places → IsFreeAt known who attrs places → FreeOf low high places.roles places.cluster_roles
-  free_of_places low high places within free = record {
-    plain = (places.bindings, within.bindings_from, within.bindings_upto, free.0);
-    cluster = (places.cluster_bindings, within.cluster_bindings_from, within.cluster_bindings_upto, free.1);
-  }
-
-  pub free_from_least : (low high roles cluster_roles : ℕ) (places : Places) → AreLeastOf (FreeWith known who attrs roles cluster_roles) low high places → FreeOf low high roles cluster_roles
-  free_from_least low high roles cluster_roles places least =
-      let free = least.here in
-      subst (λ n. FreeOf low high roles n) free.0 (subst (λ r. FreeOf low high r places.cluster_roles) free.1.0 (free_of_places low high places least.within free.1.1))
-
-  pub not_free : (low high roles cluster_roles : ℕ) → low ≤ roles → roles ≤ high → low ≤ cluster_roles → cluster_roles ≤ high → AreFirstOf (FreeWith known who attrs roles cluster_roles) low high None
-      → FreeOf low high roles cluster_roles → ⊥
-  not_free low high roles cluster_roles r_from r_upto c_from c_upto none free =
-      let plain = free.plain in
-      let cluster = free.cluster in
-      none (record { roles = roles; cluster_roles = cluster_roles; bindings = plain.0; cluster_bindings = cluster.0 })
-      (record {
-        roles_from = r_from;
-        roles_upto = r_upto;
-        cluster_roles_from = c_from;
-        cluster_roles_upto = c_upto;
-        bindings_from = plain.1;
-        bindings_upto = plain.2;
-        cluster_bindings_from = cluster.1;
-        cluster_bindings_upto = cluster.2;
-      })
-      (refl, (refl, (plain.3, cluster.3)))
+  none_with : (low high roles cluster_roles : ℕ) (places : Places) → AreWithin low high places → ((c : ℕ) → low ≤ c → c < cluster_roles → NoneFreeWith known who attrs low high roles c)
+      → FreeFrom known who attrs roles places → places.cluster_roles < cluster_roles → ⊥
+  none_with low high roles cluster_roles places within none free less = none places.cluster_roles within.cluster_roles_from less places within (refl, free)
 
   -- the least places with this one of the roles
-  pub least_from : (low high roles cluster_roles : ℕ) (places : Places) → IsLeastPlace (FreeOf low high roles) low high cluster_roles → AreLeastOf (FreeWith known who attrs roles cluster_roles) low high places
-      → AreLeastOf (FreeFrom known who attrs roles) low high places
-  least_from low high roles cluster_roles places first least =
-      let free = least.here in
+  pub least_from : (low high roles cluster_roles : ℕ) (places : Places) → ((c : ℕ) → low ≤ c → c < cluster_roles → NoneFreeWith known who attrs low high roles c)
+      → AreLeastOf (FreeWith known who attrs roles cluster_roles) low high places → AreLeastOf (FreeFrom known who attrs roles) low high places
+  least_from low high roles cluster_roles places none least =
+      let is : places.cluster_roles ≡ cluster_roles = least.here.0 in
       record {
         within = least.within;
-        here = free.1;
-        least = λ other within other_free.
-            let is : places.cluster_roles ≡ cluster_roles = free.0 in
-            let upto : cluster_roles ≤ other.cluster_roles =
-            first.least other.cluster_roles within.cluster_roles_from (subst (λ r. FreeOf low high r other.cluster_roles) other_free.0 (free_of_places low high other within other_free.1)) in
-            ⊎_elim
-            (λ (less : cluster_roles < other.cluster_roles). inr (free.1.0 ∙ sym other_free.0, inl (omega arith)))
-            (λ (more : other.cluster_roles ≤ cluster_roles). least.least other within (omega arith, other_free))
-            (cases_lt cluster_roles other.cluster_roles);
+        here = least.here.1;
+        least = λ other within free. ⊎_elim
+            (λ (less : other.cluster_roles < cluster_roles). absurd (none_with low high roles cluster_roles other within none free less))
+            (λ (from : cluster_roles ≤ other.cluster_roles). ⊎_elim
+            (λ (more : cluster_roles < other.cluster_roles). inr (least.here.1.0 ∙ sym free.0, inl (omega arith)))
+            (λ (upto : other.cluster_roles ≤ cluster_roles). least.least other within (omega arith, free))
+            (cases_lt cluster_roles other.cluster_roles))
+            (cases_lt other.cluster_roles cluster_roles);
       }
 
-  pub none_from : (low high roles : ℕ) → HoldsNowhere (FreeOf low high roles) low high → AreFirstOf (FreeFrom known who attrs roles) low high None
-  none_from low high roles nowhere = λ places within free.
-      nowhere places.cluster_roles within.cluster_roles_from within.cluster_roles_upto (subst (λ r. FreeOf low high r places.cluster_roles) free.0 (free_of_places low high places within free.1))
+  pub none_from : (low high roles : ℕ) → ((c : ℕ) → low ≤ c → c ≤ high → NoneFreeWith known who attrs low high roles c) → NoneFreeFrom known who attrs low high roles
+  none_from low high roles none = λ places within free. none places.cluster_roles within.cluster_roles_from within.cluster_roles_upto places within (refl, free)
 
-  pub some_from_least : (low high roles : ℕ) (places : Places) → AreLeastOf (FreeFrom known who attrs roles) low high places → FreeSome low high roles
-  some_from_least low high roles places least =
-      let free = least.here in
-      let within = least.within in (
-        places.cluster_roles,
-        within.cluster_roles_from,
-        within.cluster_roles_upto,
-        subst (λ r. FreeOf low high r places.cluster_roles) free.0 (free_of_places low high places within free.1),
-      )
+  -- none are free with a place of the roles below this one
+  pub record AreBehind (low high roles : ℕ) : Type 0 where
+    pub from : low ≤ roles
+    pub upto : roles ≤ high
+    pub below : (r : ℕ) → low ≤ r → r < roles → NoneFreeFrom known who attrs low high r
 
-  pub not_some : (low high roles : ℕ) → low ≤ roles → roles ≤ high → AreFirstOf (FreeFrom known who attrs roles) low high None → FreeSome low high roles → ⊥
-  not_some low high roles r_from r_upto none some =
-      let plain = some.3.plain in
-      let cluster = some.3.cluster in
-      none (record { roles = roles; cluster_roles = some.0; bindings = plain.0; cluster_bindings = cluster.0 })
-      (record {
-        roles_from = r_from;
-        roles_upto = r_upto;
-        cluster_roles_from = some.1;
-        cluster_roles_upto = some.2;
-        bindings_from = plain.1;
-        bindings_upto = plain.2;
-        cluster_bindings_from = cluster.1;
-        cluster_bindings_upto = cluster.2;
-      })
-      (refl, (plain.3, cluster.3))
+  pub AreBehind-start : (low high : ℕ) → low ≤ high → AreBehind low high low
+  AreBehind-start low high range = record { from = omega arith; upto = range; below = λ r from less. absurd (omega arith) }
 
-  pub least_of_all : (low high roles : ℕ) (places : Places) → IsLeastPlace (FreeSome low high) low high roles → AreLeastOf (FreeFrom known who attrs roles) low high places
-      → AreLeastOf (IsFreeAt known who attrs) low high places
-  least_of_all low high roles places first least =
-      let free = least.here in
+  behind_upto : (low high roles last : ℕ) → AreBehind low high roles → IsLast (NoneFreeFrom known who attrs low high) roles high last → (r : ℕ) → low ≤ r → r ≤ last → NoneFreeFrom known who attrs low high r
+  behind_upto low high roles last behind none r from upto = ⊎_elim
+      (λ (early : r < roles). behind.below r from early)
+      (λ (late : roles ≤ r). none.throughout r late upto)
+      (cases_lt r roles)
+
+  pub AreBehind-more : (low high roles last : ℕ) → last < high → AreBehind low high roles → IsLast (NoneFreeFrom known who attrs low high) roles high last → AreBehind low high (last + 1)
+  AreBehind-more low high roles last before behind none =
+      let from : low ≤ roles = behind.from in
+      let past : roles ≤ last = none.from in
+      record { from = omega arith; upto = omega arith; below = λ r r_from less. behind_upto low high roles last behind none r r_from (omega arith) }
+
+  pub none_at_all : (low high roles last : ℕ) → high ≤ last → AreBehind low high roles → IsLast (NoneFreeFrom known who attrs low high) roles high last → AreFirstOf (IsFreeAt known who attrs) low high None
+  none_at_all low high roles last past behind none = λ places within free.
+      let upto : places.roles ≤ high = within.roles_upto in
+      behind_upto low high roles last behind none places.roles within.roles_from (omega arith) places within (refl, free)
+
+  pub least_of_all : (low high roles : ℕ) (places : Places) → AreBehind low high roles → AreLeastOf (FreeFrom known who attrs roles) low high places → AreLeastOf (IsFreeAt known who attrs) low high places
+  least_of_all low high roles places behind least =
+      let is : places.roles ≡ roles = least.here.0 in
       record {
         within = least.within;
-        here = free.1;
-        least = λ other within other_free.
-            let is : places.roles ≡ roles = free.0 in
-            let upto : roles ≤ other.roles =
-            first.least other.roles within.roles_from (other.cluster_roles, within.cluster_roles_from, within.cluster_roles_upto, free_of_places low high other within other_free) in
-            ⊎_elim
-            (λ (less : roles < other.roles). inl (omega arith))
-            (λ (more : other.roles ≤ roles). least.least other within (omega arith, other_free))
-            (cases_lt roles other.roles);
+        here = least.here.1;
+        least = λ other within free. ⊎_elim
+            (λ (less : other.roles < roles). absurd (behind.below other.roles within.roles_from less other within (refl, free)))
+            (λ (from : roles ≤ other.roles). ⊎_elim
+            (λ (more : roles < other.roles). inl (omega arith))
+            (λ (upto : other.roles ≤ roles). least.least other within (omega arith, free))
+            (cases_lt roles other.roles))
+            (cases_lt other.roles roles);
       }
-
-  pub none_at_all : (low high : ℕ) → HoldsNowhere (FreeSome low high) low high → AreFirstOf (IsFreeAt known who attrs) low high None
-  none_at_all low high nowhere = λ places within free.
-      nowhere places.roles within.roles_from within.roles_upto (places.cluster_roles, within.cluster_roles_from, within.cluster_roles_upto, free_of_places low high places within free)

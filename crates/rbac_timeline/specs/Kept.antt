@@ -22,13 +22,11 @@ use Rattle.rbac_timeline.specs.Extents.{MayGrantByKey, MayGrantByRole, MustGrant
 use Rattle.rbac_timeline.specs.Choices.{IsKnownKey}
 use Rattle.rbac_timeline.specs.Index.{Names, key_order}
 use Rattle.rbac_timeline.specs.Kinds.{IsBindingOf, IsKeyOf, IsReached, is_cluster_binding, kind_of_key, role_key}
-use Rattle.rbac_timeline.specs.Changing.{AreAllChanges}
-use Rattle.rbac_timeline.specs.declared.changes.Changes.{Changes}
 use Rattle.rbac_timeline.specs.declared.index.Index.{Index}
 use Rattle.rbac_timeline.specs.declared.nameless.Nameless.{Nameless}
 use Rattle.rbac_timeline.specs.declared.unsure.Unsure.{Unsure}
 use Rattle.rbac_timeline.specs.Indexed.{IsIndexed, mentions_of}
-use Rattle.rbac_timeline.specs.Known.{Known, known_of, writes_of}
+use Rattle.rbac_timeline.specs.Known.{Known, writes_of}
 use Rattle.rbac_timeline.specs.Nameless.{AreLows}
 use Rattle.rbac_timeline.specs.Unsure.{AreUnsure}
 use Rattle.rbac_timeline.specs.Sound.{AreSound}
@@ -130,7 +128,7 @@ IsKnownUnsure known place key = IsKnownKey known key × IsUnsure (IsBindingOf ke
 
 -- what a timeline keeps is of what is known
 pub record AreKept (known : Known) (histories : BTreeMap ObjectKey (List Stored)) (gaps : BTreeMap ObjectKey (List Gap)) (clouds : Writes)
-    (index : Index) (nameless : Nameless) (unsure : Unsure) (changes : Changes) : Type 0 where
+    (index : Index) (nameless : Nameless) (unsure : Unsure) : Type 0 where
   pub sound : AreSound known.versions known.ends
   pub stored : AreStored histories known.versions
   pub removals : AreGaps gaps known.ends
@@ -138,4 +136,3 @@ pub record AreKept (known : Known) (histories : BTreeMap ObjectKey (List Stored)
   pub indexed : IsIndexed index (mentions_of known.versions)
   pub unnamed : AreLows nameless known.spans
   pub unsure_ones : AreUnsure (writes_of known) known.versions known.spans unsure
-  pub all_changes : AreAllChanges (known_of known.versions known.ends known.spans) changes

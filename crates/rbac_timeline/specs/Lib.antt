@@ -1,4 +1,3 @@
-pub mod Changing
 pub mod Choices
 pub mod Deciding
 pub mod Decisions
@@ -10,7 +9,9 @@ pub mod Indexed
 pub mod Kept
 pub mod Kinds
 pub mod Known
+pub mod Lasting
 pub mod Nameless
+pub mod Pairs
 pub mod Requests
 pub mod Searched
 pub mod Sound

@@ -72,6 +72,13 @@ FreeFrom known who attrs roles places = (places.roles ≡ roles) × IsFreeAt kno
 abbrev pub FreeWith : Known → User → RequestAttrs → ℕ → ℕ → Places → Type 0
 FreeWith known who attrs roles cluster_roles places = (places.cluster_roles ≡ cluster_roles) × FreeFrom known who attrs roles places
 
+-- no places are free with this place of roles, and with these of roles and cluster roles
+abbrev pub NoneFreeFrom : Known → User → RequestAttrs → ℕ → ℕ → ℕ → Type 0
+NoneFreeFrom known who attrs low high roles = AreFirstOf (FreeFrom known who attrs roles) low high None
+
+abbrev pub NoneFreeWith : Known → User → RequestAttrs → ℕ → ℕ → ℕ → ℕ → Type 0
+NoneFreeWith known who attrs low high roles cluster_roles = AreFirstOf (FreeWith known who attrs roles cluster_roles) low high None
+
 -- all caches at one place
 abbrev pub all_at : ℕ → Places
 all_at place = record { roles = place; cluster_roles = place; bindings = place; cluster_bindings = place }

@@ -1,7 +1,8 @@
-ghost use Rattle.std.specs.Prelude.{◌≡◌, ◌≢◌, ◌<◌, [], ◌∷◌, IfOk, IfSome, IfNone, OnOk, List, Contains};
-ghost use Rattle.std.specs.List.Sorted.{IsPermutation};
+ghost use Rattle.std.specs.Prelude.{◌≡◌, ◌≢◌, ◌<◌, ◌≤◌, [], ◌∷◌, IfOk, IfSome, IfNone, OnOk, List, Contains};
+ghost use Rattle.std.specs.List.Sorted.{IsNonDecreasingBy, IsPermutation};
 ghost use Rattle.clouds.specs.Kept.{AddsAt};
 
+use crate::first::last_before;
 use crate::kind::{is_cluster_binding, kind_of_key, role_key};
 use crate::version::{RbacContent, RbacEnd, RbacVersion, RbacVersions};
 use base_types::{ObjectKey, OutOfMemory};
@@ -17,6 +18,18 @@ pub enum Content {
     /// With the key of the role that the binding names.
     Bound(Binding, ObjectKey),
     Unreadable,
+}
+
+impl Content {
+    /// The role that a binding names.
+    pub fn role(&self) -> Option<&ObjectKey>
+        ensures { IfSome result (λ role. (binding : Binding) × (self.now ≡ Content.Bound binding role.now)) }
+    {
+        match self {
+            Content::Bound(_, role) => Some(role),
+            Content::Rules(_) | Content::Unreadable => None,
+        }
+    }
 }
 
 /// A version of one key.
@@ -36,6 +49,20 @@ pub struct Gap {
 
 ghost use Rattle.rbac_timeline.specs.Index.{key_order};
 ghost use Rattle.rbac_timeline.specs.Kept.{AreGaps, AreStored, content_of, gap_of, stored_of};
+ghost use Rattle.rbac_timeline.specs.Lasting.{IsLast};
+ghost use Rattle.rbac_timeline.specs.Pairs.{AreStoredBetween};
+
+// Those above `low` and not above `high`.
+fn between(all: &[Stored], low: u64, high: u64) -> &[Stored]
+    requires { IsNonDecreasingBy (λ s. s.revision) all.now }
+    ensures { AreStoredBetween all.now low high result.now }
+{
+    let upto = all.partition_point(|stored| stored.revision <= high);
+    let (front, _) = all.split_at(upto);
+    let begun = front.partition_point(|stored| stored.revision <= low);
+    let (_, between) = front.split_at(begun);
+    between
+}
 
 /// The versions of one key, by revision.
 #[derive(Drop)]
@@ -88,6 +115,27 @@ impl History {
             return None;
         }
         Some(&self.stored[upto - 1])
+    }
+
+    /// The last place up to which no version begins behind this one.
+    pub fn unbegun_until(&self, place: u64, high: u64) -> u64
+        requires { place ≤ high }
+        ensures { IsLast (λ n. (stored : Stored) → Contains self.now stored → place < stored.revision → n < stored.revision) place high result }
+    {
+        let upto = self
+            .stored
+            .partition_point(|stored| stored.revision <= place);
+        if upto == self.stored.len() {
+            return high;
+        }
+        last_before(self.stored[upto].revision, place, high)
+    }
+
+    /// The versions above `low` and not above `high`.
+    pub fn between(&self, low: u64, high: u64) -> &[Stored]
+        ensures { AreStoredBetween self.now low high result.now }
+    {
+        between(self.stored.as_slice(), low, high)
     }
 }
 

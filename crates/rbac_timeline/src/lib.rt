@@ -2,15 +2,17 @@
 //! that its four caches may have held (Kubernetes "Using RBAC Authorization").
 #![tactic(auto)]
 
-mod changes;
 mod deciding;
 mod extent;
+mod first;
 mod history;
 mod index;
 mod kind;
+mod lasting;
 mod lookups;
 mod named;
 mod nameless;
+mod pairs;
 mod search;
 mod timeline;
 mod unsure;
@@ -18,5 +20,6 @@ mod version;
 mod way;
 
 pub use deciding::deciding_law;
+pub use kind::{Kind, kind_of_key};
 pub use timeline::Timeline;
 pub use version::{RbacContent, RbacEnd, RbacEnds, RbacVersion, RbacVersions};

@@ -1,15 +1,12 @@
 ghost use Rattle.std.specs.Prelude.{IfOk};
-ghost use Rattle.rbac_timeline.specs.Changing.{AreAllChanges};
 ghost use Rattle.rbac_timeline.specs.Indexed.{IsIndexed, mentions_of};
-ghost use Rattle.rbac_timeline.specs.Known.{known_of};
 ghost use Rattle.rbac_timeline.specs.Nameless.{AreLows};
 ghost use Rattle.rbac_timeline.specs.Unsure.{AreUnsure};
 
-use crate::changes::Changes;
 use crate::index::Index;
 use crate::nameless::Nameless;
 use crate::unsure::Unsure;
-use crate::version::{RbacEnd, RbacVersion};
+use crate::version::RbacVersion;
 use base_types::OutOfMemory;
 use clouds::{Clouds, OpaqueSpan};
 use std::alloc::Global;
@@ -20,28 +17,24 @@ pub struct Lookups {
     pub index: Index,
     pub nameless: Nameless,
     pub unsure: Unsure,
-    pub changes: Changes,
 }
 
 impl Lookups {
-    /// Of the versions, the removals and the unrecorded writes.
+    /// Of the versions and the unrecorded writes.
     pub fn of(
         alloc: Global,
         versions: &[RbacVersion],
-        ends: &[RbacEnd],
         spans: &[OpaqueSpan],
         clouds: &Clouds,
     ) -> Result<Lookups, OutOfMemory>
         ensures index { IfOk result (λ made. IsIndexed made.index (mentions_of versions.now)) }
         ensures nameless { IfOk result (λ made. AreLows made.nameless spans.now) }
         ensures unsure { IfOk result (λ made. AreUnsure clouds.now versions.now spans.now made.unsure) }
-        ensures changes { IfOk result (λ made. AreAllChanges (known_of versions.now ends.now spans.now) made.changes) }
     {
         Ok(Lookups {
             index: Index::of(alloc, versions)?,
             nameless: Nameless::of(alloc, spans)?,
             unsure: Unsure::of(alloc, versions, spans, clouds)?,
-            changes: Changes::of(alloc, versions, ends, spans)?,
         })
     }
 }

@@ -1,10 +1,11 @@
-ghost use Rattle.std.specs.Prelude.{◌≡◌, ◌∷◌, ◌++◌, [], List, Some, None, IfOk, OnOk};
+ghost use Rattle.std.specs.Prelude.{◌≡◌, ℕ, ◌∷◌, ◌++◌, [], List, Some, None, IfOk, OnOk};
 ghost use Rattle.std.specs.BTreeMap.{Updates, get};
 ghost use Rattle.clouds.specs.Kept.{text_order};
 ghost use Rattle.clouds.specs.declared.span.OpaqueSpan.{OpaqueSpan};
 ghost use Rattle.rbac_timeline.specs.Kinds.{is_nameless, nameless_kind};
 ghost use Rattle.rbac_timeline.specs.Nameless.{AreLows, is_below, lesser_of, may_grant};
 
+use crate::first::earlier;
 use crate::kind::{Kind, is_kind, kind_of};
 use base_types::{Cover, CoverName, OutOfMemory, RequestAttrs, Text};
 use clouds::OpaqueSpan;
@@ -117,6 +118,23 @@ impl Nameless {
             nameless.add(span)?;
         }
         Ok(nameless)
+    }
+
+    /// The least place behind which one of a kind may be there and may grant the request.
+    pub fn least(&self, kind: Kind, attrs: &RequestAttrs) -> Option<u64>
+        ensures { (place : ℕ) → is_below result place ≡ may_grant self.now kind place attrs.now }
+    {
+        match kind {
+            Kind::ClusterRoleBinding => self.cluster_bindings,
+            Kind::RoleBinding => {
+                if !attrs.is_resource {
+                    return None;
+                }
+                let in_namespace = self.by_namespace.get(&attrs.namespace).copied();
+                earlier(self.anywhere, in_namespace)
+            }
+            _ => None,
+        }
     }
 
     /// Whether one of a kind may be there before the place, and may grant the request.

@@ -1,11 +1,11 @@
-ghost use Rattle.std.specs.Prelude.{◌≡◌, ◌≤◌, ◌↔◌, IsTrue};
-ghost use Rattle.clouds.specs.FirstPlace.{IsFirstPlace};
+ghost use Rattle.std.specs.Prelude.{◌≡◌, ◌≤◌, IfErr, IfNone, IfOk, IfSome};
+ghost use Rattle.clouds.specs.FirstPlace.{HoldsNowhere, IsLeastPlace};
 ghost use Rattle.rbac_timeline.specs.declared.way.Way.TheVariants.{ClusterBindings, ClusterRoles, Roles};
-ghost use Rattle.rbac_timeline.specs.Changing.{AreChangesBetween};
-ghost use Rattle.rbac_timeline.specs.Extents.{MayGrantInWay, MustGrantInWay};
-ghost use Rattle.rbac_timeline.specs.Searched.{AreFirstOf, FreeFrom, FreeWith, IsFirstPair, IsFreeAt, IsFreeCluster, IsFreePlain, MayGrantAt, MayGrantBy, all_at, earlier_of, with_cluster_bindings, with_cluster_roles, with_roles};
+ghost use Rattle.rbac_timeline.specs.Extents.{MustGrantInWay};
+ghost use Rattle.rbac_timeline.specs.Lasting.{HoldsUntil, IsBlock, IsLast, LastsUntil};
+ghost use Rattle.rbac_timeline.specs.Searched.{AreFirstOf, AreLeastOf, FreeFrom, FreeWith, IsFreeAt, IsFreeCluster, IsFreePlain, MayGrantAt, MayGrantBy, NoneFreeFrom, NoneFreeWith, all_at, earlier_of, with_cluster_bindings, with_cluster_roles, with_roles};
 
-use crate::kind::Kind;
+use crate::lasting::{Block, Until};
 use crate::timeline::Timeline;
 use crate::way::{Link, Way};
 use base_types::{Places, RequestAttrs, User};
@@ -80,67 +80,6 @@ impl<'a> Asked<'a> {
         }
     }
 
-    // Where an object of the kind may change, behind the first place.
-    fn later(&self, kind: Kind) -> &'a [u64]
-        ensures { AreChangesBetween self.now.timeline.now kind self.now.low self.now.high result.now }
-    {
-        self.timeline.changes_between(kind, self.low, self.high)
-    }
-
-    fn may(&self, way: Way, role_place: u64, binding_place: u64) -> bool
-        ensures { IsTrue result ↔ MayGrantInWay self.now.timeline.now way role_place binding_place self.now.who.now self.now.attrs.now }
-    {
-        let link = Link {
-            way,
-            role_place,
-            binding_place,
-        };
-        self.timeline.may(link, self.who, self.attrs)
-    }
-
-    fn must(&self, way: Way, role_place: u64, binding_place: u64) -> bool
-        ensures { IsTrue result ↔ MustGrantInWay self.now.timeline.now way role_place binding_place self.now.who.now self.now.attrs.now }
-    {
-        let link = Link {
-            way,
-            role_place,
-            binding_place,
-        };
-        self.timeline.must(link, self.who, self.attrs)
-    }
-
-    // The least place of the bindings at which they may grant, with the roles at this place.
-    fn first_binding(&self, way: Way, role_place: u64) -> Option<u64>
-        requires { self.now.low ≤ self.now.high }
-        ensures { IsFirstPlace (λ place. MayGrantInWay self.now.timeline.now way role_place place self.now.who.now self.now.attrs.now) self.now.low self.now.high result }
-    {
-        if self.may(way, role_place, self.low) {
-            return Some(self.low);
-        }
-        for place in self.later(way.bindings()) {
-            if self.may(way, role_place, *place) {
-                return Some(*place);
-            }
-        }
-        None
-    }
-
-    // The least places of roles and then of bindings at which they may grant.
-    fn first_pair(&self, way: Way) -> Option<(u64, u64)>
-        requires { self.now.low ≤ self.now.high }
-        ensures { IsFirstPair (λ r b. MayGrantInWay self.now.timeline.now way r b self.now.who.now self.now.attrs.now) self.now.low self.now.high result }
-    {
-        if let Some(binding_place) = self.first_binding(way, self.low) {
-            return Some((self.low, binding_place));
-        }
-        for role_place in self.later(way.roles()) {
-            if let Some(binding_place) = self.first_binding(way, *role_place) {
-                return Some((*role_place, binding_place));
-            }
-        }
-        None
-    }
-
     fn first_by_roles(&self) -> Option<Places>
         requires { self.now.low ≤ self.now.high }
         ensures { AreFirstOf (MayGrantBy self.now.timeline.now self.now.who.now self.now.attrs.now Roles) self.now.low self.now.high result }
@@ -174,102 +113,187 @@ impl<'a> Asked<'a> {
         earlier(by_roles, earlier(by_cluster_roles, by_cluster_bindings))
     }
 
-    // The least place of the cluster role bindings at which they don't grant for certain.
-    fn first_free_cluster_binding(&self, cluster_roles: u64) -> Option<u64>
-        requires { self.now.low ≤ self.now.high }
-        ensures { IsFirstPlace (IsFreeCluster self.now.timeline.now self.now.who.now self.now.attrs.now cluster_roles) self.now.low self.now.high result }
+    // The least place of the cluster role bindings at which they don't grant for certain, or up to which place
+    // of the cluster roles there is none.
+    fn first_free_cluster_binding(&self, cluster_roles: u64) -> Result<u64, u64>
+        requires range { self.now.low ≤ self.now.high }
+        requires upto { cluster_roles ≤ self.now.high }
+        ensures found { IfOk result (IsLeastPlace (IsFreeCluster self.now.timeline.now self.now.who.now self.now.attrs.now cluster_roles) self.now.low self.now.high) }
+        ensures none { IfErr result (IsLast (λ c. HoldsNowhere (IsFreeCluster self.now.timeline.now self.now.who.now self.now.attrs.now c) self.now.low self.now.high) cluster_roles self.now.high) }
     {
-        if !self.must(Way::ClusterBindings, cluster_roles, self.low) {
-            return Some(self.low);
-        }
-        for place in self.later(Kind::ClusterRoleBinding) {
-            if !self.must(Way::ClusterBindings, cluster_roles, *place) {
-                return Some(*place);
+        let mut place = self.low;
+        let mut last = self.high;
+        'places: while let Some(until) = self.cluster_block(cluster_roles, place) {
+            last = last.min(until.first);
+            if until.second >= self.high {
+                return Err(last);
             }
+            place = until.second + 1;
+        }
+        Ok(place)
+    }
+
+    // Until where the cluster role bindings grant for certain.
+    fn cluster_block(&self, cluster_roles: u64, bindings: u64) -> Option<Until>
+        requires roles { cluster_roles ≤ self.now.high }
+        requires bindings { bindings ≤ self.now.high }
+        ensures { LastsUntil (λ c b. MustGrantInWay self.now.timeline.now ClusterBindings c b self.now.who.now self.now.attrs.now) cluster_roles bindings self.now.high result }
+    {
+        self.granted_until(Link {
+            way: Way::ClusterBindings,
+            role_place: cluster_roles,
+            binding_place: bindings,
+        })
+    }
+
+    // Until where the role bindings that name roles grant for certain.
+    fn role_block(&self, roles: u64, bindings: u64) -> Option<Until>
+        requires roles { roles ≤ self.now.high }
+        requires bindings { bindings ≤ self.now.high }
+        ensures { LastsUntil (λ r b. MustGrantInWay self.now.timeline.now Roles r b self.now.who.now self.now.attrs.now) roles bindings self.now.high result }
+    {
+        self.granted_until(Link {
+            way: Way::Roles,
+            role_place: roles,
+            binding_place: bindings,
+        })
+    }
+
+    // Until where the role bindings that name cluster roles grant for certain.
+    fn cluster_role_block(&self, cluster_roles: u64, bindings: u64) -> Option<Until>
+        requires roles { cluster_roles ≤ self.now.high }
+        requires bindings { bindings ≤ self.now.high }
+        ensures { LastsUntil (λ c b. MustGrantInWay self.now.timeline.now ClusterRoles c b self.now.who.now self.now.attrs.now) cluster_roles bindings self.now.high result }
+    {
+        self.granted_until(Link {
+            way: Way::ClusterRoles,
+            role_place: cluster_roles,
+            binding_place: bindings,
+        })
+    }
+
+    // Until where the role bindings grant for certain: by one kind of roles, the others may be at any place.
+    fn block(&self, roles: u64, cluster_roles: u64, bindings: u64) -> Option<Block>
+        requires roles { roles ≤ self.now.high }
+        requires cluster_roles { cluster_roles ≤ self.now.high }
+        requires bindings { bindings ≤ self.now.high }
+        ensures some { IfSome result (IsBlock self.now.timeline.now self.now.who.now self.now.attrs.now roles cluster_roles bindings self.now.high) }
+        ensures none { IfNone result (IsFreePlain self.now.timeline.now self.now.who.now self.now.attrs.now roles cluster_roles bindings) }
+    {
+        if let Some(by_role) = self.role_block(roles, bindings) {
+            return Some(Block {
+                until: Until {
+                    first: by_role.first,
+                    second: self.high,
+                },
+                bindings: by_role.second,
+            });
+        }
+        if let Some(by_cluster_role) = self.cluster_role_block(cluster_roles, bindings) {
+            return Some(Block {
+                until: Until {
+                    first: self.high,
+                    second: by_cluster_role.first,
+                },
+                bindings: by_cluster_role.second,
+            });
         }
         None
     }
 
-    // Whether the role bindings at this place don't grant for certain.
-    fn is_free(&self, roles: u64, cluster_roles: u64, bindings: u64) -> bool
-        ensures { IsTrue result ↔ IsFreePlain self.now.timeline.now self.now.who.now self.now.attrs.now roles cluster_roles bindings }
+    // The least place of the role bindings at which they don't grant for certain, or up to which places of
+    // roles and cluster roles there is none.
+    fn first_free_binding(&self, roles: u64, cluster_roles: u64) -> Result<u64, Until>
+        requires range { self.now.low ≤ self.now.high }
+        requires roles { roles ≤ self.now.high }
+        requires cluster_roles { cluster_roles ≤ self.now.high }
+        ensures found { IfOk result (IsLeastPlace (IsFreePlain self.now.timeline.now self.now.who.now self.now.attrs.now roles cluster_roles) self.now.low self.now.high) }
+        ensures none { IfErr result (HoldsUntil (λ r c. HoldsNowhere (IsFreePlain self.now.timeline.now self.now.who.now self.now.attrs.now r c) self.now.low self.now.high) roles cluster_roles self.now.high) }
     {
-        if self.must(Way::Roles, roles, bindings) {
-            return false;
-        }
-        !self.must(Way::ClusterRoles, cluster_roles, bindings)
-    }
-
-    // The least place of the role bindings at which they don't grant for certain.
-    fn first_free_binding(&self, roles: u64, cluster_roles: u64) -> Option<u64>
-        requires { self.now.low ≤ self.now.high }
-        ensures { IsFirstPlace (IsFreePlain self.now.timeline.now self.now.who.now self.now.attrs.now roles cluster_roles) self.now.low self.now.high result }
-    {
-        if self.is_free(roles, cluster_roles, self.low) {
-            return Some(self.low);
-        }
-        for place in self.later(Kind::RoleBinding) {
-            if self.is_free(roles, cluster_roles, *place) {
-                return Some(*place);
+        let mut place = self.low;
+        let mut first = self.high;
+        let mut second = self.high;
+        'places: while let Some(block) = self.block(roles, cluster_roles, place) {
+            first = first.min(block.until.first);
+            second = second.min(block.until.second);
+            if block.bindings >= self.high {
+                return Err(Until { first, second });
             }
+            place = block.bindings + 1;
         }
-        None
+        Ok(place)
     }
 
-    // The least places with these of roles and cluster roles at which nothing grants for certain.
-    fn free_with(&self, roles: u64, cluster_roles: u64) -> Option<Places>
+    // The least places with these of roles and cluster roles at which nothing grants for certain, or up to
+    // which of these there are none.
+    fn free_with(&self, roles: u64, cluster_roles: u64) -> Result<Places, Until>
         requires range { self.now.low ≤ self.now.high }
         requires roles_from { self.now.low ≤ roles }
         requires roles_upto { roles ≤ self.now.high }
         requires cluster_roles_from { self.now.low ≤ cluster_roles }
         requires cluster_roles_upto { cluster_roles ≤ self.now.high }
-        ensures { AreFirstOf (FreeWith self.now.timeline.now self.now.who.now self.now.attrs.now roles cluster_roles) self.now.low self.now.high result }
+        ensures found { IfOk result (AreLeastOf (FreeWith self.now.timeline.now self.now.who.now self.now.attrs.now roles cluster_roles) self.now.low self.now.high) }
+        ensures none { IfErr result (HoldsUntil (λ r c. NoneFreeWith self.now.timeline.now self.now.who.now self.now.attrs.now self.now.low self.now.high r c) roles cluster_roles self.now.high) }
     {
         match self.first_free_cluster_binding(cluster_roles) {
-            Some(cluster_bindings) => match self.first_free_binding(roles, cluster_roles) {
-                Some(bindings) => Some(Places {
+            Ok(cluster_bindings) => match self.first_free_binding(roles, cluster_roles) {
+                Ok(bindings) => Ok(Places {
                     roles,
                     cluster_roles,
                     bindings,
                     cluster_bindings,
                 }),
-                None => None,
+                Err(until) => Err(until),
             },
-            None => None,
+            Err(last) => Err(Until {
+                first: self.high,
+                second: last,
+            }),
         }
     }
 
-    // The least places with this one of roles at which nothing grants for certain.
-    fn first_free(&self, roles: u64) -> Option<Places>
+    // The least places with this one of roles at which nothing grants for certain, or up to which there are
+    // none.
+    fn first_free(&self, roles: u64) -> Result<Places, u64>
         requires range { self.now.low ≤ self.now.high }
-        requires roles_from { self.now.low ≤ roles }
-        requires roles_upto { roles ≤ self.now.high }
-        ensures { AreFirstOf (FreeFrom self.now.timeline.now self.now.who.now self.now.attrs.now roles) self.now.low self.now.high result }
+        requires from { self.now.low ≤ roles }
+        requires upto { roles ≤ self.now.high }
+        ensures found { IfOk result (AreLeastOf (FreeFrom self.now.timeline.now self.now.who.now self.now.attrs.now roles) self.now.low self.now.high) }
+        ensures none { IfErr result (IsLast (NoneFreeFrom self.now.timeline.now self.now.who.now self.now.attrs.now self.now.low self.now.high) roles self.now.high) }
     {
-        if let Some(places) = self.free_with(roles, self.low) {
-            return Some(places);
-        }
-        for cluster_roles in self.later(Kind::ClusterRole) {
-            if let Some(places) = self.free_with(roles, *cluster_roles) {
-                return Some(places);
+        let mut cluster_roles = self.low;
+        let mut last = self.high;
+        'places: loop {
+            match self.free_with(roles, cluster_roles) {
+                Ok(places) => return Ok(places),
+                Err(until) => {
+                    last = last.min(until.first);
+                    if until.second >= self.high {
+                        return Err(last);
+                    }
+                    cluster_roles = until.second + 1;
+                }
             }
         }
-        None
     }
 
-    /// The least places at which the request may be forbidden.
+    /// The least places at which the request may be forbidden. Where something grants for certain, the search
+    /// goes on behind the places up to which it does.
     pub fn first_forbidden(&self) -> Option<Places>
         requires { self.now.low ≤ self.now.high }
         ensures { AreFirstOf (IsFreeAt self.now.timeline.now self.now.who.now self.now.attrs.now) self.now.low self.now.high result }
     {
-        if let Some(places) = self.first_free(self.low) {
-            return Some(places);
-        }
-        for roles in self.later(Kind::Role) {
-            if let Some(places) = self.first_free(*roles) {
-                return Some(places);
+        let mut roles = self.low;
+        'places: loop {
+            match self.first_free(roles) {
+                Ok(places) => return Some(places),
+                Err(last) => {
+                    if last >= self.high {
+                        return None;
+                    }
+                    roles = last + 1;
+                }
             }
         }
-        None
     }
 }

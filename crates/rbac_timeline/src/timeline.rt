@@ -1,11 +1,13 @@
 ghost use Rattle.std.specs.Prelude.{◌≡◌, ◌↔◌, IsTrue, IfOk, IfSome, IfNone, Any, Contains, MatchOption, map, [], false, ⊤, ◌<◌, ◌≤◌, ◌||◌};
+ghost use Rattle.clouds.specs.FirstPlace.{IsFirstPlace};
 ghost use Rattle.rbac_timeline.specs.Kept.{MayGrantByRules, MustGrantByRules};
+ghost use Rattle.rbac_timeline.specs.Lasting.{IsLast};
 ghost use Rattle.rbac_rules.specs.Matching.{Matches};
 ghost use Rattle.rbac_timeline.specs.Known.{key_revision, known_of, writes_of};
 ghost use Rattle.base_types.specs.declared.placed.Places.{Places};
 
-use crate::changes::Changes;
 use crate::extent::Extent;
+use crate::first::last_before;
 use crate::history::{Content, Gap, Histories, Removals, Stored, histories_of, removals_of};
 use crate::index::Index;
 use crate::kind::{Kind, is_kind, kind_of_key, reaches};
@@ -33,7 +35,6 @@ pub struct Timeline {
     index: Index,
     nameless: Nameless,
     unsure: Unsure,
-    changes: Changes,
     bypass: Texts,
     // For contracts alone: they take no memory.
     versions: Snapshot<RbacVersions>,
@@ -51,7 +52,7 @@ impl Model for Timeline {
     ghost use Rattle.rbac_timeline.specs.Kept.{AreKept};
 
     ghost invariant = { λ t. AreKept (record { versions = t.versions.value; ends = t.ends.value; spans = t.spans.value; bypass = t.bypass })
-        t.histories t.removals t.clouds t.index t.nameless t.unsure t.changes };
+        t.histories t.removals t.clouds t.index t.nameless t.unsure };
 }
 
 fn key_revisions(alloc: Global, versions: &[RbacVersion]) -> Result<Vec<KeyRevision>, OutOfMemory>
@@ -105,6 +106,33 @@ fn rules_extent(content: &Content, attrs: &RequestAttrs) -> Extent
     }
 }
 
+// The last place up to which the removal hasn't begun behind this one.
+fn gap_until(gap: Option<Gap>, place: u64, high: u64) -> u64
+    requires { place ≤ high }
+    ensures { IsLast (λ n. MatchOption gap ⊤ (λ gap. place < gap.low → n < gap.low)) place high result }
+{
+    match gap {
+        Some(gap) => {
+            if place >= gap.low {
+                return high;
+            }
+            last_before(gap.low, place, high)
+        }
+        None => high,
+    }
+}
+
+// The first place of a range behind another.
+fn first_behind(place: u64, low: u64, high: u64) -> Option<u64>
+    requires { low ≤ high }
+    ensures { IsFirstPlace (λ n. place < n) low high result }
+{
+    if place >= high {
+        return None;
+    }
+    Some(low.max(place + 1))
+}
+
 fn any_group(groups: &[Text], bypass: &Texts) -> bool
     ensures { IsTrue result ↔ Any (Contains bypass.now) groups.now }
 {
@@ -129,21 +157,30 @@ fn any_subject(subjects: &[Subject], who: &User) -> bool
     subjects.iter().any(|subject| subject_matches(subject, who))
 }
 
-fn names(binding: &Binding, who: &User) -> bool
+pub(crate) fn names(binding: &Binding, who: &User) -> bool
     ensures { IsTrue result ↔ Any (λ subject. Matches subject who.now) binding.now.subjects }
 {
     any_subject(binding.subjects.as_slice(), who)
 }
 
 impl Timeline {
+    ghost use Rattle.std.specs.Prelude.{ℕ};
+    ghost use Rattle.base_types.specs.declared.key.ObjectKey.{ObjectKey};
+    ghost use Rattle.clouds.specs.Clouds.{IsClouded};
+    ghost use Rattle.rbac_timeline.specs.declared.way.Way.{Way};
+    ghost use Rattle.base_types.specs.declared.request.RequestAttrs.{RequestAttrs};
+    ghost use Rattle.base_types.specs.declared.request.User.{User};
+    ghost use Rattle.rbac_timeline.specs.Kinds.{IsKeyOf, IsReached};
+    ghost use Rattle.rbac_timeline.specs.Unsure.{last_place};
     ghost use Rattle.rbac_timeline.specs.Decisions.{AreLeastPlaces, IsDecidedAt, IsPossible};
     ghost use Rattle.rbac_timeline.specs.Index.{AreBindingsOf};
     ghost use Rattle.rbac_timeline.specs.Sound.{AreSound};
     ghost use Rattle.rbac_timeline.specs.declared.version.RbacVersion.{RbacVersion};
-    ghost use Rattle.rbac_timeline.specs.Changing.{AreChangesBetween};
     ghost use Rattle.rbac_timeline.specs.Choices.{IsBypassed, IsKnownKey};
-    ghost use Rattle.rbac_timeline.specs.Extents.{IsCertain, IsNotGone, MayGrantByRole, MayGrantInWay, MayGrantNameless, MustGrantByRole, MustGrantInWay};
+    ghost use Rattle.rbac_timeline.specs.Extents.{IsCertain, IsNotGone, MayGrantByKey, MayGrantByRole, MayGrantInWay, MayGrantNameless, MustGrantByKey, MustGrantByRole, MustGrantInWay, bindings_in};
     ghost use Rattle.rbac_timeline.specs.Kept.{IsKnownUnsure, IsRemovalOf, MayGrantByContent, MayGrantByListed, MayGrantOf, MustGrantByContent, MustGrantByListed, MustGrantOf, NamesAccount, NamesGroup, NamesUser, NamesWho, stored_of};
+    ghost use Rattle.rbac_timeline.specs.Lasting.{IsStill, NoneBegins, NoneRemoved, StaysClear};
+    ghost use Rattle.rbac_timeline.specs.Pairs.{AreVersionsBetween};
     ghost use Rattle.rbac_timeline.specs.Searched.{AreFirstOf};
     ghost use Rattle.rbac_timeline.specs.States.{IsLatestVersion, NoneUpto};
 
@@ -163,18 +200,11 @@ impl Timeline {
         ensures bypass { IfOk result (λ timeline. timeline.bypass ≡ bypass.now) }
     {
         let clouds = clouds_of(alloc, versions.as_slice(), spans.as_slice())?;
-        let lookups = Lookups::of(
-            alloc,
-            versions.as_slice(),
-            ends.as_slice(),
-            spans.as_slice(),
-            &clouds,
-        )?;
+        let lookups = Lookups::of(alloc, versions.as_slice(), spans.as_slice(), &clouds)?;
         let Lookups {
             index,
             nameless,
             unsure,
-            changes,
         } = lookups;
         let all_versions = Snapshot::of(&versions);
         Ok(Timeline {
@@ -184,7 +214,6 @@ impl Timeline {
             index,
             nameless,
             unsure,
-            changes,
             bypass: bypass.clone()?,
             versions: all_versions,
             ends: Snapshot::of(&ends),
@@ -219,7 +248,7 @@ impl Timeline {
         presence(self.removal(key, stored.revision), place)
     }
 
-    fn role_extent(&self, key: &ObjectKey, place: u64, attrs: &RequestAttrs) -> Extent
+    pub(crate) fn role_extent(&self, key: &ObjectKey, place: u64, attrs: &RequestAttrs) -> Extent
         ensures may { IsTrue result.may ↔ MayGrantByRole self.now key.now place attrs.now }
         ensures must { IsTrue result.must ↔ MustGrantByRole self.now key.now place attrs.now }
     {
@@ -259,7 +288,13 @@ impl Timeline {
         }
     }
 
-    fn key_extent(&self, key: &ObjectKey, link: Link, who: &User, attrs: &RequestAttrs) -> Extent
+    pub(crate) fn key_extent(
+        &self,
+        key: &ObjectKey,
+        link: Link,
+        who: &User,
+        attrs: &RequestAttrs,
+    ) -> Extent
         ensures may { IsTrue result.may ↔ MayGrantByListed self.now link.way link.role_place link.binding_place who.now attrs.now key.now }
         ensures must { IsTrue result.must ↔ MustGrantByListed self.now link.way link.role_place link.binding_place who.now attrs.now key.now }
     {
@@ -397,10 +432,155 @@ impl Timeline {
         self.named_extent(link, who, attrs).must
     }
 
-    pub(crate) fn changes_between(&self, kind: Kind, low: u64, high: u64) -> &[u64]
-        ensures { AreChangesBetween self.now kind low high result.now }
+    pub(crate) fn is_clouded(&self, key: &ObjectKey, place: u64) -> bool
+        ensures { IsTrue result ↔ IsClouded (writes_of self.now) key.now place }
     {
-        self.changes.between(kind, low, high)
+        self.clouds.clouded(key, place)
+    }
+
+    // The least place of a range at which the object is clouded.
+    pub(crate) fn first_clouded(&self, key: &ObjectKey, low: u64, high: u64) -> Option<u64>
+        ensures { IsFirstPlace (IsClouded (writes_of self.now) key.now) low high result }
+    {
+        self.clouds.meets(key, low, high)
+    }
+
+    // The key's versions above `low` and not above `high`.
+    pub(crate) fn versions_between(&self, key: &ObjectKey, low: u64, high: u64) -> &[Stored]
+        ensures { AreVersionsBetween self.now.versions key.now low high result.now }
+    {
+        match self.histories.get(key) {
+            Some(history) => history.between(low, high),
+            None => &[],
+        }
+    }
+
+    pub(crate) fn named_user(&self, name: &Text) -> &[ObjectKey]
+        ensures { (key : ObjectKey) → Contains result.now key ↔ NamesUser self.now.versions name.now key }
+    {
+        self.index.by_user(name)
+    }
+
+    // By the account that a user is.
+    pub(crate) fn named_account(&self, name: &Text) -> &[ObjectKey]
+        ensures { (key : ObjectKey) → Contains result.now key ↔ NamesAccount self.now.versions name.now key }
+    {
+        self.index.by_account_user(name)
+    }
+
+    pub(crate) fn named_group(&self, group: &Text) -> &[ObjectKey]
+        ensures { (key : ObjectKey) → Contains result.now key ↔ NamesGroup self.now.versions group.now key }
+    {
+        self.index.by_group(group)
+    }
+
+    // The bindings that may be clouded or unreadable somewhere and can reach the request, and maybe others.
+    pub(crate) fn unsure_keys(&self, way: Way, attrs: &RequestAttrs) -> &[ObjectKey]
+        ensures known { (key : ObjectKey) → Contains result.now key → IsKnownKey self.now key }
+        ensures full { (place : ℕ) (key : ObjectKey) → place ≤ last_place → IsKeyOf (bindings_in way) key → IsReached key attrs.now → IsKnownUnsure self.now place key → Contains result.now key }
+    {
+        self.unsure.keys(way.bindings(), attrs)
+    }
+
+    // The least place of a range from which on a binding whose name isn't known may grant the request.
+    pub(crate) fn first_nameless(
+        &self,
+        way: Way,
+        low: u64,
+        high: u64,
+        attrs: &RequestAttrs,
+    ) -> Option<u64>
+        requires { low ≤ high }
+        ensures { IsFirstPlace (λ place. MayGrantNameless self.now way place attrs.now) low high result }
+    {
+        match self.nameless.least(way.bindings(), attrs) {
+            Some(least) => first_behind(least, low, high),
+            None => None,
+        }
+    }
+
+    // What the binding holds, where it may be there.
+    pub(crate) fn held(&self, key: &ObjectKey, place: u64) -> Option<&Content>
+        requires { IsClouded (writes_of self.now) key.now place → ⊥ }
+        ensures some { IfSome result (λ content. (way : Way) (role_place : ℕ) (who : User) (attrs : RequestAttrs) → MayGrantByKey self.now way role_place place who attrs key.now ↔ MayGrantByContent self.now way role_place who attrs content.now) }
+        ensures none { IfNone result ((way : Way) (role_place : ℕ) (who : User) (attrs : RequestAttrs) → MayGrantByKey self.now way role_place place who attrs key.now → ⊥) }
+    {
+        let _known = &self.clouds;
+        match self.latest(key, place) {
+            Some(stored) => {
+                if !self.presence(key, stored, place).may {
+                    return None;
+                }
+                Some(&stored.content)
+            }
+            None => None,
+        }
+    }
+
+    // The last place up to which no version of the key begins behind this one.
+    fn unbegun_until(&self, key: &ObjectKey, place: u64, high: u64) -> u64
+        requires { place ≤ high }
+        ensures { IsLast (NoneBegins self.now.versions key.now place) place high result }
+    {
+        match self.histories.get(key) {
+            Some(history) => history.unbegun_until(place, high),
+            None => high,
+        }
+    }
+
+    // The last place up to which the removal of the object hasn't begun behind this one.
+    fn unremoved_until(&self, key: &ObjectKey, place: u64, high: u64) -> u64
+        requires { place ≤ high }
+        ensures { IsLast (NoneRemoved self.now key.now place) place high result }
+    {
+        let _known = &self.clouds;
+        match self.latest(key, place) {
+            Some(stored) => gap_until(self.removal(key, stored.revision), place, high),
+            None => high,
+        }
+    }
+
+    // The last place up to which the object isn't clouded behind this one.
+    fn clear_until(&self, key: &ObjectKey, place: u64, high: u64) -> u64
+        requires { place ≤ high }
+        ensures { IsLast (StaysClear self.now key.now place) place high result }
+    {
+        if place >= high {
+            return high;
+        }
+        match self.first_clouded(key, place + 1, high) {
+            Some(clouded) => last_before(clouded, place, high),
+            None => high,
+        }
+    }
+
+    // The last place up to which the object may only be in states that it may be in here.
+    pub(crate) fn still_until(&self, key: &ObjectKey, place: u64, high: u64) -> u64
+        requires { place ≤ high }
+        ensures { IsLast (IsStill self.now key.now place) place high result }
+    {
+        let unbegun = self.unbegun_until(key, place, high);
+        let unremoved = self.unremoved_until(key, place, high);
+        let clear = self.clear_until(key, place, high);
+        unbegun.min(unremoved).min(clear)
+    }
+
+    // The role that the binding names. Where that one grants for certain, so does the binding, if it does at all.
+    pub(crate) fn role_bound(&self, key: &ObjectKey, place: u64) -> Option<&ObjectKey>
+        ensures { IfSome result (λ role. (way : Way) (who : User) (attrs : RequestAttrs) (r n : ℕ) → (MustGrantByRole self.now role.now r attrs → MustGrantByRole self.now role.now n attrs) → MustGrantByKey self.now way r place who attrs key.now → MustGrantByKey self.now way n place who attrs key.now) }
+    {
+        let _known = &self.clouds;
+        match self.latest(key, place) {
+            Some(stored) => stored.content.role(),
+            None => None,
+        }
+    }
+
+    // For proofs: what it was built of is as was asked.
+    pub(crate) fn tell_sound(&self)
+        ensures { AreSound self.now.versions self.now.ends }
+    {
+        let _known = &self.clouds;
     }
 
     fn is_bypassed(&self, who: &User) -> bool

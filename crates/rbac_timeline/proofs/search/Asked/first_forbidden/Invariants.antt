@@ -1,8 +1,10 @@
-use Rattle.rbac_timeline.proofs.Firsts.{FreeSome}
-use Rattle.rbac_timeline.proofs.Stepping.{FailsUpto}
+use Rattle.std.proofs.Common.{◌-◌}
+use Rattle.rbac_timeline.proofs.Firsts.{AreBehind}
 use Rattle.rbac_timeline.proofs.search.Asked.first_forbidden.Given as goal
 
--- something grants for certain with the roles at the first place and at the changes so far
-abbrev pub invariant-loop-roles : goal.invariant-loop-roles
-invariant-loop-roles l =
-    FailsUpto (FreeSome l.self.timeline.now l.self.who.now l.self.attrs.now l.self.low l.self.high) l.self.low l.roles-items l.roles-index
+-- something grants for certain with all roles below this place
+abbrev pub invariant-places : goal.invariant-places
+invariant-places l = AreBehind l.self.timeline.now l.self.who.now l.self.attrs.now l.self.low l.self.high l.roles
+
+abbrev pub decreases-places : goal.decreases-places
+decreases-places l = l.self.high - l.roles

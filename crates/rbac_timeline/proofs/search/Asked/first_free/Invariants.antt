@@ -1,8 +1,11 @@
-use Rattle.rbac_timeline.proofs.Firsts.{FreeOf}
-use Rattle.rbac_timeline.proofs.Stepping.{FailsUpto}
+use Rattle.std.proofs.Common.{◌-◌}
+use Rattle.rbac_timeline.specs.Searched.{NoneFreeWith}
+use Rattle.rbac_timeline.proofs.Throughout.{AreBarred}
 use Rattle.rbac_timeline.proofs.search.Asked.first_free.Given as goal
 
--- something grants for certain with the cluster roles at the first place and at the changes so far
-abbrev pub invariant-loop-cluster_roles : goal.invariant-loop-cluster_roles
-invariant-loop-cluster_roles l =
-    FailsUpto (FreeOf l.self.timeline.now l.self.who.now l.self.attrs.now l.self.low l.self.high l.fn.roles) l.self.low l.cluster_roles-items l.cluster_roles-index
+-- something grants for certain with all cluster roles below this place, and the roles up to `last`
+abbrev pub invariant-places : goal.invariant-places
+invariant-places l = AreBarred (NoneFreeWith l.self.timeline.now l.self.who.now l.self.attrs.now l.self.low l.self.high) l.roles l.self.low l.self.high l.cluster_roles l.last
+
+abbrev pub decreases-places : goal.decreases-places
+decreases-places l = l.self.high - l.cluster_roles

@@ -1,36 +1,34 @@
-use Rattle.std.proofs.lemmas.Bool.{both_ways}
-use Rattle.rbac_timeline.specs.declared.kind.Kind.TheVariants.{RoleBinding}
+use Rattle.std.proofs.Common.{ℕ, ◌<◌, ◌≤◌, arith}
 use Rattle.rbac_timeline.specs.Searched.{IsFreePlain}
-use Rattle.rbac_timeline.proofs.Firsts.{plain_carries}
-use Rattle.rbac_timeline.proofs.Stepping.{FailsUpto-more, FailsUpto-none, least_at, least_low, nowhere_from}
+use Rattle.rbac_timeline.proofs.Throughout.{AreHeldBack-all, AreHeldBack-more, AreHeldBack-start, least_there}
 use Rattle.rbac_timeline.proofs.search.Asked.first_free_binding.Goals as goal
 
-pub returns-then-is_free : goal.returns-then-is_free
-returns-then-is_free c =
+pub places-init : goal.places-init
+places-init c =
     let s = c.args.self.now in
-    least_low (IsFreePlain s.timeline.now s.who.now s.attrs.now c.args.roles c.args.cluster_roles) s.low s.high c.requires (c.is_free.ensures.0 c.if-is_free.true)
+    AreHeldBack-start s.timeline.now s.who.now s.attrs.now c.args.roles c.args.cluster_roles s.low s.high c.requires.range c.requires.roles c.requires.cluster_roles
 
-pub loop-place-init : goal.loop-place-init
-loop-place-init c =
-    let s = c.args.self.now in
-    FailsUpto-none (IsFreePlain s.timeline.now s.who.now s.attrs.now c.args.roles c.args.cluster_roles) s.low c.later-place-items.result.now
-    (λ free. both_ways _ c.if-is_free.false (c.is_free.ensures.1 free))
+pub block-requires : goal.block-requires
+block-requires c = record { roles = c.requires.roles; cluster_roles = c.requires.cluster_roles; bindings = c.places.invariant.upto }
 
-pub returns-then-is_free-2 : goal.returns-then-is_free-2
-returns-then-is_free-2 c =
+pub returns-then-block-self-clause-none : goal.returns-then-block-self-clause-none
+returns-then-block-self-clause-none c =
     let s = c.args.self.now in
-    least_at s.timeline.now RoleBinding s.low s.high c.later-place-items.result.now c.later-place-items.ensures (IsFreePlain s.timeline.now s.who.now s.attrs.now c.args.roles c.args.cluster_roles)
-    (plain_carries s.timeline.now s.who.now s.attrs.now c.args.roles c.args.cluster_roles) c.loop-place.place-index c.loop-place-test.true c.loop-place.invariant
-    (c.is_free-in-loop-place.ensures.0 c.if-is_free-2.true)
+    AreHeldBack-all s.timeline.now s.who.now s.attrs.now c.args.roles c.args.cluster_roles s.low s.high c.places.place c.places.first c.places.second c.min-first.result c.min-second.result c.in-Some.block (omega (arith, c.min-first.ensures)) (omega (arith, c.min-second.ensures))
+    (omega arith) c.places.invariant c.in-Some.ensures.some
 
-pub loop-place-preserved : goal.loop-place-preserved
-loop-place-preserved c =
+pub places-preserved : goal.places-preserved
+places-preserved c =
     let s = c.args.self.now in
-    FailsUpto-more (IsFreePlain s.timeline.now s.who.now s.attrs.now c.args.roles c.args.cluster_roles) s.low c.later-place-items.result.now c.loop-place.place-index c.loop-place.invariant
-    (λ free. both_ways _ c.if-is_free-2.false (c.is_free-in-loop-place.ensures.1 free))
+    AreHeldBack-more s.timeline.now s.who.now s.attrs.now c.args.roles c.args.cluster_roles s.low s.high c.places.place c.places.first c.places.second c.min-first.result c.min-second.result c.in-Some.block (omega (arith, c.min-first.ensures)) (omega (arith, c.min-second.ensures))
+    (omega arith) c.places.invariant c.in-Some.ensures.some
 
-pub returns : goal.returns
-returns c =
+pub places-smaller : goal.places-smaller
+places-smaller c = let behind : c.places.place ≤ c.in-Some.block.bindings = c.in-Some.ensures.some.from in omega arith
+
+pub returns-clause-found : goal.returns-clause-found
+returns-clause-found c =
     let s = c.args.self.now in
-    nowhere_from s.timeline.now RoleBinding s.low s.high c.later-place-items.result.now c.later-place-items.ensures (IsFreePlain s.timeline.now s.who.now s.attrs.now c.args.roles c.args.cluster_roles)
-    (plain_carries s.timeline.now s.who.now s.attrs.now c.args.roles c.args.cluster_roles) c.loop-place.place-index c.loop-place-test.false c.loop-place.invariant
+    let so_far = c.places.invariant in
+    least_there (IsFreePlain s.timeline.now s.who.now s.attrs.now c.args.roles c.args.cluster_roles) s.low s.high c.places.place so_far.from so_far.upto
+    (so_far.below.throughout c.args.roles c.args.cluster_roles (omega arith) so_far.below.first_from (omega arith) so_far.below.second_from) c.in_default.ensures.none

@@ -1,7 +1,10 @@
-use Rattle.rbac_timeline.specs.Searched.{IsFreePlain}
-use Rattle.rbac_timeline.proofs.Stepping.{FailsUpto}
+use Rattle.std.proofs.Common.{◌-◌}
+use Rattle.rbac_timeline.proofs.Throughout.{AreHeldBack}
 use Rattle.rbac_timeline.proofs.search.Asked.first_free_binding.Given as goal
 
--- they grant for certain at the first place and at the changes so far
-abbrev pub invariant-loop-place : goal.invariant-loop-place
-invariant-loop-place l = FailsUpto (IsFreePlain l.self.timeline.now l.self.who.now l.self.attrs.now l.fn.roles l.fn.cluster_roles) l.self.low l.place-items l.place-index
+-- they grant for certain at all places below this one, with roles up to `first` and cluster roles up to `second`
+abbrev pub invariant-places : goal.invariant-places
+invariant-places l = AreHeldBack l.self.timeline.now l.self.who.now l.self.attrs.now l.roles l.cluster_roles l.self.low l.self.high l.place l.first l.second
+
+abbrev pub decreases-places : goal.decreases-places
+decreases-places l = l.self.high - l.place

@@ -1,35 +1,38 @@
-use Rattle.std.proofs.lemmas.Bool.{both_ways}
-use Rattle.rbac_timeline.specs.declared.kind.Kind.TheVariants.{ClusterRoleBinding}
+use Rattle.std.proofs.Common.{ℕ, ◌<◌, ◌≤◌, arith}
+use Rattle.rbac_timeline.specs.declared.way.Way.TheVariants.{ClusterBindings}
+use Rattle.rbac_timeline.specs.Extents.{MustGrantInWay}
 use Rattle.rbac_timeline.specs.Searched.{IsFreeCluster}
-use Rattle.rbac_timeline.proofs.Firsts.{cluster_carries}
-use Rattle.rbac_timeline.proofs.Stepping.{FailsUpto-more, FailsUpto-none, least_at, least_low, nowhere_from}
+use Rattle.rbac_timeline.proofs.Throughout.{AreBarred-all, AreBarred-more, AreBarred-start, HoldsUntil-map, least_there}
 use Rattle.rbac_timeline.proofs.search.Asked.first_free_cluster_binding.Goals as goal
 
-pub returns-then-not-must : goal.returns-then-not-must
-returns-then-not-must c =
+pub places-init : goal.places-init
+places-init c =
     let s = c.args.self.now in
-    least_low (IsFreeCluster s.timeline.now s.who.now s.attrs.now c.args.cluster_roles) s.low s.high c.requires (λ must. both_ways _ c.if-not-must.true (c.must.ensures.1 must))
+    AreBarred-start (λ (cr b : ℕ). IsFreeCluster s.timeline.now s.who.now s.attrs.now cr b → ⊥) c.args.cluster_roles s.low s.high c.requires.range c.requires.upto
 
-pub loop-place-init : goal.loop-place-init
-loop-place-init c =
-    let s = c.args.self.now in
-    FailsUpto-none (IsFreeCluster s.timeline.now s.who.now s.attrs.now c.args.cluster_roles) s.low c.later-place-items.result.now (λ free. free (c.must.ensures.0 c.if-not-must.false))
+pub cluster_block-requires : goal.cluster_block-requires
+cluster_block-requires c = record { roles = c.requires.upto; bindings = c.places.invariant.upto }
 
-pub returns-then-not-must-2 : goal.returns-then-not-must-2
-returns-then-not-must-2 c =
+pub returns-then-until-self-clause-none : goal.returns-then-until-self-clause-none
+returns-then-until-self-clause-none c =
     let s = c.args.self.now in
-    least_at s.timeline.now ClusterRoleBinding s.low s.high c.later-place-items.result.now c.later-place-items.ensures (IsFreeCluster s.timeline.now s.who.now s.attrs.now c.args.cluster_roles)
-    (cluster_carries s.timeline.now s.who.now s.attrs.now c.args.cluster_roles) c.loop-place.place-index c.loop-place-test.true c.loop-place.invariant
-    (λ must. both_ways _ c.if-not-must-2.true (c.must-in-loop-place.ensures.1 must))
+    AreBarred-all (λ (cr b : ℕ). IsFreeCluster s.timeline.now s.who.now s.attrs.now cr b → ⊥) c.args.cluster_roles s.low s.high c.places.place c.places.last c.min-last.result c.in-Some.until (omega (arith, c.min-last.ensures)) (omega arith)
+    c.places.invariant
+    (HoldsUntil-map (λ (cr b : ℕ). MustGrantInWay s.timeline.now ClusterBindings cr b s.who.now s.attrs.now) _ c.args.cluster_roles c.places.place s.high c.in-Some.until (λ cr b must free. free must) c.in-Some.ensures)
 
-pub loop-place-preserved : goal.loop-place-preserved
-loop-place-preserved c =
+pub places-preserved : goal.places-preserved
+places-preserved c =
     let s = c.args.self.now in
-    FailsUpto-more (IsFreeCluster s.timeline.now s.who.now s.attrs.now c.args.cluster_roles) s.low c.later-place-items.result.now c.loop-place.place-index c.loop-place.invariant
-    (λ free. free (c.must-in-loop-place.ensures.0 c.if-not-must-2.false))
+    AreBarred-more (λ (cr b : ℕ). IsFreeCluster s.timeline.now s.who.now s.attrs.now cr b → ⊥) c.args.cluster_roles s.low s.high c.places.place c.places.last c.min-last.result c.in-Some.until (omega (arith, c.min-last.ensures)) (omega arith)
+    c.places.invariant
+    (HoldsUntil-map (λ (cr b : ℕ). MustGrantInWay s.timeline.now ClusterBindings cr b s.who.now s.attrs.now) _ c.args.cluster_roles c.places.place s.high c.in-Some.until (λ cr b must free. free must) c.in-Some.ensures)
 
-pub returns : goal.returns
-returns c =
+pub places-smaller : goal.places-smaller
+places-smaller c = let behind : c.places.place ≤ c.in-Some.until.second = c.in-Some.ensures.second_from in omega arith
+
+pub returns-clause-found : goal.returns-clause-found
+returns-clause-found c =
     let s = c.args.self.now in
-    nowhere_from s.timeline.now ClusterRoleBinding s.low s.high c.later-place-items.result.now c.later-place-items.ensures (IsFreeCluster s.timeline.now s.who.now s.attrs.now c.args.cluster_roles)
-    (cluster_carries s.timeline.now s.who.now s.attrs.now c.args.cluster_roles) c.loop-place.place-index c.loop-place-test.false c.loop-place.invariant
+    let so_far = c.places.invariant in
+    least_there (IsFreeCluster s.timeline.now s.who.now s.attrs.now c.args.cluster_roles) s.low s.high c.places.place so_far.from so_far.upto
+    (so_far.below.throughout c.args.cluster_roles (omega arith) so_far.below.from) c.in_default.ensures

@@ -1,0 +1,21 @@
+use Rattle.std.proofs.Common.{ℕ, List}
+use Rattle.rbac_timeline.specs.Kept.{MayGrantOf, NamesGroup}
+use Rattle.rbac_timeline.proofs.Pairing.{IsFirstPair-all, IsFirstPair-more, IsFirstPair-nothing}
+use Rattle.rbac_timeline.proofs.search.Asked.groups_pair.Goals as goal
+
+pub loop-group-init : goal.loop-group-init
+loop-group-init c =
+    let s = c.args.self.now in
+    IsFirstPair-nothing (λ (group : List ℕ) (r b : ℕ). MayGrantOf s.timeline.now (NamesGroup s.timeline.now.versions group) c.args.way r b s.who.now s.attrs.now) s.low s.high c.args.groups.now
+
+pub loop-group-preserved : goal.loop-group-preserved
+loop-group-preserved c =
+    let s = c.args.self.now in
+    rw c.earlier_pair-best.ensures (IsFirstPair-more (λ (group : List ℕ) (r b : ℕ). MayGrantOf s.timeline.now (NamesGroup s.timeline.now.versions group) c.args.way r b s.who.now s.attrs.now) s.low s.high c.args.groups.now _
+    c.group-item.result _ _ c.loop-group-test.true c.group-item.is c.loop-group.invariant c.group_pair.ensures)
+
+pub returns : goal.returns
+returns c =
+    let s = c.args.self.now in
+    IsFirstPair-all (λ (group : List ℕ) (r b : ℕ). MayGrantOf s.timeline.now (NamesGroup s.timeline.now.versions group) c.args.way r b s.who.now s.attrs.now) s.low s.high c.args.groups.now _ _
+    c.loop-group-test.false c.loop-group.invariant

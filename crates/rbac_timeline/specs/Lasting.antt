@@ -1,0 +1,56 @@
+-- Up to which places objects may only be in states that they may be in before, and what grants for certain still does.
+use Rattle.std.specs.Prelude.{◌<◌, ◌≡◌, ◌≤◌, ℕ, List, Option, Some, None, Contains}
+use Rattle.base_types.specs.declared.key.ObjectKey.{ObjectKey}
+use Rattle.base_types.specs.declared.request.RequestAttrs.{RequestAttrs}
+use Rattle.base_types.specs.declared.request.User.{User}
+use Rattle.clouds.specs.Clouds.{IsClouded}
+use Rattle.rbac_timeline.specs.declared.lasting.Block.{Block}
+use Rattle.rbac_timeline.specs.declared.lasting.Until.{Until}
+use Rattle.rbac_timeline.specs.declared.version.RbacEnd.{RbacEnd}
+use Rattle.rbac_timeline.specs.declared.version.RbacVersion.{RbacVersion}
+use Rattle.rbac_timeline.specs.Known.{Known, writes_of}
+use Rattle.rbac_timeline.specs.Searched.{IsFreePlain}
+use Rattle.rbac_timeline.specs.States.{IsEndOf, IsLatestVersion}
+
+-- it holds at each place from one up to the last
+pub record IsLast (holds : ℕ → Type 0) (place high last : ℕ) : Type 0 where
+  pub from : place ≤ last
+  pub upto : last ≤ high
+  pub throughout : (n : ℕ) → place ≤ n → n ≤ last → holds n
+
+-- each version of the key above the first place is above the second
+abbrev pub NoneBegins : List RbacVersion → ObjectKey → ℕ → ℕ → Type 0
+NoneBegins versions key place n = (version : RbacVersion) → Contains versions version → version.key ≡ key → place < version.revision → n < version.revision
+
+-- an object that is there for certain at the first place hasn't been removed at the second
+abbrev pub NoneRemoved : Known → ObjectKey → ℕ → ℕ → Type 0
+NoneRemoved known key place n = (version : RbacVersion) (end : RbacEnd) → IsLatestVersion known.versions key place version → IsEndOf known.ends version end → place < end.low → n < end.low
+
+-- it isn't clouded at the second place, or was at the first
+abbrev pub StaysClear : Known → ObjectKey → ℕ → ℕ → Type 0
+StaysClear known key place n = IsClouded (writes_of known) key n → IsClouded (writes_of known) key place
+
+pub record IsStill (known : Known) (key : ObjectKey) (place n : ℕ) : Type 0 where
+  pub none_begins : NoneBegins known.versions key place n
+  pub none_removed : NoneRemoved known key place n
+  pub stays_clear : StaysClear known key place n
+
+-- it holds at all pairs of places from two up to those of `until`
+pub record HoldsUntil (holds : ℕ → ℕ → Type 0) (first second high : ℕ) (until : Until) : Type 0 where
+  pub first_from : first ≤ until.first
+  pub first_upto : until.first ≤ high
+  pub second_from : second ≤ until.second
+  pub second_upto : until.second ≤ high
+  pub throughout : (a b : ℕ) → first ≤ a → a ≤ until.first → second ≤ b → b ≤ until.second → holds a b
+
+-- until where it holds, or it doesn't hold at these two places
+abbrev pub LastsUntil : (ℕ → ℕ → Type 0) → ℕ → ℕ → ℕ → Option Until → Type 0
+LastsUntil holds first second high None = holds first second → ⊥
+LastsUntil holds first second high (Some until) = HoldsUntil holds first second high until
+
+-- role bindings grant for certain, with the roles, the cluster roles and themselves at all places from these up to those of
+-- the block
+pub record IsBlock (known : Known) (who : User) (attrs : RequestAttrs) (roles cluster_roles bindings high : ℕ) (block : Block) : Type 0 where
+  pub from : bindings ≤ block.bindings
+  pub upto : block.bindings ≤ high
+  pub until : HoldsUntil (λ r c. (b : ℕ) → bindings ≤ b → b ≤ block.bindings → IsFreePlain known who attrs r c b → ⊥) roles cluster_roles high block.until
