@@ -1,5 +1,4 @@
 pub mod Endings
-pub mod Faulted
 pub mod Incarnated
 pub mod Indexed
 pub mod Modelled
