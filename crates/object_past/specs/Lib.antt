@@ -1,4 +1,5 @@
 pub mod Endings
+pub mod Faulted
 pub mod Incarnated
 pub mod Indexed
 pub mod Modelled

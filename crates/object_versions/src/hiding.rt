@@ -68,8 +68,8 @@ fn unrecorded_at(
     }
 }
 
-// The unrecorded writes of a log.
-fn unrecorded_of(
+/// The unrecorded writes of a log, each with the ends of its window.
+pub fn unrecorded_of(
     alloc: Global,
     windows: &Windows,
     start: Revision,

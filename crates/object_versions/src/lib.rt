@@ -14,7 +14,7 @@ mod removed;
 mod versions;
 
 pub use bodies::Bodies;
-pub use hiding::{clouds_of, slots_of};
+pub use hiding::{clouds_of, slots_of, unrecorded_of};
 pub use log_past::{LogPast, past_of};
 pub use maker::Judged;
 pub use making::{Making, finding_fault, making_fault};

@@ -1,4 +1,4 @@
-ghost use Rattle.std.specs.Prelude.{◌<◌, ◌^◌, length, IfOk, AllPairs};
+ghost use Rattle.std.specs.Prelude.{◌≡◌, ◌<◌, ◌^◌, length, IfOk, AllPairs};
 ghost use Rattle.history_model.specs.Histories.{History};
 ghost use Rattle.object_versions.specs.Found.{HasFound, IsPastOf};
 ghost use Rattle.object_versions.specs.Written.{IsSnapshot};
@@ -43,7 +43,8 @@ pub fn past_of<B: Bodies>(
     requires few { length events.now < 2 ^ 32 }
     requires lines { AllPairs (λ a b. a.line < b.line) events.now }
     requires snapshot { IsSnapshot start snapshot.now }
-    ensures { IfOk result (λ past. (h : History) → HasFound start snapshot.now events.now (B.body bodies.now) past h → IsPastOf events.now past h) }
+    ensures start { IfOk result (λ past. past.windows.start ≡ start) }
+    ensures past { IfOk result (λ past. (h : History) → HasFound start snapshot.now events.now (B.body bodies.now) past h → IsPastOf events.now past h) }
 {
     let order = order_of(alloc, events)?;
     let groups = groups_of(alloc, start, events, &order)?;

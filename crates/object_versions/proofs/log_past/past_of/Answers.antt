@@ -20,8 +20,8 @@ write_versions-requires-clause-rising g c = subst (AllPairs (λ (a b : Group). a
 pub removals_of-requires-clause-rising : goal.removals_of-requires-clause-rising
 removals_of-requires-clause-rising g c = subst (AllPairs (λ (a b : Version). a.revision < b.revision)) (sym c.as_slice-4.ensures) c.in_ok-written.ensures.rising
 
-pub returns : goal.returns
-returns g c = λ h found.
+pub returns-clause-past : goal.returns-clause-past
+returns-clause-past g c = λ h found.
     let events = c.args.events.now in
     let versions = c.in_ok-written.written.versions in
     let is_order : IsOrder h = c.in_ok-order.ensures h found.all found.order in

@@ -1,0 +1,45 @@
+ghost use Rattle.std.specs.Prelude.{◌<◌, length, All, IfOk};
+ghost use Rattle.base_types.specs.Choices.{IsChoice};
+ghost use Rattle.event_claims.specs.Lines.{IsLined};
+ghost use Rattle.history_model.specs.Events.{Event};
+ghost use Rattle.history_model.specs.Exact.{IsExactClaim};
+ghost use Rattle.history_model.specs.Histories.{IsEvent, ranges};
+ghost use Rattle.local_bounds.specs.Asked.{AreDeciding};
+ghost use Rattle.version_store.specs.Histories.{history_of};
+
+use crate::judge::{Judge, view_of};
+use base_types::{Claim, OutOfMemory, PlacedLine};
+use event_claims::{claim_of, placed_line};
+use std::alloc::Global;
+use version_store::Context;
+
+/// What the event of this number asks of the choice of one place for each removal: under a choice it is right exactly
+/// where it doesn't fail under every choice and the choice meets its bounds. There is a bound for each removal whose
+/// place decides, and no other; none is given where no choice makes the answer right.
+pub fn claim(alloc: Global, context: &Context, event: u32) -> Result<Claim, OutOfMemory>
+    requires { event < length context.now.log }
+    ensures exact { IfOk result (λ claim. (e : Event) → IsEvent (history_of context.now) event e → IsExactClaim (history_of context.now) event e claim) }
+    ensures deciding { IfOk result (λ claim. AreDeciding (history_of context.now) claim.bounds) }
+    ensures ranges { IfOk result (λ claim. All (λ bound. bound.range < length (ranges (history_of context.now))) claim.bounds) }
+{
+    let judge = Judge { context };
+    let view = view_of(&judge);
+    claim_of(alloc, &view, event, context.fault(event))
+}
+
+/// The line of the event of this number in the placement of a choice of one place for each removal: its least place, and
+/// the least four places of its decision; None where the event isn't right under the choice.
+pub fn place(
+    alloc: Global,
+    context: &Context,
+    event: u32,
+    choice: &[u64],
+) -> Result<Option<PlacedLine>, OutOfMemory>
+    requires { event < length context.now.log }
+    ensures { IfOk result (λ found. (e : Event) → IsEvent (history_of context.now) event e → IsChoice (ranges (history_of context.now)) choice.now
+        → IsLined (history_of context.now) choice.now event e found) }
+{
+    let judge = Judge { context };
+    let view = view_of(&judge);
+    placed_line(alloc, &view, event, context.fault(event), choice)
+}

@@ -1,0 +1,51 @@
+ghost use Rattle.std.specs.Prelude.{◌≡◌};
+ghost use Rattle.claims.specs.Judging.{gives, selects};
+ghost use Rattle.event_claims.specs.Views.{IsViewOf};
+ghost use Rattle.version_store.specs.Histories.{history_of};
+
+use base_types::{OutOfMemory, Places};
+use event_claims::{Decisions, View};
+use local_bounds::Listable;
+use node_pool::NodeId;
+use version_store::Context;
+
+/// A context as the judge of the selectors of lists, and of decisions.
+#[derive(Clone, Copy)]
+pub struct Judge<'a> {
+    pub context: &'a Context,
+}
+
+impl<'a> Listable for Judge<'a> {
+    ghost listable = { selects };
+
+    fn is_listable(&self, event: u32, node: NodeId) -> Result<bool, OutOfMemory> {
+        self.context.is_listable(event, node)
+    }
+}
+
+impl<'a> Decisions for Judge<'a> {
+    ghost decides = { gives };
+
+    fn find(&self, event: u32, low: u64, high: u64) -> Option<Places> {
+        self.context.find_decision(event, low, high)
+    }
+}
+
+/// The log of the judge's context, and what it tells.
+pub fn view_of<'a>(judge: &'a Judge<'a>) -> View<'a, Judge<'a>, Judge<'a>>
+    ensures view { IsViewOf selects gives result (history_of judge.now.context.now) }
+    ensures log { result.log.now ≡ judge.now.context.now.log }
+{
+    let context = judge.context;
+    let setup = context.setup();
+    View {
+        start: setup.start,
+        lag: setup.lag,
+        log: context.log(),
+        windows: context.windows(),
+        clouds: context.clouds(),
+        past: context.past(),
+        lists: judge,
+        decisions: judge,
+    }
+}

@@ -1,0 +1,13 @@
+pub mod Wording
+pub mod Clouding
+pub mod Judging
+pub mod Options
+pub mod Logging
+pub mod Removing
+pub mod Faulting
+pub mod Deciding
+pub mod Answering
+pub mod Failing
+pub mod Lining
+pub mod Sameness
+pub mod Promising

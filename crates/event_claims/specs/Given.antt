@@ -1,0 +1,22 @@
+-- The least four places at which a decision could be given.
+use Rattle.std.specs.Prelude.{◌≡◌, ◌≤◌, ℕ, Bool, true}
+use Rattle.base_types.specs.declared.placed.Places.{Places}
+use Rattle.history_model.specs.Decisions.{IsUpTo}
+
+abbrev pub IsWithin : (low high place : ℕ) → Type 0
+IsWithin low high place = (low ≤ place) × (place ≤ high)
+
+-- the decision could be given by caches that stand at these places from low to high
+pub record IsGivenAt (decides : Places → Bool) (low high : ℕ) (places : Places) : Type 0 where
+  pub of_roles : IsWithin low high places.roles
+  pub of_cluster_roles : IsWithin low high places.cluster_roles
+  pub of_bindings : IsWithin low high places.bindings
+  pub of_cluster_bindings : IsWithin low high places.cluster_bindings
+  pub right : decides places ≡ true
+
+pub record AreLeastWithin (decides : Places → Bool) (low high : ℕ) (places : Places) : Type 0 where
+  pub given : IsGivenAt decides low high places
+  pub least : (other : Places) → IsGivenAt decides low high other → IsUpTo places other
+
+abbrev pub AreNoneWithin : (Places → Bool) → (low high : ℕ) → Type 0
+AreNoneWithin decides low high = (places : Places) → IsGivenAt decides low high places → ⊥

@@ -1,0 +1,10 @@
+pub mod Known
+pub mod Asked
+pub mod Standings
+pub mod Sights
+pub mod Coming
+pub mod Subjects
+pub mod Demands
+pub mod Keys
+pub mod Lacked
+pub mod Places

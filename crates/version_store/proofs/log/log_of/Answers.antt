@@ -1,0 +1,67 @@
+use Rattle.std.proofs.Common.{◌≡◌, ◌∙◌, ◌<◌, ◌++◌, [], Err, ap, length, subst, sym}
+use Rattle.json_tree.specs.Meaning.{Meaning}
+use Rattle.node_pool.proofs.Fronts.{Begins-trans}
+use Rattle.version_store.specs.Log.{IsLogOf}
+use Rattle.version_store.specs.LogSelectors.{AreSelectorsOf}
+use Rattle.version_store.specs.Logged.{AreLoggedEvents, AreLoggedCheckpoints, AreLogged}
+use Rattle.version_store.specs.LogTrees.{object_trees, event_trees, checkpoint_trees, stored_trees, with_trees}
+use Rattle.version_store.specs.Shown.{AreItemsOf}
+use Rattle.version_store.specs.declared.log.fault.BuildFault.TheVariants.{PoolFull}
+use Rattle.version_store.proofs.LineLemmas.{lines_rise}
+use Rattle.version_store.proofs.LoggedLemmas.{logged_stay}
+use Rattle.version_store.proofs.PoolLemmas.{IsGrown, grown_none, grown_full, grown_begins, passed_on}
+use Rattle.version_store.proofs.ReadingLemmas.{are_not_older}
+use Rattle.version_store.proofs.ShownLemmas.{items_stay}
+use Rattle.version_store.proofs.log.log_of.Goals as goal
+
+pub returns-in_err-snapshot-clause-full : goal.returns-in_err-snapshot-clause-full
+returns-in_err-snapshot-clause-full c = λ refused.
+    let pool = c.args.pool.now in
+    let setup = c.args.setup.now in
+    let objects : c.as_slice.result.now ≡ setup.snapshot = c.as_slice.ensures in
+    let is : c.items_of.result ≡ Err PoolFull = c.in_err-snapshot.was ∙ ap Err (passed_on c.from_residual.result _ PoolFull c.from_residual.ensures.1 refused) in
+    let full : pool.limit < length (with_trees pool.trees (object_trees setup.snapshot)) = subst (λ l. pool.limit < length (with_trees pool.trees (object_trees l))) objects (c.items_of.ensures.full is) in
+    subst (λ ts. pool.limit < length (with_trees ts (stored_trees setup c.args.events.now))) c.requires.anew
+    (grown_full pool pool [] (object_trees setup.snapshot) (event_trees setup c.args.events.now ++ checkpoint_trees setup.checkpoints) (grown_none pool) full)
+
+pub returns-in_err-events-clause-full : goal.returns-in_err-events-clause-full
+returns-in_err-events-clause-full c = λ refused.
+    let pool = c.args.pool.now in
+    let setup = c.args.setup.now in
+    let now = c.items_of.new.pool in
+    let objects : c.as_slice.result.now ≡ setup.snapshot = c.as_slice.ensures in
+    let events : c.as_slice-2.result.now ≡ c.args.events.now = c.as_slice-2.ensures in
+    let e = c.in_ok-snapshot.ensures in
+    let is : c.events_of.result ≡ Err PoolFull = c.in_err-events.was ∙ ap Err (passed_on c.from_residual-in_err-events.result _ PoolFull c.from_residual-in_err-events.ensures.1 refused) in
+    let grown : IsGrown pool now (object_trees setup.snapshot) = record { holds = e.added ∙ ap (λ l. with_trees pool.trees (object_trees l)) objects; limit = e.limit } in
+    let full : now.limit < length (with_trees now.trees (event_trees setup c.args.events.now)) = subst (λ l. now.limit < length (with_trees now.trees (event_trees setup l))) events (c.events_of.ensures.full is) in
+    subst (λ ts. pool.limit < length (with_trees ts (stored_trees setup c.args.events.now))) c.requires.anew
+    (grown_full pool now (object_trees setup.snapshot) (event_trees setup c.args.events.now) (checkpoint_trees setup.checkpoints) grown full)
+
+pub returns-clause-log : goal.returns-clause-log
+returns-clause-log c =
+    let setup = c.args.setup.now in
+    let first = c.items_of.new.pool in
+    let second = c.events_of.new.pool in
+    let last = c.checkpoints_of.new.pool in
+    let of_events : IsGrown first second (event_trees setup c.as_slice-2.result.now) = record { holds = c.in_ok-events.ensures.added; limit = c.in_ok-events.ensures.limit } in
+    let of_checkpoints : IsGrown second last (checkpoint_trees c.as_slice-3.result.now) = record { holds = c.in_ok-checkpoints.ensures.added; limit = c.in_ok-checkpoints.ensures.limit } in
+    let begins = grown_begins second last (checkpoint_trees c.as_slice-3.result.now) of_checkpoints in
+    let begins_first = Begins-trans first.trees second.trees last.trees (grown_begins first second (event_trees setup c.as_slice-2.result.now) of_events) begins in
+    let logged : AreLogged setup last.trees c.args.events.now c.in_ok-joined.field-0 = record {
+      of_log = c.in_ok-events.field-0.events;
+      of_setup = c.in_ok-checkpoints.checkpoints;
+      joined = c.in_ok-joined.ensures;
+      in_log = logged_stay setup second.trees last.trees begins c.args.events.now c.in_ok-events.field-0.events (subst (λ l. AreLoggedEvents setup second.trees l c.in_ok-events.field-0.events) c.as_slice-2.ensures c.in_ok-events.ensures.logged);
+      behind = subst (λ l. AreLoggedCheckpoints last.trees l c.in_ok-checkpoints.checkpoints) c.as_slice-3.ensures c.in_ok-checkpoints.ensures.logged;
+    } in
+    record {
+      snapshot = items_stay first.trees last.trees begins_first setup.snapshot c.snapshot.inside.items.items
+          (subst (AreItemsOf first.trees setup.snapshot) (sym c.snapshot.view_is) (subst (λ l. AreItemsOf first.trees l c.in_ok-snapshot.snapshot) c.as_slice.ensures c.in_ok-snapshot.ensures.items));
+      logged = logged;
+      selectors = subst (λ l. AreSelectorsOf setup l c.in_ok-events.field-0.selectors) c.as_slice-2.ensures c.in_ok-events.ensures.selectors;
+      checkpoints = are_not_older setup last.trees c.args.events.now c.in_ok-joined.field-0 c.requires.setup logged;
+    }
+
+pub returns-clause-lines : goal.returns-clause-lines
+returns-clause-lines c = λ lines. lines_rise c.args.setup.now c.checkpoints_of.new.pool.trees c.args.events.now c.in_ok-joined.field-0 (returns-clause-log c).logged lines

@@ -1,0 +1,72 @@
+ghost use Rattle.std.specs.Prelude.{◌≡◌, ◌<◌, ℕ, Bool, Option, IfOk, option_map, option_and_then, length, slice_get};
+ghost use Rattle.version_store.specs.Histories.{body_test, made_node, made_tree};
+
+use audit_event::Event;
+use base_types::OutOfMemory;
+use json_tree::Tree;
+use node_pool::{NodeId, Pool};
+use object_versions::Bodies;
+use request_bodies::is_body_right;
+use setup_file::Setup;
+use std::alloc::Global;
+use write_groups::{LogEvent, Shown};
+
+/// The bodies of a log's requests and answers, as its setup judges them.
+#[derive(Clone, Copy)]
+pub struct RequestBodies<'a> {
+    pub setup: &'a Setup,
+    pub events: &'a [Event],
+    pub log: &'a [LogEvent],
+    pub pool: &'a Pool,
+}
+
+// The tree that a write was answered with, by its number.
+fn made_node(event: &LogEvent) -> Option<NodeId>
+    ensures { option_map (λ node. node.0) result ≡ made_node event.now.answer }
+{
+    match &event.answer {
+        Shown::Made { item, .. } => Some(item.node),
+        _ => None,
+    }
+}
+
+fn tree_at(pool: &Pool, node: Option<NodeId>) -> Result<Option<Tree>, OutOfMemory>
+    ensures { IfOk result (λ tree. tree ≡ option_and_then (slice_get pool.now.trees) (option_map (λ node. node.0) node)) }
+{
+    let Some(node) = node else {
+        return Ok(None);
+    };
+    if node.0 >= pool.len() {
+        return Ok(None);
+    }
+    Ok(Some(pool.tree(node)?))
+}
+
+fn made_tree(pool: &Pool, log: &[LogEvent], number: u32) -> Result<Option<Tree>, OutOfMemory>
+    ensures { IfOk result (λ tree. tree ≡ made_tree log.now pool.now.trees number) }
+{
+    match log.get(number as usize) {
+        Some(event) => tree_at(pool, made_node(event)),
+        None => Ok(None),
+    }
+}
+
+impl<'a> Bodies for RequestBodies<'a> {
+    ghost body = { λ b. body_test b.setup.now b.events.now b.log.now b.pool.now.trees };
+
+    fn is_right(
+        &self,
+        alloc: Global,
+        event: u32,
+        before: Option<NodeId>,
+    ) -> Result<bool, OutOfMemory> {
+        let Some(recorded) = self.events.get(event as usize) else {
+            return Ok(true);
+        };
+        let Some(answered) = made_tree(self.pool, self.log, event)? else {
+            return Ok(true);
+        };
+        let before = tree_at(self.pool, before)?;
+        is_body_right(alloc, self.setup, recorded, &answered, before.as_ref())
+    }
+}

@@ -1,0 +1,25 @@
+//! What is found of a cluster's setup and its log: the events in the terms of the model of history, with each tree of
+//! an object kept once.
+#![tactic(auto)]
+
+mod bodies;
+mod build;
+mod context;
+mod deciding;
+mod faults;
+mod keys;
+mod listing;
+mod log;
+mod making;
+mod readers;
+mod roles;
+
+pub use bodies::RequestBodies;
+pub use context::{Context, Shared};
+pub use faults::{Makings, faults_of, makings_of};
+pub use keys::keys_of;
+pub use log::{BuildFault, Log, Selectors, is_listable, log_of};
+pub use roles::{role_ends, roles_of};
+
+#[cfg(test)]
+mod tests;

@@ -1,0 +1,79 @@
+ghost use Rattle.std.specs.Prelude.{◌≡◌, ◌+◌, ◌<◌, ◌≤◌, ◌^◌, ◌++◌, [], Err, length, All, IfOk, OnOk};
+ghost use Rattle.audit_event.specs.Events.{IsSound as IsSoundEvent};
+ghost use Rattle.setup_file.specs.Sound.{IsSound};
+ghost use Rattle.version_store.specs.Log.{IsLogOf, AreLines, RiseByLine};
+ghost use Rattle.version_store.specs.LogTrees.{pooled};
+
+mod checkpoint;
+mod event;
+mod fault;
+mod judged;
+mod level;
+mod reading;
+mod selecting;
+mod shown;
+
+use audit_event::Events;
+use base_types::OutOfMemory;
+use checkpoint::checkpoints_of;
+use event::{LoggedEvents, events_of};
+pub use fault::BuildFault;
+pub(crate) use judged::judged_user;
+use node_pool::Pool;
+pub use selecting::{Selectors, is_listable};
+use setup_file::Setup;
+use shown::items_of;
+use std::alloc::Global;
+use write_groups::{Items, LogEvents};
+
+/// A log as the model of history sees it, beside its setup.
+#[derive(Drop)]
+pub struct Log {
+    /// The objects that were there at the start.
+    pub snapshot: Items,
+    /// The events by line, and the checkpoints behind them.
+    pub events: LogEvents,
+    pub selectors: Selectors,
+}
+
+// The events of the log, and the checkpoints behind them.
+fn joined(events: LogEvents, checkpoints: LogEvents) -> Result<LogEvents, OutOfMemory>
+    ensures { IfOk result (λ all. all ≡ events ++ checkpoints) }
+{
+    let mut all = events.into_vec();
+    all.append(&mut checkpoints.into_vec())?;
+    Ok(LogEvents::from_vec(all))
+}
+
+/// Puts a setup and its log into the terms of the model of history. The pool gets the trees of the snapshot, then those
+/// that the events' answers show, and then those of the checkpoints.
+pub fn log_of(
+    alloc: Global,
+    pool: &mut Pool,
+    setup: &Setup,
+    events: &Events,
+) -> Result<Log, BuildFault>
+    requires setup { IsSound setup.now }
+    requires events { All IsSoundEvent events.now }
+    requires few { length events.now + length setup.now.checkpoints < 2 ^ 32 }
+    requires anew { pool.old.trees ≡ [] }
+    ensures log { IfOk result (IsLogOf setup.now events.now pool.new.trees) }
+    ensures lines { AreLines events.now → IfOk result (λ log. RiseByLine log.events) }
+    ensures pooled { OnOk result (pool.new.trees ≡ pooled setup.now events.now) }
+    ensures fits { OnOk result (length (pooled setup.now events.now) ≤ pool.old.limit) }
+    ensures full { result ≡ Err BuildFault.PoolFull → pool.old.limit < length (pooled setup.now events.now) }
+    ensures limit { pool.new.limit ≡ pool.old.limit }
+{
+    let snapshot = items_of(alloc, pool, setup.snapshot.as_slice())?;
+    let LoggedEvents { events, selectors } = events_of(alloc, pool, setup, events.as_slice())?;
+    let checkpoints = checkpoints_of(alloc, pool, setup.checkpoints.as_slice())?;
+    let _len = pool.len();
+    Ok(Log {
+        snapshot,
+        events: joined(events, checkpoints)?,
+        selectors,
+    })
+}
+
+#[cfg(test)]
+mod tests;

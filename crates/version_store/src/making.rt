@@ -1,0 +1,74 @@
+ghost use Rattle.std.specs.Prelude.{◌≡◌, ◌<◌, ◌↔◌, IfOk, IsTrue, Any, length, option_map};
+ghost use Rattle.history_model.specs.Groups as model;
+ghost use Rattle.history_model.specs.Groups.{IsMaking};
+ghost use Rattle.history_model.specs.Making.{IsLeastFault};
+ghost use Rattle.object_past.specs.Modelled.{version_of};
+ghost use Rattle.object_versions.specs.Modelled.{making_of};
+ghost use Rattle.object_versions.specs.Written.{making_at};
+ghost use Rattle.version_store.specs.Histories.{history_of};
+
+use crate::bodies::RequestBodies;
+use crate::context::Context;
+use base_types::{OutOfMemory, Reason, Revision, Text};
+use object_past::Version;
+use object_versions::{Making, making_fault};
+use std::alloc::Global;
+use write_groups::{LogEvent, Shown};
+
+// The write of this number.
+fn making_at(log: &[LogEvent], number: u32) -> Option<Making<'_>>
+    ensures { option_map making_of result ≡ making_at log.now number }
+{
+    let event = log.get(number as usize)?;
+    match &event.answer {
+        Shown::Made { item, created } => Some(Making {
+            number,
+            event,
+            item,
+            created: *created,
+        }),
+        _ => None,
+    }
+}
+
+// Whether a version below the revision has the uid.
+fn is_used(versions: &[Version], revision: Revision, uid: &Text) -> bool
+    ensures { IsTrue result ↔ Any (λ v. (v.revision < revision) × (v.uid ≡ uid.now)) versions.now }
+{
+    versions.iter().any(|version| version.revision.get() < revision.get() && version.uid == *uid)
+}
+
+impl Context {
+    /// The least code by which a write could not have made its revision, where `before` was the object before it; None
+    /// where it could, and for an event that is no write.
+    pub fn making_fault(
+        &self,
+        alloc: Global,
+        event: u32,
+        before: Option<&Version>,
+    ) -> Result<Option<Reason>, OutOfMemory>
+        ensures { IfOk result (λ fault. (m : model.Making) → IsMaking (history_of self.now) m → m.number ≡ event
+            → IsLeastFault (history_of self.now) m (option_map (λ v. version_of v.now) before.entry) fault) }
+    {
+        let log = self.log.events.as_slice();
+        let Some(making) = making_at(log, event) else {
+            return Ok(None);
+        };
+        let bodies = RequestBodies {
+            setup: &self.setup,
+            events: self.events.as_slice(),
+            log,
+            pool: &self.pool,
+        };
+        let is_used = is_used(self.past.versions(), making.item.revision, &making.item.uid);
+        making_fault(
+            alloc,
+            &self.windows,
+            &self.clouds,
+            &bodies,
+            making,
+            is_used,
+            before,
+        )
+    }
+}
