@@ -18,13 +18,13 @@ returns-in-Some c =
     let event = c.in-Some.recorded.now in
     let places = c.args.places.now in
     let at : Some (event, c.in-Some.decision) ≡ judged_in inside.events inside.log.events c.args.event =
-        sym (ap (λ r. option_map (λ j. (j.0.now, j.1)) r) c.in-Some.is) ∙ c.judged_in.ensures
-        ∙ ap (λ (es : List Event). judged_in es c.as_slice-2.result.now c.args.event) c.as_slice.ensures
-        ∙ ap (λ (log : List LogEvent). judged_in inside.events log c.args.event) c.as_slice-2.ensures in
+    sym (ap (λ r. option_map (λ j. (j.0.now, j.1)) r) c.in-Some.is) ∙ c.judged_in.ensures
+    ∙ ap (λ (es : List Event). judged_in es c.as_slice-2.result.now c.args.event) c.as_slice.ensures
+    ∙ ap (λ (log : List LogEvent). judged_in inside.events log c.args.event) c.as_slice-2.ensures in
     let allow : (c.decide-possible.result.allow ≡ true) ↔ IsPossible inside.timeline places (judged_user event) event.attrs Allow =
-        subst (λ (who : User). (c.decide-possible.result.allow ≡ true) ↔ IsPossible inside.timeline places who event.attrs Allow) c.judged_user.ensures c.decide-possible.ensures.allow in
+    subst (λ (who : User). (c.decide-possible.result.allow ≡ true) ↔ IsPossible inside.timeline places who event.attrs Allow) c.judged_user.ensures c.decide-possible.ensures.allow in
     let forbid : (c.decide-possible.result.forbid ≡ true) ↔ IsPossible inside.timeline places (judged_user event) event.attrs Forbid =
-        subst (λ (who : User). (c.decide-possible.result.forbid ≡ true) ↔ IsPossible inside.timeline places who event.attrs Forbid) c.judged_user.ensures c.decide-possible.ensures.forbid in
+    subst (λ (who : User). (c.decide-possible.result.forbid ≡ true) ↔ IsPossible inside.timeline places who event.attrs Forbid) c.judged_user.ensures c.decide-possible.ensures.forbid in
     subst (λ (k : Known). c.says.result ≡ decides_test k.events k.log k.rbac c.args.event places) c.self.view_is
     (c.says.ensures ∙ says_possible inside.timeline places (judged_user event) event.attrs c.decide-possible.result c.self.invariant.sound_roles allow forbid c.in-Some.decision
-        ∙ sym (judged_decides inside.events inside.log.events inside.timeline c.args.event event c.in-Some.decision at places))
+    ∙ sym (judged_decides inside.events inside.log.events inside.timeline c.args.event event c.in-Some.decision at places))

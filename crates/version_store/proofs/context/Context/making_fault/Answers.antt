@@ -24,15 +24,15 @@ returns c =
     let times : HasTimes inside.windows h = subst (λ (k : Known). HasTimes inside.windows (history_of k)) c.self.view_is (record { start = sym c.self.invariant.start; spans = refl }) in
     let clouds : AreCloudsOf inside.clouds h = subst (λ (k : Known). AreCloudsOf inside.clouds (history_of k)) c.self.view_is c.self.invariant.clouds_of in
     let bodies : h.body ≡ body_test inside.setup c.as_slice.result.now log inside.pool.trees =
-        sym (ap (λ (k : Known). (history_of k).body) c.self.view_is)
-        ∙ ap (λ (es : List Event). body_test inside.setup es inside.log.events inside.pool.trees) (sym c.as_slice.ensures)
-        ∙ ap (λ (l : List LogEvent). body_test inside.setup c.as_slice.result.now l inside.pool.trees) (sym c.as_slice-log.ensures) in
+    sym (ap (λ (k : Known). (history_of k).body) c.self.view_is)
+    ∙ ap (λ (es : List Event). body_test inside.setup es inside.log.events inside.pool.trees) (sym c.as_slice.ensures)
+    ∙ ap (λ (l : List LogEvent). body_test inside.setup c.as_slice.result.now l inside.pool.trees) (sym c.as_slice-log.ensures) in
     let versions : h.versions ≡ map version_of c.versions.result.now =
-        ap (λ (vs : List Version). map version_of vs) (sym (ap (λ (k : Known). k.versions) c.self.view_is) ∙ sym c.versions.ensures.versions) in
+    ap (λ (vs : List Version). map version_of vs) (sym (ap (λ (k : Known). k.versions) c.self.view_is) ∙ sym c.versions.ensures.versions) in
     let all : HasEvents log h = ap (λ (l : List LogEvent). map event_of l) (sym (ap (λ (k : Known). k.log) c.self.view_is) ∙ sym c.as_slice-log.ensures) in
     let used = used_same h c.versions.result.now versions making in
     let at : Some making ≡ making_at log c.args.event = sym (ap (λ r. option_map making_of r) c.in-Some.is) ∙ c.making_at.ensures in
     IfOk-weaker c.making_fault.result _ _
     (λ fault holds m is same. subst (λ (x : model.Making). IsLeastFault h x (option_map (λ v. version_of v.now) c.args.before) fault) (making_same h log all c.args.event m making is same at)
-        (holds h times (record { clouds = clouds; bodies = bodies }) (λ yes. used.0 (c.is_used-is_used.ensures.0 yes), λ uses. c.is_used-is_used.ensures.1 (used.1 uses))))
+    (holds h times (record { clouds = clouds; bodies = bodies }) (λ yes. used.0 (c.is_used-is_used.ensures.0 yes), λ uses. c.is_used-is_used.ensures.1 (used.1 uses))))
     c.making_fault.ensures
