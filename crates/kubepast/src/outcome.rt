@@ -1,0 +1,55 @@
+ghost use Rattle.std.specs.Prelude.{◌≡◌, ◌<◌, IfOk, length};
+ghost use Rattle.base_types.specs.Choices.{IsChoice};
+ghost use Rattle.history_model.specs.Histories.{ranges};
+ghost use Rattle.history_model.specs.Placed.{ArePlacedLines};
+ghost use Rattle.kubepast.specs.Findings.{ExplainsEach};
+ghost use Rattle.kubepast.specs.Judging.{IsOutcomeOf};
+ghost use Rattle.version_store.specs.Histories.{history_of};
+
+use crate::finding::unexplained;
+use crate::source::ContextClaims;
+use base_types::{OutOfMemory, Outcome, Placement};
+use claims::place;
+use judge_pool::{Gate, claims_all};
+use placement::{Settled, settle};
+use std::alloc::Global;
+use std::marker::Sync;
+use std::thread::Threads;
+use version_store::Context;
+
+/// What the events of a context come to. Several threads take their claims; each event enters the gate before its
+/// claim is taken.
+pub fn outcome_of<R: Threads + Sync, G: Gate>(
+    rt: &R,
+    alloc: Global,
+    context: &Context,
+    gate: &G,
+) -> Result<Outcome, OutOfMemory>
+    ensures { IfOk result (λ outcome. IsOutcomeOf context.now outcome) }
+{
+    let claims = claims_all(rt, alloc, &ContextClaims { context }, gate)?;
+    let settled = settle(alloc, context.ranges(), context.order(), claims.as_slice())?;
+    match settled {
+        Settled::Fits(choice) => Ok(Outcome::Explained(placed(
+            alloc,
+            context,
+            choice.as_slice(),
+        )?)),
+        Settled::Breaks { event, reason } => unexplained(alloc, context, event, reason),
+    }
+}
+
+// The lines of all events under a choice that explains them.
+fn placed(alloc: Global, context: &Context, choice: &[u64]) -> Result<Placement, OutOfMemory>
+    requires { ExplainsEach context.now choice.now }
+    ensures { IfOk result (λ lines. ArePlacedLines (history_of context.now) choice.now lines) }
+{
+    let mut lines = Placement::new(alloc);
+    for event in 0..context.count() {
+        // The choice explains each event.
+        if let Some(line) = place(alloc, context, event, choice)? {
+            lines.push(line)?;
+        }
+    }
+    Ok(lines)
+}
