@@ -7,6 +7,3 @@ mod judge;
 
 pub use claiming::{claim, place};
 pub use event_claims::{local_bounds_law, one_claim_law};
-
-#[cfg(test)]
-mod tests;

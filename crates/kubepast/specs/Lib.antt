@@ -1,8 +1,11 @@
 pub mod Command
 pub mod Endings
-pub mod Findings
-pub mod Judging
+pub mod FirstForm
+pub mod Judgement
+pub mod Log
+pub mod Setup
+pub mod Windows
 pub mod OneAnswer
 pub mod Program
-pub mod Refusals
-pub mod Summary
+pub mod Reading
+pub mod Statuses

@@ -1,23 +1,22 @@
 //! kubepast judges whether a Kubernetes audit log can be true.
 #![tactic(auto)]
 
+mod build;
 mod ending;
-mod finding;
-mod judged;
+mod event;
+mod form;
 mod judging;
 mod law;
-mod made;
-mod outcome;
-mod report;
+mod log;
 mod run;
-mod source;
+mod setup;
 mod stop;
-mod summary;
+#[cfg(test)]
+mod tests;
+mod windows;
 mod words;
-mod writes;
 
 use edge_io::{FileDesk, StdSink};
-use judge_pool::FreeGate;
 use run::run;
 use std::alloc::Global;
 use std::env;
@@ -46,14 +45,5 @@ fn main(rt: HostRuntime) -> ExitCode {
         return ExitCode::from(NO_MEMORY);
     };
     let mut sink = StdSink::new(&rt);
-    let status = run(
-        &rt,
-        rt.alloc(),
-        &words,
-        &mut desk,
-        &mut sink,
-        &FreeGate,
-        &FreeGate,
-    );
-    ExitCode::from(status)
+    ExitCode::from(run(&rt, rt.alloc(), &words, &mut desk, &mut sink))
 }

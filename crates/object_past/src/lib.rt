@@ -15,6 +15,3 @@ pub use incarnation::Incarnation;
 pub use past::Past;
 pub use removal::{Removal, Removals};
 pub use version::{Maker, Version, Versions};
-
-#[cfg(test)]
-mod tests;

@@ -8,4 +8,3 @@ mod words;
 
 pub use outcome::print_outcome;
 pub use reading::{PlacementFault, read_placement};
-pub use words::read_number;

@@ -16,4 +16,3 @@ pub mod Membered
 pub mod Readings
 pub mod Roles
 pub mod Shown
-pub mod Told

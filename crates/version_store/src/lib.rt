@@ -20,6 +20,3 @@ pub use faults::{Makings, faults_of, makings_of};
 pub use keys::keys_of;
 pub use log::{BuildFault, Log, Selectors, is_listable, log_of};
 pub use roles::{role_ends, roles_of};
-
-#[cfg(test)]
-mod tests;
