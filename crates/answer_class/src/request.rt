@@ -62,6 +62,7 @@ pub fn is_read(verb: Verb) -> bool
     matches!(verb, Verb::Get | Verb::Listing)
 }
 
+/// Whether an event of this stage ends its request.
 pub fn is_completing(stage: Stage) -> bool
     ensures { result ≡ is_completing stage }
 {

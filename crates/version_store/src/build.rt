@@ -188,8 +188,8 @@ fn joined(setup: Setup, events: Events, pool: Pool, log: Log, found: Found) -> C
 }
 
 impl Context {
-    /// What a setup and the events of a log say together. The events rise by line, and no two are of one stage of one
-    /// request. The objects may have 50,000,000 distinct values, lists and members among them.
+    /// What a setup and the events of a log say together. The objects may have 50,000,000 distinct values, lists and
+    /// members among them.
     pub fn build(alloc: Global, setup: Setup, events: Events) -> Result<Context, BuildFault>
         requires setup { IsSound setup }
         requires events { All IsSoundEvent events }

@@ -1,11 +1,11 @@
 ghost use Rattle.std.specs.Prelude.{◌≡◌, ◌≤◌, ◌^◌, ◌-ℤ◌, pos, int_lt};
 ghost use Rattle.audit_event.specs.Events.{IsSound};
-ghost use Rattle.answer_class.specs.Requests.{is_completing};
-ghost use Rattle.answer_class.specs.Times.{lo, hi, is_late};
+ghost use Rattle.answer_class.specs.Times.{lo, hi};
 ghost use Rattle.version_store.specs.Judged.{judged_user, is_skipped, is_behind, is_judged, judged_decision};
 
+use answer_class::{is_completing, is_late};
 use audit_event::Event;
-use base_types::{Decision, Moment, Stage, User, has_text};
+use base_types::{Decision, Moment, User, has_text};
 use setup_file::Setup;
 
 /// The earliest moment at which an event's request may have begun.
@@ -43,12 +43,6 @@ fn is_skipped(setup: &Setup, user: &User) -> bool
     user.groups.iter().any(|group| has_text(&setup.skip, group))
 }
 
-fn is_completing(stage: Stage) -> bool
-    ensures { result ≡ is_completing stage }
-{
-    matches!(stage, Stage::Complete | Stage::Panic)
-}
-
 // Whether the moment that is `lag` earlier lies before the start.
 fn is_before(start: i128, lag: u64, at: i128) -> bool
     ensures { result ≡ int_lt (at -ℤ pos lag) start }
@@ -64,17 +58,6 @@ fn is_behind(setup: &Setup, at: Moment) -> bool
     ensures { result ≡ is_behind setup.now at.0 }
 {
     is_before(setup.start_time.0, setup.lag, at.0)
-}
-
-fn is_late(setup: &Setup, event: &Event) -> bool
-    requires slack { setup.now.slack ≤ 10 ^ 18 }
-    requires sound { IsSound event.now }
-    ensures { result ≡ is_late setup.now event.now }
-{
-    match setup.until {
-        Some(until) => until.0 < hi_of(setup, event).0,
-        None => false,
-    }
 }
 
 fn is_judged(setup: &Setup, event: &Event) -> bool

@@ -1,8 +1,7 @@
 ghost use Rattle.std.specs.Prelude.{◌≡◌, option_map};
-ghost use Rattle.answer_class.specs.Requests.{first_value};
 ghost use Rattle.version_store.specs.Readings.{is_list, is_read, is_text, takes_any, wants_exactly, reading_at, reading_from, reading_of};
 
-use answer_class::has_filled;
+use answer_class::{first_value, has_filled};
 use base_types::{RequestAttrs, Revision, Text};
 use setup_file::canonical;
 use write_groups::Reading;
@@ -17,14 +16,6 @@ fn is_read(attrs: &RequestAttrs) -> bool
     ensures { result ≡ is_read attrs.now }
 {
     attrs.verb.as_str() == "get" || is_list(attrs)
-}
-
-// The first value of this name in the query.
-fn first_value<'a>(attrs: &'a RequestAttrs, name: &str) -> Option<&'a Text>
-    ensures { option_map (λ text. text.now) result ≡ first_value name.now attrs.now }
-{
-    let pair = attrs.query.iter().find(|pair| pair.name.as_str() == name)?;
-    Some(&pair.value)
 }
 
 fn is_text(found: Option<&Text>, text: &str) -> bool

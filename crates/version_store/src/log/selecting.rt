@@ -1,8 +1,8 @@
-ghost use Rattle.std.specs.Prelude.{◌≡◌, codes, option_map};
+ghost use Rattle.std.specs.Prelude.{◌≡◌, option_map};
 ghost use Rattle.answer_class.specs.Labels.{is_selected};
-ghost use Rattle.answer_class.specs.Bodies.{metadata_at};
 ghost use Rattle.version_store.specs.LogSelectors.{is_taken};
 
+use answer_class::metadata_at;
 use json_tree::Tree;
 use label_select::{Selector, matches};
 use std::collections::BTreeMap;
@@ -14,15 +14,9 @@ fn is_selected(selector: Option<&Selector>, tree: &Tree) -> bool
     ensures { result ≡ is_selected (option_map (λ selector. selector.now) selector.entry) tree.now }
 {
     match selector {
-        Some(selector) => matches(selector, labels_of(tree)),
+        Some(selector) => matches(selector, metadata_at(tree, "labels")),
         None => true,
     }
-}
-
-fn labels_of(tree: &Tree) -> Option<&Tree>
-    ensures { option_map (λ tree. tree.now) result ≡ metadata_at (codes "labels") tree.now }
-{
-    tree.member("metadata")?.member("labels")
 }
 
 /// Whether the list that an event was answered with has an object of this tree: each object where the list has no
