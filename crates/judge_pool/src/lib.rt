@@ -5,4 +5,4 @@ mod gate;
 mod source;
 
 pub use gate::{FreeGate, Gate};
-pub use source::{ClaimSource, claims_all};
+pub use source::{ClaimSource, claims_all, one_list_law};

@@ -1,5 +1,6 @@
-ghost use Rattle.std.specs.Prelude.{◌≡◌, ◌<◌, List, length, Some, IfOk, slice_get};
+ghost use Rattle.std.specs.Prelude.{◌≡◌, ◌<◌, ℕ, List, IfOk};
 ghost use Rattle.base_types.specs.declared.claim.Claim.{Claim};
+ghost use Rattle.judge_pool.specs.Claims.{AreClaims};
 
 use crate::gate::Gate;
 use base_types::{Claim, Claims, OutOfMemory};
@@ -9,35 +10,40 @@ use std::marker::Sync;
 use std::thread::Threads;
 
 /// What the claims of events are taken from.
-pub trait ClaimSource: Sync {
-    ghost claims: { Self → List Claim };
+pub trait ClaimSource {
+    ghost events: { Self → ℕ };
+
+    ghost is_claim: { Self → ℕ → Claim → Type 0 };
 
     /// How many events there are.
     fn count(&self) -> u32
-        ensures { result ≡ length (claims self.now) };
+        ensures { result ≡ events self.now };
 
     /// What an event asks of the removals' places.
     fn claim(&self, alloc: Global, event: u32) -> Result<Claim, OutOfMemory>
-        requires { event < length (claims self.now) }
-        ensures { IfOk result (λ claim. slice_get (claims self.now) event ≡ Some claim) };
+        requires { event < events self.now }
+        ensures { IfOk result (is_claim self.now event) };
+
+    // An event has one claim.
+    ghost one: { (source : Self) (event : ℕ) (a b : Claim) → event < events source → is_claim source event a → is_claim source event b → a ≡ b };
 }
 
 /// The claims of all events, in order. Several threads take them; each event enters the gate before its
 /// claim is taken.
-pub fn claims_all<R: Threads + Sync, S: ClaimSource, G: Gate>(
+pub fn claims_all<R: Threads + Sync, S: ClaimSource + Sync, G: Gate>(
     rt: &R,
     alloc: Global,
     source: &S,
     gate: &G,
 ) -> Result<Claims, OutOfMemory>
-    ensures { IfOk result (λ claims. claims ≡ S.claims source.now) }
+    ensures { IfOk result (AreClaims (S.events source.now) (S.is_claim source.now)) }
 {
     let gathered: Result<Vec<Claim>, OutOfMemory> = (0..source.count())
         .into_par_iter()
         .map(
             |event: u32| -> Result<Claim, OutOfMemory>
-                requires { event < length (S.claims source.now) }
-                ensures { IfOk result (λ claim. slice_get (S.claims source.entry.now) event ≡ Some claim) }
+                requires { event < S.events source.now }
+                ensures { IfOk result (S.is_claim source.entry.now event) }
             {
                 gate.enter(event);
                 source.claim(alloc, event)
@@ -46,6 +52,11 @@ pub fn claims_all<R: Threads + Sync, S: ClaimSource, G: Gate>(
         .collect(rt, alloc)?;
     Ok(Claims::from_vec(gathered?))
 }
+
+/// The claims are those of one thread, whatever the threads and the gate do: there is one list of them.
+pub fn one_list_law<S: ClaimSource>()
+    ensures { (source : S) (a b : List Claim) → AreClaims (S.events source) (S.is_claim source) a → AreClaims (S.events source) (S.is_claim source) b → a ≡ b }
+{}
 
 #[cfg(test)]
 mod tests;

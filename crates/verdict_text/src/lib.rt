@@ -8,3 +8,4 @@ mod words;
 
 pub use outcome::print_outcome;
 pub use reading::{PlacementFault, read_placement};
+pub use words::read_number;

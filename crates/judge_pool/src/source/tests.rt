@@ -15,10 +15,15 @@ struct Plain {
 }
 
 impl ClaimSource for Plain {
-    ghost use Rattle.std.specs.Prelude.{replicate, [], None};
+    ghost use Rattle.std.specs.Prelude.{◌≡◌, [], None};
+    ghost use Rattle.std.proofs.Common.{sym, ◌∙◌};
     ghost use Rattle.base_types.specs.declared.claim.Reason.TheVariants.{U10};
 
-    ghost claims = { λ s. replicate s.count record { fails = None; bounds = []; reason = U10 } };
+    ghost events = { λ s. s.count };
+
+    ghost is_claim = { λ s event claim. claim ≡ record { fails = None; bounds = []; reason = U10 } };
+
+    ghost one = { λ source event a b below x y. x ∙ sym y };
 
     fn count(&self) -> u32 {
         self.count

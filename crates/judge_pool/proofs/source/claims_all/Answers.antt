@@ -1,26 +1,28 @@
-use Rattle.std.proofs.Common.{◌≡◌, ◌-◌, ◌<◌, ◌∙◌, ap, subst, length, arith}
+use Rattle.std.proofs.Common.{◌≡◌, ◌-◌, ◌<◌, ◌∙◌, ap, subst, sym, arith}
 use Rattle.std.specs.List.{AllZip, range_with_len}
 use Rattle.rayon.specs.Numbers.{nat_range}
 use Rattle.rayon.proofs.ToStd.{nat_range-All}
 use Rattle.base_types.specs.declared.memory.OutOfMemory.{OutOfMemory}
-use Rattle.judge_pool.proofs.Gathering.{AnswersPlace, gathered}
+use Rattle.judge_pool.specs.Claims.{AreClaims}
+use Rattle.judge_pool.proofs.Gathering.{AnswersEvent, gathered}
 use Rattle.judge_pool.proofs.source.claims_all.Goals as goal
 
 -- each number of the range is an event
 pub collect-requires-clause-ready : goal.collect-requires-clause-ready
 collect-requires-clause-ready g c κs within =
-    let claims = g.S.ClaimSource.claims c.args.source.now in
+    let count = g.S.ClaimSource.events c.args.source.now in
     let ends = c.into_par_iter.ensures in
-    let events = nat_range-All (λ event. event < length claims) 0 (length claims) (λ event _ high. high) in
+    let events = nat_range-All (λ event. event < count) 0 count (λ event _ high. high) in
     rw (c.map.ensures.base, c.map.ensures.f, ends.0, ends.1, c.count.ensures) (λ k d below. (events k d below, λ y post. tt))
 
 pub returns : goal.returns
 returns g c =
-    let claims = g.S.ClaimSource.claims c.args.source.now in
+    let count = g.S.ClaimSource.events c.args.source.now in
+    let is_claim = g.S.ClaimSource.is_claim c.args.source.now in
     let ends = c.into_par_iter.ensures in
     let chain = rw (c.map.ensures.base, c.map.ensures.f) at c.in_ok-gathered.ensures in
-    let counted : c.count.result - 0 ≡ length claims = (let whole = c.count.ensures in omega arith) in
+    let counted : c.count.result - 0 ≡ count = (let whole = c.count.ensures in omega arith) in
     let events = chain.1.1 ∙ (λ i. nat_range (ends.0 i) (ends.1 i)) ∙ ap (range_with_len 0) counted in
     let gave = rw c.in_ok-gathered-2.was at chain.2 in
-    let answers = subst (λ rs. AllZip (AnswersPlace {E = OutOfMemory} claims) (range_with_len 0 (length claims)) rs) gave.1 (subst (λ events. AllZip (AnswersPlace {E = OutOfMemory} claims) events chain.0) events chain.1.2) in
-    c.from_vec.ensures ∙ gave.2 ∙ gathered OutOfMemory claims gave.0 answers
+    let answers = subst (λ rs. AllZip (AnswersEvent {E = OutOfMemory} is_claim) (range_with_len 0 count) rs) gave.1 (subst (λ events. AllZip (AnswersEvent {E = OutOfMemory} is_claim) events chain.0) events chain.1.2) in
+    subst (λ claims. AreClaims count is_claim claims) (sym (c.from_vec.ensures ∙ gave.2)) (gathered OutOfMemory is_claim count gave.0 answers)
