@@ -17,3 +17,5 @@ pub mod Remade
 pub mod Choosing
 pub mod Membering
 pub mod Ranging
+pub mod OneHistory
+pub mod Telling

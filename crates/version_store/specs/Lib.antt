@@ -16,3 +16,4 @@ pub mod Membered
 pub mod Readings
 pub mod Roles
 pub mod Shown
+pub mod Told

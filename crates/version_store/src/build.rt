@@ -5,6 +5,7 @@ ghost use Rattle.setup_file.specs.Sound.{IsSound};
 ghost use Rattle.version_store.specs.Contexts.{IsContext};
 ghost use Rattle.version_store.specs.Log.{AreLines, IsLogOf, RiseByLine};
 ghost use Rattle.version_store.specs.LogTrees.{pooled};
+ghost use Rattle.version_store.specs.Told.{IsTold};
 
 use crate::bodies::RequestBodies;
 use crate::context::Context;
@@ -156,6 +157,7 @@ fn joined(setup: Setup, events: Events, pool: Pool, log: Log, found: Found) -> C
     }) log found.parts.windows found.parts.clouds found.faults.items found.keys.items }
     ensures setup { result.setup ≡ setup }
     ensures events { result.events ≡ events }
+    ensures told { IsTold result }
 {
     let Found {
         parts,
@@ -197,6 +199,7 @@ impl Context {
         requires few { length events + length setup.checkpoints < 2 ^ 32 }
         ensures setup { IfOk result (λ context. context.setup ≡ setup) }
         ensures events { IfOk result (λ context. context.events ≡ events) }
+        ensures told { IfOk result IsTold }
         ensures full { result ≡ Err BuildFault.PoolFull → 50000000 < length (pooled setup events) }
         ensures fits { IfOk result (λ context. length (pooled setup events) ≤ 50000000) }
     {
@@ -216,6 +219,7 @@ impl Context {
         requires few { length events + length setup.checkpoints < 2 ^ 32 }
         ensures setup { IfOk result (λ context. context.setup ≡ setup) }
         ensures events { IfOk result (λ context. context.events ≡ events) }
+        ensures told { IfOk result IsTold }
         ensures full { result ≡ Err BuildFault.PoolFull → limit < length (pooled setup events) }
         ensures fits { IfOk result (λ context. length (pooled setup events) ≤ limit) }
     {

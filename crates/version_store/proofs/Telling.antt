@@ -1,0 +1,28 @@
+-- A context holds what its setup and its events tell.
+use Rattle.std.specs.Prelude.{◌≡◌, List, Option}
+use Rattle.std.proofs.Common.{sym, subst}
+use Rattle.base_types.specs.declared.claim.Reason.{Reason}
+use Rattle.base_types.specs.declared.key.ObjectKey.{ObjectKey}
+use Rattle.clouds.specs.Writes.{Writes}
+use Rattle.time_windows.specs.History as timed
+use Rattle.write_groups.specs.declared.event.Item.{Item}
+use Rattle.write_groups.specs.declared.event.LogEvent.{LogEvent}
+use Rattle.version_store.specs.Contexts.{IsContext}
+use Rattle.version_store.specs.Known.{Known}
+use Rattle.version_store.specs.Logged.{AreLogged}
+use Rattle.version_store.specs.Shown.{AreItemsOf}
+use Rattle.version_store.specs.Told.{IsTold}
+use Rattle.version_store.specs.declared.log.Log.{Log}
+
+pub told_of : (known : Known) (log : Log) (windows : timed.History) (clouds : Writes) (faults : List (Option Reason)) (keys : List ObjectKey) → known.snapshot ≡ log.snapshot
+    → known.log ≡ log.events → IsContext known log windows clouds faults keys → IsTold known
+told_of known log windows clouds faults keys items events is = record {
+  trees = is.trees;
+  snapshot = subst (λ (l : List Item). AreItemsOf known.trees known.setup.snapshot l) (sym items) is.logged.snapshot;
+  logged = subst (λ (l : List LogEvent). AreLogged known.setup known.trees known.events l) (sym events) is.logged.logged;
+  readable = is.readable;
+  roles = is.roles;
+  ends = is.ends;
+  unrecorded = is.unrecorded;
+  bypass = is.bypass;
+}
