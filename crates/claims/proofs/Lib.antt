@@ -1,2 +1,4 @@
 mod Giving
 mod Viewing
+mod Results
+pub mod OneClaim

@@ -5,5 +5,5 @@
 mod claiming;
 mod judge;
 
-pub use claiming::{claim, place};
+pub use claiming::{claim, decision_window, place};
 pub use event_claims::{local_bounds_law, one_claim_law};

@@ -36,8 +36,12 @@ fn earlier(at: Moment, nanos: u64) -> Moment
     }
 }
 
-// The places at which the caches of the event's authoriser may be.
-fn cache_places<L: Listable, D: Decisions>(view: &View<'_, L, D>, event: &LogEvent) -> Window
+/// The places at which the caches of the event's authoriser may be, both ends among them: as far behind the event's
+/// start as the lag says, up to its end.
+pub fn decision_window_of<L: Listable, D: Decisions>(
+    view: &View<'_, L, D>,
+    event: &LogEvent,
+) -> Window
     ensures low { (h : History) (number : _) → IsViewOf L.listable D.decides view.now h → IsEvent h number (event_of event.now)
         → result.low ≡ decision_low h (event_of event.now) }
     ensures high { (h : History) → IsViewOf L.listable D.decides view.now h → result.high ≡ decision_high h (event_of event.now) }
@@ -59,7 +63,7 @@ fn places_of<L: Listable, D: Decisions>(
     ensures none { IfNone result ((h : History) → IsViewOf L.listable D.decides view.now h → IsEvent h number (event_of event.now)
         → (places : Places) → IsDecidedAt h number (event_of event.now) places → ⊥) }
 {
-    let window = cache_places(view, event);
+    let window = decision_window_of(view, event);
     view.decisions.find(number, window.low, window.high)
 }
 

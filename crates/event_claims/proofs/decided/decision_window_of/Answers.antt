@@ -1,7 +1,7 @@
 use Rattle.std.proofs.Common.{ap, sym, ◌∙◌, pos, ◌-ℤ◌}
 use Rattle.history_model.specs.Windows.{lowest}
 use Rattle.write_groups.specs.Modelled.{event_of}
-use Rattle.event_claims.proofs.decided.cache_places.Goals as goal
+use Rattle.event_claims.proofs.decided.decision_window_of.Goals as goal
 
 pub returns-clause-low : goal.returns-clause-low
 returns-clause-low g c = λ h number v known.
