@@ -1,0 +1,12 @@
+pub mod BatchFacts
+pub mod CheckpointFacts
+pub mod EventFacts
+pub mod LineFacts
+pub mod LogFacts
+pub mod NumberFacts
+pub mod OneReadingFacts
+pub mod OneSetupFacts
+pub mod ReadFacts
+pub mod SetupFacts
+pub mod StepFacts
+pub mod StreamFacts

@@ -1,0 +1,5 @@
+use Rattle.log_intake.proofs.CheckpointFacts.{few_read}
+use Rattle.log_intake.proofs.setup.setup_of.Goals as goal
+
+pub returns-in-Ok-clause-few : goal.returns-in-Ok-clause-few
+returns-in-Ok-clause-few c = few_read _ _ c.in-Ok.ensures.setup

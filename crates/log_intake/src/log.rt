@@ -1,0 +1,61 @@
+ghost use Rattle.std.specs.Prelude.{◌≡◌, ◌≢◌, ℕ, ◌<◌, ◌≤◌, List, length};
+ghost use Rattle.log_intake.specs.Taking.{ReadsLog};
+
+use crate::admitting::{Place, admit_batch};
+use crate::batch::{BatchEnd, gather};
+use crate::stop::LogStop;
+use audit_event::{Events, Seen};
+use base_types::OutOfMemory;
+use edge_io::Desk;
+use judge_pool::Gate;
+use line_reader::LineReader;
+use std::alloc::Global;
+use std::marker::Sync;
+use std::thread::Threads;
+
+/// Reads the events of a log from a desk, by name, in batches of lines. Several threads decode a batch; each
+/// line's index in it enters the gate before the line is decoded. A batch is decoded and its events are admitted
+/// before more is asked of the desk, so that a refusal in it comes before a read fault behind it.
+#[tactic(auto, using(crate::proofs::LogFacts::nothing_read_from))]
+pub fn read_log<R: Threads + Sync, D: Desk, G: Gate>(
+    rt: &R,
+    alloc: Global,
+    desk: &mut D,
+    name: &str,
+    buffer: &mut [u8],
+    gate: &G,
+) -> Result<Events, LogStop>
+    requires some { 0 < length buffer.old }
+    requires piece { length buffer.old ≤ 65536 }
+    ensures reads { ReadsLog (D.left desk.old name.now) (D.left desk.new name.now) (D.faults desk.old) (D.faults desk.new) result }
+    ensures others { (other : List ℕ) → other ≢ name.now → D.left desk.new other ≡ D.left desk.old other }
+{
+    let mut reader = match LineReader::new(alloc) {
+        Ok(reader) => reader,
+        Err(OutOfMemory) => return Err(LogStop::OutOfMemory),
+    };
+    let mut seen = match Seen::new(alloc) {
+        Ok(seen) => seen,
+        Err(OutOfMemory) => return Err(LogStop::OutOfMemory),
+    };
+    let mut place = Place { line: 0, extra: 0 };
+    let mut taken = 0;
+    'batches: loop {
+        let batch = match gather(alloc, desk, name, buffer, &mut reader, taken) {
+            Ok(batch) => batch,
+            Err(OutOfMemory) => return Err(LogStop::OutOfMemory),
+        };
+        match admit_batch(rt, alloc, &mut seen, place, batch.lines.as_slice(), gate) {
+            Ok(after) => place = after,
+            Err(stop) => return Err(stop),
+        }
+        taken = batch.taken;
+        match batch.end {
+            BatchEnd::GoesOn => {}
+            BatchEnd::Ended => return Ok(seen.finish()),
+            BatchEnd::Failed => return Err(LogStop::ReadFault),
+            BatchEnd::LineTooLong => return Err(LogStop::LineTooLong),
+            BatchEnd::InputTooLong => return Err(LogStop::TooLong),
+        }
+    }
+}
