@@ -1,25 +1,35 @@
 -- What the words of the command line ask for.
-use Rattle.std.specs.Prelude.{ℕ, List, [], ◌∷◌, bytes_eq, not, ◌&&◌, codes, if◌then◌else◌}
+use Rattle.std.specs.Prelude.{◌≡◌, ◌≢◌, ◌≤◌, ℕ, List, [], ◌∷◌, Option, Some, None, codes, decimal}
+use Rattle.verdict_text.specs.Words.{IsNumber}
 use Rattle.kubepast.specs.declared.words.Command.{Command}
 use Rattle.kubepast.specs.declared.words.Command.TheVariants as word
 
 pub data Asked : Type 0 where
-  -- words that are no command
-  Usage : Asked
   -- judge a log by a setup, each by its name
-  Judge : List ℕ → List ℕ → Asked
+  Judge : (setup log : List ℕ) → Asked
+  -- make the case of a number with so many events, and judge it
+  Make : (number events : ℕ) → Asked
 
--- two names that differ; the standard input is no setup
-abbrev pub judged : List ℕ → List ℕ → Asked
-judged setup log = if not (bytes_eq setup log) && not (bytes_eq setup (codes "-")) then Judge setup log else Usage
+-- the log alone may be the standard input
+pub record AreNames (setup log : List ℕ) : Type 0 where
+  pub differ : setup ≢ log
+  pub named : setup ≢ codes "-"
 
-abbrev pub asked_of : List (List ℕ) → Asked
-asked_of [] = Usage
-asked_of (verb ∷ []) = Usage
-asked_of (verb ∷ setup ∷ []) = Usage
-asked_of (verb ∷ setup ∷ log ∷ []) = if bytes_eq verb (codes "judge") then judged setup log else Usage
-asked_of (verb ∷ setup ∷ log ∷ more ∷ words) = Usage
+-- a case has at most so many events
+abbrev pub most_made : ℕ
+most_made = 100000
 
-abbrev pub command_asked : Command → Asked
-command_asked word.Usage = Usage
-command_asked (word.Judge setup log) = Judge setup.now log.now
+-- the words of a command
+abbrev pub Spells : Asked → List (List ℕ) → Type 0
+Spells (Judge setup log) words = (words ≡ codes "judge" ∷ setup ∷ log ∷ []) × AreNames setup log
+Spells (Make number events) words = (words ≡ codes "make" ∷ decimal number ∷ decimal events ∷ []) × IsNumber number × (events ≤ most_made)
+
+-- the words spell this command, or none
+abbrev pub IsAsked : List (List ℕ) → Option Asked → Type 0
+IsAsked words None = (asked : Asked) → Spells asked words → ⊥
+IsAsked words (Some asked) = Spells asked words
+
+abbrev pub command_asked : Command → Option Asked
+command_asked word.Usage = None
+command_asked (word.Judge setup log) = Some (Judge setup.now log.now)
+command_asked (word.Make number events) = Some (Make number events)

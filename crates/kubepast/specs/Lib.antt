@@ -1,11 +1,9 @@
 pub mod Command
 pub mod Endings
-pub mod FirstForm
-pub mod Judgement
-pub mod Log
-pub mod Setup
-pub mod Windows
+pub mod Findings
+pub mod Judging
 pub mod OneAnswer
 pub mod Program
-pub mod Reading
-pub mod Statuses
+pub mod Refusals
+pub mod Summary
+pub mod Turns

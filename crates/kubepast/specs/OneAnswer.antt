@@ -1,8 +1,7 @@
 -- The answer is a function of the words and of the bytes of each name.
 use Rattle.std.specs.Prelude.{◌≡◌, ℕ, List}
-use Rattle.kubepast.specs.Command.{Asked}
 use Rattle.kubepast.specs.Endings.{Answer}
 use Rattle.kubepast.specs.Program.{IsAnswer}
 
 abbrev pub OneAnswer : Type 0
-OneAnswer = (asked : Asked) (files : List ℕ → List ℕ) (a b : Answer) → IsAnswer asked files a → IsAnswer asked files b → a ≡ b
+OneAnswer = (words : List (List ℕ)) (files : List ℕ → List ℕ) (a b : Answer) → IsAnswer words files a → IsAnswer words files b → a ≡ b

@@ -1,236 +1,146 @@
-ghost use Rattle.std.specs.Prelude.{◌≡◌, ℕ, ◌↔◌, IsTrue, IfOk, IfSome, IfNone, All, Contains, map, filter, IsPermutation};
-ghost use Rattle.std.specs.List.Sorted.{IsNonDecreasingBy};
-ghost use Rattle.kubepast.specs.declared.event.Verb.TheVariants.{Create, Get};
-ghost use Rattle.kubepast.specs.Judgement.{AreFirstForm, AreWritesOf, HasPlace, IsCreateOf, IsEarliestUnexplained, IsLeastPlace, IsLeastPlacement, IsOrder, IsOutcome, IsRight, Shows, is_write_within, placed_line, reason_of, write_of};
+ghost use Rattle.std.specs.Prelude.{◌≡◌, ◌≢◌, ◌≤◌, ◌+◌, ◌++◌, ℕ, List, IfOk, IsErrOf, OnOk, length};
+ghost use Rattle.std.specs.Io.KnownBytes.{IsAtEnd};
+ghost use Rattle.base_types.specs.declared.placed.Outcome.{Outcome};
+ghost use Rattle.edge_io.specs.Faults.{Rose};
+ghost use Rattle.log_intake.specs.Kept.{AreLogEvents};
+ghost use Rattle.log_intake.specs.Setup.{TakesSetup, most_checkpoints};
+ghost use Rattle.log_intake.specs.Taking.{TakesLog};
+ghost use Rattle.setup_file.specs.Sound.{IsSound};
+ghost use Rattle.kubepast.specs.Endings.{Tells};
+ghost use Rattle.kubepast.specs.Judging.{IsFound, IsJudged, with_chains};
+ghost use Rattle.kubepast.specs.Refusals.{IsSetupStopOf, IsStopOf};
 
-use crate::event::{Event, Verb};
-use crate::windows::{highest_place, lowest_place};
-use base_types::{
-    OutOfMemory, Outcome, PlacedAnswer, PlacedLine, Placement, Reason, Text, WriteLine, WriteLines,
-};
-use json_tree::equal;
-use std::alloc::Global;
+use crate::judged::{Judged, Limit, Refusal};
+use crate::outcome::outcome_of;
+use crate::stop::Stop;
+use audit_event::Events;
+use base_types::OutOfMemory;
+use edge_io::Desk;
+use judge_pool::Gate;
+use log_intake::{LogStop, SetupStop, read_log, read_setup_named};
+use page_chains::chains;
+use setup_file::{Checkpoints, Setup};
+use std::alloc::{AllocError, Global};
+use std::marker::Sync;
+use std::thread::Threads;
+use version_store::{BuildFault, Context};
 
-/// Judges the events of a log, which come by line.
-pub fn outcome_of(alloc: Global, events: Vec<Event>) -> Result<Outcome, OutOfMemory>
-    requires { AreFirstForm events.items }
-    ensures { IfOk result (IsOutcome events.items) }
-{
-    match first_unexplained(alloc, &events)? {
-        Some(event) => unexplained(alloc, &events, event),
-        None => Ok(Outcome::Explained(placement_of(alloc, &events)?)),
-    }
+/// What a read offers room for, in bytes.
+const PIECE: usize = 65_536;
+
+/// The gates of the work that threads share: of the lines of a batch, and of the events.
+#[derive(Clone, Copy)]
+pub struct Gates<'a, G, H> {
+    pub events: &'a G,
+    pub lines: &'a H,
 }
 
-// The first event, by its end and then by line, that has no right place.
-fn first_unexplained(alloc: Global, events: &[Event]) -> Result<Option<&Event>, OutOfMemory>
-    requires { AreFirstForm events.now }
-    ensures some { IfOk result (λ found. IfSome found (λ event. IsEarliestUnexplained events.now event.now)) }
-    ensures none { IfOk result (λ found. IfNone found (All (HasPlace events.now) events.now)) }
+/// Reads a setup and then a log from a desk, each by its name, and judges the log.
+pub fn judge<R: Threads + Sync, D: Desk, G: Gate, H: Gate>(
+    rt: &R,
+    alloc: Global,
+    desk: &mut D,
+    setup: &str,
+    log: &str,
+    gates: Gates<'_, G, H>,
+) -> Result<Judged, Stop>
+    requires { setup.now ≢ log.now }
+    ensures judged { IfOk result (λ judged. (files : List ℕ → List ℕ) → Tells (D.left desk.old) files → IsJudged (files setup.now) (files log.now) judged) }
+    ensures whole { IfOk result (λ judged. (outcome : Outcome) → judged ≡ Judged.Verdict outcome → IsAtEnd (D.left desk.new setup.now) × IsAtEnd (D.left desk.new log.now)) }
+    ensures fault { IsErrOf result Stop.ReadFault → Rose (D.faults desk.old) (D.faults desk.new) }
+    ensures counted { D.faults desk.old ≤ D.faults desk.new }
+    ensures setup_taken { TakesSetup (D.left desk.old setup.now) (D.left desk.new setup.now) (IsErrOf result Stop.ReadFault) }
+    ensures log_taken { TakesLog (D.left desk.old log.now) (D.left desk.new log.now) (IsErrOf result Stop.ReadFault) }
 {
-    let order = ordered(alloc, events)?;
-    for event in &order {
-        if least_place(events, event).is_none() {
-            return Ok(Some(event));
-        }
-    }
-    Ok(None)
-}
-
-// The events by their ends, and those of one moment by line.
-fn ordered(alloc: Global, events: &[Event]) -> Result<Vec<&Event>, OutOfMemory>
-    requires { AreFirstForm events.now }
-    ensures { IfOk result (λ order. IsOrder events.now (map (λ event. event.now) order.items)) }
-{
-    let mut order: Vec<&Event> = events.iter().collect(alloc)?;
-    order.sort_by_key(|event| (event.staged, event.line))?;
-    Ok(order)
-}
-
-// The least place at which the answer of an event is right.
-fn least_place(events: &[Event], event: &Event) -> Option<u64>
-    requires { AreFirstForm events.now }
-    ensures some { IfSome result (IsLeastPlace events.now event.now) }
-    ensures none { IfNone result ((place : ℕ) → ¬ (IsRight events.now event.now place)) }
-{
-    match event.verb {
-        Verb::Create => made_place(events, event),
-        Verb::Get => found_place(events, event),
-    }
-}
-
-// A create stands at its own revision.
-fn made_place(events: &[Event], event: &Event) -> Option<u64>
-    requires { event.now.verb ≡ Create }
-    ensures some { IfSome result (IsLeastPlace events.now event.now) }
-    ensures none { IfNone result ((place : ℕ) → ¬ (IsRight events.now event.now place)) }
-{
-    let place = event.revision.get();
-    if lowest_place(events, event.received) < place
-        && place <= highest_place(events, event.staged)
-    {
-        return Some(place);
-    }
-    None
-}
-
-// A get stands where the one version of its name was already made.
-fn found_place(events: &[Event], event: &Event) -> Option<u64>
-    requires form { AreFirstForm events.now }
-    requires get { event.now.verb ≡ Get }
-    ensures some { IfSome result (IsLeastPlace events.now event.now) }
-    ensures none { IfNone result ((place : ℕ) → ¬ (IsRight events.now event.now place)) }
-{
-    let version = create_of(events, &event.name)?;
-    if !shows(event, version) {
-        return None;
-    }
-    let place = lowest_place(events, event.received).max(version.revision.get());
-    if place > highest_place(events, event.staged) {
-        return None;
-    }
-    Some(place)
-}
-
-// The create of a name. No log of the first form has two.
-fn create_of<'a>(events: &'a [Event], name: &Text) -> Option<&'a Event>
-    ensures some { IfSome result (λ create. Contains events.now create.now) }
-    ensures named { IfSome result (λ create. IsCreateOf name.now create.now) }
-    ensures none { IfNone result (All (λ event. ¬ (IsCreateOf name.now event)) events.now) }
-{
-    events
-        .iter()
-        .find(|event| event.verb == Verb::Create && event.name == *name)
-}
-
-// Whether an event's answer is the object of this version.
-fn shows(event: &Event, version: &Event) -> bool
-    ensures { IsTrue result ↔ Shows event.now version.now }
-{
-    version.revision == event.revision
-        && version.uid == event.uid
-        && equal(&version.tree, &event.tree)
-}
-
-// All events, each with its least place.
-fn placement_of(alloc: Global, events: &[Event]) -> Result<Placement, OutOfMemory>
-    requires form { AreFirstForm events.now }
-    requires right { All (HasPlace events.now) events.now }
-    ensures { IfOk result (IsLeastPlacement events.now) }
-{
-    let mut placement = Placement::new(alloc);
-    for event in events {
-        let place = least_place(events, event).unwrap();
-        placement.push(line_at(event, place))?;
-    }
-    Ok(placement)
-}
-
-fn line_at(event: &Event, place: u64) -> PlacedLine
-    ensures { result ≡ placed_line event.now place }
-{
-    let answer = match event.verb {
-        Verb::Create => PlacedAnswer::Made(place),
-        Verb::Get => PlacedAnswer::At(place),
+    let Ok(mut buffer) = piece_buffer(alloc) else {
+        return Err(Stop::OutOfMemory);
     };
-    PlacedLine {
-        line: event.line,
-        answer,
-        decision: None,
+    let setup = match read_setup_named(alloc, desk, setup, &mut buffer) {
+        Ok(setup) => setup,
+        Err(stop) => return refused_setup(stop),
+    };
+    match read_log(rt, alloc, desk, log, &mut buffer, gates.lines) {
+        Ok(events) => found(rt, alloc, setup, events, gates.events),
+        Err(stop) => refused_log(stop),
     }
 }
 
-// What is said of the earliest event that has no right place.
-fn unexplained(alloc: Global, events: &[Event], event: &Event) -> Result<Outcome, OutOfMemory>
-    requires form { AreFirstForm events.now }
-    requires earliest { IsEarliestUnexplained events.now event.now }
-    ensures { IfOk result (IsOutcome events.now) }
+fn piece_buffer(alloc: Global) -> Result<Vec<u8>, AllocError>
+    ensures { IfOk result (λ buffer. length buffer.items ≡ 65536) }
 {
-    let low = lowest_place(events, event.received);
-    let high = highest_place(events, event.staged);
-    Ok(Outcome::Unexplained {
-        line: event.line,
-        audit_id: event.audit_id.clone()?,
-        reason: cause_of(event.verb),
-        low,
-        high,
-        writes: writes_within(alloc, events, low, high)?,
-    })
+    vec![in alloc; 0u8; PIECE]
 }
 
-fn cause_of(verb: Verb) -> Reason
-    ensures { result ≡ reason_of verb }
+fn refused_setup(stop: SetupStop) -> Result<Judged, Stop>
+    ensures refused { IfOk result (λ judged. (refusal : Refusal) × IsSetupStopOf stop refusal × (judged ≡ Judged.Refused refusal)) }
+    ensures fault { IsErrOf result Stop.ReadFault → stop ≡ SetupStop.ReadFault }
 {
-    match verb {
-        Verb::Create => Reason::U3,
-        Verb::Get => Reason::U10,
+    match stop {
+        SetupStop::Rule(rule) => Ok(Judged::Refused(Refusal::BrokenSetup(rule))),
+        SetupStop::TooLong => Ok(Judged::Refused(Refusal::PastLimit(Limit::SetupSize))),
+        SetupStop::ReadFault => Err(Stop::ReadFault),
+        SetupStop::OutOfMemory => Err(Stop::OutOfMemory),
     }
 }
 
-// The creates whose revision lies in a window, by revision.
-fn writes_within(
-    alloc: Global,
-    events: &[Event],
-    low: u64,
-    high: u64,
-) -> Result<WriteLines, OutOfMemory>
-    requires { AreFirstForm events.now }
-    ensures { IfOk result (AreWritesOf events.now low high) }
+fn refused_log(stop: LogStop) -> Result<Judged, Stop>
+    ensures refused { IfOk result (λ judged. (refusal : Refusal) × IsStopOf stop refusal × (judged ≡ Judged.Refused refusal)) }
+    ensures fault { IsErrOf result Stop.ReadFault → stop ≡ LogStop.ReadFault }
 {
-    let creates = creates_by_revision(alloc, events, low, high)?;
-    let mut writes = WriteLines::new(alloc);
-    for create in &creates {
-        writes.push(write_line(alloc, create)?)?;
+    match stop {
+        LogStop::Malformed { line, code } => {
+            Ok(Judged::Refused(Refusal::MalformedLog { line, code }))
+        }
+        LogStop::LineTooLong => Ok(Judged::Refused(Refusal::PastLimit(Limit::LineSize))),
+        LogStop::TooManyEvents => Ok(Judged::Refused(Refusal::PastLimit(Limit::EventCount))),
+        LogStop::TooLong => Ok(Judged::Refused(Refusal::PastLimit(Limit::InputSize))),
+        LogStop::ReadFault => Err(Stop::ReadFault),
+        LogStop::OutOfMemory => Err(Stop::OutOfMemory),
     }
-    Ok(writes)
 }
 
-fn creates_by_revision(
+// What the events of a log come to.
+fn found<R: Threads + Sync, G: Gate>(
+    rt: &R,
     alloc: Global,
-    events: &[Event],
-    low: u64,
-    high: u64,
-) -> Result<Vec<&Event>, OutOfMemory>
-    ensures same { IfOk result (λ creates. IsPermutation
-        (filter (is_write_within low high) events.now) (map (λ event. event.now) creates.items)) }
-    ensures rising { IfOk result (λ creates. IsNonDecreasingBy
-        (λ event. event.now.revision) creates.items) }
+    setup: Setup,
+    events: Events,
+    gate: &G,
+) -> Result<Judged, Stop>
+    requires setup { IsSound setup }
+    requires few { length setup.checkpoints ≤ most_checkpoints }
+    requires events { AreLogEvents events }
+    ensures found { IfOk result (IsFound (with_chains setup events) events) }
+    ensures no_fault { IsErrOf result Stop.ReadFault → ⊥ }
 {
-    let mut creates = creates_within(alloc, events, low, high)?;
-    creates.sort_by_key(|event| event.revision.get())?;
-    Ok(creates)
+    let chained = with_chains(alloc, setup, &events)?;
+    match Context::build(alloc, chained, events) {
+        Ok(context) => Ok(Judged::Verdict(outcome_of(rt, alloc, &context, gate)?)),
+        Err(BuildFault::PoolFull) => Ok(Judged::Refused(Refusal::PastLimit(Limit::PoolSize))),
+        Err(BuildFault::OutOfMemory) => Err(Stop::OutOfMemory),
+    }
 }
 
-fn creates_within(
-    alloc: Global,
-    events: &[Event],
-    low: u64,
-    high: u64,
-) -> Result<Vec<&Event>, OutOfMemory>
-    ensures { IfOk result (λ creates.
-        map (λ event. event.now) creates.items ≡ filter (is_write_within low high) events.now) }
+// The lists that clients read in pages, as checkpoints behind those of the setup.
+fn with_chains(alloc: Global, setup: Setup, events: &Events) -> Result<Setup, OutOfMemory>
+    requires setup { IsSound setup }
+    requires events { AreLogEvents events.now }
+    ensures chains { IfOk result (λ chained. chained ≡ with_chains setup events.now) }
+    ensures sound { IfOk result IsSound }
+    ensures few { IfOk result (λ chained. length chained.checkpoints ≤ length setup.checkpoints + length events.now) }
 {
-    let creates: Vec<&Event> = events
-        .iter()
-        .filter(|event| wrote_within(event, low, high))
-        .collect(alloc)?;
-    Ok(creates)
+    let found = chains(alloc, &setup, events)?;
+    let mut chained = setup;
+    put_behind(&mut chained.checkpoints, found)?;
+    Ok(chained)
 }
 
-fn wrote_within(event: &Event, low: u64, high: u64) -> bool
-    ensures { result ≡ is_write_within low high event.now }
+// Puts checkpoints behind others.
+fn put_behind(all: &mut Checkpoints, more: Checkpoints) -> Result<(), OutOfMemory>
+    ensures { OnOk result (all.new ≡ all.old ++ more) }
 {
-    event.verb == Verb::Create && low <= event.revision.get() && event.revision.get() <= high
-}
-
-fn write_line(alloc: Global, create: &Event) -> Result<WriteLine, OutOfMemory>
-    ensures { IfOk result (λ line. line ≡ write_of create.now) }
-{
-    let mut key = String::from_str(alloc, "/configmaps/d/")?;
-    key.push_str(create.name.as_str())?;
-    Ok(WriteLine::Made {
-        revision: create.revision.get(),
-        line: create.line,
-        key: Text::from_string(key),
-    })
+    for checkpoint in more.into_vec() {
+        all.push(checkpoint)?;
+    }
+    Ok(())
 }

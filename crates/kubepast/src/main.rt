@@ -1,22 +1,23 @@
 //! kubepast judges whether a Kubernetes audit log can be true.
 #![tactic(auto)]
 
-mod build;
 mod ending;
-mod event;
-mod form;
+mod finding;
+mod judged;
 mod judging;
 mod law;
-mod log;
+mod made;
+mod outcome;
+mod report;
 mod run;
-mod setup;
+mod source;
 mod stop;
-#[cfg(test)]
-mod tests;
-mod windows;
+mod summary;
 mod words;
+mod writes;
 
 use edge_io::{FileDesk, StdSink};
+use judge_pool::FreeGate;
 use run::run;
 use std::alloc::Global;
 use std::env;
@@ -45,5 +46,17 @@ fn main(rt: HostRuntime) -> ExitCode {
         return ExitCode::from(NO_MEMORY);
     };
     let mut sink = StdSink::new(&rt);
-    ExitCode::from(run(&rt, rt.alloc(), &words, &mut desk, &mut sink))
+    let status = run(
+        &rt,
+        rt.alloc(),
+        &words,
+        &mut desk,
+        &mut sink,
+        &FreeGate,
+        &FreeGate,
+    );
+    ExitCode::from(status)
 }
+
+#[cfg(test)]
+mod tests;

@@ -1,12 +1,9 @@
 use base_types::OutOfMemory;
-use edge_io::DeskFailed;
 use std::alloc::AllocFailed;
 
-/// Why no more of a log is read.
+/// Why there is no answer.
 #[derive(Clone, Copy, Debug, PartialEq, Eq)]
 pub enum Stop {
-    /// The line of this number is refused.
-    Unbuilt { line: u64 },
     /// A read failed.
     ReadFault,
     OutOfMemory,
@@ -31,16 +28,5 @@ impl<T: Drop> From<AllocFailed<T>> for Stop {
 
     fn from(_: AllocFailed<T>) -> Stop {
         Stop::OutOfMemory
-    }
-}
-
-impl From<DeskFailed> for Stop {
-    ghost use Rattle.std.specs.Prelude.{◌≡◌};
-    ghost use Rattle.kubepast.specs.declared.stop.Stop.TheVariants as variant;
-
-    ghost from_gives = { λ _ stop. stop ≡ variant.ReadFault };
-
-    fn from(_: DeskFailed) -> Stop {
-        Stop::ReadFault
     }
 }

@@ -1,4 +1,4 @@
-use Rattle.kubepast.proofs.OneAnswer.{one_answer}
+use Rattle.kubepast.proofs.OneAnswerFacts.{one_answer}
 use Rattle.kubepast.proofs.law.one_answer_law.Goals as goal
 
 pub returns : goal.returns

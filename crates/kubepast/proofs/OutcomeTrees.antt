@@ -1,0 +1,8 @@
+-- Threads may share a tree.
+use Rattle.std.proofs.Crossing as owned
+use Rattle.json_tree.proofs.tree.Member.TheLaws.TheKnot as knot
+use Rattle.json_tree.specs.contracts.tree.Tree as tree
+use denote.Param.Send.{IsSync, sendable}
+
+pub tree_shared : IsSync tree.the_row
+tree_shared = search (knot.sync-Tree, sendable, owned.crosses) depth 60 fits 20000

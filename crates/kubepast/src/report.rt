@@ -1,0 +1,172 @@
+ghost use Rattle.std.specs.Prelude.{◌≡◌, IfOk, string_bytes};
+ghost use Rattle.kubepast.specs.Program.{answer, judged_answer, made_answer, outcome_status, refusal_answer, report_answer, status_number};
+ghost use Rattle.kubepast.specs.Refusals.{event_rule_number, limit_word, setup_rule_number};
+
+use crate::judged::{Judged, Limit, Refusal};
+use crate::summary::summary;
+use audit_event::Malformed;
+use base_types::{Bytes, OutOfMemory, Outcome};
+use setup_file::SetupRule;
+use std::alloc::Global;
+use verdict_text::print_outcome;
+
+/// How a setup and a log were answered.
+#[derive(Clone, Copy, Debug, PartialEq, Eq)]
+pub enum Status {
+    /// Some placement explains the log.
+    Explained,
+    /// No placement does.
+    Unexplained,
+    /// The setup breaks a rule.
+    SetupRefused,
+    /// An event of the log breaks a rule.
+    LogRefused,
+    /// One of them is too large.
+    LimitPassed,
+}
+
+impl Status {
+    /// The exit status.
+    pub fn number(self) -> u8
+        ensures { result ≡ status_number self }
+    {
+        match self {
+            Status::Explained => 0,
+            Status::Unexplained => 1,
+            Status::SetupRefused => 3,
+            Status::LogRefused => 4,
+            Status::LimitPassed => 7,
+        }
+    }
+}
+
+/// A status and the text that goes with it.
+#[derive(Drop)]
+pub struct Report {
+    pub status: Status,
+    pub text: Bytes,
+}
+
+/// The report of what a setup and a log come to.
+pub fn judged_report(alloc: Global, judged: &Judged) -> Result<Report, OutOfMemory>
+    ensures { IfOk result (λ report. report_answer report ≡ judged_answer judged.now) }
+{
+    match judged {
+        Judged::Refused(refusal) => refusal_report(alloc, *refusal),
+        Judged::Verdict(outcome) => Ok(Report {
+            status: status_of(outcome),
+            text: print_outcome(alloc, outcome)?,
+        }),
+    }
+}
+
+/// The report of what a made case comes to.
+pub fn made_report(
+    alloc: Global,
+    number: u64,
+    events: u32,
+    judged: &Judged,
+) -> Result<Report, OutOfMemory>
+    ensures { IfOk result (λ report. report_answer report ≡ made_answer number events judged.now) }
+{
+    match judged {
+        Judged::Refused(refusal) => refusal_report(alloc, *refusal),
+        Judged::Verdict(outcome) => Ok(Report {
+            status: status_of(outcome),
+            text: summary(alloc, number, events, outcome)?,
+        }),
+    }
+}
+
+fn status_of(outcome: &Outcome) -> Status
+    ensures { status_number result ≡ outcome_status outcome.now }
+{
+    match outcome {
+        Outcome::Explained(_) => Status::Explained,
+        Outcome::Unexplained { .. } => Status::Unexplained,
+    }
+}
+
+fn refusal_report(alloc: Global, refusal: Refusal) -> Result<Report, OutOfMemory>
+    ensures { IfOk result (λ report. report_answer report ≡ refusal_answer refusal) }
+{
+    match refusal {
+        Refusal::BrokenSetup(rule) => {
+            let number = setup_rule_number(rule);
+            let text = format!(in alloc; "setup S{number}\n")?;
+            Ok(reported(Status::SetupRefused, text))
+        }
+        Refusal::MalformedLog { line, code } => {
+            let number = event_rule_number(code);
+            let text = format!(in alloc; "malformed {line} M{number}\n")?;
+            Ok(reported(Status::LogRefused, text))
+        }
+        Refusal::PastLimit(limit) => {
+            let name = limit_word(limit);
+            let text = format!(in alloc; "limit {name}\n")?;
+            Ok(reported(Status::LimitPassed, text))
+        }
+    }
+}
+
+fn reported(status: Status, text: String) -> Report
+    ensures { report_answer result ≡ answer (status_number status) (string_bytes text) }
+{
+    Report {
+        status,
+        text: Bytes::from_vec(text.into_bytes()),
+    }
+}
+
+fn setup_rule_number(rule: SetupRule) -> u8
+    ensures { result ≡ setup_rule_number rule }
+{
+    match rule {
+        SetupRule::S1 => 1,
+        SetupRule::S2 => 2,
+        SetupRule::S3 => 3,
+        SetupRule::S4 => 4,
+        SetupRule::S5 => 5,
+        SetupRule::S6 => 6,
+        SetupRule::S7 => 7,
+        SetupRule::S8 => 8,
+        SetupRule::S9 => 9,
+        SetupRule::S10 => 10,
+        SetupRule::S11 => 11,
+        SetupRule::S12 => 12,
+        SetupRule::S13 => 13,
+        SetupRule::S14 => 14,
+        SetupRule::S15 => 15,
+    }
+}
+
+fn event_rule_number(rule: Malformed) -> u8
+    ensures { result ≡ event_rule_number rule }
+{
+    match rule {
+        Malformed::M1 => 1,
+        Malformed::M2 => 2,
+        Malformed::M3 => 3,
+        Malformed::M4 => 4,
+        Malformed::M5 => 5,
+        Malformed::M6 => 6,
+        Malformed::M7 => 7,
+        Malformed::M8 => 8,
+        Malformed::M9 => 9,
+        Malformed::M10 => 10,
+        Malformed::M11 => 11,
+        Malformed::M12 => 12,
+    }
+}
+
+fn limit_word(limit: Limit) -> &'static str
+    ensures { result.now ≡ limit_word limit }
+{
+    match limit {
+        Limit::SetupSize => "setup",
+        Limit::LineSize => "line",
+        Limit::EventCount => "events",
+        Limit::InputSize => "input",
+        Limit::PoolSize => "pool",
+    }
+}

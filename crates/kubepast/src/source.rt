@@ -1,0 +1,31 @@
+use base_types::{Claim, OutOfMemory};
+use claims::claim;
+use judge_pool::ClaimSource;
+use std::alloc::Global;
+use version_store::Context;
+
+/// The claims of a context's events, the checkpoints among them.
+#[derive(Clone, Copy)]
+pub struct ContextClaims<'a> {
+    pub context: &'a Context,
+}
+
+impl<'a> ClaimSource for ContextClaims<'a> {
+    ghost use Rattle.std.specs.Prelude.{length};
+    ghost use Rattle.claims.specs.Claims.{IsClaimOf};
+    ghost use Rattle.claims.proofs.OneClaim.{one_claim};
+
+    ghost events = { λ source. length source.context.now.log };
+
+    ghost is_claim = { λ source event claim. IsClaimOf source.context.now event claim };
+
+    fn count(&self) -> u32 {
+        self.context.count()
+    }
+
+    fn claim(&self, alloc: Global, event: u32) -> Result<Claim, OutOfMemory> {
+        claim(alloc, self.context, event)
+    }
+
+    ghost one = { λ source event a b below x y. one_claim source.context.now event a b below x y };
+}
