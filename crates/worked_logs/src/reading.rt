@@ -1,0 +1,57 @@
+ghost use Rattle.std.specs.Prelude.{◌≡◌, ◌<◌, ◌≤◌, length, All, IfOk};
+ghost use Rattle.audit_event.specs.Events.{IsSound};
+ghost use Rattle.version_store.specs.Log.{AreLines};
+
+use audit_event::{Event, Events, read_item};
+use serde_json::Value;
+use setup_file::read_setup;
+use std::alloc::Global;
+use std::test::Fail;
+use version_store::{BuildFault, Context};
+
+// The event that a line tells of: the seconds of its receipt and of its answer, and further members.
+fn event(alloc: Global, told: &str, line: u64) -> Result<Event, Fail>
+    ensures sound { IfOk result IsSound }
+    ensures line { IfOk result (λ event. event.line ≡ line) }
+{
+    let (from, told) = told.split_once(' ').ok_or("no receipt")?;
+    let (to, members) = told.split_once(' ').ok_or("no answer")?;
+    let text = format!(in alloc;
+        r#"{{"level":"RequestResponse","auditID":"a{line}","stage":"ResponseComplete","user":{{"username":"u"}},{members},
+        "requestReceivedTimestamp":"2024-05-01T10:00:{from}Z","stageTimestamp":"2024-05-01T10:00:{to}Z"}}"#
+    )?;
+    let value = Value::from_str(alloc, text.as_str())?;
+    Ok(read_item(alloc, &value, line)?)
+}
+
+// The events of a log of at most 100 lines.
+fn events(alloc: Global, log: &str) -> Result<Events, Fail>
+    ensures sound { IfOk result (All IsSound) }
+    ensures lines { IfOk result AreLines }
+    ensures few { IfOk result (λ events. length events ≤ 100) }
+{
+    let mut events = Events::new(alloc);
+    for told in log.trim().lines() {
+        if events.len() >= 100 {
+            return Err("too many events".into());
+        }
+        let line = events.len() as u64 + 1;
+        let event = event(alloc, told, line)?;
+        events.push(event)?;
+    }
+    Ok(events)
+}
+
+/// The context of a setup and a log, or none where the pool is too small.
+pub fn context(alloc: Global, setup: &str, log: &str, limit: u32) -> Result<Option<Context>, Fail> {
+    let setup = read_setup(alloc, setup.as_bytes())?;
+    if setup.checkpoints.len() > 100 {
+        return Err("too many checkpoints".into());
+    }
+    let events = events(alloc, log)?;
+    match Context::build_within(alloc, setup, events, limit) {
+        Ok(context) => Ok(Some(context)),
+        Err(BuildFault::PoolFull) => Ok(None),
+        Err(BuildFault::OutOfMemory) => Err("no memory".into()),
+    }
+}
