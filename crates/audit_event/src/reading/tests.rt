@@ -212,14 +212,19 @@ fn nested(alloc: Global, depth: usize) -> Result<String, AllocError> {
     Ok(text)
 }
 
+// Whether a line of these bytes is no event.
+fn is_refused(alloc: Global, bytes: &[u8]) -> Result<bool, Fail> {
+    let bytes = Bytes::from_vec(bytes.to_vec(alloc)?);
+    let line = Line { number: 1, bytes };
+    Ok(read_event(alloc, &line).is_err())
+}
+
 #[test]
 fn other_lines(rt: HostRuntime) -> Result<(), Fail> {
     for (line, code) in &LINES {
         assert_eq!(rt; broken_by(rt.alloc(), line)?, Some(*code), "{line}");
     }
-    let bytes = Bytes::from_vec(b"\"\xFF\"".to_vec(rt.alloc())?);
-    let line = Line { number: 1, bytes };
-    assert!(rt; read_event(rt.alloc(), &line).is_err());
+    assert!(rt; is_refused(rt.alloc(), b"\"\xFF\"")?);
     Ok(())
 }
 
@@ -307,16 +312,29 @@ fn event_with(alloc: Global, more: &str) -> Result<Event, Fail> {
     Ok(read_text(alloc, text.as_str())?)
 }
 
+// What else is read of an event, in one line.
+fn fields_text(alloc: Global, event: &Event) -> Result<String, AllocError> {
+    let id = event.audit_id.as_str();
+    let name = event.attrs.name.as_str();
+    format!(in alloc;
+        "{} {id} {name} {} {} {} {}",
+        event.line,
+        event.user.groups.len(),
+        event.impersonated.is_some(),
+        matches!(event.request, Body::Absent),
+        matches!(event.response, Body::Kept(_))
+    )
+}
+
+fn fields_of(alloc: Global) -> Result<String, Fail> {
+    let event = event_with(alloc, r#""impersonatedUser":{"username":"v"},"#)?;
+    Ok(fields_text(alloc, &event)?)
+}
+
 #[test]
 fn fields(rt: HostRuntime) -> Result<(), Fail> {
-    let event = event_with(rt.alloc(), r#""impersonatedUser":{"username":"v"},"#)?;
-    assert_eq!(rt; event.line, 7);
-    assert_eq!(rt; event.audit_id.as_str(), "a1");
-    assert_eq!(rt; event.attrs.name.as_str(), "a");
-    assert_eq!(rt; event.user.groups.len(), 2);
-    assert!(rt; event.impersonated.is_some());
-    assert!(rt; matches!(event.request, Body::Absent));
-    assert!(rt; matches!(event.response, Body::Kept(_)));
+    let text = fields_of(rt.alloc())?;
+    assert_eq!(rt; text.as_str(), "7 a1 a 2 true true true");
     Ok(())
 }
 
@@ -364,11 +382,15 @@ static STATUSES: [(&str, &str); 9] = [
     ),
 ];
 
+fn status_of(alloc: Global, more: &str) -> Result<String, Fail> {
+    let event = event_with(alloc, more)?;
+    Ok(status_text(alloc, &event.status)?)
+}
+
 #[test]
 fn statuses(rt: HostRuntime) -> Result<(), Fail> {
     for (more, status) in &STATUSES {
-        let event = event_with(rt.alloc(), more)?;
-        let text = status_text(rt.alloc(), &event.status)?;
+        let text = status_of(rt.alloc(), more)?;
         assert_eq!(rt; text.as_str(), *status, "{more}");
     }
     Ok(())
@@ -395,10 +417,16 @@ static DECISIONS: [(&str, Option<Decision>); 5] = [
     (r#""annotations":"allow","#, None),
 ];
 
+fn decision_of(alloc: Global, more: &str) -> Result<Option<Decision>, Fail> {
+    let event = event_with(alloc, more)?;
+    Ok(event.decision)
+}
+
 #[test]
 fn decisions(rt: HostRuntime) -> Result<(), Fail> {
     for (more, decision) in &DECISIONS {
-        assert_eq!(rt; event_with(rt.alloc(), more)?.decision, *decision, "{more}");
+        let read = decision_of(rt.alloc(), more)?;
+        assert_eq!(rt; read, *decision, "{more}");
     }
     Ok(())
 }
@@ -423,20 +451,20 @@ static ITEMS: [(&str, bool, bool); 4] = [
     ("null", false, false),
 ];
 
+// Whether a value is taken for an event in a list, and by itself.
+fn taken(alloc: Global, text: &str) -> Result<(bool, bool), Fail> {
+    let value = Value::from_str(alloc, text)?;
+    let in_list = read_item(alloc, &value, 0).is_ok();
+    let by_itself = read_value(alloc, &value, 0).is_ok();
+    Ok((in_list, by_itself))
+}
+
 #[test]
 fn items(rt: HostRuntime) -> Result<(), Fail> {
     for (text, is_item, is_event) in &ITEMS {
-        let value = Value::from_str(rt.alloc(), text)?;
-        assert_eq!(rt;
-            read_item(rt.alloc(), &value, 0).is_ok(),
-            *is_item,
-            "{text}"
-        );
-        assert_eq!(rt;
-            read_value(rt.alloc(), &value, 0).is_ok(),
-            *is_event,
-            "{text}"
-        );
+        let (in_list, by_itself) = taken(rt.alloc(), text)?;
+        assert_eq!(rt; in_list, *is_item, "{text}");
+        assert_eq!(rt; by_itself, *is_event, "{text}");
     }
     Ok(())
 }
