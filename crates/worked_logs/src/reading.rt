@@ -42,8 +42,13 @@ fn events(alloc: Global, log: &str) -> Result<Events, Fail>
     Ok(events)
 }
 
-/// The context of a setup and a log, or none where the pool is too small.
-pub fn context(alloc: Global, setup: &str, log: &str, limit: u32) -> Result<Option<Context>, Fail> {
+// The context of a setup and a log, or none where the pool is too small.
+pub(crate) fn context(
+    alloc: Global,
+    setup: &str,
+    log: &str,
+    limit: u32,
+) -> Result<Option<Context>, Fail> {
     let setup = read_setup(alloc, setup.as_bytes())?;
     if setup.checkpoints.len() > 100 {
         return Err("too many checkpoints".into());
