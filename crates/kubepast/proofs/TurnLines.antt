@@ -1,14 +1,10 @@
--- The texts of turns' writes.
-use Rattle.std.proofs.Common.{◌≡◌, ℕ, ◌+◌, ◌<◌, Bool, true, false, if◌then◌else◌, List, [], ◌∷◌, ◌++◌, length, get_or, take, map, Option, Some, None, IsSome, option_map, slice_get, filter_map, refl, sym, ap, ◌∙◌, subst, true≢false, arith}
+-- One turn after another has its line, and each write is there.
+use Rattle.std.proofs.Common.{◌≡◌, ℕ, ◌+◌, ◌<◌, Bool, true, false, if◌then◌else◌, List, [], ◌∷◌, ◌++◌, length, get_or, take, map, Option, Some, None, IsSome, option_map, slice_get, filter_map, refl, sym, ap, ◌∙◌, subst, true≢false}
 use Rattle.std.proofs.lemmas.List.{get_or_default, map-append}
 use Rattle.std.proofs.lemmas.Option.{same_Some, slice_get_within}
-use Rattle.base_types.specs.declared.placed.WriteLine.{WriteLine}
 use Rattle.history_model.specs.Outcomes.{Write}
-use Rattle.object_past.specs.declared.removal.Removal.{Removal}
-use Rattle.object_past.specs.declared.version.Version.{Version}
 use Rattle.version_store.specs.Known.{Known}
 use Rattle.write_groups.proofs.Lists.{made_one}
-use Rattle.kubepast.specs.Judging.{write_line}
 use Rattle.kubepast.specs.Turns.{made_write, removed_write, write_of_turn}
 use Rattle.kubepast.specs.declared.writes.Turn.{Turn}
 
@@ -42,11 +38,3 @@ module _ (known : Known) (turn : Turn) where
 
   pub version_there : turn.removes ≡ false → IsSome (write_of_turn known turn) → turn.position < length known.versions
   version_there e some = some_there (made_write turn) known.versions turn.position (subst (λ b. IsSome (by_kind b)) e some)
-
-  pub removed_text : (removal : Removal) (line : WriteLine) → turn.removes ≡ true → slice_get known.removals turn.position ≡ Some removal → line ≡ write_line (removed_write turn removal)
-      → option_map write_line (write_of_turn known turn) ≡ Some line
-  removed_text removal line e at is = ap (λ b. option_map write_line (by_kind b)) e ∙ ap (λ o. option_map write_line (option_map (removed_write turn) o)) at ∙ ap Some (sym is)
-
-  pub made_text : (version : Version) (line : WriteLine) → turn.removes ≡ false → slice_get known.versions turn.position ≡ Some version → line ≡ write_line (made_write turn version)
-      → option_map write_line (write_of_turn known turn) ≡ Some line
-  made_text version line e at is = ap (λ b. option_map write_line (by_kind b)) e ∙ ap (λ o. option_map write_line (option_map (made_write turn) o)) at ∙ ap Some (sym is)

@@ -43,6 +43,7 @@ pub fn run<R: Threads + Sync, D: Desk, K: Sink, G: Gate, H: Gate>(
     ensures read_fault { result ≡ 5 → Rose (D.faults desk.old) (D.faults desk.new) }
     ensures write_fault { result ≡ 6 → Rose (K.faults out.old) (K.faults out.new) }
     ensures memory { result ≡ 8 → Keeps (K.written out.old) (K.written out.new) }
+    ensures desk_left { ((setup log : List ℕ) → IsAsked (map string_bytes words.now) (Some (Judge setup log)) → ⊥) → desk.new ≡ desk.old }
     ensures whole { (setup log : List ℕ) → IsAsked (map string_bytes words.now) (Some (Judge setup log)) → (result ≡ 0) ⊎ (result ≡ 1)
         → IsAtEnd (D.left desk.new setup) × IsAtEnd (D.left desk.new log) }
     ensures setup_taken { (setup log : List ℕ) → IsAsked (map string_bytes words.now) (Some (Judge setup log))

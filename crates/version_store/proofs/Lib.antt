@@ -19,3 +19,4 @@ pub mod Membering
 pub mod Ranging
 pub mod OneHistory
 pub mod Telling
+pub mod Using

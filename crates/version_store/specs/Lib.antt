@@ -17,3 +17,4 @@ pub mod Readings
 pub mod Roles
 pub mod Shown
 pub mod Told
+pub mod Uses

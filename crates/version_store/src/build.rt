@@ -13,6 +13,7 @@ use crate::faults::{faults_of, makings_of};
 use crate::keys::keys_of;
 use crate::log::{BuildFault, Log, log_of};
 use crate::roles::timeline_of;
+use crate::uses::{Uses, uses_of};
 use audit_event::Events;
 use base_types::{ObjectKey, OutOfMemory, Reason};
 use clouds::Clouds;
@@ -67,6 +68,7 @@ struct Found {
     faults: Vec<Option<Reason>>,
     timeline: Timeline,
     keys: Vec<ObjectKey>,
+    uses: Uses,
 }
 
 // What a setup and its log say, once the log is in the terms of the model of history.
@@ -96,7 +98,7 @@ fn found_of(
       versions = found.parts.past.versions;
       removals = found.parts.past.removals;
       rbac = found.timeline;
-    }) log.now found.parts.windows found.parts.clouds found.faults.items found.keys.items) }
+    }) log.now found.parts.windows found.parts.clouds found.faults.items found.keys.items found.uses) }
 {
     let snapshot = log.snapshot.as_slice();
     let recorded = events.as_slice();
@@ -132,11 +134,13 @@ fn found_of(
     let faults = faults_of(alloc, &bodies, setup.start, logged, past, &makings)?;
     let timeline = timeline_of(alloc, setup, &parts.windows, logged, past, pool)?;
     let keys = keys_of(alloc, past, logged)?;
+    let uses = uses_of(alloc, past.versions())?;
     Ok(Found {
         parts,
         faults,
         timeline,
         keys,
+        uses,
     })
 }
 
@@ -154,7 +158,7 @@ fn joined(setup: Setup, events: Events, pool: Pool, log: Log, found: Found) -> C
       versions = found.parts.past.versions;
       removals = found.parts.past.removals;
       rbac = found.timeline;
-    }) log found.parts.windows found.parts.clouds found.faults.items found.keys.items }
+    }) log found.parts.windows found.parts.clouds found.faults.items found.keys.items found.uses }
     ensures setup { result.setup ≡ setup }
     ensures events { result.events ≡ events }
     ensures told { IsTold result }
@@ -164,6 +168,7 @@ fn joined(setup: Setup, events: Events, pool: Pool, log: Log, found: Found) -> C
         faults,
         timeline,
         keys,
+        uses,
     } = found;
     let Parts {
         order,
@@ -186,6 +191,7 @@ fn joined(setup: Setup, events: Events, pool: Pool, log: Log, found: Found) -> C
         timeline,
         faults,
         keys,
+        uses,
     }
 }
 

@@ -7,6 +7,7 @@ ghost use Rattle.object_past.specs.Faulted.{AreFaults, IsFaultOf};
 ghost use Rattle.object_versions.specs.Modelled.{AreCloudsOf};
 
 use crate::log::Log;
+use crate::uses::Uses;
 use audit_event::{Event, Events};
 use base_types::{ObjectKey, Range, Reason};
 use clouds::Clouds;
@@ -34,6 +35,8 @@ pub struct Context {
     pub(crate) timeline: Timeline,
     pub(crate) faults: Vec<Option<Reason>>,
     pub(crate) keys: Vec<ObjectKey>,
+    // Where each uid comes first, for those who try other objects before a write.
+    pub(crate) uses: Uses,
 }
 
 /// What threads may share, and send to one another.
@@ -80,7 +83,7 @@ impl Model for Context {
       versions = c.past.versions;
       removals = c.past.removals;
       rbac = c.timeline;
-    }) c.log c.windows c.clouds c.faults.items c.keys.items };
+    }) c.log c.windows c.clouds c.faults.items c.keys.items c.uses };
 }
 
 // What is told of the event of this number.

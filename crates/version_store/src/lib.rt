@@ -14,6 +14,7 @@ mod log;
 mod making;
 mod readers;
 mod roles;
+mod uses;
 
 pub use bodies::RequestBodies;
 pub use context::{Context, Shared};

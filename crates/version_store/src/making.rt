@@ -1,4 +1,4 @@
-ghost use Rattle.std.specs.Prelude.{◌≡◌, ◌<◌, ◌↔◌, IfOk, IsTrue, Any, length, option_map};
+ghost use Rattle.std.specs.Prelude.{◌≡◌, IfOk, option_map};
 ghost use Rattle.history_model.specs.Groups as model;
 ghost use Rattle.history_model.specs.Groups.{IsMaking};
 ghost use Rattle.history_model.specs.Making.{IsLeastFault};
@@ -9,7 +9,8 @@ ghost use Rattle.version_store.specs.Histories.{history_of};
 
 use crate::bodies::RequestBodies;
 use crate::context::Context;
-use base_types::{OutOfMemory, Reason, Revision, Text};
+use crate::uses::is_used;
+use base_types::{OutOfMemory, Reason};
 use object_past::Version;
 use object_versions::{Making, making_fault};
 use std::alloc::Global;
@@ -29,13 +30,6 @@ fn making_at(log: &[LogEvent], number: u32) -> Option<Making<'_>>
         }),
         _ => None,
     }
-}
-
-// Whether a version below the revision has the uid.
-fn is_used(versions: &[Version], revision: Revision, uid: &Text) -> bool
-    ensures { IsTrue result ↔ Any (λ v. (v.revision < revision) × (v.uid ≡ uid.now)) versions.now }
-{
-    versions.iter().any(|version| version.revision.get() < revision.get() && version.uid == *uid)
 }
 
 impl Context {
@@ -60,7 +54,7 @@ impl Context {
             log,
             pool: &self.pool,
         };
-        let is_used = is_used(self.past.versions(), making.item.revision, &making.item.uid);
+        let is_used = is_used(&self.uses, making.item.revision, &making.item.uid);
         making_fault(
             alloc,
             &self.windows,

@@ -31,6 +31,13 @@ const POD: &str =
     "subresources":[{"name":"status","effect":"same","shapes":[{"path":"/status","class":"Asked"}]}]}],"snapshot":[
     {"group":"","resource":"pods","object":{"metadata":{"name":"p","namespace":"d","uid":"P","resourceVersion":"9"},"status":{"phase":"new"}}}]}"#;
 
+// A server may fill in what a pod's specification leaves open, and owns its status.
+const FILLED: &str =
+    r#"{"kind":"PastSetup","version":1,"start":{"revision":"10","time":"2024-05-01T10:00:00Z"},"until":"2024-05-01T11:00:00Z",
+    "policy":{"apiVersion":"audit.k8s.io/v1","kind":"Policy","rules":[{"level":"RequestResponse"}]},
+    "resources":[{"group":"","version":"v1","resource":"pods","kind":"Pod","listKind":"PodList","namespaced":true,
+    "shapes":[{"path":"/spec","class":"Defaulted"},{"path":"/status","class":"Owned"}]}],"snapshot":[]}"#;
+
 /// Two lists are known from elsewhere.
 pub const CHECKED: &str =
     r#"{"kind":"PastSetup","version":2,"start":{"revision":"10","time":"2024-05-01T10:00:00Z"},"until":"2024-05-01T11:00:00Z",
@@ -48,7 +55,7 @@ pub const SEEN_EARLY: &str = r#"
 04 06 "verb":"get","requestURI":"/api/v1/namespaces/d/configmaps/a","responseStatus":{"code":200},"responseObject":{"metadata":{"name":"a","namespace":"d","uid":"A","resourceVersion":"14"},"data":{"k":"x"}}
 05 07 "verb":"get","requestURI":"/api/v1/namespaces/d/configmaps/a","responseStatus":{"code":404},"responseObject":{"kind":"Status","apiVersion":"v1","status":"Failure","reason":"NotFound"}"#;
 
-pub static ROWS: [Row; 12] = [
+pub static ROWS: [Row; 14] = [
     Row {
         name: "two writers of one revision",
         setup: TWO_OBJECTS,
@@ -152,6 +159,24 @@ pub static ROWS: [Row; 12] = [
 03 04 "verb":"delete","requestURI":"/api/v1/namespaces/d/configmaps/f","responseStatus":{"code":200},"responseObject":{"metadata":{"name":"f","namespace":"d","uid":"F","resourceVersion":"34","finalizers":["x/y"],"deletionTimestamp":"2024-05-01T10:00:03Z","deletionGracePeriodSeconds":0},"data":{"k":"x"}}
 05 06 "verb":"update","requestURI":"/api/v1/namespaces/d/configmaps/f","responseStatus":{"code":200},"requestObject":{"metadata":{"name":"f","namespace":"d","uid":"F","resourceVersion":"34","deletionTimestamp":"2024-05-01T10:00:03Z","deletionGracePeriodSeconds":0},"data":{"k":"x"}},"responseObject":{"metadata":{"name":"f","namespace":"d","uid":"F","resourceVersion":"34","deletionTimestamp":"2024-05-01T10:00:03Z","deletionGracePeriodSeconds":0},"data":{"k":"x"}}"#,
         found: "33 Event(0) [0]; 34 Event(1) [1]; removal 2 at 35..; event 0 at 10..33 None; event 1 at 33.. None; event 2 at 34.. None; ",
+    },
+    Row {
+        name: "fields that a server fills in, and one that it changes",
+        setup: FILLED,
+        log: r#"
+01 02 "verb":"create","requestURI":"/api/v1/namespaces/d/pods","responseStatus":{"code":201},"requestObject":{"metadata":{"name":"q","namespace":"d"},"spec":{"containers":[{"name":"c","image":"i"}]}},"responseObject":{"metadata":{"name":"q","namespace":"d","uid":"Q","resourceVersion":"12"},"spec":{"containers":[{"name":"c","image":"i","imagePullPolicy":"Always"}],"restartPolicy":"Always"},"status":{"phase":"Pending"}}
+03 04 "verb":"create","requestURI":"/api/v1/namespaces/d/pods","responseStatus":{"code":201},"requestObject":{"metadata":{"name":"r","namespace":"d"},"spec":{"containers":[{"name":"c","image":"i"}]}},"responseObject":{"metadata":{"name":"r","namespace":"d","uid":"R","resourceVersion":"13"},"spec":{"containers":[{"name":"c","image":"j"}]},"status":{"phase":"Pending"}}"#,
+        found: "12 Event(0) [0]; 13 Event(1) [1]; event 0 at 10..12 None; event 1 at 12.. Some(U8); ",
+    },
+    Row {
+        name: "a revision that an unseen write made",
+        setup: TWO_OBJECTS,
+        log: r#"
+01 02 "verb":"update","requestURI":"/api/v1/namespaces/d/configmaps/a","responseStatus":{"code":200},"requestObject":{"metadata":{"name":"a","namespace":"d"},"data":{"k":"y"}},"responseObject":{"metadata":{"name":"a","namespace":"d","uid":"A","resourceVersion":"12"},"data":{"k":"y"}}
+03 08 "verb":"patch","requestURI":"/api/v1/namespaces/d/configmaps/a","responseStatus":{"code":504},"requestObject":{"data":{"k":"z"}}
+04 07 "verb":"update","requestURI":"/api/v1/namespaces/d/configmaps/a","responseStatus":{"code":200},"requestObject":{"metadata":{"name":"a","namespace":"d"},"data":{"k":"z"}},"responseObject":{"metadata":{"name":"a","namespace":"d","uid":"E","resourceVersion":"13"},"data":{"k":"z"}}"#,
+        found: "8 Snapshot []; 9 Snapshot []; 12 Event(0) [0]; 13 Unknown [2]; event 0 at 10..12 None; event 1 at 12.. None; \
+            event 2 at 12.. None; ",
     },
     Row {
         name: "checkpoints",

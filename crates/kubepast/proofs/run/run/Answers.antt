@@ -29,6 +29,9 @@ returns-in-Judge-clause-answer g c = λ files tells.
 pub returns-in-Judge-clause-usage : goal.returns-in-Judge-clause-usage
 returns-in-Judge-clause-usage g c = λ none. absurd (none (Judge c.in-Judge.setup.now c.in-Judge.log.now) c.in-Judge.ensures)
 
+pub returns-in-Judge-clause-desk_left : goal.returns-in-Judge-clause-desk_left
+returns-in-Judge-clause-desk_left g c = λ no_judge. absurd (no_judge c.in-Judge.setup.now c.in-Judge.log.now c.in-Judge.ensures)
+
 pub returns-in-Judge-clause-setup_taken : goal.returns-in-Judge-clause-setup_taken
 returns-in-Judge-clause-setup_taken g c = λ setup log asked.
     of_names (map (string_bytes {Z = Global}) c.args.words.now) c.in-Judge.setup.now c.in-Judge.log.now setup log (λ s l. TakesSetup (g.D.Desk.left c.args.desk.now s) (g.D.Desk.left c.judged-found.new.desk s) (c.conclude.result ≡ 5)) c.in-Judge.ensures asked

@@ -14,6 +14,8 @@ use Rattle.version_store.proofs.Ranging.{numbers_are}
 use Rattle.version_store.specs.Histories.{history_of}
 use Rattle.version_store.specs.Keyed.{AreKeys}
 use Rattle.version_store.specs.Makings.{AreMakingsOf}
+use Rattle.version_store.specs.Uses.{AreUses}
+use Rattle.object_past.specs.declared.version.Version.{Version}
 use Rattle.version_store.proofs.build.found_of.Goals as goal
 
 pub past_of-requires-clause-few : goal.past_of-requires-clause-few
@@ -120,4 +122,5 @@ returns c =
           (has_bodies setup events trees log found kept roles versions removals c.as_slice-recorded.result.now c.as_slice-logged.result.now told logged)
           (record { versions = refl; removals = refl }) codes (ap (map event_of) (sym logged));
       keys_of = subst (λ (l : List LogEvent). AreKeys kept.versions l c.in_ok-keys.keys.items) logged c.in_ok-keys.ensures;
+      uses_of = subst (λ (vs : List Version). AreUses vs c.in_ok-uses.uses) c.versions.ensures.versions c.in_ok-uses.ensures;
     }

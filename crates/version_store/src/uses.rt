@@ -1,0 +1,51 @@
+ghost use Rattle.std.specs.Prelude.{◌≡◌, ◌++◌, ◌∷◌, [], List, Some, IfOk, OnOk};
+ghost use Rattle.std.specs.BTreeMap.{Updates, get};
+ghost use Rattle.clouds.specs.Kept.{text_order};
+ghost use Rattle.object_past.specs.declared.version.Version.{Version as Recorded};
+ghost use Rattle.version_store.specs.Uses.{AreUses, is_used_below};
+
+use base_types::{OutOfMemory, Revision, Text};
+use object_past::Version;
+use std::alloc::Global;
+use std::collections::BTreeMap;
+
+/// The least revision of a version with each uid.
+pub type Uses = BTreeMap<Text, u64>;
+
+/// Whether a version below the revision has the uid.
+pub fn is_used(uses: &Uses, revision: Revision, uid: &Text) -> bool
+    ensures { result ≡ is_used_below (get text_order uses.now uid.now) revision }
+{
+    match uses.get(uid) {
+        Some(first) => *first < revision.get(),
+        None => false,
+    }
+}
+
+fn put_use(uses: &mut Uses, uid: &Text, revision: u64) -> Result<(), OutOfMemory>
+    ensures { OnOk result (Updates text_order uses.old uses.new uid.now (Some revision)) }
+{
+    let copy = uid.clone()?;
+    let _later = uses.insert(copy, revision)?;
+    Ok(())
+}
+
+fn add_use(uses: &mut Uses, version: &Version) -> Result<(), OutOfMemory>
+    ensures { OnOk result ((versions : List Recorded) → AreUses versions uses.old → AreUses (versions ++ version.now ∷ []) uses.new) }
+{
+    if is_used(uses, version.revision, &version.uid) {
+        return Ok(());
+    }
+    put_use(uses, &version.uid, version.revision.get())
+}
+
+/// Where the uid of each version comes first.
+pub fn uses_of(alloc: Global, versions: &[Version]) -> Result<Uses, OutOfMemory>
+    ensures { IfOk result (AreUses versions.now) }
+{
+    let mut uses = Uses::new(alloc);
+    for version in versions {
+        add_use(&mut uses, version)?;
+    }
+    Ok(uses)
+}
