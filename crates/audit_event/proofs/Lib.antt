@@ -1,3 +1,2 @@
-pub mod BodyLemmas
 pub mod KeepingLemmas
 pub mod RuleLemmas

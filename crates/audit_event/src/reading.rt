@@ -241,3 +241,6 @@ pub fn read_event(alloc: Global, line: &Line) -> Result<Event, EventFault>
     };
     read_value(alloc, &value, line.number)
 }
+
+#[cfg(test)]
+mod tests;

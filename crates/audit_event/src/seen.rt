@@ -224,3 +224,6 @@ impl Seen {
         Events::from_vec(kept)
     }
 }
+
+#[cfg(test)]
+mod tests;

@@ -37,3 +37,6 @@ pub fn level_of(policy: &Policy, attrs: &RequestAttrs, user: &User) -> (PolicyLe
         None => (PolicyLevel::NoLevel, policy.omitted),
     }
 }
+
+#[cfg(test)]
+mod tests;

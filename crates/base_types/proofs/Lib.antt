@@ -5,4 +5,3 @@ pub mod MatchingLemmas
 pub mod Lending
 pub mod Quantifiers
 pub mod RevisionTexts
-pub mod Upto

@@ -123,3 +123,6 @@ impl Clouds {
         self.reaches(key, revision.get(), revision.get())
     }
 }
+
+#[cfg(test)]
+mod tests;

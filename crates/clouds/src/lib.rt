@@ -11,4 +11,3 @@ mod unrecorded;
 
 pub use clouds::Clouds;
 pub use span::{KeyRevision, KeyRevisions, OpaqueSpan, OpaqueSpans};
-pub use unrecorded::earlier;

@@ -1,3 +1,4 @@
+pub mod Keys
 pub mod Events
 pub mod Histories
 pub mod Judging

@@ -12,3 +12,6 @@ pub use applying::apply;
 pub use fault::{ApplyCause, ApplyFault, PatchFault};
 pub use op::{Op, Patch};
 pub use reading::read_patch;
+
+#[cfg(test)]
+mod tests;

@@ -4,3 +4,6 @@
 mod merging;
 
 pub use merging::merge;
+
+#[cfg(test)]
+mod tests;

@@ -13,3 +13,6 @@ mod store;
 
 pub use fault::PoolFault;
 pub use pool::{NodeId, Pool};
+
+#[cfg(test)]
+mod tests;

@@ -9,3 +9,6 @@ mod reaching;
 mod reading;
 
 pub use chain::chains;
+
+#[cfg(test)]
+mod tests;

@@ -85,3 +85,6 @@ pub fn grants(rules: &[PolicyRule], attrs: &RequestAttrs) -> bool
 {
     rules.iter().any(|rule| rule.grants(attrs))
 }
+
+#[cfg(test)]
+mod tests;

@@ -41,3 +41,6 @@ pub fn subject_matches(subject: &Subject, who: &User) -> bool
         }
     }
 }
+
+#[cfg(test)]
+mod tests;

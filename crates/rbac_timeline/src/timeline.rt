@@ -707,3 +707,6 @@ impl Timeline {
         }
     }
 }
+
+#[cfg(test)]
+mod tests;

@@ -74,3 +74,6 @@ pub fn log_of(
         selectors,
     })
 }
+
+#[cfg(test)]
+mod tests;

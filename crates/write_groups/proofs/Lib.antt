@@ -7,4 +7,3 @@ pub mod Judging
 pub mod Covering
 pub mod Earliest
 pub mod Timing
-pub mod Meeting
