@@ -12,7 +12,8 @@ use Rattle.answer_class.specs.Bodies.{is_finalizing, is_ended, answered_object}
 use Rattle.answer_class.specs.Classes.{key_named, path_key, saw, listed, listed_within, read_by, read_class, is_missing, asked_name, is_taken, is_conflict, conflict_class, taken_class, refused_class, is_outside, is_out_of_sight, later_class, removed_uid, removed, is_made_by, made_class, is_hidden, succeeded_class, is_dry, is_idle, tracked_class, class_in, class_of}
 use Rattle.answer_class.specs.Covers.{cover_of}
 use Rattle.answer_class.specs.Lists.{extent_of, answered_list}
-use Rattle.answer_class.specs.Requests.{is_empty, verb_of, is_write, is_read, is_completing, tracked_of, effect_of, is_own, is_unknown, succeeds, is_code, is_done, is_open}
+use Rattle.setup_file.specs.Requests.{tracked_of}
+use Rattle.answer_class.specs.Requests.{is_empty, verb_of, is_write, is_read, is_completing, effect_of, is_own, is_unknown, succeeds, is_code, is_done, is_open}
 use Rattle.answer_class.specs.Table.{when, is_write_event, is_read_event, idle_request, bygone_write, unanswered_write, unrecorded_write, is_made, counts, made_object, made_before, removed_object, other_write, outside_log, unknown_read, old_read, not_found, already_exists, conflict, is_get, is_list, got_object, listed_objects, other_read, rows, first_row, by_table_of, by_table}
 use Rattle.answer_class.specs.Times.{is_early, is_before}
 use Rattle.answer_class.specs.declared.answer.Answer.{Answer}

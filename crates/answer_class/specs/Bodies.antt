@@ -1,24 +1,19 @@
 -- What the bodies of an event say (Kubernetes API, `meta/v1`, ObjectMeta, DeleteOptions and Preconditions).
-use Rattle.std.specs.Prelude.{ℕ, ℤ, pos, ◌&&◌, ◌||◌, Bool, false, not, List, Option, Some, None, codes, int_lt, is_some}
+use Rattle.std.specs.Prelude.{ℕ, ℤ, pos, ◌&&◌, ◌||◌, Bool, false, not, List, Option, Some, None, codes, int_lt}
 use Rattle.json_tree.specs.Meaning.{Meaning}
-use Rattle.json_tree.specs.Parts.{member_of, is_null, whole_of, items_of, members_of}
+use Rattle.json_tree.specs.Parts.{member_of, is_null, whole_of, items_of}
 use Rattle.json_tree.specs.Texts.{◌>>=◌}
 use Rattle.base_types.specs.declared.request.RequestAttrs.{RequestAttrs}
 use Rattle.audit_event.specs.declared.event.Body.{Body}
-use Rattle.audit_event.specs.declared.event.Body.TheVariants.{Absent, Kept, Unread}
 use Rattle.audit_event.specs.declared.event.Event.{Event}
-use Rattle.setup_file.specs.Forms.{text_at}
 use Rattle.setup_file.specs.Objects.{object_of}
 use Rattle.setup_file.specs.declared.setup.SnapshotObject.{SnapshotObject}
 use Rattle.setup_file.specs.declared.setup.Tracked.{Tracked}
-use Rattle.answer_class.specs.Requests.{is_empty, has_query}
+use Rattle.setup_file.specs.Requests.{is_merge_patch}
+use Rattle.answer_class.specs.Requests.{is_empty}
 use Rattle.answer_class.specs.declared.request.Verb.{Verb}
 use Rattle.answer_class.specs.declared.request.Verb.TheVariants.{Create, Update, Patch, Delete, DeleteCollection, Get, Listing, Other}
-
-abbrev pub kept : Body → Option Meaning
-kept Absent = None
-kept (Kept tree) = Some tree
-kept Unread = None
+use Rattle.audit_event.specs.Bodies.{kept}
 
 abbrev pub are_some : Option (List Meaning) → Bool
 are_some None = false
@@ -74,15 +69,10 @@ asks_dry Get request = false
 asks_dry Listing request = false
 asks_dry Other request = false
 
--- a patch's body is an apply configuration (Kubernetes "Server-Side Apply")
-abbrev pub is_apply : RequestAttrs → Meaning → Bool
-is_apply attrs body = is_some (text_at (codes "apiVersion") body) && is_some (text_at (codes "kind") body) && has_query (codes "fieldManager") attrs
-
--- a patch's body is a merge patch (RFC 7386): an object that is no apply configuration, where the resource's patches
--- that are objects are merge patches
+-- a patch's body is there, and is a merge patch
 abbrev pub is_merge_body : Tracked → RequestAttrs → Option Meaning → Bool
 is_merge_body tracked attrs None = false
-is_merge_body tracked attrs (Some body) = is_some (members_of body) && not (is_apply attrs body) && tracked.merges
+is_merge_body tracked attrs (Some body) = is_merge_patch tracked attrs body
 
 abbrev pub is_merge : Tracked → Event → Bool
 is_merge tracked event = is_merge_body tracked event.attrs (kept event.request)

@@ -13,11 +13,13 @@ use Rattle.setup_file.specs.declared.lists.ListRead.{ListRead}
 use Rattle.setup_file.specs.declared.setup.Setup.{Setup}
 use Rattle.setup_file.specs.declared.setup.SnapshotObject.{SnapshotObject}
 use Rattle.setup_file.specs.declared.setup.Tracked.{Tracked}
-use Rattle.answer_class.specs.Bodies.{kept, is_finalizing, is_ended, answered_object, asks_dry}
+use Rattle.audit_event.specs.Bodies.{kept}
+use Rattle.answer_class.specs.Bodies.{is_finalizing, is_ended, answered_object, asks_dry}
 use Rattle.answer_class.specs.Conditions.{tracked_conditions, has_conditions}
 use Rattle.answer_class.specs.Covers.{is_create, cover_of}
 use Rattle.answer_class.specs.Lists.{extent_of, list_namespace, answered_list, is_odd, is_old_list}
-use Rattle.answer_class.specs.Requests.{is_empty, verb_of, is_write, is_read, is_completing, is_full, tracked_of, is_elsewhere, effect_of, is_own, is_nothing, is_unknown, has_filled, first_value, succeeds, is_code, is_done, is_open}
+use Rattle.setup_file.specs.Requests.{tracked_of}
+use Rattle.answer_class.specs.Requests.{is_empty, verb_of, is_write, is_read, is_completing, is_full, is_elsewhere, effect_of, is_own, is_nothing, is_unknown, has_filled, first_value, succeeds, is_code, is_done, is_open}
 use Rattle.answer_class.specs.Times.{is_early, is_before, is_late}
 use Rattle.answer_class.specs.declared.answer.Answer.{Answer}
 use Rattle.answer_class.specs.declared.answer.Answer.TheVariants.{Made, Removed, Opaque, Saw, SawNone, SawSome, SawOther, Listed, Free, Aside}

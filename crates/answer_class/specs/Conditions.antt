@@ -8,8 +8,10 @@ use Rattle.audit_event.specs.declared.event.Event.{Event}
 use Rattle.setup_file.specs.Forms.{filled_at, revision_at}
 use Rattle.setup_file.specs.declared.setup.Setup.{Setup}
 use Rattle.setup_file.specs.declared.setup.Tracked.{Tracked}
-use Rattle.answer_class.specs.Bodies.{kept, is_merge}
-use Rattle.answer_class.specs.Requests.{tracked_of, verb_of}
+use Rattle.audit_event.specs.Bodies.{kept}
+use Rattle.answer_class.specs.Bodies.{is_merge}
+use Rattle.setup_file.specs.Requests.{tracked_of}
+use Rattle.answer_class.specs.Requests.{verb_of}
 use Rattle.answer_class.specs.declared.conditions.Conditions.{Conditions}
 use Rattle.answer_class.specs.declared.request.Verb.{Verb}
 use Rattle.answer_class.specs.declared.request.Verb.TheVariants.{Create, Update, Patch, Delete, DeleteCollection, Get, Listing, Other}

@@ -10,7 +10,7 @@ use Rattle.base_types.specs.declared.request.RequestAttrs.{RequestAttrs}
 use Rattle.audit_event.specs.declared.event.Event.{Event}
 use Rattle.setup_file.specs.Forms.{filled_at}
 use Rattle.setup_file.specs.declared.setup.Tracked.{Tracked}
-use Rattle.answer_class.specs.Bodies.{kept}
+use Rattle.audit_event.specs.Bodies.{kept}
 use Rattle.answer_class.specs.Requests.{is_empty, verb_of}
 use Rattle.answer_class.specs.declared.request.Verb.{Verb}
 use Rattle.answer_class.specs.declared.request.Verb.TheVariants.{Create, Update, Patch, Delete, DeleteCollection, Get, Listing, Other}

@@ -13,7 +13,7 @@ use Rattle.setup_file.specs.Lists.{list_of}
 use Rattle.setup_file.specs.declared.lists.ListRead.{ListRead}
 use Rattle.setup_file.specs.declared.setup.Setup.{Setup}
 use Rattle.setup_file.specs.declared.setup.Tracked.{Tracked}
-use Rattle.answer_class.specs.Bodies.{kept}
+use Rattle.audit_event.specs.Bodies.{kept}
 use Rattle.answer_class.specs.Requests.{is_empty, is_filled, has_filled, first_value}
 use Rattle.answer_class.specs.declared.lists.Extent.{Extent}
 use Rattle.answer_class.specs.declared.request.Verb.{Verb}

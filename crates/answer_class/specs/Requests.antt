@@ -7,8 +7,7 @@ use Rattle.base_types.specs.declared.request.Pair.{Pair}
 use Rattle.base_types.specs.declared.request.RequestAttrs.{RequestAttrs}
 use Rattle.base_types.specs.declared.request.Stage.{Stage}
 use Rattle.base_types.specs.declared.request.Stage.TheVariants.{Received, Started, Complete, Panic}
-use Rattle.setup_file.specs.Resources.{tracked_as}
-use Rattle.setup_file.specs.declared.setup.Setup.{Setup}
+use Rattle.setup_file.specs.Requests.{subresource_named}
 use Rattle.setup_file.specs.declared.setup.Subresource.{Subresource}
 use Rattle.setup_file.specs.declared.setup.Tracked.{Tracked}
 use Rattle.answer_class.specs.declared.request.Verb.{Verb}
@@ -62,10 +61,6 @@ is_full Metadata = false
 is_full Request = false
 is_full RequestResponse = true
 
--- the tracked resource of a request for a resource
-abbrev pub tracked_of : Setup → RequestAttrs → Option Tracked
-tracked_of setup attrs = if attrs.is_resource then tracked_as setup.resources attrs.group attrs.resource else None
-
 -- the request is for another version of the resource than the one that is judged
 abbrev pub is_elsewhere : Tracked → RequestAttrs → Bool
 is_elsewhere tracked attrs = not (bytes_eq attrs.version tracked.version)
@@ -77,7 +72,7 @@ effect_by (Some subresource) = if subresource.same then Same else Nothing
 
 abbrev pub effect_of : Tracked → RequestAttrs → Effect
 effect_of tracked attrs =
-    if is_empty attrs.subresource then Own else effect_by (find (λ (s : Subresource). bytes_eq s.name attrs.subresource) tracked.subresources)
+    if is_empty attrs.subresource then Own else effect_by (subresource_named attrs.subresource tracked)
 
 abbrev pub is_own : Effect → Bool
 is_own Own = true
@@ -96,10 +91,6 @@ is_unknown Own = false
 is_unknown Same = false
 is_unknown Nothing = false
 is_unknown Unknown = true
-
--- the query has a member of this name, the empty value among others
-abbrev pub has_query : List ℕ → RequestAttrs → Bool
-has_query name attrs = list_any (λ (p : Pair). bytes_eq p.name name) attrs.query
 
 -- the query has a member of this name with a value that isn't empty
 abbrev pub is_filled : List ℕ → Pair → Bool

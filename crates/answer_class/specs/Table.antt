@@ -10,7 +10,8 @@ use Rattle.answer_class.specs.Bodies.{answered_object}
 use Rattle.answer_class.specs.Classes.{key_named, path_key, listed_within, is_missing, asked_name, is_taken, is_conflict, is_outside, is_out_of_sight, removed_uid, is_made_by, is_hidden, is_dry, is_idle}
 use Rattle.answer_class.specs.Covers.{cover_of}
 use Rattle.answer_class.specs.Lists.{extent_of, answered_list}
-use Rattle.answer_class.specs.Requests.{is_empty, verb_of, is_write, is_read, is_completing, tracked_of, effect_of, is_own, is_unknown, succeeds, is_code, is_done, is_open}
+use Rattle.setup_file.specs.Requests.{tracked_of}
+use Rattle.answer_class.specs.Requests.{is_empty, verb_of, is_write, is_read, is_completing, effect_of, is_own, is_unknown, succeeds, is_code, is_done, is_open}
 use Rattle.answer_class.specs.Times.{is_early, is_before}
 use Rattle.answer_class.specs.declared.answer.Answer.{Answer}
 use Rattle.answer_class.specs.declared.answer.Answer.TheVariants.{Made, Removed, Opaque, Saw, SawNone, SawSome, SawOther, Free, Aside}

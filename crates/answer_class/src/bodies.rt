@@ -1,24 +1,14 @@
 ghost use Rattle.std.specs.Prelude.{◌≡◌, IfOk, option_map, option_and_then};
 ghost use Rattle.json_tree.specs.Parts.{member_of};
-ghost use Rattle.setup_file.specs.Forms.{non_empty, text_at, filled_at, revision_at};
-ghost use Rattle.answer_class.specs.Bodies.{kept, has_items, is_positive, is_there, metadata_at, is_deleted, is_finalizing, is_ended, answered_object, asks_dry, is_apply, is_merge_body, is_merge};
+ghost use Rattle.audit_event.specs.Bodies.{kept};
+ghost use Rattle.answer_class.specs.Bodies.{has_items, is_positive, is_there, metadata_at, is_deleted, is_finalizing, is_ended, answered_object, asks_dry, is_merge_body, is_merge};
 
-use crate::request::{Verb, has_query};
+use crate::request::Verb;
 use audit_event::{Body, Event};
-use base_types::{OutOfMemory, RequestAttrs, Revision, Text};
+use base_types::{OutOfMemory, RequestAttrs};
 use json_tree::Tree;
-use setup_file::{SnapshotObject, Tracked, canonical, read_object};
+use setup_file::{SnapshotObject, Tracked, is_merge_patch, read_object};
 use std::alloc::Global;
-
-/// The tree of a body that was recorded.
-pub fn kept(body: &Body) -> Option<&Tree>
-    ensures { option_map (λ tree. tree.now) result ≡ kept body.now }
-{
-    match body {
-        Body::Kept(tree) => Some(tree),
-        _ => None,
-    }
-}
 
 fn has_items(member: Option<&Tree>) -> bool
     ensures { result ≡ has_items (option_map (λ tree. tree.now) member.entry) }
@@ -91,7 +81,7 @@ pub fn answered_object(
     ensures { IfOk result (λ found. found ≡ answered_object tracked.now event.now) }
 {
     let attrs = &event.attrs;
-    match kept(&event.response) {
+    match event.response.kept() {
         Some(tree) => read_object(alloc, tracked, &attrs.name, &attrs.namespace, tree),
         None => Ok(None),
     }
@@ -101,7 +91,7 @@ pub fn answered_object(
 pub fn body_member<'a>(body: &'a Body, name: &str) -> Option<&'a Tree>
     ensures { option_map (λ tree. tree.now) result ≡ option_and_then (member_of name.now) (kept body.now) }
 {
-    kept(body)?.member(name)
+    body.kept()?.member(name)
 }
 
 /// Whether a deletion asks for a dry run in its body.
@@ -114,44 +104,11 @@ pub fn asks_dry(verb: Verb, request: &Body) -> bool
     }
 }
 
-pub fn text_at<'a>(tree: &'a Tree, name: &str) -> Option<&'a Text>
-    ensures { option_map (λ text. text.now) result ≡ text_at name.now tree.now }
-{
-    tree.member(name)?.as_text()
-}
-
-fn non_empty(text: &Text) -> Option<&Text>
-    ensures { option_map (λ text. text.now) result ≡ non_empty text.now }
-{
-    if text.is_empty() { None } else { Some(text) }
-}
-
-/// The text of a member, where it has at least one byte.
-pub fn filled_at<'a>(tree: &'a Tree, name: &str) -> Option<&'a Text>
-    ensures { option_map (λ text. text.now) result ≡ filled_at name.now tree.now }
-{
-    non_empty(text_at(tree, name)?)
-}
-
-pub fn revision_at(tree: &Tree, name: &str) -> Option<Revision>
-    ensures { result ≡ revision_at name.now tree.now }
-{
-    canonical(text_at(tree, name)?)
-}
-
-fn is_apply(attrs: &RequestAttrs, body: &Tree) -> bool
-    ensures { result ≡ is_apply attrs.now body.now }
-{
-    text_at(body, "apiVersion").is_some()
-        && text_at(body, "kind").is_some()
-        && has_query(attrs, "fieldManager")
-}
-
 fn is_merge_body(tracked: &Tracked, attrs: &RequestAttrs, body: Option<&Tree>) -> bool
     ensures { result ≡ is_merge_body tracked.now attrs.now (option_map (λ tree. tree.now) body.entry) }
 {
     match body {
-        Some(body) => body.as_members().is_some() && !is_apply(attrs, body) && tracked.merges,
+        Some(body) => is_merge_patch(tracked, attrs, body),
         None => false,
     }
 }
@@ -160,5 +117,5 @@ fn is_merge_body(tracked: &Tracked, attrs: &RequestAttrs, body: Option<&Tree>) -
 pub fn is_merge(tracked: &Tracked, event: &Event) -> bool
     ensures { result ≡ is_merge tracked.now event.now }
 {
-    is_merge_body(tracked, &event.attrs, kept(&event.request))
+    is_merge_body(tracked, &event.attrs, event.request.kept())
 }

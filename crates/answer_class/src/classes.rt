@@ -5,20 +5,20 @@ ghost use Rattle.answer_class.specs.Classes.{key_named, path_key, saw, listed, g
 ghost use Rattle.answer_class.specs.Table.{by_table};
 
 use crate::answer::Answer;
-use crate::bodies::{answered_object, asks_dry, body_member, filled_at, is_ended, is_finalizing};
+use crate::bodies::{answered_object, asks_dry, body_member, is_ended, is_finalizing};
 use crate::conditions::{has_conditions, tracked_conditions};
 use crate::covers::{cover_of, is_create};
 use crate::lists::{Extent, answered_list, extent_of, is_odd, is_old_list};
 use crate::request::{
     Effect, Verb, effect_of, first_value, has_filled, is_code, is_completing, is_done,
     is_elsewhere, is_full, is_nothing, is_open, is_own, is_read, is_unknown, is_write, succeeds,
-    tracked_of, verb_of,
+    verb_of,
 };
 use crate::times::{is_before, is_early, is_late};
 use audit_event::{Event, Status};
 use base_types::{ObjectKey, OutOfMemory, RequestAttrs, Text};
 use json_tree::Tree;
-use setup_file::{ListRead, Setup, SnapshotObject, Tracked};
+use setup_file::{ListRead, Setup, SnapshotObject, Tracked, filled_at, tracked_of};
 use std::alloc::Global;
 
 // The key of the object of this name in the path's namespace.

@@ -1,12 +1,12 @@
 ghost use Rattle.std.specs.Prelude.{◌≡◌, IfOk, option_map};
 ghost use Rattle.answer_class.specs.Conditions.{no_conditions, conditions_at, conditions_by, tracked_conditions, conditions_of, has_conditions};
 
-use crate::bodies::{body_member, filled_at, is_merge, revision_at};
-use crate::request::{Verb, tracked_of, verb_of};
+use crate::bodies::{body_member, is_merge};
+use crate::request::{Verb, verb_of};
 use audit_event::{Body, Event};
 use base_types::{OutOfMemory, Revision, Text};
 use json_tree::Tree;
-use setup_file::{Setup, Tracked};
+use setup_file::{Setup, Tracked, filled_at, revision_at, tracked_of};
 use std::alloc::Global;
 
 /// What a request asks of the object that it is for (Kubernetes `meta/v1`, Preconditions).

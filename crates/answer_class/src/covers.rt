@@ -1,12 +1,12 @@
 ghost use Rattle.std.specs.Prelude.{◌≡◌, IfOk, option_map};
 ghost use Rattle.answer_class.specs.Covers.{is_create, created_name, cover_name, cover_namespace, cover_of};
 
-use crate::bodies::{body_member, filled_at};
+use crate::bodies::body_member;
 use crate::request::{Verb, verb_of};
 use audit_event::Event;
 use base_types::{Cover, CoverName, OutOfMemory, RequestAttrs, Text};
 use json_tree::Tree;
-use setup_file::Tracked;
+use setup_file::{Tracked, filled_at};
 use std::alloc::Global;
 
 pub fn is_create(verb: Verb) -> bool

@@ -13,13 +13,10 @@ mod request;
 mod times;
 
 pub use answer::{Answer, Item, Items};
-pub use bodies::{filled_at, kept, metadata_at};
+pub use bodies::metadata_at;
 pub use classes::class_of;
 pub use conditions::{Conditions, conditions_of};
 pub use labels::listable;
 pub use lists::one_at_most;
 pub use request::{first_value, has_filled, is_completing};
 pub use times::is_late;
-
-#[cfg(test)]
-mod tests;

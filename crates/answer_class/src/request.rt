@@ -1,9 +1,8 @@
-ghost use Rattle.std.specs.Prelude.{◌≡◌, option_map, find, bytes_eq};
-ghost use Rattle.setup_file.specs.Resources.{is_resource, tracked_as};
-ghost use Rattle.answer_class.specs.Requests.{verb_of, is_write, is_read, is_completing, is_full, tracked_of, is_elsewhere, effect_of, is_own, is_nothing, is_unknown, has_query, is_filled, has_filled, first_value, code_within, succeeds, is_code, is_done, is_open};
+ghost use Rattle.std.specs.Prelude.{◌≡◌, option_map};
+ghost use Rattle.answer_class.specs.Requests.{verb_of, is_write, is_read, is_completing, is_full, is_elsewhere, effect_of, is_own, is_nothing, is_unknown, is_filled, has_filled, first_value, code_within, succeeds, is_code, is_done, is_open};
 
 use base_types::{Level, Pair, RequestAttrs, Stage, Text};
-use setup_file::{Setup, Subresource, Tracked};
+use setup_file::{Tracked, subresource_named};
 
 /// A request verb of the Kubernetes API (Kubernetes "Authorization", "Request verbs").
 #[derive(Clone, Copy, Debug, PartialEq, Eq)]
@@ -75,46 +74,11 @@ pub fn is_full(level: Level) -> bool
     matches!(level, Level::RequestResponse)
 }
 
-fn is_resource(tracked: &Tracked, attrs: &RequestAttrs) -> bool
-    ensures { result ≡ is_resource attrs.now.group attrs.now.resource tracked.now }
-{
-    tracked.group == attrs.group && tracked.resource == attrs.resource
-}
-
-fn resource_of<'a>(setup: &'a Setup, attrs: &RequestAttrs) -> Option<&'a Tracked>
-    ensures { option_map (λ tracked. tracked.now) result ≡ tracked_as setup.now.resources attrs.now.group attrs.now.resource }
-{
-    setup
-        .resources
-        .iter()
-        .find(|tracked| is_resource(tracked, attrs))
-}
-
-/// The tracked resource that a request is for.
-pub fn tracked_of<'a>(setup: &'a Setup, attrs: &RequestAttrs) -> Option<&'a Tracked>
-    ensures { option_map (λ tracked. tracked.now) result ≡ tracked_of setup.now attrs.now }
-{
-    if attrs.is_resource {
-        resource_of(setup, attrs)
-    } else {
-        None
-    }
-}
-
 /// Whether a request is for another version of the resource than the one that is judged.
 pub fn is_elsewhere(tracked: &Tracked, attrs: &RequestAttrs) -> bool
     ensures { result ≡ is_elsewhere tracked.now attrs.now }
 {
     attrs.version != tracked.version
-}
-
-fn subresource_of<'a>(tracked: &'a Tracked, name: &Text) -> Option<&'a Subresource>
-    ensures { option_map (λ s. s.now) result ≡ find (λ s. bytes_eq s.name name.now) tracked.now.subresources }
-{
-    tracked
-        .subresources
-        .iter()
-        .find(|subresource| subresource.name == *name)
 }
 
 pub fn effect_of(tracked: &Tracked, attrs: &RequestAttrs) -> Effect
@@ -123,7 +87,7 @@ pub fn effect_of(tracked: &Tracked, attrs: &RequestAttrs) -> Effect
     if attrs.subresource.is_empty() {
         return Effect::Own;
     }
-    match subresource_of(tracked, &attrs.subresource) {
+    match subresource_named(tracked, &attrs.subresource) {
         Some(subresource) if subresource.same => Effect::Same,
         Some(_) => Effect::Nothing,
         None => Effect::Unknown,
@@ -146,13 +110,6 @@ pub fn is_unknown(effect: Effect) -> bool
     ensures { result ≡ is_unknown effect }
 {
     matches!(effect, Effect::Unknown)
-}
-
-/// Whether the query has a member of this name.
-pub fn has_query(attrs: &RequestAttrs, name: &str) -> bool
-    ensures { result ≡ has_query name.now attrs.now }
-{
-    attrs.query.iter().any(|pair| pair.name.as_str() == name)
 }
 
 /// Whether a member has this name and a value that isn't empty.

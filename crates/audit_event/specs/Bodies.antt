@@ -22,6 +22,12 @@ request_in value = body_of (present (codes "requestObject") value)
 abbrev pub response_in : Data → Body
 response_in value = body_of (present (codes "responseObject") value)
 
+-- the tree of a body that was recorded
+abbrev pub kept : Body → Option Meaning
+kept Absent = None
+kept (Kept tree) = Some tree
+kept Unread = None
+
 abbrev pub is_kept : Body → Bool
 is_kept Absent = false
 is_kept (Kept tree) = true

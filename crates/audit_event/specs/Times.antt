@@ -1,11 +1,12 @@
 -- When a request was received and when the event's stage was reached.
-use Rattle.std.specs.Prelude.{ℕ, ◌^◌, ℤ, pos, neg_ℤ, ◌≤ℤ◌, int_lt, List, Option, Some, None, option_and_then, option_map, codes, if◌then◌else◌}
+use Rattle.std.specs.Prelude.{ℕ, ℤ, ◌≤ℤ◌, int_lt, List, Option, Some, None, option_and_then, option_map, codes, if◌then◌else◌}
 use Rattle.std.specs.Result.{result_ok}
 use Rattle.serde_json.specs.Data.{Data}
 use Rattle.jiff_fmt.specs.Temporal.{parse_timestamp}
 use Rattle.base_types.specs.declared.revision.Moment.{Moment}
 use Rattle.audit_event.specs.declared.times.Times.{Times}
 use Rattle.audit_event.specs.Members.{text_at}
+use Rattle.base_types.specs.Moments.{IsMoment}
 use Rattle.json_tree.specs.Texts.{◌>>=◌}
 
 -- the instant of a text that `jiff` reads as a timestamp, in nanoseconds
@@ -27,11 +28,6 @@ times_in value = do
   received ← moment_at (codes "requestReceivedTimestamp") value
   staged ← moment_at (codes "stageTimestamp") value
   in_turn received staged
-
--- the moments that an event may have
-pub record IsMoment (instant : ℤ) : Type 0 where
-  pub low : neg_ℤ (pos (2 ^ 100)) ≤ℤ instant
-  pub high : instant ≤ℤ pos (2 ^ 100)
 
 pub record AreSound (received staged : ℤ) : Type 0 where
   pub receipt : IsMoment received

@@ -1,14 +1,24 @@
 ghost use Rattle.std.specs.Prelude.{◌≡◌, IfOk, option_map};
 ghost use Rattle.serde_json.specs.View.{view};
-ghost use Rattle.audit_event.specs.Bodies.{body_of, is_kept, IsSoundBody};
+ghost use Rattle.audit_event.specs.Bodies.{body_of, kept, is_kept, IsSoundBody};
 
 use crate::event::Body;
 use base_types::OutOfMemory;
-use json_tree::{TreeFault, from_value};
+use json_tree::{Tree, TreeFault, from_value};
 use serde_json::Value;
 use std::alloc::Global;
 
 impl Body {
+    /// The tree of a body that was recorded.
+    pub fn kept(&self) -> Option<&Tree>
+        ensures { option_map (λ tree. tree.now) result ≡ kept self.now }
+    {
+        match self {
+            Body::Kept(tree) => Some(tree),
+            _ => None,
+        }
+    }
+
     pub(crate) fn is_kept(&self) -> bool
         ensures { result ≡ is_kept self.now }
     {

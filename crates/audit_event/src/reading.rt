@@ -241,6 +241,3 @@ pub fn read_event(alloc: Global, line: &Line) -> Result<Event, EventFault>
     };
     read_value(alloc, &value, line.number)
 }
-
-#[cfg(test)]
-mod tests;

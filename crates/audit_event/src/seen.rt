@@ -224,6 +224,3 @@ impl Seen {
         Events::from_vec(kept)
     }
 }
-
-#[cfg(test)]
-mod tests;

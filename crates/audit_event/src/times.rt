@@ -1,6 +1,7 @@
 ghost use Rattle.std.specs.Prelude.{◌≡◌, IfSome, option_and_then, option_map};
 ghost use Rattle.serde_json.specs.View.{view};
-ghost use Rattle.audit_event.specs.Times.{instant_of, moment, moment_at, times_in, IsMoment, AreSound};
+ghost use Rattle.base_types.specs.Moments.{IsMoment};
+ghost use Rattle.audit_event.specs.Times.{instant_of, moment, moment_at, times_in, AreSound};
 
 use crate::members::text_at;
 use base_types::Moment;

@@ -7,16 +7,13 @@ use Rattle.base_types.specs.declared.request.PolicyLevel.{PolicyLevel}
 use Rattle.base_types.specs.declared.request.PolicyLevel.TheVariants.{NoLevel, Set}
 use Rattle.json_tree.specs.Meaning.{Meaning}
 use Rattle.json_tree.specs.Parts.{member_of, text_of, items_of, members_of}
-use Rattle.json_tree.specs.Texts.{◌>>=◌, texts_of, texts_at}
+use Rattle.json_tree.specs.Texts.{◌>>=◌, texts_of, texts_at, text_at}
 use Rattle.audit_policy.specs.declared.policy.AuditRule.{AuditRule}
 use Rattle.audit_policy.specs.declared.policy.GroupResources.{GroupResources}
 use Rattle.audit_policy.specs.declared.policy.Policy.{Policy}
 use Rattle.audit_policy.specs.declared.policy.PolicyFault.{PolicyFault}
 use Rattle.audit_policy.specs.declared.policy.PolicyFault.TheVariants.{Form, OutOfMemory}
 use Rattle.audit_policy.specs.Matches.{is_empty}
-
-abbrev pub text_at : List ℕ → Meaning → Option (List ℕ)
-text_at name tree = member_of name tree >>= text_of
 
 abbrev pub level_named : List ℕ → Option PolicyLevel
 level_named name =

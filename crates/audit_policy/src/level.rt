@@ -37,6 +37,3 @@ pub fn level_of(policy: &Policy, attrs: &RequestAttrs, user: &User) -> (PolicyLe
         None => (PolicyLevel::NoLevel, policy.omitted),
     }
 }
-
-#[cfg(test)]
-mod tests;

@@ -1,5 +1,5 @@
 ghost use Rattle.std.specs.Prelude.{◌≡◌, ◌+◌, IfOk, IfErr, option_map, min, ◌-◌, ◌^◌};
-ghost use Rattle.audit_policy.specs.Forms.{text_at, level_named, with_stage, no_stages, stages_with, stages_at, group_or_core, item_of, items_in, items_or_none, mixes_kinds, rule_of, rules_from, heading, policy_of, IsRulesCause, IsCause};
+ghost use Rattle.audit_policy.specs.Forms.{level_named, with_stage, no_stages, stages_with, stages_at, group_or_core, item_of, items_in, items_or_none, mixes_kinds, rule_of, rules_from, heading, policy_of, IsRulesCause, IsCause};
 
 use crate::policy::{
     AuditRule, AuditRules, GroupResources, GroupResourcesList, Policy, PolicyFault,
@@ -7,12 +7,6 @@ use crate::policy::{
 use base_types::{Level, OutOfMemory, PolicyLevel, StageSet, Text};
 use json_tree::{Tree, Trees};
 use std::alloc::Global;
-
-fn text_at<'a>(tree: &'a Tree, name: &str) -> Option<&'a Text>
-    ensures { option_map (λ text. text.now) result ≡ text_at name.now tree.now }
-{
-    tree.member(name)?.as_text()
-}
 
 fn level_named(name: &str) -> Option<PolicyLevel>
     ensures { result ≡ level_named name.now }
@@ -140,7 +134,7 @@ fn mixes_kinds(rule: &AuditRule) -> bool
 fn read_rule(alloc: Global, tree: &Tree) -> Result<Option<AuditRule>, OutOfMemory>
     ensures { IfOk result (λ found. found ≡ rule_of tree.now) }
 {
-    let Some(name) = text_at(tree, "level") else {
+    let Some(name) = tree.text_at("level") else {
         return Ok(None);
     };
     let Some(level) = level_named(name.as_str()) else {
@@ -187,8 +181,8 @@ fn read_rule(alloc: Global, tree: &Tree) -> Result<Option<AuditRule>, OutOfMemor
 fn heading(tree: &Tree) -> Option<(StageSet, &Trees)>
     ensures { option_map (λ parts. (parts.0, parts.1.now)) result ≡ heading tree.now }
 {
-    let kind = text_at(tree, "kind")?;
-    let version = text_at(tree, "apiVersion")?;
+    let kind = tree.text_at("kind")?;
+    let version = tree.text_at("apiVersion")?;
     let rules = tree.member("rules")?.as_items()?;
     let omitted = stages_at(tree)?;
     if kind.as_str() != "Policy" || version.as_str() != "audit.k8s.io/v1" {
@@ -230,6 +224,3 @@ pub fn read_policy(alloc: Global, tree: &Tree) -> Result<Policy, PolicyFault>
     let rules = read_rules(alloc, trees.all.as_slice())?;
     Ok(Policy { omitted, rules })
 }
-
-#[cfg(test)]
-mod tests;

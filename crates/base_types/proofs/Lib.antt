@@ -5,3 +5,4 @@ pub mod MatchingLemmas
 pub mod Lending
 pub mod Quantifiers
 pub mod RevisionTexts
+pub mod Upto

@@ -1,7 +1,11 @@
-use Rattle.std.specs.Prelude.{◌≡◌, ◌≢◌, ℕ, List, [], ◌∷◌, ◌++◌, map, All, IsUtf8}
+use Rattle.std.specs.Prelude.{◌≡◌, ◌≢◌, ℕ, Bool, ◌&&◌, List, [], ◌∷◌, ◌++◌, map, All, IsUtf8, bytes_eq}
 use Rattle.std.specs.List.{join_with_byte}
 use Rattle.base_types.specs.declared.key.ObjectKey.{ObjectKey}
 use Rattle.base_types.specs.Escapes.{escaped}
+
+-- Two keys name one object where their four texts are equal (Kubernetes API concepts, "Resource URIs").
+abbrev pub same_key : ObjectKey → ObjectKey → Bool
+same_key a b = bytes_eq a.group b.group && (bytes_eq a.resource b.resource && (bytes_eq a.namespace b.namespace && bytes_eq a.name b.name))
 
 -- GROUP/RESOURCE/NAMESPACE/NAME, each part escaped; an empty part is written as nothing
 abbrev pub key_spelling : ObjectKey → List ℕ

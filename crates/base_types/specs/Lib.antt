@@ -3,6 +3,7 @@ pub mod Covers
 pub mod Escapes
 pub mod Keys
 pub mod Matching
+pub mod Moments
 pub mod Placements
 pub mod Reasons
 pub mod Revisions

@@ -123,6 +123,3 @@ impl Clouds {
         self.reaches(key, revision.get(), revision.get())
     }
 }
-
-#[cfg(test)]
-mod tests;

@@ -11,3 +11,4 @@ mod unrecorded;
 
 pub use clouds::Clouds;
 pub use span::{KeyRevision, KeyRevisions, OpaqueSpan, OpaqueSpans};
+pub use unrecorded::earlier;

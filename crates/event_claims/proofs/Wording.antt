@@ -7,7 +7,7 @@ use Rattle.history_model.specs.Events.{Item, Event, Made}
 use Rattle.history_model.specs.Groups.{Making}
 use Rattle.history_model.specs.Histories as model
 use Rattle.history_model.specs.Histories.{History}
-use Rattle.history_model.specs.Keys.{same_key}
+use Rattle.base_types.specs.Keys.{same_key}
 use Rattle.history_model.specs.Words.{Makes, Removes, At, Strays, is_by, write_word, removal_word, answer_word}
 use Rattle.object_past.specs.declared.removal.Removal.{Removal}
 use Rattle.object_past.specs.declared.version.Version.{Version}

@@ -16,6 +16,3 @@ pub use claim::{claim_of, local_bounds_law, one_claim_law};
 pub use decided::decision_window_of;
 pub use line::placed_line;
 pub use view::{Decisions, View};
-
-#[cfg(test)]
-mod tests;

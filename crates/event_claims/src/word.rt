@@ -2,7 +2,7 @@ ghost use Rattle.std.specs.Prelude.{◌≡◌, ◌==◌, Bool, find};
 ghost use Rattle.event_claims.specs.Words.{IsSaid};
 ghost use Rattle.history_model.specs.Events.{Event, Made};
 ghost use Rattle.history_model.specs.Histories.{History};
-ghost use Rattle.history_model.specs.Keys.{same_key};
+ghost use Rattle.base_types.specs.Keys.{same_key};
 ghost use Rattle.history_model.specs.Words.{word, answer_word, removal_word, is_by};
 ghost use Rattle.object_past.specs.Modelled.{maker_of};
 ghost use Rattle.object_past.specs.Past.{HasPast};

@@ -10,7 +10,7 @@ use Rattle.history_model.proofs.Locality.{run_is_local, local_is_run}
 use Rattle.history_model.proofs.MakingsLaw.{makings_are, entry_exists}
 use Rattle.history_model.proofs.RemovalsLaw.{removals_are}
 use Rattle.history_model.proofs.StepsOf.{steps_of}
-use Rattle.history_model.proofs.WordLemmas.{IsMadeBy, word_makes, word_removes}
+use Rattle.history_model.proofs.WordLemmas.{IsMadeBy, word_makes, word_removes, is_at}
 use Rattle.history_model.specs.Decisions.{IsDecidedAt}
 use Rattle.history_model.specs.Events.{Event}
 use Rattle.history_model.specs.Groups.{Making}
@@ -99,13 +99,6 @@ right_is_run h n p r chosen right = go (steps_of h n p r)
 
 no_places : Places
 no_places = record { roles = 0; cluster_roles = 0; bindings = 0; cluster_bindings = 0 }
-
-is_at : (w : Word) → (w ≡ At) ⊎ (w ≡ At → ⊥)
-is_at (Makes m) = inr (λ e. cc e)
-is_at (Removes r) = inr (λ e. cc e)
-is_at At = inl refl
-is_at Strays = inr (λ e. cc e)
-is_at Nothing = inr (λ e. cc e)
 
 -- where a choice makes each event right, their places make a run with it
 pub right_has_run : (h : History) (n : ℕ) (choice : List ℕ) → IsReadable h → IsChoice (ranges h) choice → AreRightUpTo h n choice

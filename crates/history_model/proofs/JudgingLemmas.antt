@@ -9,7 +9,7 @@ use Rattle.history_model.specs.Judging.{PrecedesByKind, IsJudgedBefore, IsFirst}
 moments : (a b : ℤ) → (a <ℤ b) ⊎ (b <ℤ a) ⊎ (a ≡ b)
 moments a b = grind (arith, ints)
 
-numbers : (a b : ℕ) → (a < b) ⊎ (b < a) ⊎ (a ≡ b)
+pub numbers : (a b : ℕ) → (a < b) ⊎ (b < a) ⊎ (a ≡ b)
 numbers a b = grind arith
 
 not_both : (a b : ℤ) → a <ℤ b → b <ℤ a → ⊥

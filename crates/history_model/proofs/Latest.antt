@@ -5,7 +5,7 @@ use Rattle.base_types.specs.declared.key.ObjectKey.{ObjectKey}
 use Rattle.history_model.proofs.KeyLemmas.{key_tells}
 use Rattle.history_model.proofs.Members.{not_in_none, here, there, in_cons, apart}
 use Rattle.history_model.specs.Histories.{Version}
-use Rattle.history_model.specs.Keys.{same_key}
+use Rattle.base_types.specs.Keys.{same_key}
 use Rattle.history_model.specs.States.{newer, latest, IsLatest}
 
 lt_tells : (a b : ℕ) → ((nat_lt a b ≡ true) × (a < b)) ⊎ ((nat_lt a b ≡ false) × (b ≤ a))

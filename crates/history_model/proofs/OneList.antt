@@ -59,7 +59,7 @@ first_making_same h P m w r of f k = go (judged_cases m.event w.event)
     go (inr (inl l)) = absurd (f.none_before w k.holds l)
     go (inr (inr e)) = at_apart (λ (x : Event). x.line) h.events m.number w.number m.event w.event r.lines (of m f.holds).known (of w k.holds).known e
 
-key_same : (h : History) (revision : ℕ) (a b : ObjectKey) → IsReadable h → IsKeyOf h revision a → IsKeyOf h revision b → a ≡ b
+pub key_same : (h : History) (revision : ℕ) (a b : ObjectKey) → IsReadable h → IsKeyOf h revision a → IsKeyOf h revision b → a ≡ b
 key_same h revision a b r x y = sym x.of_key ∙ ap (λ (z : Item). z.key) (same_making h x.m y.m x.first.holds.making y.first.holds.making
     (first_making_same h (IsAnsweredWith h revision) x.m y.m r (λ m k. k.making) x.first y.first)).1 ∙ y.of_key
 

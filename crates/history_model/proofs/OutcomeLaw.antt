@@ -9,6 +9,7 @@ use Rattle.base_types.specs.declared.claim.Reason.{Reason}
 use Rattle.history_model.proofs.CodeLemmas.{right_no_code}
 use Rattle.history_model.proofs.Global.{run_is_right, right_has_run, global_is}
 use Rattle.history_model.proofs.Members.{not_in_none, here, there, in_cons, all_at, all_from, at_in, in_take}
+use Rattle.history_model.proofs.WordLemmas.{is_at}
 use Rattle.history_model.specs.Codes.{HasCode, answer, NeverHolds, IsChoiceUpTo, IsCandidate, IsLeastCandidate}
 use Rattle.history_model.specs.Events.{Event}
 use Rattle.history_model.specs.Exact.{SometimesHolds, IsFailure, AreExactBounds, IsExactClaim, AreExact}
@@ -18,7 +19,7 @@ use Rattle.history_model.specs.Local.{IsFixedRight, AnswerHolds, IsRightUnder, A
 use Rattle.history_model.specs.Outcomes.{IsLeastOfRuns, IsEarliest}
 use Rattle.history_model.specs.Readable.{IsReadable}
 use Rattle.history_model.specs.Runs.{Placement, IsRunUpTo}
-use Rattle.history_model.specs.Words.{Word, Makes, Removes, At, Strays, Nothing, word}
+use Rattle.history_model.specs.Words.{At, word}
 
 pub get_within : {X : Type 0} (xs : List X) (n : ℕ) → n < length xs → (x : X) × (slice_get xs n ≡ Some x)
 get_within [] n l = absurd (omega (arith, l))
@@ -72,13 +73,6 @@ event_of h number r c = get_within h.events number (r.order.known number c)
 if_some : {X : Type 0} (o : Option X) (P : X → Type 0) → ((x : X) → o ≡ Some x → P x) → IfSome o P
 if_some None P f = tt
 if_some (Some x) P f = f x refl
-
-is_at : (w : Word) → (w ≡ At) ⊎ (w ≡ At → ⊥)
-is_at (Makes m) = inr (λ e. cc e)
-is_at (Removes r) = inr (λ e. cc e)
-is_at At = inl refl
-is_at Strays = inr (λ e. cc e)
-is_at Nothing = inr (λ e. cc e)
 
 -- an answer that never holds is one that is placed
 never_at : (h : History) (number : ℕ) (event : Event) (choice : List ℕ) → IsChoice (ranges h) choice → NeverHolds h number event → word h number event ≡ At

@@ -5,7 +5,7 @@ use Rattle.history_model.proofs.CutLemmas.{cut_removal, cuts_apart}
 use Rattle.history_model.proofs.Fits.{same_event}
 use Rattle.history_model.proofs.Members.{not_in_none, here, there, in_cons, all_at, apart, at_apart, at_in}
 use Rattle.history_model.proofs.Sorting.{Ties, IsSortedOf, sorted_of}
-use Rattle.history_model.proofs.WordLemmas.{IsMadeBy, made_version}
+use Rattle.history_model.proofs.WordLemmas.{IsMadeBy, made_version, is_at}
 use Rattle.base_types.specs.declared.key.ObjectKey.{ObjectKey}
 use Rattle.history_model.specs.Events.{Text, Event, Removed}
 use Rattle.history_model.specs.Groups.{Making}
@@ -15,7 +15,7 @@ use Rattle.history_model.specs.Machine.{Step, Put, Remove, Reply, event_line, ma
 use Rattle.history_model.specs.Readable.{IsReadable}
 use Rattle.history_model.specs.Runs.{Placement, IsStep, AreSteps}
 use Rattle.history_model.specs.States.{Cut, cuts}
-use Rattle.history_model.specs.Words.{Word, Makes, Removes, At, Strays, Nothing, word}
+use Rattle.history_model.specs.Words.{At, word}
 
 lt_cases : (a b : ℕ) → (a < b) ⊎ (b ≤ a)
 lt_cases a b = grind arith
@@ -62,13 +62,6 @@ removes (x ∷ xs) = go (removes xs)
         to : (v : Cut) → (x ≡ v) ⊎ Contains xs v → Contains (Remove x ∷ steps) (Remove v)
         to v (inl e) = subst (λ z. Contains (Remove x ∷ steps) (Remove z)) e (here (Remove x) steps)
         to v (inr c) = there (Remove x) (Remove v) steps (full v c)
-
-is_at : (w : Word) → (w ≡ At) ⊎ (w ≡ At → ⊥)
-is_at (Makes m) = inr (λ e. cc e)
-is_at (Removes r) = inr (λ e. cc e)
-is_at At = inl refl
-is_at Strays = inr (λ e. cc e)
-is_at Nothing = inr (λ e. cc e)
 
 -- the answers of some events
 replies : (h : History) (at_place : ℕ → ℕ) (numbers : List ℕ)

@@ -9,7 +9,7 @@ use Rattle.history_model.proofs.Members.{not_in_none, here, there, in_cons, apar
 use Rattle.history_model.specs.Events.{Text, Item, Event, Answer, Made, Removed, Opaque, Saw, SawNone, SawSome, SawOther, Listed, Free, Aside}
 use Rattle.history_model.specs.Groups.{Making, IsMaking, IsMember}
 use Rattle.history_model.specs.Histories.{History, Version, Removal, Maker, Snapshot, ByEvent, Unknown, IsEvent}
-use Rattle.history_model.specs.Keys.{same_key}
+use Rattle.base_types.specs.Keys.{same_key}
 use Rattle.history_model.specs.Makers.{IsMadeVersion, IsSnapshotVersion, IsShowing}
 use Rattle.history_model.specs.Readable.{IsReadable}
 use Rattle.history_model.specs.Words.{Word, Makes, Removes, At, Strays, Nothing, is_by, write_word, removal_word, answer_word, word}
@@ -265,3 +265,11 @@ removal_word_is h removal event r c known = go (r.removals.sound removal c)
       where
         answer : event.answer ≡ Removed i.version.key i.version.uid
         answer = ap (λ (x : Event). x.answer) (same_event h removal.range.event event i.behind.event known i.behind.first.known) ∙ i.behind.first.holds
+
+-- the word is that of an answer, or another
+pub is_at : (w : Word) → (w ≡ At) ⊎ (w ≡ At → ⊥)
+is_at (Makes m) = inr (λ e. cc e)
+is_at (Removes r) = inr (λ e. cc e)
+is_at At = inl refl
+is_at Strays = inr (λ e. cc e)
+is_at Nothing = inr (λ e. cc e)

@@ -1,4 +1,3 @@
-pub mod Keys
 pub mod Events
 pub mod Histories
 pub mod Judging

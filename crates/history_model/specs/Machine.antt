@@ -5,7 +5,7 @@ use Rattle.history_model.specs.Clouds.{IsCloudedWithin}
 use Rattle.history_model.specs.Events.{Event}
 use Rattle.history_model.specs.Groups.{Making, IsMaking}
 use Rattle.history_model.specs.Histories.{History, Version, Removal, Maker, Snapshot, ByEvent, Unknown, IsEvent}
-use Rattle.history_model.specs.Keys.{same_key}
+use Rattle.base_types.specs.Keys.{same_key}
 use Rattle.history_model.specs.Making.{HasNoFault}
 use Rattle.history_model.specs.Right.{IsRight}
 use Rattle.history_model.specs.States.{Map, Cut, latest}

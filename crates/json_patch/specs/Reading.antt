@@ -2,15 +2,13 @@
 -- of that operation. Other members are ignored.
 use Rattle.std.specs.Prelude.{◌≡◌, ℕ, ◌+◌, List, [], ◌∷◌, length, Option, Some, None, option_map, option_and_then, Result, Ok, Err, bytes_eq, codes, nat_lt, if◌then◌else◌}
 use Rattle.json_tree.specs.Meaning.{Meaning}
-use Rattle.json_tree.specs.Parts.{member_of, text_of, items_of}
+use Rattle.json_tree.specs.Parts.{member_of, items_of}
 use Rattle.json_tree.specs.Pointers.{pointer_of}
 use Rattle.json_patch.specs.declared.fault.PatchFault.{PatchFault}
 use Rattle.json_patch.specs.declared.fault.PatchFault.TheVariants.{NotList, TooMany, BadOperation, OutOfMemory}
 use Rattle.json_patch.specs.declared.op.Op.{Op}
 use Rattle.json_patch.specs.declared.op.Op.TheVariants.{Add, Remove, Replace, Move, Copy, Test}
-
-abbrev pub text_at : List ℕ → Meaning → Option (List ℕ)
-text_at name t = option_and_then text_of (member_of name t)
+use Rattle.json_tree.specs.Texts.{text_at}
 
 -- a member whose value is the text of a pointer
 abbrev pub pointer_at : List ℕ → Meaning → Option (List (List ℕ))

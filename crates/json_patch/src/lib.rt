@@ -12,6 +12,3 @@ pub use applying::apply;
 pub use fault::{ApplyCause, ApplyFault, PatchFault};
 pub use op::{Op, Patch};
 pub use reading::read_patch;
-
-#[cfg(test)]
-mod tests;

@@ -1,5 +1,5 @@
-ghost use Rattle.std.specs.Prelude.{◌≡◌, ℕ, List, Ok, IfOk, IfErr, codes, option_map};
-ghost use Rattle.json_patch.specs.Reading.{text_at, pointer_at, pair_of, op_of, patch_of, IsPatchFault};
+ghost use Rattle.std.specs.Prelude.{◌≡◌, ℕ, List, Ok, IfOk, IfErr, codes};
+ghost use Rattle.json_patch.specs.Reading.{pointer_at, pair_of, op_of, patch_of, IsPatchFault};
 ghost use Rattle.json_tree.specs.Parts.{member_of};
 
 use crate::fault::PatchFault;
@@ -38,10 +38,10 @@ pub fn read_patch(alloc: Global, tree: &Tree) -> Result<Patch, PatchFault>
 fn read_op(alloc: Global, tree: &Tree) -> Result<Option<Op>, OutOfMemory>
     ensures { IfOk result (λ op. op ≡ op_of tree.now) }
 {
-    let Some(name) = text_at(tree, "op") else {
+    let Some(name) = tree.text_at("op") else {
         return Ok(None);
     };
-    match name {
+    match name.as_str() {
         "add" => match read_path_and_value(alloc, tree)? {
             Some((path, value)) => Ok(Some(Op::Add { path, value })),
             None => Ok(None),
@@ -97,24 +97,12 @@ fn read_from_and_path(alloc: Global, tree: &Tree) -> Result<Option<(Pointer, Poi
 fn read_path(alloc: Global, tree: &Tree, name: &str) -> Result<Option<Pointer>, OutOfMemory>
     ensures { IfOk result (λ path. path ≡ pointer_at name.now tree.now) }
 {
-    let Some(text) = text_at(tree, name) else {
+    let Some(text) = tree.text_at(name) else {
         return Ok(None);
     };
-    match read_pointer(alloc, text) {
+    match read_pointer(alloc, text.as_str()) {
         Ok(path) => Ok(Some(path)),
         Err(PointerFault::Form) => Ok(None),
         Err(PointerFault::OutOfMemory) => Err(OutOfMemory),
-    }
-}
-
-fn text_at<'a>(tree: &'a Tree, name: &str) -> Option<&'a str>
-    ensures { option_map (λ text. text.now) result ≡ text_at name.now tree.now }
-{
-    match tree.member(name) {
-        Some(value) => match value.as_text() {
-            Some(text) => Some(text.as_str()),
-            None => None,
-        },
-        None => None,
     }
 }

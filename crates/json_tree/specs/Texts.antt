@@ -1,12 +1,21 @@
--- Lists of texts, and chains of steps that may find nothing.
-use Rattle.std.specs.Prelude.{ℕ, List, [], ◌∷◌, Option, Some, None, option_and_then}
+-- Texts and lists among the members of an object, and chains of steps that may find nothing.
+use Rattle.std.specs.Prelude.{ℕ, List, [], ◌∷◌, Option, Some, None, option_and_then, if◌then◌else◌}
 use Rattle.json_tree.specs.Meaning.{Meaning}
-use Rattle.json_tree.specs.Parts.{member_of, text_of, items_of}
+use Rattle.json_tree.specs.Parts.{member_of, is_null, text_of, items_of}
 
 -- the second step, where the first found something
 infixl 10 ◌>>=◌
 abbrev pub ◌>>=◌ : {A B : Type 0} → Option A → (A → Option B) → Option B
 found >>= next = option_and_then next found
+
+-- the text of the member of this name
+abbrev pub text_at : List ℕ → Meaning → Option (List ℕ)
+text_at name tree = member_of name tree >>= text_of
+
+-- the items of a list that may be missing or null
+abbrev pub items_or_none : Option Meaning → Option (List Meaning)
+items_or_none None = Some []
+items_or_none (Some tree) = if is_null tree then Some [] else items_of tree
 
 -- the texts of a list of which each item is a text
 abbrev pub texts_in : List Meaning → Option (List (List ℕ))

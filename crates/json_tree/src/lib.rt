@@ -18,6 +18,3 @@ pub use pointers::{Pointer, PointerFault, get, read_index, read_pointer};
 pub use stored::stored_form;
 pub use tree::{Member, MemberList, Node, Tree, TreeFault, Trees};
 pub use values::{from_value, to_value};
-
-#[cfg(test)]
-mod tests;

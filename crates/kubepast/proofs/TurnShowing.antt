@@ -2,15 +2,14 @@
 use Rattle.std.proofs.Common.{◌≡◌, ◌≢◌, ℕ, ◌<◌, ◌⊎◌, inl, inr, List, [], ◌∷◌, length, Some, slice_get, AllPairs, Contains, refl, sym, ap, ◌∙◌, subst, arith}
 use Rattle.std.proofs.lemmas.List.{length-map}
 use Rattle.std.proofs.lemmas.Option.{same_Some, slice_get_within}
-use Rattle.base_types.specs.declared.key.ObjectKey.{ObjectKey}
 use Rattle.history_model.proofs.Fits.{same_event}
 use Rattle.history_model.proofs.JudgingLemmas.{judged_once}
 use Rattle.history_model.proofs.Members.{all_at, at_in, in_cons, not_in_none, pairs_head}
-use Rattle.history_model.proofs.OneList.{first_making_same}
+use Rattle.history_model.proofs.OneList.{first_making_same, key_same}
 use Rattle.history_model.proofs.OutcomeLaw.{get_within}
 use Rattle.history_model.proofs.WordLemmas.{same_making}
-use Rattle.history_model.specs.Events.{Event, Item}
-use Rattle.history_model.specs.Groups.{Making, IsAnsweredWith, IsFirstMaking, IsKeyOf, IsMaking, IsMember}
+use Rattle.history_model.specs.Events.{Event}
+use Rattle.history_model.specs.Groups.{Making, IsFirstMaking, IsKeyOf, IsMaking, IsMember}
 use Rattle.history_model.specs.Histories as past
 use Rattle.history_model.specs.Histories.{History, Maker, Snapshot, ByEvent, Unknown, IsEvent}
 use Rattle.history_model.specs.Incarnations.{IsRemoval}
@@ -30,10 +29,6 @@ use Rattle.write_groups.specs.Members.{IsGroupOf}
 use Rattle.write_groups.specs.Modelled.{event_of}
 use Rattle.write_groups.specs.declared.groups.Group.{Group}
 use Rattle.kubepast.specs.Turns.{IsFirstWriter, IsLineOf, IsShownBy}
-
-key_same : (h : History) (revision : ℕ) (a b : ObjectKey) → IsReadable h → IsKeyOf h revision a → IsKeyOf h revision b → a ≡ b
-key_same h revision a b r x y = sym x.of_key ∙ ap (λ (z : Item). z.key) (same_making h x.m y.m x.first.holds.making y.first.holds.making
-    (first_making_same h (IsAnsweredWith h revision) x.m y.m r (λ m k. k.making) x.first y.first)).1 ∙ y.of_key
 
 -- the first of numbers that are in order stands before each other one
 first_before : (R : ℕ → ℕ → Type 0) (numbers : List ℕ) (first number : ℕ) → AllPairs R numbers → slice_get numbers 0 ≡ Some first → Contains numbers number → (first ≡ number) ⊎ R first number

@@ -12,6 +12,7 @@ use Rattle.std.proofs.lemmas.List.Elements.{Contains-append_cases, Contains-appe
 use Rattle.std.proofs.lemmas.List.Sorted.{Contains-permutation, IsPermutation-sym, ranks_by, sorted_far}
 use Rattle.std.proofs.lemmas.Option.{same_Some, slice_get_within}
 use Rattle.base_types.specs.declared.key.ObjectKey.{ObjectKey}
+use Rattle.history_model.proofs.JudgingLemmas.{numbers}
 use Rattle.history_model.proofs.Members.{all_from, at_apart, at_in, in_at}
 use Rattle.history_model.specs.Events.{Event}
 use Rattle.history_model.specs.Histories as past
@@ -26,7 +27,7 @@ use Rattle.object_past.specs.declared.removal.Removal.{Removal}
 use Rattle.object_past.specs.declared.version.Version.{Version}
 use Rattle.version_store.specs.Histories.{history_of}
 use Rattle.version_store.specs.Known.{Known}
-use Rattle.write_groups.proofs.Judging.{apart_moved}
+use Rattle.write_groups.proofs.Judging.{apart_moved, nat_less, then_less, then_next}
 use Rattle.write_groups.proofs.Lists.{made_from, made_has, made_pairs, map_from, map_has, pairs_unmap}
 use Rattle.kubepast.proofs.TurnShowing.{event_here, removal_known, showing_line, version_made}
 use Rattle.kubepast.specs.Findings.{AreWriteLines}
@@ -43,19 +44,6 @@ code_of_made turn e = ap (λ b. if b then turn.position + turn.position + 1 else
 
 code_of_removed : (turn : Turn) → turn.removes ≡ true → turn_code turn ≡ turn.position + turn.position + 1
 code_of_removed turn e = ap (λ b. if b then turn.position + turn.position + 1 else turn.position + turn.position) e
-
-numbers : (a b : ℕ) → (a < b) ⊎ (b < a) ⊎ (a ≡ b)
-numbers a b = grind arith
-
--- what an order of four parts says of the first three
-then_less : (o p : Ordering) → o ≡ Less → is_lt (ordering_then o p) ≡ true
-then_less o p e = rw e refl
-
-then_next : (o p : Ordering) → o ≡ Equal → is_lt p ≡ true → is_lt (ordering_then o p) ≡ true
-then_next o p e l = rw e l
-
-nat_less : (a b : ℕ) → a < b → nat_cmp a b ≡ Less
-nat_less a b l = grind (arith, nat_tests)
 
 nat_equal : (a b : ℕ) → a ≡ b → nat_cmp a b ≡ Equal
 nat_equal a b e = grind (arith, nat_tests)

@@ -11,7 +11,7 @@ use Rattle.std.proofs.Math.Bool.{or_comm}
 use Rattle.base_types.specs.declared.key.ObjectKey.{ObjectKey}
 use Rattle.history_model.proofs.KeyLemmas.{key_tells}
 use Rattle.history_model.proofs.Members.{not_in_none, here, there, in_cons}
-use Rattle.history_model.specs.Keys.{same_key}
+use Rattle.base_types.specs.Keys.{same_key}
 use Rattle.write_groups.specs.declared.event.Item.{Item}
 use Rattle.local_bounds.specs.Keys.{is_among}
 

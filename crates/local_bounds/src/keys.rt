@@ -1,6 +1,6 @@
 ghost use Rattle.std.specs.Prelude.{◌≡◌, ◌≢◌, IfOk, IfSome, IfNone, AllPairs, map, not};
 ghost use Rattle.std.specs.List.{filter, list_any};
-ghost use Rattle.history_model.specs.Keys.{same_key};
+ghost use Rattle.base_types.specs.Keys.{same_key};
 ghost use Rattle.local_bounds.specs.Keys.{AreKeysOf, is_among};
 
 use base_types::{ObjectKey, OutOfMemory};

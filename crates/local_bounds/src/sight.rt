@@ -33,15 +33,7 @@ pub fn is_shown(item: &Item, version: &Version) -> bool
 pub fn are_met(asked: &Preconditions, version: &Version) -> bool
     ensures { IsTrue result ↔ AreMetBy asked.now version.now }
 {
-    let by_revision = match asked.revision {
-        Some(wanted) => wanted == version.revision,
-        None => true,
-    };
-    let by_uid = match &asked.uid {
-        Some(wanted) => *wanted == version.uid,
-        None => true,
-    };
-    by_revision && by_uid
+    asked.are_met(version.revision, &version.uid)
 }
 
 impl<'a> Sight<'a> {

@@ -4,6 +4,3 @@
 mod merging;
 
 pub use merging::merge;
-
-#[cfg(test)]
-mod tests;

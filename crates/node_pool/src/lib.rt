@@ -13,6 +13,3 @@ mod store;
 
 pub use fault::PoolFault;
 pub use pool::{NodeId, Pool};
-
-#[cfg(test)]
-mod tests;

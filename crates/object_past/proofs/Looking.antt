@@ -8,7 +8,7 @@ use Rattle.history_model.proofs.Latest.{latest_is, latest_same}
 use Rattle.history_model.proofs.Members.{all_at, apart, at_in, here, in_cons, not_in_none, pairs_cons, pairs_head, pairs_tail, there}
 use Rattle.history_model.proofs.WordLemmas.{find_is, found_in, not_found}
 use Rattle.history_model.specs.Histories as history
-use Rattle.history_model.specs.Keys.{same_key}
+use Rattle.base_types.specs.Keys.{same_key}
 use Rattle.history_model.specs.States.{latest}
 use Rattle.object_past.specs.Indexed.{AreEntries}
 use Rattle.object_past.specs.Modelled.{version_of}

@@ -18,7 +18,8 @@ use Rattle.object_past.specs.Past.{Recorded}
 use Rattle.object_past.specs.declared.incarnation.Incarnation.{Incarnation}
 use Rattle.object_past.specs.declared.version.Version.{Version}
 use Rattle.object_past.proofs.Looking.{from_map, in_map}
-use Rattle.object_past.proofs.Searching.{Upto, in_order, last_upto, none_upto}
+use Rattle.base_types.proofs.Upto.{Upto, last_upto, none_upto}
+use Rattle.object_past.proofs.Searching.{in_order}
 
 abbrev latest_in : Recorded → ObjectKey → ℕ → Option history.Version
 latest_in past key place = latest (map version_of past.versions) key place

@@ -4,7 +4,7 @@ ghost use Rattle.std.specs.List.Sorted.{IsNonDecreasing};
 ghost use Rattle.base_types.specs.declared.key.ObjectKey.{ObjectKey};
 ghost use Rattle.history_model.specs.Bounding.{IsAbsentAnyway, SomewhereIn};
 ghost use Rattle.history_model.specs.Histories.{History};
-ghost use Rattle.history_model.specs.Keys.{same_key};
+ghost use Rattle.base_types.specs.Keys.{same_key};
 ghost use Rattle.history_model.specs.States.{latest};
 ghost use Rattle.object_past.specs.Endings.{ByLast};
 ghost use Rattle.object_past.specs.Indexed.{AreEntries, AreGone, HasVersion};

@@ -23,7 +23,7 @@ use Rattle.object_versions.proofs.Entries.{entry_same}
 use Rattle.object_versions.proofs.Mapped.{no_true}
 use Rattle.object_versions.proofs.Numbered.{making_is, making_once}
 use Rattle.object_versions.specs.Chosen.{first_write, first_maker, first_able, or_maker, unseen_maker, maker_among, shown_by}
-use Rattle.object_versions.specs.Faults.{IsLeastFoundFault}
+use Rattle.object_past.specs.Faulted.{IsLeastFoundFault}
 use Rattle.object_past.specs.Modelled.{maker_of, version_of}
 use Rattle.object_past.specs.declared.version.Version.{Version}
 use Rattle.object_versions.specs.Written.{making_at, IsJudgement, IsJudgedAt, AreJudged}

@@ -11,7 +11,8 @@ use Rattle.history_model.specs.Incarnations.{IsFirstWithUid}
 use Rattle.history_model.specs.Making.{IsAnew, IsEntryAfter, IsEntryBefore, IsUsedUid}
 use Rattle.history_model.specs.States.{IsLatest, latest}
 use Rattle.object_versions.proofs.Firsts.{first_later}
-use Rattle.object_versions.proofs.Mapped.{in_map, from_map, any_in, in_any}
+use Rattle.object_past.proofs.Looking.{in_map, from_map}
+use Rattle.object_versions.proofs.Mapped.{any_in, in_any}
 use Rattle.object_versions.specs.Growing.{HasNone, IsFirst, IsLastOf}
 use Rattle.object_past.specs.Modelled.{version_of}
 use Rattle.object_versions.specs.Written.{Extends}

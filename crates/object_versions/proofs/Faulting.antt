@@ -10,7 +10,8 @@ use Rattle.history_model.specs.Histories.{History, Version}
 use Rattle.history_model.specs.Making.{AreMet, MeetsConditions, tree_of, IsClear, IsUsedUid, IsOtherObject, IsOutOfReach, HasFault, outside, present, used, replaced, unmet, unasked, HasNoFault, IsLeastFault, HasFoundFault, creates, excludes, changes, CouldHaveFound}
 use Rattle.history_model.specs.Windows.{lowest, highest}
 use Rattle.object_versions.proofs.Mapped.{no_true}
-use Rattle.object_versions.specs.Faults.{asked_code, object_code, IsOutside, IsLeastFoundFault}
+use Rattle.object_past.specs.Faulted.{IsLeastFoundFault}
+use Rattle.object_versions.specs.Faults.{asked_code, object_code, IsOutside}
 
 -- a fault by its code
 fault_cases : (h : History) (m : Making) (before : Option Version) (code : Reason) (P : Type 0) → HasFault h m before code

@@ -12,7 +12,7 @@ use Rattle.base_types.specs.declared.key.ObjectKey.{ObjectKey}
 use Rattle.clouds.proofs.Adding.{key_order_total, same_key_from}
 use Rattle.clouds.specs.Kept.{key_order, text_order}
 use Rattle.history_model.proofs.KeyLemmas.{key_decides}
-use Rattle.history_model.specs.Keys.{same_key}
+use Rattle.base_types.specs.Keys.{same_key}
 use Rattle.write_groups.specs.declared.event.LogEvent.{LogEvent}
 use Rattle.object_versions.proofs.Keeping.{tied_self}
 use Rattle.object_versions.specs.Removals.{found_at, or_first, number_if, first_removal, gone_at, is_gone}

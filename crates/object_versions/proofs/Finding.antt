@@ -27,7 +27,8 @@ use Rattle.object_past.specs.Modelled.{recorded, version_of}
 use Rattle.object_past.specs.declared.removal.Removal.{Removal}
 use Rattle.object_past.specs.declared.version.Version.{Version}
 use Rattle.object_versions.proofs.Keeping.{rising_in, tied_self}
-use Rattle.object_versions.proofs.Mapped.{from_map, in_map, pairs_push}
+use Rattle.object_past.proofs.Looking.{from_map, in_map}
+use Rattle.object_versions.proofs.Mapped.{pairs_push}
 use Rattle.object_versions.proofs.Removing.{Precedes, in_turn}
 use Rattle.object_versions.specs.Ended.{AreFound, IsEnd, IsFoundAfter, revision_of}
 use Rattle.object_versions.specs.Growing.{AreFlagged}

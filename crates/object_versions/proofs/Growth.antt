@@ -10,7 +10,8 @@ use Rattle.history_model.specs.Histories as past
 use Rattle.object_past.specs.Modelled.{version_of}
 use Rattle.write_groups.specs.declared.event.Item.{Item}
 use Rattle.write_groups.specs.declared.groups.Group.{Group}
-use Rattle.object_versions.proofs.Mapped.{in_map, from_map, any_in, in_any, joined, zip_push}
+use Rattle.object_past.proofs.Looking.{in_map, from_map}
+use Rattle.object_versions.proofs.Mapped.{any_in, in_any, joined, zip_push}
 use Rattle.object_versions.specs.Hidden.{HasSlots, group_slot, item_slot, slots_of}
 use Rattle.object_versions.specs.Written.{AreSlots, snapshot_version}
 use Rattle.object_past.specs.declared.version.Version.{Version}

@@ -21,7 +21,8 @@ use Rattle.history_model.proofs.Members.{all_at, all_from, apart, at_in, in_cons
 use Rattle.history_model.specs.Histories as past
 use Rattle.history_model.specs.Incarnations.{IsFirstWithUid}
 use Rattle.object_versions.proofs.Firsts.{first_later, first_continued, first_new, not_first}
-use Rattle.object_versions.proofs.Mapped.{no_true, in_map, from_map, pairs_push, any_in, in_any}
+use Rattle.object_past.proofs.Looking.{in_map, from_map}
+use Rattle.object_versions.proofs.Mapped.{no_true, pairs_push, any_in, in_any}
 use Rattle.object_versions.specs.Growing.{AreFlagged, AreKept, HasNone, IsFirst, IsLastAt, IsLastOf}
 use Rattle.object_past.specs.Modelled.{version_of}
 use Rattle.object_versions.specs.Owners.{owner_of, owner_order}

@@ -10,20 +10,6 @@ use Rattle.std.proofs.lemmas.Option.{same_Some}
 pub no_true : IsTrue false → ⊥
 no_true t = true≢false (sym t)
 
-pub in_map : {A B : Type 0} (f : A → B) (xs : List A) (x : A) → Contains xs x → Contains (map f xs) (f x)
-in_map f [] x among = absurd (not_in_none among)
-in_map f (y ∷ ys) x among = ⊎_elim
-    (λ is. subst (λ z. Contains (map f (y ∷ ys)) (f z)) is (here (f y) (map f ys)))
-    (λ later. there (f y) (f x) (map f ys) (in_map f ys x later))
-    (in_cons y ys x among)
-
-pub from_map : {A B : Type 0} (f : A → B) (xs : List A) (b : B) → Contains (map f xs) b → (a : A) × Contains xs a × (f a ≡ b)
-from_map f [] b among = absurd (not_in_none among)
-from_map {A} {B} f (x ∷ xs) b among = ⊎_elim
-    (λ is. (x, here x xs, is))
-    (λ later. let found = from_map f xs b later in (found.0, there x found.0 xs found.1, found.2))
-    (in_cons (f x) (map f xs) b among)
-
 -- an item behind others
 pub pairs_push : {X : Type 0} (R : X → X → Type 0) (xs : List X) (y : X) → AllPairs R xs → All (λ x. R x y) xs → AllPairs R (xs ++ y ∷ [])
 pairs_push R [] y pairs all = pairs_cons R y [] (λ k d below. absurd (omega arith)) pairs

@@ -12,7 +12,7 @@ use Rattle.history_model.specs.Events as event
 use Rattle.history_model.specs.Histories as past
 use Rattle.history_model.specs.Incarnations.{IsFirstWithUid, IsRemovalBehind, IsRemovalOf, place_before}
 use Rattle.history_model.specs.Judging.{IsFirst, IsJudgedBefore, IsOrder}
-use Rattle.history_model.specs.Keys.{same_key}
+use Rattle.base_types.specs.Keys.{same_key}
 use Rattle.history_model.specs.Windows.{lowest, highest}
 use Rattle.write_groups.specs.Modelled.{HasEvents, answer_of, event_of}
 use Rattle.write_groups.specs.declared.event.LogEvent.{LogEvent}

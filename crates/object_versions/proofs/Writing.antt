@@ -20,7 +20,8 @@ use Rattle.object_past.specs.Modelled.{version_of}
 use Rattle.object_past.specs.declared.version.Version.{Version}
 use Rattle.object_versions.proofs.Growth.{AreGrown, grown_below, grown_more, version_of_group}
 use Rattle.object_versions.proofs.Keeping.{rising_in}
-use Rattle.object_versions.proofs.Mapped.{any_in, from_map, in_any, before_in, found_in, in_map, in_more, joined, map_twice, pairs_behind, zip_left, zip_push}
+use Rattle.object_past.proofs.Looking.{from_map, in_map}
+use Rattle.object_versions.proofs.Mapped.{any_in, in_any, before_in, found_in, in_more, joined, map_twice, pairs_behind, zip_left, zip_push}
 use Rattle.object_versions.proofs.Numbered.{making_from, number_is}
 use Rattle.write_groups.specs.Grouped.{item_at}
 use Rattle.object_versions.specs.Chosen.{first_able, first_maker, maker_among, or_maker, shown_by, unseen_maker}

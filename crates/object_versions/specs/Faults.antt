@@ -1,27 +1,16 @@
 -- When a request could have made the revision that it was answered with, or have found it there.
-use Rattle.std.specs.Prelude.{◌≡◌, ◌≤◌, ◌==◌, ◌&&◌, not, ℕ, Bool, true, false, List, Option, Some, None, if◌then◌else◌, bytes_eq, is_none, is_some, option_map}
+use Rattle.std.specs.Prelude.{◌&&◌, not, ℕ, Bool, true, false, Option, Some, None, if◌then◌else◌, bytes_eq, is_none, is_some, option_map}
 use Rattle.base_types.specs.declared.claim.Reason.{Reason}
 use Rattle.base_types.specs.declared.claim.Reason.TheVariants.{U4, U5, U6, U7, U8}
-use Rattle.base_types.specs.Reasons.{code_number}
 use Rattle.history_model.specs.Groups as model
 use Rattle.history_model.specs.Histories.{History}
-use Rattle.history_model.specs.Making.{IsOutOfReach, HasFoundFault, CouldHaveFound}
+use Rattle.history_model.specs.Making.{IsOutOfReach}
 use Rattle.history_model.specs.Windows.{lowest, highest}
 use Rattle.write_groups.specs.declared.event.Item.{Item}
 use Rattle.write_groups.specs.declared.event.LogEvent.{LogEvent}
 use Rattle.write_groups.specs.declared.event.Preconditions.{Preconditions}
 use Rattle.object_past.specs.declared.version.Version.{Version}
-
-abbrev pub asks_revision : Option ℕ → ℕ → Bool
-asks_revision None revision = true
-asks_revision (Some wanted) revision = wanted == revision
-
-abbrev pub asks_uid : Option (List ℕ) → List ℕ → Bool
-asks_uid None uid = true
-asks_uid (Some wanted) uid = bytes_eq wanted uid
-
-abbrev pub are_met : Preconditions → ℕ → List ℕ → Bool
-are_met asked revision uid = asks_revision asked.revision revision && asks_uid asked.uid uid
+use Rattle.write_groups.specs.Met.{are_met}
 
 -- the object meets the preconditions; no object meets those that ask for nothing
 abbrev pub meets : Preconditions → Option Version → Bool
@@ -50,8 +39,3 @@ object_code created used present other rest =
 abbrev pub clear_code : (ℕ → Option ℕ → Bool) → ℕ → LogEvent → Item → (created used : Bool) → Option Version → Option Reason
 clear_code body number event item created used before = object_code created used (is_some before) (is_other item before)
     (asked_code (meets event.preconditions before) (body number (node_of before)))
-
--- the least code of a fault by which a write could not have found its answer, or none where it could
-abbrev pub IsLeastFoundFault : History → model.Making → Option Reason → Type 0
-IsLeastFoundFault h m None = CouldHaveFound h m
-IsLeastFoundFault h m (Some code) = HasFoundFault h m code × ((other : Reason) → HasFoundFault h m other → code_number code ≤ code_number other)

@@ -3,7 +3,7 @@ use Rattle.std.specs.Prelude.{◌≡◌, ◌&&◌, ℕ, Bool, true, false, List,
 use Rattle.std.specs.BTreeMap.{BTreeMap, get}
 use Rattle.base_types.specs.declared.key.ObjectKey.{ObjectKey}
 use Rattle.clouds.specs.Kept.{key_order, text_order}
-use Rattle.history_model.specs.Keys.{same_key}
+use Rattle.base_types.specs.Keys.{same_key}
 use Rattle.write_groups.specs.declared.event.LogEvent.{LogEvent}
 use Rattle.write_groups.specs.declared.event.Shown.{Shown}
 use Rattle.write_groups.specs.declared.event.Shown.TheVariants.{Made, Removed, Opaque, Saw, SawNone, SawSome, SawOther, Listed, Free, Aside}

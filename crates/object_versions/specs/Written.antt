@@ -14,7 +14,7 @@ use Rattle.write_groups.specs.declared.event.LogEvent.{LogEvent}
 use Rattle.write_groups.specs.declared.event.Shown.{Shown}
 use Rattle.write_groups.specs.declared.event.Shown.TheVariants.{Made, Removed, Opaque, Saw, SawNone, SawSome, SawOther, Listed, Free, Aside}
 use Rattle.write_groups.specs.declared.groups.Group.{Group}
-use Rattle.object_versions.specs.Faults.{IsLeastFoundFault}
+use Rattle.object_past.specs.Faulted.{IsLeastFoundFault}
 use Rattle.object_past.specs.Modelled.{version_of}
 use Rattle.object_versions.specs.Modelled.{AreCloudsOf}
 use Rattle.object_versions.specs.Surrounded.{HasLog, IsJudgedBy}

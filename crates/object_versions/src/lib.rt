@@ -22,6 +22,3 @@ pub use removal::range_behind;
 pub use removals::removals_of;
 pub use removed::{Removed, first_removals};
 pub use versions::{Log, Written, write_versions};
-
-#[cfg(test)]
-mod tests;

@@ -2,7 +2,8 @@ ghost use Rattle.std.specs.Prelude.{◌≡◌, ◌↔◌, ◌||◌, IfOk, IsTrue
 ghost use Rattle.history_model.specs.Histories.{History};
 ghost use Rattle.history_model.specs.Making.{IsUsedUid, IsLeastFault};
 ghost use Rattle.write_groups.specs.Modelled.{HasTimes};
-ghost use Rattle.object_versions.specs.Faults.{are_met, meets, is_other, node_of, clear_code, IsOutside, IsLeastFoundFault};
+ghost use Rattle.object_past.specs.Faulted.{IsLeastFoundFault};
+ghost use Rattle.object_versions.specs.Faults.{meets, is_other, node_of, clear_code, IsOutside};
 ghost use Rattle.object_past.specs.Modelled.{version_of};
 ghost use Rattle.object_versions.specs.Modelled.{making_of};
 ghost use Rattle.object_versions.specs.Surrounded.{IsJudgedBy};
@@ -26,27 +27,12 @@ pub struct Making<'a> {
     pub created: bool,
 }
 
-// Whether an object of this revision and uid meets the preconditions.
-fn are_met(asked: &Preconditions, revision: Revision, uid: &Text) -> bool
-    ensures { result ≡ are_met asked.now revision uid.now }
-{
-    let by_revision = match asked.revision {
-        Some(wanted) => wanted == revision,
-        None => true,
-    };
-    let by_uid = match &asked.uid {
-        Some(wanted) => *wanted == *uid,
-        None => true,
-    };
-    by_revision && by_uid
-}
-
 // Whether the object meets the preconditions; no object meets those that ask for nothing.
 fn meets(asked: &Preconditions, before: Option<&Version>) -> bool
     ensures { result ≡ meets asked.now (option_map (λ v. v.now) before.entry) }
 {
     match before {
-        Some(version) => are_met(asked, version.revision, &version.uid),
+        Some(version) => asked.are_met(version.revision, &version.uid),
         None => asked.revision.is_none() && asked.uid.is_none(),
     }
 }
@@ -145,7 +131,7 @@ pub fn finding_fault<B: Bodies>(
         return Ok(Some(Reason::U4));
     }
     let item = making.item;
-    if !are_met(&making.event.preconditions, item.revision, &item.uid) {
+    if !making.event.preconditions.are_met(item.revision, &item.uid) {
         return Ok(Some(Reason::U7));
     }
     if !bodies.is_right(alloc, making.number, Some(item.node))? {

@@ -14,10 +14,12 @@ use Rattle.setup_file.specs.declared.setup.Setup.{Setup}
 use Rattle.setup_file.specs.declared.setup.SnapshotObject.{SnapshotObject}
 use Rattle.setup_file.specs.declared.setup.Tracked.{Tracked}
 use Rattle.setup_file.proofs.Chains.{found_both, where_true}
-use Rattle.answer_class.specs.Bodies.{kept, answered_object}
+use Rattle.audit_event.specs.Bodies.{kept}
+use Rattle.answer_class.specs.Bodies.{answered_object}
 use Rattle.answer_class.specs.Covers.{cover_of}
 use Rattle.answer_class.specs.Lists.{answered_list, answered_at, is_below, is_old_list, asks_revision, extent_of, is_odd}
-use Rattle.answer_class.specs.Requests.{verb_of, is_write, is_read, is_completing, tracked_of, effect_of, is_own, is_unknown, has_filled, first_value, succeeds, is_code, is_done, is_open, is_empty}
+use Rattle.setup_file.specs.Requests.{tracked_of}
+use Rattle.answer_class.specs.Requests.{verb_of, is_write, is_read, is_completing, effect_of, is_own, is_unknown, has_filled, first_value, succeeds, is_code, is_done, is_open, is_empty}
 use Rattle.answer_class.specs.Times.{is_early, is_before}
 use Rattle.answer_class.specs.Classes.{saw, listed, got, gathered, read_by, read_class, is_missing, asked_name, is_taken, is_conflict, conflict_class, taken_class, refused_class, is_outside, is_out_of_sight, later_class, removed_uid, removed, is_made_by, made, made_class, is_hidden, is_dry, is_idle, succeeded_class, tracked_class, class_in, class_of}
 use Rattle.answer_class.specs.declared.answer.Answer.{Answer}

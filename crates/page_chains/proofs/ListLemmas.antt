@@ -3,7 +3,8 @@ use Rattle.std.proofs.Common.{◌≡◌, ℕ, List, Option, Some, None, subst, c
 use Rattle.json_tree.specs.Meaning.{Meaning}
 use Rattle.json_tree.specs.Parts.{member_of}
 use Rattle.setup_file.specs.Forms.{revision_at}
-use Rattle.setup_file.specs.Lists.{items_or_none, objects_in, list_with, list_of}
+use Rattle.json_tree.specs.Texts.{items_or_none}
+use Rattle.setup_file.specs.Lists.{objects_in, list_with, list_of}
 use Rattle.setup_file.specs.Objects.{has_text_at}
 use Rattle.setup_file.specs.declared.lists.ListRead.{ListRead}
 use Rattle.setup_file.specs.declared.setup.Tracked.{Tracked}

@@ -1,32 +1,27 @@
 -- Each chain of sound events is a list that isn't older than the log, with trees that can be read.
-use Rattle.std.proofs.Common.{◌≡◌, ℕ, ◌≤◌, Bool, true, false, ◌&&◌, List, [], ◌∷◌, Option, Some, None, refl, sym, subst, inl, inr, if◌then◌else◌, codes}
+use Rattle.std.proofs.Common.{◌≡◌, ◌≤◌, Bool, true, false, List, ◌∷◌, Option, Some, None, refl, sym, subst, if◌then◌else◌, codes}
 use Rattle.std.specs.Prelude.{IsSome, All, is_some}
 use Rattle.std.specs.List.{flat_map}
-use Rattle.std.proofs.lemmas.List.Elements.{All-nil}
-use Rattle.json_tree.specs.Meaning.{Meaning}
-use Rattle.json_tree.specs.Parts.{member_of, items_of, is_null}
+use Rattle.json_tree.specs.Parts.{member_of}
 use Rattle.json_tree.specs.Values.{InRange}
-use Rattle.audit_event.specs.Bodies.{IsSoundBody}
+use Rattle.audit_event.specs.Bodies.{kept}
 use Rattle.audit_event.specs.Events.{IsSound}
-use Rattle.audit_event.specs.declared.event.Body.{Body}
-use Rattle.audit_event.specs.declared.event.Body.TheVariants.{Absent, Kept, Unread}
 use Rattle.audit_event.specs.declared.event.Event.{Event}
-use Rattle.setup_file.specs.Forms.{filled_at, revision_at}
-use Rattle.setup_file.specs.Lists.{items_or_none, objects_in, list_of}
-use Rattle.setup_file.specs.Objects.{is_of_kind, namespace_in, is_under, is_in_namespace, object_of}
+use Rattle.setup_file.specs.Lists.{objects_in, list_of}
+use Rattle.setup_file.specs.Objects.{object_of}
 use Rattle.setup_file.specs.Resources.{tracked_as}
 use Rattle.setup_file.specs.Sound.{AreInRange, IsLaterList}
 use Rattle.setup_file.specs.declared.setup.Checkpoint.{Checkpoint}
 use Rattle.setup_file.specs.declared.setup.Setup.{Setup}
 use Rattle.setup_file.specs.declared.setup.SnapshotObject.{SnapshotObject}
 use Rattle.setup_file.specs.declared.setup.Tracked.{Tracked}
-use Rattle.setup_file.proofs.Chains.{same_some, found_both, where_true, either}
+use Rattle.setup_file.proofs.Chains.{found_both}
 use Rattle.setup_file.proofs.Gathered.{gathered_all}
-use Rattle.setup_file.proofs.InRange.{member_in_range, items_in_range, stored_in_range}
-use Rattle.answer_class.specs.Bodies.{kept}
+use Rattle.setup_file.proofs.InRange.{member_in_range}
 use Rattle.answer_class.specs.Classes.{class_of}
 use Rattle.answer_class.specs.declared.answer.Answer.{Answer}
 use Rattle.answer_class.specs.declared.answer.Answer.TheVariants.{Made, Removed, Opaque, Saw, SawNone, SawSome, SawOther, Listed, Free, Aside}
+use Rattle.audit_event.proofs.BodyLemmas.{kept_in_range}
 use Rattle.page_chains.specs.declared.page.Page.{Page}
 use Rattle.page_chains.specs.Pages.{is_selective, page_in, page_of, pages_of}
 use Rattle.page_chains.specs.Chains.{chains_in, chains_of}
@@ -35,35 +30,13 @@ use Rattle.page_chains.proofs.ClassLemmas.{AreAnswered, IsLikely, class_likely}
 use Rattle.page_chains.proofs.FollowLemmas.{each_after}
 use Rattle.page_chains.proofs.ListLemmas.{list_is_read}
 use Rattle.page_chains.proofs.Members.{Each, Maybe, all_of, each_of, each_mapped, each_flat, each_made, holds_of}
+use Rattle.setup_file.proofs.SoundLists.{object_in_range, trees_in_range}
 
 abbrev IsReadable : SnapshotObject → Type 0
 IsReadable object = InRange object.tree
 
 abbrev IsReadablePage : Page → Type 0
 IsReadablePage page = Each IsReadable page.items
-
-kept_in_range : (body : Body) (tree : Meaning) → IsSoundBody body → kept body ≡ Some tree → InRange tree
-kept_in_range Absent tree sound e = absurd (cc)
-kept_in_range (Kept found) tree sound e = let same : found ≡ tree = cc in subst InRange same sound
-kept_in_range Unread tree sound e = absurd (cc)
-
-object_in_range : (tracked : Tracked) (name namespace : List ℕ) (tree : Meaning) (object : SnapshotObject) → InRange tree → object_of tracked name namespace tree ≡ Some object → IsReadable object
-object_in_range tracked name namespace tree object range e =
-    let metadata = found_both (member_of (codes "metadata") tree) _ object e in
-    let own_name = found_both (filled_at (codes "name") metadata.0) _ object metadata.2 in
-    let uid = found_both (filled_at (codes "uid") metadata.0) _ object own_name.2 in
-    let revision = found_both (revision_at (codes "resourceVersion") metadata.0) _ object uid.2 in
-    let own_namespace = found_both (namespace_in tracked metadata.0) _ object revision.2 in
-    let fits = where_true (is_of_kind tracked tree && is_under name own_name.0 && is_in_namespace tracked namespace own_namespace.0) _ object own_namespace.2 in
-    subst IsReadable (same_some _ object fits.1) (stored_in_range tree range)
-
-trees_in_range : (member : Option Meaning) (trees : List Meaning) → ((tree : Meaning) → member ≡ Some tree → InRange tree) → items_or_none member ≡ Some trees → All InRange trees
-trees_in_range None trees range e = subst (All InRange) (same_some [] trees e) (All-nil InRange)
-trees_in_range (Some tree) trees range e =
-    elim (either (is_null tree) (Some []) (items_of tree) (Some trees) e) [
-      | inl none ↦ subst (All InRange) (same_some [] trees none.1) (All-nil InRange)
-      | inr some ↦ items_in_range tree trees (range tree refl) some.1
-    ]
 
 -- the items of an answer
 answered_in_range : (event : Event) (items : List SnapshotObject) → IsSound event → AreAnswered event items → AreInRange items

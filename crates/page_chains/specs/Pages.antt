@@ -9,7 +9,7 @@ use Rattle.audit_event.specs.declared.event.Event.{Event}
 use Rattle.setup_file.specs.Forms.{filled_at}
 use Rattle.setup_file.specs.declared.setup.Setup.{Setup}
 use Rattle.setup_file.specs.declared.setup.SnapshotObject.{SnapshotObject}
-use Rattle.answer_class.specs.Bodies.{kept}
+use Rattle.audit_event.specs.Bodies.{kept}
 use Rattle.answer_class.specs.Classes.{class_of}
 use Rattle.answer_class.specs.Requests.{is_filled, has_filled}
 use Rattle.answer_class.specs.declared.answer.Answer.{Answer}

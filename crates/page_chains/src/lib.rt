@@ -9,6 +9,3 @@ mod reaching;
 mod reading;
 
 pub use chain::chains;
-
-#[cfg(test)]
-mod tests;

@@ -3,17 +3,17 @@ ghost use Rattle.page_chains.specs.Pages.{token_of, asked_by, asked_of, is_first
 ghost use Rattle.page_chains.specs.Parts.{part_of, parts_of};
 
 use crate::page::{Asked, Page, Pages};
-use answer_class::{Answer, class_of, filled_at, has_filled, kept, one_at_most};
+use answer_class::{Answer, class_of, has_filled, one_at_most};
 use audit_event::Event;
 use base_types::{OutOfMemory, RequestAttrs, Text};
-use setup_file::Setup;
+use setup_file::{Setup, filled_at};
 use std::alloc::Global;
 
 // The token with which the next page is asked for.
 fn token_of(event: &Event) -> Option<&Text>
     ensures { option_map (λ text. text.now) result ≡ token_of event.now }
 {
-    filled_at(kept(&event.response)?.member("metadata")?, "continue")
+    filled_at(event.response.kept()?.member("metadata")?, "continue")
 }
 
 #[tactic(auto, using(crate::proofs::ReadingLemmas::asked_as))]

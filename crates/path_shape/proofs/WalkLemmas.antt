@@ -1,39 +1,15 @@
 -- Each item of a list and each member of an object, seen one after another.
-use Rattle.std.proofs.Common.{◌≡◌, ℕ, zero, suc, ◌+◌, ◌<◌, ◌≤◌, ◌^◌, ◌⊎◌, inl, inr, ◌==◌, Bool, true, false, IsSome, List, [], ◌∷◌, ◌++◌, length, get_or, take, Option, Some, None, refl, sym, ap, subst, ◌∙◌, arith, rules, add-one, bytes_eq}
+use Rattle.std.proofs.Common.{◌≡◌, ℕ, zero, suc, ◌+◌, ◌<◌, ◌≤◌, ◌^◌, ◌⊎◌, inl, inr, Bool, true, false, IsSome, List, [], ◌∷◌, ◌++◌, length, get_or, take, Option, Some, None, refl, sym, ap, subst, ◌∙◌, arith, add-one, bytes_eq}
 use Rattle.std.specs.Prelude.{decimal, option_and_then, if◌then◌else◌}
-use Rattle.std.specs.List.{list_all}
-use Rattle.std.specs.Char.{is_ascii_digit}
 use Rattle.std.specs.Str.Parse.{digits_value}
 use Rattle.std.proofs.Math.Seq.{take-suc}
-use Rattle.std.proofs.lemmas.Bool.{false≢true, eqb-true, eq-eqb, cases_lt}
+use Rattle.std.proofs.lemmas.Bool.{false≢true, cases_lt}
 use Rattle.std.proofs.lemmas.Fmt.{decimal-digits_value}
-use Rattle.std.proofs.lemmas.Str.Parse.{IsNumeralModel, numerals_by_value}
 use Rattle.std.proofs.lemmas.Slice.Eq.{bytes_eq-Decides}
+use Rattle.json_tree.proofs.Indices.{own, index_parts}
 use Rattle.json_tree.specs.Meaning.{Meaning, kids_of, fields_of}
 use Rattle.json_tree.specs.Parts.{lookup}
 use Rattle.json_tree.specs.Pointers.{is_index, index_of, kid_at}
-
-own : IsNumeralModel (λ ds. list_all is_ascii_digit ds ≡ true) (digits_value 10)
-own = numerals_by_value (λ ds. list_all is_ascii_digit ds ≡ true) (search rules)
-
-zero_alone : (b : ℕ) (bs : List ℕ) → b ≡ 48 → length bs ≡ 0 → b ∷ bs ≡ 48 ∷ []
-zero_alone b [] is none = ap (λ c. c ∷ []) is
-zero_alone b (c ∷ bs) is none = absurd (omega (arith, none))
-
--- digits, at least one, and of several the first isn't 0
-index_parts : (token : List ℕ) → is_index token ≡ true → (list_all is_ascii_digit token ≡ true) × (0 < length token) × (get_or token 0 0 ≡ 48 → length token ≡ 1)
-index_parts [] is = absurd (false≢true is)
-index_parts (b ∷ bs) is = (digits (b == 48) refl is, omega arith, λ first. alone first)
-  where
-    digits : (u : Bool) → (b == 48) ≡ u → (if u then length bs == 0 else list_all is_ascii_digit (b ∷ bs)) ≡ true → list_all is_ascii_digit (b ∷ bs) ≡ true
-    digits false other h = h
-    digits true zero_is h = subst (λ ds. list_all is_ascii_digit ds ≡ true) (sym (zero_alone b bs (eqb-true b 48 zero_is) (eqb-true (length bs) 0 h))) refl
-
-    alone : b ≡ 48 → length (b ∷ bs) ≡ 1
-    alone first =
-        let yes : (b == 48) ≡ true = eq-eqb b 48 first in
-        let h : (length bs == 0) ≡ true = rw yes at is in
-        let none = eqb-true (length bs) 0 h in omega arith
 
 -- an index has one spelling
 pub index_spelled : (token : List ℕ) (n : ℕ) → index_of token ≡ Some n → n < 2 ^ 64 → token ≡ decimal n

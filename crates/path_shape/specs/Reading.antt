@@ -2,9 +2,9 @@
 use Rattle.std.specs.Prelude.{◌≡◌, ⊤, ℕ, ◌+◌, ◌-◌, ◌^◌, Bool, ◌||◌, List, [], ◌∷◌, Option, Some, None, Result, Ok, Err, min, bytes_eq, codes, if◌then◌else◌}
 use Rattle.std.specs.List.{list_all}
 use Rattle.json_tree.specs.Meaning.{Meaning}
-use Rattle.json_tree.specs.Parts.{member_of, text_of, items_of, members_of}
+use Rattle.json_tree.specs.Parts.{items_of, members_of}
 use Rattle.json_tree.specs.Pointers.{pointer_of}
-use Rattle.json_tree.specs.Texts.{◌>>=◌}
+use Rattle.json_tree.specs.Texts.{◌>>=◌, text_at}
 use Rattle.path_shape.specs.declared.shape.FieldClass.{FieldClass}
 use Rattle.path_shape.specs.declared.shape.FieldClass.TheVariants.{Asked, Defaulted, Owned, Kept}
 use Rattle.path_shape.specs.declared.shape.ShapeEntry.{ShapeEntry}
@@ -17,9 +17,6 @@ class_named name =
     else (if bytes_eq name (codes "Defaulted") then Some Defaulted
     else (if bytes_eq name (codes "Owned") then Some Owned
     else (if bytes_eq name (codes "Kept") then Some Kept else None)))
-
-abbrev pub text_at : List ℕ → Meaning → Option (List ℕ)
-text_at name tree = member_of name tree >>= text_of
 
 -- an entry has the members `path` and `class`, and no other
 abbrev pub is_known : List ℕ × Meaning → Bool

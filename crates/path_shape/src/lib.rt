@@ -14,6 +14,3 @@ mod walk;
 
 pub use agreement::{agrees, keeps};
 pub use shape::{FieldClass, Shape, ShapeEntries, ShapeEntry, ShapeFault};
-
-#[cfg(test)]
-mod tests;

@@ -1,8 +1,8 @@
-ghost use Rattle.std.specs.Prelude.{◌≡◌, ◌+◌, ◌-◌, ◌^◌, min, Ok, Err, IfOk, IfErr, option_map};
+ghost use Rattle.std.specs.Prelude.{◌≡◌, ◌+◌, ◌-◌, ◌^◌, min, Ok, Err, IfOk, IfErr};
 ghost use Rattle.json_tree.specs.Parts.{items_of};
 ghost use Rattle.json_tree.specs.Pointers.{pointer_of};
 ghost use Rattle.json_tree.specs.Meaning.{Meaning};
-ghost use Rattle.path_shape.specs.Reading.{class_named, text_at, is_known, entry_of, entries_from, shape_entries, IsEntriesCause, IsCause};
+ghost use Rattle.path_shape.specs.Reading.{class_named, is_known, entry_of, entries_from, shape_entries, IsEntriesCause, IsCause};
 ghost use Rattle.std.specs.List.{list_all};
 
 use crate::shape::{FieldClass, Shape, ShapeEntries, ShapeEntry, ShapeFault};
@@ -20,12 +20,6 @@ fn class_named(name: &str) -> Option<FieldClass>
         "Kept" => Some(FieldClass::Kept),
         _ => None,
     }
-}
-
-fn text_at<'a>(tree: &'a Tree, name: &str) -> Option<&'a Text>
-    ensures { option_map (λ text. text.now) result ≡ text_at name.now tree.now }
-{
-    tree.member(name)?.as_text()
 }
 
 fn are_known(members: &MemberList) -> bool
@@ -55,13 +49,13 @@ fn read_entry(alloc: Global, tree: &Tree) -> Result<Option<ShapeEntry>, OutOfMem
     let Some(members) = tree.as_members() else {
         return Ok(None);
     };
-    let Some(text) = text_at(tree, "path") else {
+    let Some(text) = tree.text_at("path") else {
         return Ok(None);
     };
     let Some(path) = pointer_in(alloc, text)? else {
         return Ok(None);
     };
-    let Some(name) = text_at(tree, "class") else {
+    let Some(name) = tree.text_at("class") else {
         return Ok(None);
     };
     let Some(class) = class_named(name.as_str()) else {

@@ -2,20 +2,12 @@
 -- ClusterRoleBinding), and what they hold. Other members than those named here are ignored, `aggregationRule` among them.
 use Rattle.std.specs.Prelude.{ℕ, ◌==◌, Bool, true, false, List, [], ◌∷◌, Option, Some, None, length, unwrap_or, bytes_eq, codes, if◌then◌else◌}
 use Rattle.json_tree.specs.Meaning.{Meaning}
-use Rattle.json_tree.specs.Parts.{member_of, is_null, text_of, items_of, members_of}
-use Rattle.json_tree.specs.Texts.{◌>>=◌, texts_at}
+use Rattle.json_tree.specs.Parts.{member_of, is_null, text_of, members_of}
+use Rattle.json_tree.specs.Texts.{◌>>=◌, texts_at, text_at, items_or_none}
 use Rattle.rbac_rules.specs.declared.role.PolicyRule.{PolicyRule}
 use Rattle.rbac_rules.specs.declared.binding.Subject.{Subject}
 use Rattle.rbac_rules.specs.declared.binding.Subject.TheVariants.{User, Group, ServiceAccount}
 use Rattle.rbac_rules.specs.declared.binding.Binding.{Binding}
-
-abbrev pub text_at : List ℕ → Meaning → Option (List ℕ)
-text_at name tree = member_of name tree >>= text_of
-
--- the items of a list that may be missing or null
-abbrev pub items_or_none : Option Meaning → Option (List Meaning)
-items_or_none None = Some []
-items_or_none (Some tree) = if is_null tree then Some [] else items_of tree
 
 -- A rule is an object. Each of its lists may be missing, and is then empty, but not null.
 abbrev pub rule_of : Meaning → Option PolicyRule

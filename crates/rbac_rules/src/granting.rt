@@ -85,6 +85,3 @@ pub fn grants(rules: &[PolicyRule], attrs: &RequestAttrs) -> bool
 {
     rules.iter().any(|rule| rule.grants(attrs))
 }
-
-#[cfg(test)]
-mod tests;

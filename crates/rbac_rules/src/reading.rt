@@ -1,5 +1,5 @@
 ghost use Rattle.std.specs.Prelude.{◌≡◌, Some, None, Err, IfOk, option_map};
-ghost use Rattle.rbac_rules.specs.Forms.{text_at, items_or_none, rule_of, rules_in, role_of, namespace_or, account_of, subject_of, subjects_in, home_of, is_cluster_kind, role_ref_of, binding_of};
+ghost use Rattle.rbac_rules.specs.Forms.{rule_of, rules_in, role_of, namespace_or, account_of, subject_of, subjects_in, home_of, is_cluster_kind, role_ref_of, binding_of};
 
 use crate::binding::{Binding, Subject, Subjects};
 use crate::role::{PolicyRule, PolicyRules};
@@ -25,23 +25,6 @@ impl From<OutOfMemory> for RbacFault {
 
     fn from(_: OutOfMemory) -> RbacFault {
         RbacFault::OutOfMemory
-    }
-}
-
-fn text_at<'a>(tree: &'a Tree, name: &str) -> Option<&'a Text>
-    ensures { option_map (λ text. text.now) result ≡ text_at name.now tree.now }
-{
-    tree.member(name)?.as_text()
-}
-
-// The items of a list that may be missing or null.
-fn items_or_none<'a>(member: Option<&'a Tree>) -> Option<&'a [Tree]>
-    ensures { option_map (λ trees. trees.now) result ≡ items_or_none (option_map (λ tree. tree.now) member.entry) }
-{
-    match member {
-        None => Some(&[]),
-        Some(tree) if tree.is_null() => Some(&[]),
-        Some(tree) => Some(tree.as_items()?.all.as_slice()),
     }
 }
 
@@ -97,7 +80,7 @@ pub fn read_role(alloc: Global, tree: &Tree) -> Result<PolicyRules, RbacFault>
     if tree.as_members().is_none() {
         return Err(RbacFault::Form);
     }
-    let Some(trees) = items_or_none(tree.member("rules")) else {
+    let Some(trees) = tree.items_at("rules") else {
         return Err(RbacFault::Form);
     };
     match read_rules(alloc, trees)? {
@@ -144,10 +127,10 @@ fn read_account(
 fn read_subject(alloc: Global, tree: &Tree, home: &str) -> Result<Option<Subject>, OutOfMemory>
     ensures { IfOk result (λ found. found ≡ subject_of home.now tree.now) }
 {
-    let Some(kind) = text_at(tree, "kind") else {
+    let Some(kind) = tree.text_at("kind") else {
         return Ok(None);
     };
-    let Some(name) = text_at(tree, "name") else {
+    let Some(name) = tree.text_at("name") else {
         return Ok(None);
     };
     match kind.as_str() {
@@ -187,8 +170,8 @@ fn role_ref(tree: &Tree) -> Option<(bool, &Text)>
     ensures { option_map (λ found. (found.0, found.1.now)) result ≡ role_ref_of tree.now }
 {
     let role = tree.member("roleRef")?;
-    let kind = text_at(role, "kind")?;
-    let name = text_at(role, "name")?;
+    let kind = role.text_at("kind")?;
+    let name = role.text_at("name")?;
     Some((is_cluster_kind(kind.as_str())?, name))
 }
 
@@ -198,7 +181,7 @@ fn home_of(tree: &Tree) -> &str
 {
     let home = tree
         .member("metadata")
-        .and_then(|metadata| text_at(metadata, "namespace"));
+        .and_then(|metadata| metadata.text_at("namespace"));
     match home {
         Some(namespace) => namespace.as_str(),
         None => "",
@@ -214,7 +197,7 @@ pub fn read_binding(alloc: Global, tree: &Tree) -> Result<Binding, RbacFault>
     let Some((role_is_cluster, name)) = role_ref(tree) else {
         return Err(RbacFault::Form);
     };
-    let Some(trees) = items_or_none(tree.member("subjects")) else {
+    let Some(trees) = tree.items_at("subjects") else {
         return Err(RbacFault::Form);
     };
     let Some(subjects) = read_subjects(alloc, trees, home_of(tree))? else {
@@ -229,6 +212,3 @@ pub fn read_binding(alloc: Global, tree: &Tree) -> Result<Binding, RbacFault>
         subjects,
     })
 }
-
-#[cfg(test)]
-mod tests;

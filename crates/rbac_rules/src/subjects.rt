@@ -41,6 +41,3 @@ pub fn subject_matches(subject: &Subject, who: &User) -> bool
         }
     }
 }
-
-#[cfg(test)]
-mod tests;

@@ -6,13 +6,12 @@ use Rattle.std.specs.List.Sorted.{IsNonDecreasingBy}
 use Rattle.std.proofs.lemmas.Bool.{cases_lt, leb-false, leb-true}
 use Rattle.std.proofs.lemmas.List.{get_or-drop, get_or-take, length-drop, length-take}
 use Rattle.base_types.specs.declared.key.ObjectKey.{ObjectKey}
-use Rattle.clouds.specs.Kept.{items_at}
+use Rattle.clouds.specs.Kept.{items_at, key_order}
 use Rattle.rbac_timeline.specs.declared.history.Stored.{Stored}
 use Rattle.rbac_timeline.specs.declared.version.RbacVersion.{RbacVersion}
-use Rattle.rbac_timeline.specs.Index.{key_order}
 use Rattle.rbac_timeline.specs.Kept.{AreStored, stored_of}
 use Rattle.rbac_timeline.specs.Pairs.{AreStoredBetween, AreVersionsBetween}
-use Rattle.rbac_timeline.proofs.Ordered.{Upto}
+use Rattle.base_types.proofs.Upto.{Upto}
 
 pub front_in_order : {X : Type 0} (number : X → ℕ) (xs : List X) (n : ℕ) → IsNonDecreasingBy number xs → IsNonDecreasingBy number (take n xs)
 front_in_order number xs n order = λ i j d less among.

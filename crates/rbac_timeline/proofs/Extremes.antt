@@ -18,7 +18,7 @@ use Rattle.rbac_timeline.specs.declared.version.RbacContent.{RbacContent}
 use Rattle.rbac_timeline.specs.declared.version.RbacContent.TheVariants.{Bound, Role, Unreadable}
 use Rattle.rbac_timeline.specs.declared.version.RbacEnd.{RbacEnd}
 use Rattle.rbac_timeline.specs.declared.version.RbacVersion.{RbacVersion}
-use Rattle.rbac_timeline.specs.Index.{key_order}
+use Rattle.clouds.specs.Kept.{key_order}
 use Rattle.rbac_timeline.specs.Kinds.{IsBindingOf, kind_of_key}
 use Rattle.rbac_timeline.specs.Known.{Known, writes_of}
 use Rattle.rbac_timeline.specs.Sound.{AreSound, IsBefore, IsSoundEnd}

@@ -14,7 +14,8 @@ use Rattle.clouds.specs.Clouds.{IsClouded, IsHiddenBy}
 use Rattle.clouds.specs.Writes.{Writes}
 use Rattle.clouds.specs.declared.span.KeyRevision.{KeyRevision}
 use Rattle.clouds.specs.declared.span.OpaqueSpan.{OpaqueSpan}
-use Rattle.rbac_timeline.specs.Hidden.{covers, is_clouded, is_hidden_by, is_unseen, same_key, takes_name, takes_namespace}
+use Rattle.base_types.specs.Keys.{same_key}
+use Rattle.rbac_timeline.specs.Hidden.{covers, is_clouded, is_hidden_by, is_unseen, takes_name, takes_namespace}
 use Rattle.rbac_timeline.proofs.Telling.{Decides-all, Decides-any, Decides-implies}
 
 pub same_key-Decides : (a b : ObjectKey) → Decides (same_key a b) (a ≡ b)

@@ -7,12 +7,11 @@ use denote.Ref.{Bor}
 use Rattle.std.proofs.lemmas.Bool.{cases_order}
 use Rattle.std.proofs.lemmas.List.{get_or_default}
 use Rattle.base_types.specs.declared.key.ObjectKey.{ObjectKey}
-use Rattle.clouds.specs.Kept.{items_at}
+use Rattle.clouds.specs.Kept.{items_at, key_order}
 use Rattle.rbac_timeline.specs.declared.history.Gap.{Gap}
 use Rattle.rbac_timeline.specs.declared.history.Stored.{Stored}
 use Rattle.rbac_timeline.specs.declared.version.RbacEnd.{RbacEnd}
 use Rattle.rbac_timeline.specs.declared.version.RbacVersion.{RbacVersion}
-use Rattle.rbac_timeline.specs.Index.{key_order}
 use Rattle.rbac_timeline.specs.Kept.{AreGaps, AreStored, IsLatestStored, IsRemovalOf, gap_of, stored_of}
 use Rattle.rbac_timeline.specs.States.{IsEndOf, IsLatestVersion, NoneUpto}
 

@@ -20,7 +20,8 @@ use Rattle.rbac_timeline.specs.declared.version.RbacEnd.{RbacEnd}
 use Rattle.rbac_timeline.specs.declared.version.RbacVersion.{RbacVersion}
 use Rattle.rbac_timeline.specs.Deciding.{bound_may_grant, bound_must_grant, cache_place, is_certain, is_end_of, is_latest, is_not_gone, is_sound_bound, is_version, may_pass, must_pass, role_may_grant, role_must_grant, rules_may_grant, rules_must_grant}
 use Rattle.rbac_timeline.specs.Extents.{IsCertain, IsNotGone, MayGrant, MustGrant}
-use Rattle.rbac_timeline.specs.Hidden.{is_clouded, same_key}
+use Rattle.base_types.specs.Keys.{same_key}
+use Rattle.rbac_timeline.specs.Hidden.{is_clouded}
 use Rattle.rbac_timeline.specs.Kinds.{IsBindingOf, IsKeyOf, is_cluster_binding, kind_of_key, role_key}
 use Rattle.rbac_timeline.specs.Known.{Known, writes_of}
 use Rattle.rbac_timeline.specs.Requests.{grants, means}

@@ -10,7 +10,8 @@ use Rattle.std.proofs.lemmas.List.Kept.{AllPairs-cons}
 use Rattle.std.proofs.lemmas.List.Sorted.{All-permutation, IsPermutation-insert, searchable_from_sorted}
 use Rattle.base_types.specs.declared.key.ObjectKey.{ObjectKey}
 use Rattle.clouds.proofs.Adding.{Grows, Grows-permuted, key_order_total, same_key_from}
-use Rattle.rbac_timeline.specs.Index.{AreRising, key_order}
+use Rattle.clouds.specs.Kept.{key_order}
+use Rattle.rbac_timeline.specs.Index.{AreRising}
 use Rattle.rbac_timeline.specs.Indexed.{HasOneMore}
 
 before_in : {X : Type 0} (R : X → X → Type 0) (xs : List X) (n : ℕ) (x : X) → n ≤ length xs → AllPairs R xs → ((k : ℕ) (d : X) → k < n → k < length xs → R (get_or xs k d) x)

@@ -13,8 +13,8 @@ use Rattle.base_types.proofs.Quantifiers.{Any-map, Any-unmap}
 use Rattle.clouds.specs.declared.span.KeyRevision.{KeyRevision}
 use Rattle.rbac_timeline.specs.declared.version.RbacEnd.{RbacEnd}
 use Rattle.rbac_timeline.specs.declared.version.RbacVersion.{RbacVersion}
-use Rattle.rbac_timeline.specs.Hidden.{same_key}
-use Rattle.rbac_timeline.specs.Index.{key_order}
+use Rattle.base_types.specs.Keys.{same_key}
+use Rattle.clouds.specs.Kept.{key_order}
 use Rattle.rbac_timeline.specs.Known.{key_revision}
 use Rattle.rbac_timeline.specs.Sound.{AreSound, IsBefore, IsSoundEnd}
 use Rattle.rbac_timeline.proofs.Hiding.{same_key-Decides}

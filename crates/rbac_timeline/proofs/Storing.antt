@@ -4,7 +4,7 @@ use Rattle.std.specs.BTreeMap.{BTreeMap}
 use Rattle.std.specs.List.{Contains}
 use Rattle.std.proofs.lemmas.List.Elements.{Contains-append_left, Contains-push, Contains-push_cases}
 use Rattle.base_types.specs.declared.key.ObjectKey.{ObjectKey}
-use Rattle.clouds.specs.Kept.{AddsAt, items_at}
+use Rattle.clouds.specs.Kept.{AddsAt, items_at, key_order}
 use Rattle.clouds.specs.Writes.{Writes}
 use Rattle.clouds.specs.declared.span.KeyRevision.{KeyRevision}
 use Rattle.clouds.specs.declared.span.OpaqueSpan.{OpaqueSpan}
@@ -13,7 +13,6 @@ use Rattle.rbac_timeline.specs.declared.history.Gap.{Gap}
 use Rattle.rbac_timeline.specs.declared.history.Stored.{Stored}
 use Rattle.rbac_timeline.specs.declared.version.RbacEnd.{RbacEnd}
 use Rattle.rbac_timeline.specs.declared.version.RbacVersion.{RbacVersion}
-use Rattle.rbac_timeline.specs.Index.{key_order}
 use Rattle.rbac_timeline.specs.Kept.{AreGaps, AreStored, gap_of, stored_of}
 use Rattle.rbac_timeline.proofs.Gathering.{front_more}
 

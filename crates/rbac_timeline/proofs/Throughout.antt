@@ -10,7 +10,7 @@ use Rattle.base_types.specs.declared.key.ObjectKey.{ObjectKey}
 use Rattle.base_types.specs.declared.request.RequestAttrs.{RequestAttrs}
 use Rattle.base_types.specs.declared.request.User.{User}
 use Rattle.clouds.specs.FirstPlace.{HoldsNowhere, IsLeastPlace}
-use Rattle.clouds.specs.Kept.{items_at}
+use Rattle.clouds.specs.Kept.{items_at, key_order}
 use Rattle.rbac_rules.specs.declared.binding.Binding.{Binding}
 use Rattle.rbac_timeline.specs.declared.history.Content.{Content}
 use Rattle.rbac_timeline.specs.declared.history.Content.TheVariants.{Bound as BoundTo}
@@ -22,7 +22,6 @@ use Rattle.rbac_timeline.specs.declared.version.RbacEnd.{RbacEnd}
 use Rattle.rbac_timeline.specs.declared.version.RbacVersion.{RbacVersion}
 use Rattle.rbac_timeline.specs.declared.way.Way.{Way}
 use Rattle.rbac_timeline.specs.Extents.{MustGrantInWay}
-use Rattle.rbac_timeline.specs.Index.{key_order}
 use Rattle.rbac_timeline.specs.Kept.{AreStored, IsRemovalOf, MustGrantByListed, MustGrantOf, NamesAccount, NamesGroup, NamesUser, NamesWho, stored_of}
 use Rattle.rbac_timeline.specs.Known.{Known}
 use Rattle.rbac_timeline.specs.Lasting.{HoldsUntil, IsBlock, IsLast, LastsUntil, NoneBegins, NoneRemoved}

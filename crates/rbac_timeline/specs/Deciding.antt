@@ -20,7 +20,8 @@ use Rattle.rbac_timeline.specs.declared.version.RbacContent.{RbacContent}
 use Rattle.rbac_timeline.specs.declared.version.RbacContent.TheVariants.{Bound, Role, Unreadable}
 use Rattle.rbac_timeline.specs.declared.version.RbacEnd.{RbacEnd}
 use Rattle.rbac_timeline.specs.declared.version.RbacVersion.{RbacVersion}
-use Rattle.rbac_timeline.specs.Hidden.{is_clouded, same_key, takes_namespace}
+use Rattle.base_types.specs.Keys.{same_key}
+use Rattle.rbac_timeline.specs.Hidden.{is_clouded, takes_namespace}
 use Rattle.rbac_timeline.specs.Kinds.{is_cluster_binding, kind_of_key, nameless_kind, role_key}
 use Rattle.rbac_timeline.specs.Known.{Known, writes_of}
 use Rattle.rbac_timeline.specs.Requests.{grants, means}

@@ -1,6 +1,7 @@
 -- Whether unrecorded writes may have changed an object, as a test.
 use Rattle.std.specs.Prelude.{ℕ, Bool, true, not, ◌&&◌, ◌||◌, List, Option, Some, None, bytes_eq, nat_eq, nat_lt}
 use Rattle.std.specs.List.{list_all, list_any, starts_with}
+use Rattle.base_types.specs.Keys.{same_key}
 use Rattle.base_types.specs.declared.key.Cover.{Cover}
 use Rattle.base_types.specs.declared.key.CoverName.{CoverName}
 use Rattle.base_types.specs.declared.key.CoverName.TheVariants.{Any, Exact, Prefix}
@@ -8,9 +9,6 @@ use Rattle.base_types.specs.declared.key.ObjectKey.{ObjectKey}
 use Rattle.clouds.specs.Writes.{Writes}
 use Rattle.clouds.specs.declared.span.KeyRevision.{KeyRevision}
 use Rattle.clouds.specs.declared.span.OpaqueSpan.{OpaqueSpan}
-
-abbrev pub same_key : ObjectKey → ObjectKey → Bool
-same_key a b = bytes_eq a.group b.group && (bytes_eq a.resource b.resource && (bytes_eq a.namespace b.namespace && bytes_eq a.name b.name))
 
 -- a cover's name takes one, and its namespace
 abbrev pub takes_name : CoverName → List ℕ → Bool

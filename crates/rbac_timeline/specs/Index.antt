@@ -1,18 +1,14 @@
 -- The bindings that name a subject.
 use Rattle.std.specs.Prelude.{◌≡◌, ◌↔◌, ◌⊎◌, List, AllPairs, Contains}
-use Rattle.std.specs.declared.cmp.Ordering.{Ordering}
 use Rattle.std.specs.declared.cmp.Ordering.TheVariants.{Less}
 use Rattle.base_types.specs.contracts.key.ObjectKeyOrd.TheImpl as key_ord
 use Rattle.base_types.specs.declared.key.ObjectKey.{ObjectKey}
+use Rattle.clouds.specs.Kept.{key_order}
 use Rattle.rbac_rules.specs.declared.binding.Binding.{Binding}
 use Rattle.rbac_rules.specs.declared.binding.Subject.{Subject}
 use Rattle.rbac_timeline.specs.declared.version.RbacVersion.{RbacVersion}
 use Rattle.rbac_timeline.specs.declared.kind.Kind.TheVariants.{RoleBinding, ClusterRoleBinding}
 use Rattle.rbac_timeline.specs.Kinds.{IsBindingOf, IsKeyOf}
-
--- keys by their four parts
-abbrev pub key_order : ObjectKey → ObjectKey → Ordering
-key_order = (key_ord.ghosts).cmp
 
 -- each key is before those behind it
 abbrev pub AreRising : List ObjectKey → Type 0

@@ -4,7 +4,7 @@ use Rattle.std.specs.BTreeMap.{BTreeMap}
 use Rattle.base_types.specs.declared.key.ObjectKey.{ObjectKey}
 use Rattle.base_types.specs.declared.request.RequestAttrs.{RequestAttrs}
 use Rattle.base_types.specs.declared.request.User.{User}
-use Rattle.clouds.specs.Kept.{items_at}
+use Rattle.clouds.specs.Kept.{items_at, key_order}
 use Rattle.clouds.specs.Writes.{Writes}
 use Rattle.rbac_rules.specs.Granting.{Grants}
 use Rattle.rbac_rules.specs.Matching.{IsAccount, Matches}
@@ -20,7 +20,7 @@ use Rattle.rbac_timeline.specs.declared.version.RbacVersion.{RbacVersion}
 use Rattle.rbac_timeline.specs.declared.way.Way.{Way}
 use Rattle.rbac_timeline.specs.Extents.{MayGrantByKey, MayGrantByRole, MustGrantByKey, MustGrantByRole, bindings_in, roles_in}
 use Rattle.rbac_timeline.specs.Choices.{IsKnownKey}
-use Rattle.rbac_timeline.specs.Index.{Names, key_order}
+use Rattle.rbac_timeline.specs.Index.{Names}
 use Rattle.rbac_timeline.specs.Kinds.{IsBindingOf, IsKeyOf, IsReached, is_cluster_binding, kind_of_key, role_key}
 use Rattle.rbac_timeline.specs.declared.index.Index.{Index}
 use Rattle.rbac_timeline.specs.declared.nameless.Nameless.{Nameless}

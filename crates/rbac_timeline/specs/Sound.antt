@@ -3,7 +3,7 @@ use Rattle.std.specs.Prelude.{◌≡◌, ◌<◌, ◌≤◌, ◌⊎◌, List, Al
 use Rattle.std.specs.declared.cmp.Ordering.TheVariants.{Less}
 use Rattle.rbac_timeline.specs.declared.version.RbacEnd.{RbacEnd}
 use Rattle.rbac_timeline.specs.declared.version.RbacVersion.{RbacVersion}
-use Rattle.rbac_timeline.specs.Index.{key_order}
+use Rattle.clouds.specs.Kept.{key_order}
 
 -- versions rise by key, and those of one key by revision
 abbrev pub IsBefore : RbacVersion → RbacVersion → Type 0

@@ -1,19 +1,7 @@
 ghost use Rattle.std.specs.Prelude.{◌≡◌, ◌<◌, ◌≤◌, nat_le};
-ghost use Rattle.clouds.specs.FirstPlace.{earlier_of};
 ghost use Rattle.rbac_timeline.specs.Lasting.{IsLast};
 ghost use Rattle.rbac_timeline.specs.Pairs.{earlier_pair, pair_with};
 ghost use Rattle.rbac_timeline.specs.Searched.{lesser_number};
-
-/// The lesser of two places, where there are any.
-pub fn earlier(a: Option<u64>, b: Option<u64>) -> Option<u64>
-    ensures { result ≡ earlier_of a b }
-{
-    match (a, b) {
-        (Some(a), Some(b)) => Some(a.min(b)),
-        (Some(a), None) => Some(a),
-        (None, b) => b,
-    }
-}
 
 // Whether a pair is before another by its first number and then by its second, or the same.
 fn is_upto(a: (u64, u64), b: (u64, u64)) -> bool

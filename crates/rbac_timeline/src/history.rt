@@ -1,6 +1,6 @@
 ghost use Rattle.std.specs.Prelude.{◌≡◌, ◌≢◌, ◌<◌, ◌≤◌, [], ◌∷◌, IfOk, IfSome, IfNone, OnOk, List, Contains};
 ghost use Rattle.std.specs.List.Sorted.{IsNonDecreasingBy, IsPermutation};
-ghost use Rattle.clouds.specs.Kept.{AddsAt};
+ghost use Rattle.clouds.specs.Kept.{AddsAt, key_order};
 
 use crate::first::last_before;
 use crate::kind::{is_cluster_binding, kind_of_key, role_key};
@@ -47,7 +47,6 @@ pub struct Gap {
     pub high: u64,
 }
 
-ghost use Rattle.rbac_timeline.specs.Index.{key_order};
 ghost use Rattle.rbac_timeline.specs.Kept.{AreGaps, AreStored, content_of, gap_of, stored_of};
 ghost use Rattle.rbac_timeline.specs.Lasting.{IsLast};
 ghost use Rattle.rbac_timeline.specs.Pairs.{AreStoredBetween};

@@ -5,10 +5,9 @@ ghost use Rattle.clouds.specs.declared.span.OpaqueSpan.{OpaqueSpan};
 ghost use Rattle.rbac_timeline.specs.Kinds.{is_nameless, nameless_kind};
 ghost use Rattle.rbac_timeline.specs.Nameless.{AreLows, is_below, lesser_of, may_grant};
 
-use crate::first::earlier;
 use crate::kind::{Kind, is_kind, kind_of};
 use base_types::{Cover, CoverName, OutOfMemory, RequestAttrs, Text};
-use clouds::OpaqueSpan;
+use clouds::{OpaqueSpan, earlier};
 use std::alloc::Global;
 use std::collections::BTreeMap;
 

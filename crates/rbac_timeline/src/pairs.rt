@@ -6,13 +6,14 @@ ghost use Rattle.rbac_timeline.specs.Kept.{MayGrantByContent, MayGrantByListed, 
 ghost use Rattle.rbac_timeline.specs.Known.{writes_of};
 ghost use Rattle.rbac_timeline.specs.Searched.{IsFirstPair};
 
-use crate::first::{earlier, earlier_pair, pair_with};
+use crate::first::{earlier_pair, pair_with};
 use crate::history::Content;
 use crate::kind::{is_kind, kind_of_key, reaches};
 use crate::search::Asked;
 use crate::timeline::names;
 use crate::way::Way;
 use base_types::{ObjectKey, Text};
+use clouds::earlier;
 
 // The place, so that proofs know its range.
 fn in_range(place: u64) -> u64

@@ -707,6 +707,3 @@ impl Timeline {
         }
     }
 }
-
-#[cfg(test)]
-mod tests;

@@ -143,6 +143,3 @@ pub fn attrs_of(alloc: Global, verb: &Text, uri: &Text) -> Result<RequestAttrs, 
         None => path_attrs(alloc, verb, path, query),
     })
 }
-
-#[cfg(test)]
-mod tests;

@@ -1,15 +1,14 @@
 -- An array index has one text, however large it is.
-use Rattle.std.proofs.Common.{◌≡◌, ℕ, zero, suc, ◌+◌, ◌*◌, ◌/◌, ◌%◌, ◌<◌, ◌≤◌, ◌==◌, Bool, true, false, List, [], ◌∷◌, ◌++◌, length, get_or, map, Some, None, refl, sym, ap, subst, ◌∙◌, arith, rules}
-use Rattle.std.specs.Prelude.{if◌then◌else◌}
-use Rattle.std.specs.List.{list_all}
-use Rattle.std.specs.Char.{is_ascii_digit, digit_value}
+use Rattle.std.proofs.Common.{◌≡◌, ℕ, zero, suc, ◌+◌, ◌*◌, ◌/◌, ◌%◌, ◌<◌, ◌≤◌, ◌==◌, Bool, true, false, List, [], ◌∷◌, ◌++◌, length, get_or, map, Some, None, refl, sym, ap, ◌∙◌, arith}
+use Rattle.std.specs.Char.{digit_value}
 use Rattle.std.specs.Int.Digits.{digits_of}
 use Rattle.std.specs.Str.Parse.{AllDigits, digits_value, digits_value_after}
-use Rattle.std.proofs.lemmas.Bool.{false≢true, eqb-true, eq-eqb}
+use Rattle.std.proofs.lemmas.Bool.{eqb-true}
 use Rattle.std.proofs.lemmas.Int.Digits.{digits_of_step}
 use Rattle.std.proofs.lemmas.List.{map-append, append-nil, append_assoc}
 use Rattle.std.proofs.lemmas.Str.{digit_value_digit}
-use Rattle.std.proofs.lemmas.Str.Parse.{IsNumeralModel, numerals_by_value, digit_from_value}
+use Rattle.std.proofs.lemmas.Str.Parse.{digit_from_value}
+use Rattle.json_tree.proofs.Indices.{own, index_parts}
 use Rattle.json_tree.specs.Pointers.{is_index, index_of}
 use Rattle.request_bodies.specs.Agreeing.{index_text}
 
@@ -63,28 +62,6 @@ text_of_value (c ∷ e ∷ cs) digits some lead =
     let is : 48 + (0 * 10 + digit_value c) ≡ c = omega arith in
     text_after (0 * 10 + digit_value c) (e ∷ cs) (omega arith) digits.1
     ∙ ap (λ text. text ++ (e ∷ cs)) (text_digit (0 * 10 + digit_value c) (omega (arith, digits.0)) ∙ ap (λ d. d ∷ []) is)
-
-own : IsNumeralModel (λ ds. list_all is_ascii_digit ds ≡ true) (digits_value 10)
-own = numerals_by_value (λ ds. list_all is_ascii_digit ds ≡ true) (search rules)
-
-zero_alone : (b : ℕ) (bs : List ℕ) → b ≡ 48 → length bs ≡ 0 → b ∷ bs ≡ 48 ∷ []
-zero_alone b [] is none = ap (λ c. c ∷ []) is
-zero_alone b (c ∷ bs) is none = absurd (omega (arith, none))
-
--- digits, at least one, and of several the first isn't 0
-index_parts : (token : List ℕ) → is_index token ≡ true → (list_all is_ascii_digit token ≡ true) × (0 < length token) × (get_or token 0 0 ≡ 48 → length token ≡ 1)
-index_parts [] is = absurd (false≢true is)
-index_parts (b ∷ bs) is = (digits (b == 48) refl is, omega arith, λ first. alone first)
-  where
-    digits : (u : Bool) → (b == 48) ≡ u → (if u then length bs == 0 else list_all is_ascii_digit (b ∷ bs)) ≡ true → list_all is_ascii_digit (b ∷ bs) ≡ true
-    digits false other h = h
-    digits true zero_is h = subst (λ ds. list_all is_ascii_digit ds ≡ true) (sym (zero_alone b bs (eqb-true b 48 zero_is) (eqb-true (length bs) 0 h))) refl
-
-    alone : b ≡ 48 → length (b ∷ bs) ≡ 1
-    alone first =
-        let yes : (b == 48) ≡ true = eq-eqb b 48 first in
-        let h : (length bs == 0) ≡ true = rw yes at is in
-        let none = eqb-true (length bs) 0 h in omega arith
 
 pub index_spelled : (token : List ℕ) (n : ℕ) → index_of token ≡ Some n → token ≡ index_text n
 index_spelled token n is = go (is_index token) refl

@@ -8,11 +8,12 @@ use Rattle.path_shape.specs.declared.shape.Shape.{Shape}
 use Rattle.setup_file.specs.declared.setup.Setup.{Setup}
 use Rattle.setup_file.specs.declared.setup.Tracked.{Tracked}
 use Rattle.request_bodies.specs.Asked.{asked_of}
-use Rattle.request_bodies.specs.Requests.{resource_of, shape_of}
+use Rattle.request_bodies.specs.Requests.{shape_of}
 use Rattle.request_bodies.specs.Right.{IsAsked, IsBodyRight, is_asked, is_right_in, is_right_for, is_body_right}
 use Rattle.request_bodies.specs.declared.asked.Asking.{Asking}
 use Rattle.request_bodies.specs.declared.asked.Asking.TheVariants.{NotJudged, Wrong, Whole, Finalizing}
 use Rattle.request_bodies.proofs.Tested.{agree-Decides, keep-Decides}
+use Rattle.setup_file.specs.Requests.{tracked_of}
 
 asked-Decides : (shape : Shape) (old : Option Meaning) (answered : Meaning) (asking : Asking) → Decides (is_asked shape old answered asking) (IsAsked shape old answered asking)
 asked-Decides shape old answered NotJudged = (λ _. tt, λ _. refl)
@@ -45,4 +46,4 @@ for-Decides (Some found) event answered old =
     )
 
 pub body-Decides : (setup : Setup) (event : Event) (answered : Meaning) (old : Option Meaning) → Decides (is_body_right setup event answered old) (IsBodyRight setup event answered old)
-body-Decides setup event answered old = for-Decides (resource_of setup event.attrs) event answered old
+body-Decides setup event answered old = for-Decides (tracked_of setup event.attrs) event answered old

@@ -1,6 +1,7 @@
 -- What a write asks its object to become.
 use Rattle.std.specs.Prelude.{List, Option, Some, None, is_some, Result, Ok, Err, if◌then◌else◌}
 use Rattle.std.specs.List.{list_any}
+use Rattle.audit_event.specs.Bodies.{kept}
 use Rattle.json_tree.specs.Meaning.{Meaning}
 use Rattle.json_tree.specs.Parts.{items_of}
 use Rattle.json_tree.specs.Stored.{stored}
@@ -13,11 +14,12 @@ use Rattle.merge_patch.specs.Merging.{merged}
 use Rattle.audit_event.specs.declared.event.Event.{Event}
 use Rattle.setup_file.specs.declared.setup.Tracked.{Tracked}
 use Rattle.request_bodies.specs.Patched.{typed, untyped, touches_managed}
-use Rattle.request_bodies.specs.Requests.{write_of, is_created, kept, is_of_another, is_merge}
+use Rattle.request_bodies.specs.Requests.{write_of, is_created, is_of_another}
 use Rattle.request_bodies.specs.declared.asked.Asking.{Asking}
 use Rattle.request_bodies.specs.declared.asked.Asking.TheVariants.{NotJudged, Wrong, Whole, Finalizing}
 use Rattle.request_bodies.specs.declared.requests.Write.{Write}
 use Rattle.request_bodies.specs.declared.requests.Write.TheVariants.{Put, Patch, Delete, Other}
+use Rattle.setup_file.specs.Requests.{is_merge_patch}
 
 -- a create or an update sends the object
 abbrev pub asked_by_object : Tracked → Meaning → Asking
@@ -47,7 +49,7 @@ asked_by_merge_patch tracked body (Some old) = Whole (untyped (merged (Some (typ
 abbrev pub asked_by_patch : Tracked → Event → Meaning → Option Meaning → Asking
 asked_by_patch tracked event body old =
     if is_some (items_of body) then asked_by_json_patch tracked (patch_of body) old
-    else (if is_merge tracked event.attrs body then asked_by_merge_patch tracked body old else NotJudged)
+    else (if is_merge_patch tracked event.attrs body then asked_by_merge_patch tracked body old else NotJudged)
 
 -- a delete leaves the object, but for the marks of a deletion (Kubernetes "Finalizers"). What a patch made that created
 -- the object is up to the server.

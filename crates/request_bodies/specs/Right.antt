@@ -8,9 +8,10 @@ use Rattle.setup_file.specs.declared.setup.Setup.{Setup}
 use Rattle.setup_file.specs.declared.setup.Tracked.{Tracked}
 use Rattle.request_bodies.specs.Agreeing.{does_agree, does_keep}
 use Rattle.request_bodies.specs.Asked.{asked_of}
-use Rattle.request_bodies.specs.Requests.{resource_of, shape_of}
+use Rattle.request_bodies.specs.Requests.{shape_of}
 use Rattle.request_bodies.specs.declared.asked.Asking.{Asking}
 use Rattle.request_bodies.specs.declared.asked.Asking.TheVariants.{NotJudged, Wrong, Whole, Finalizing}
+use Rattle.setup_file.specs.Requests.{tracked_of}
 
 -- the answer is what was asked of the old object, or of none, of which a delete leaves nothing to compare
 abbrev pub IsAsked : Shape → Option Meaning → Meaning → Asking → Type 0
@@ -22,7 +23,7 @@ IsAsked shape old answered Finalizing = IfSome old (λ object. Keeps shape objec
 -- the answer is what was asked of the resource or subresource that the request is for, where it is known
 abbrev pub IsBodyRight : Setup → Event → Meaning → Option Meaning → Type 0
 IsBodyRight setup event answered old =
-    (tracked : Tracked) (shape : Shape) → resource_of setup event.attrs ≡ Some tracked → shape_of tracked event.attrs ≡ Some shape
+    (tracked : Tracked) (shape : Shape) → tracked_of setup event.attrs ≡ Some tracked → shape_of tracked event.attrs ≡ Some shape
     → IsAsked shape old answered (asked_of tracked event old)
 
 -- the same as tests
@@ -46,4 +47,4 @@ is_right_for None event answered old = true
 is_right_for (Some tracked) event answered old = is_right_in (shape_of tracked event.attrs) tracked event answered old
 
 abbrev pub is_body_right : Setup → Event → Meaning → Option Meaning → Bool
-is_body_right setup event answered old = is_right_for (resource_of setup event.attrs) event answered old
+is_body_right setup event answered old = is_right_for (tracked_of setup event.attrs) event answered old

@@ -4,12 +4,12 @@ ghost use Rattle.setup_file.specs.declared.setup.Tracked.{Tracked as Resource};
 ghost use Rattle.request_bodies.specs.Asked.{asked_by_object, asked_by_operations, asked_by_json_patch, asked_by_merge_patch, asked_by_patch, asked_by, asked_of};
 
 use crate::patched::{is_of_managed, merged, typed, untyped};
-use crate::requests::{Write, is_created, is_merge, is_of_another, kept, write_of};
+use crate::requests::{Write, is_created, is_of_another, write_of};
 use audit_event::Event;
 use base_types::OutOfMemory;
 use json_patch::{ApplyFault, Patch, PatchFault, apply, read_patch};
 use json_tree::{Tree, copy, stored_form};
-use setup_file::Tracked;
+use setup_file::{Tracked, is_merge_patch};
 use std::alloc::Global;
 
 /// What a write asks its object to become.
@@ -99,7 +99,7 @@ fn asked_by_patch(
     if body.as_items().is_some() {
         return asked_by_json_patch(alloc, tracked, body, old);
     }
-    if is_merge(tracked, &event.attrs, body) {
+    if is_merge_patch(tracked, &event.attrs, body) {
         return asked_by_merge_patch(alloc, body, old);
     }
     Ok(Asking::NotJudged)
@@ -137,7 +137,7 @@ pub fn asked_of(
 ) -> Result<Asking, OutOfMemory>
     ensures { IfOk result (λ asking. asking ≡ asked_of tracked.now event.now (option_map (λ tree. tree.now) old.entry)) }
 {
-    let Some(body) = kept(&event.request) else {
+    let Some(body) = event.request.kept() else {
         return Ok(Asking::NotJudged);
     };
     let write = write_of(event.attrs.verb.as_str());

@@ -9,6 +9,3 @@ mod right;
 
 pub use agreeing::agreement_law;
 pub use right::{body_law, is_body_right};
-
-#[cfg(test)]
-mod tests;

@@ -6,12 +6,12 @@ ghost use Rattle.request_bodies.specs.Right.{IsBodyRight, does_keep_all, is_aske
 
 use crate::agreeing::{does_agree, does_keep};
 use crate::asked::{Asking, asked_of};
-use crate::requests::{resource_of, shape_of};
+use crate::requests::shape_of;
 use audit_event::Event;
 use base_types::OutOfMemory;
 use json_tree::Tree;
 use path_shape::Shape;
-use setup_file::Setup;
+use setup_file::{Setup, tracked_of};
 use std::alloc::Global;
 
 /// The test of bodies that computes is the relation.
@@ -51,7 +51,7 @@ pub fn is_body_right(
 ) -> Result<bool, OutOfMemory>
     ensures { IfOk result (λ right. right ≡ is_body_right setup.now event.now answered.now (option_map (λ tree. tree.now) before.entry)) }
 {
-    let Some(tracked) = resource_of(setup, &event.attrs) else {
+    let Some(tracked) = tracked_of(setup, &event.attrs) else {
         return Ok(true);
     };
     let Some(shape) = shape_of(tracked, &event.attrs) else {

@@ -10,7 +10,7 @@ use Rattle.jiff_fmt.specs.Reader.{◌>>=◌, or_err}
 use Rattle.jiff_fmt.specs.Offset.{to_offset}
 use Rattle.jiff_fmt.specs.Temporal.{DateTimeParts, temporal_datetime, full, to_timestamp, instant, parts_nanos, parse_timestamp}
 use Rattle.setup_file.specs.Forms.{moment_of}
-use Rattle.setup_file.specs.Sound.{IsMoment}
+use Rattle.base_types.specs.Moments.{IsMoment}
 use Rattle.setup_file.proofs.Chains.{either, same_some}
 
 read_both : {A B : Type 0} (r : Result A Error) (f : A → Result B Error) (y : B) → (r >>= f) ≡ Ok y → (x : A) × (r ≡ Ok x) × (f x ≡ Ok y)

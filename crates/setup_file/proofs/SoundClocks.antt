@@ -10,7 +10,7 @@ use Rattle.setup_file.specs.declared.fault.SetupRule.TheVariants.{S4, S5, S6}
 use Rattle.setup_file.specs.Clocks.{time_of, start_of, until_of, nanos_within, nanos_of}
 use Rattle.setup_file.specs.Forms.{moment_of, is_form, revision_at}
 use Rattle.setup_file.specs.Reading.{chained, clocks_of}
-use Rattle.setup_file.specs.Sound.{IsMoment}
+use Rattle.base_types.specs.Moments.{IsMoment}
 use Rattle.setup_file.specs.Steps.{or_breaks}
 use Rattle.setup_file.proofs.Chains.{same_some, found_both, chained_both, kept_both, same_kept, not_broken, where_true, either}
 use Rattle.setup_file.proofs.Moments.{moment_is_sound}

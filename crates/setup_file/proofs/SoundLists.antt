@@ -11,8 +11,9 @@ use Rattle.setup_file.specs.declared.setup.Checkpoint.{Checkpoint}
 use Rattle.setup_file.specs.declared.setup.SnapshotObject.{SnapshotObject}
 use Rattle.setup_file.specs.declared.setup.Tracked.{Tracked}
 use Rattle.setup_file.specs.Checkpoints.{is_no_text, is_whole_at, checkpoint_of, checkpoints_from, few_checkpoints, checkpoints_of}
-use Rattle.setup_file.specs.Forms.{text_at, filled_at, revision_at, is_form}
-use Rattle.setup_file.specs.Lists.{items_or_none, objects_in, list_with, list_of}
+use Rattle.json_tree.specs.Texts.{text_at, items_or_none}
+use Rattle.setup_file.specs.Forms.{filled_at, revision_at, is_form}
+use Rattle.setup_file.specs.Lists.{objects_in, list_with, list_of}
 use Rattle.setup_file.specs.Objects.{has_text_at, is_of_kind, namespace_in, is_under, is_in_namespace, object_of}
 use Rattle.setup_file.specs.Resources.{tracked_as}
 use Rattle.setup_file.specs.Sound.{AreInRange, IsLaterList}
@@ -20,7 +21,7 @@ use Rattle.setup_file.proofs.Chains.{same_some, found_both, where_true, either}
 use Rattle.setup_file.proofs.Gathered.{taken, gathered_all}
 use Rattle.setup_file.proofs.InRange.{member_in_range, items_in_range, stored_in_range}
 
-object_in_range : (tracked : Tracked) (name namespace : List ℕ) (tree : Meaning) (object : SnapshotObject) → InRange tree → object_of tracked name namespace tree ≡ Some object → InRange object.tree
+pub object_in_range : (tracked : Tracked) (name namespace : List ℕ) (tree : Meaning) (object : SnapshotObject) → InRange tree → object_of tracked name namespace tree ≡ Some object → InRange object.tree
 object_in_range tracked name namespace tree object range e =
     let metadata = found_both (member_of (codes "metadata") tree) _ object e in
     let own_name = found_both (filled_at (codes "name") metadata.0) _ object metadata.2 in
@@ -30,22 +31,22 @@ object_in_range tracked name namespace tree object range e =
     let fits = where_true (is_of_kind tracked tree && is_under name own_name.0 && is_in_namespace tracked namespace own_namespace.0) _ object own_namespace.2 in
     subst (λ (found : SnapshotObject). InRange found.tree) (same_some _ object fits.1) (stored_in_range tree range)
 
-list_items_in_range : (member : Option Meaning) (trees : List Meaning) → ((tree : Meaning) → member ≡ Some tree → InRange tree) → items_or_none member ≡ Some trees → All InRange trees
-list_items_in_range None trees range e = subst (All InRange) (same_some [] trees e) (All-nil InRange)
-list_items_in_range (Some tree) trees range e =
+pub trees_in_range : (member : Option Meaning) (trees : List Meaning) → ((tree : Meaning) → member ≡ Some tree → InRange tree) → items_or_none member ≡ Some trees → All InRange trees
+trees_in_range None trees range e = subst (All InRange) (same_some [] trees e) (All-nil InRange)
+trees_in_range (Some tree) trees range e =
     elim (either (is_null tree) (Some []) (items_of tree) (Some trees) e) [
       | inl none ↦ subst (All InRange) (same_some [] trees none.1) (All-nil InRange)
       | inr some ↦ items_in_range tree trees (range tree refl) some.1
     ]
 
-list_in_range : (tracked : Tracked) (name namespace : List ℕ) (tree : Meaning) (list : ListRead) → InRange tree → list_of tracked name namespace tree ≡ Some list → AreInRange list.items
+pub list_in_range : (tracked : Tracked) (name namespace : List ℕ) (tree : Meaning) (list : ListRead) → InRange tree → list_of tracked name namespace tree ≡ Some list → AreInRange list.items
 list_in_range tracked name namespace tree list range e =
     let metadata = found_both (member_of (codes "metadata") tree) _ list e in
     let kind = where_true (has_text_at (codes "kind") tracked.list_kind tree) (list_with tracked name namespace metadata.0 tree) list metadata.2 in
     let revision = found_both (revision_at (codes "resourceVersion") metadata.0) _ list kind.1 in
     let trees = found_both (items_or_none (member_of (codes "items") tree)) _ list revision.2 in
     let objects = found_both (objects_in tracked name namespace trees.0) _ list trees.2 in
-    let inside = list_items_in_range (member_of (codes "items") tree) trees.0 (λ items. member_in_range (codes "items") tree items range) trees.1 in
+    let inside = trees_in_range (member_of (codes "items") tree) trees.0 (λ items. member_in_range (codes "items") tree items range) trees.1 in
     subst (λ (found : ListRead). AreInRange found.items) (same_some _ list objects.2)
     (gathered_all (object_of tracked name namespace) (objects_in tracked name namespace) refl (λ x xs. refl) InRange (λ (object : SnapshotObject). InRange object.tree)
     (object_in_range tracked name namespace) trees.0 objects.0 inside objects.1)

@@ -11,7 +11,8 @@ use Rattle.setup_file.specs.declared.fault.SetupRule.TheVariants.{S12, S13}
 use Rattle.setup_file.specs.declared.setup.SnapshotObject.{SnapshotObject}
 use Rattle.setup_file.specs.declared.setup.Tracked.{Tracked}
 use Rattle.setup_file.specs.Distinct.{are_distinct, key_eq}
-use Rattle.setup_file.specs.Forms.{text_at, non_empty, filled_at, revision_at, is_form}
+use Rattle.json_tree.specs.Texts.{text_at}
+use Rattle.setup_file.specs.Forms.{non_empty, filled_at, revision_at, is_form}
 use Rattle.setup_file.specs.Reading.{chained, snapshot_at}
 use Rattle.setup_file.specs.Resources.{tracked_as}
 use Rattle.setup_file.specs.Snapshots.{own_namespace, may_be_kind, snapshot_object_of, snapshot_entry_of, snapshot_in, are_at_start}

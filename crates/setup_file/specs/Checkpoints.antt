@@ -2,11 +2,11 @@
 use Rattle.std.specs.Prelude.{ℕ, ◌+◌, Bool, true, false, ◌&&◌, ◌||◌, not, List, [], ◌∷◌, ◌++◌, length, Option, Some, None, nat_le, codes, decimal, if◌then◌else◌}
 use Rattle.json_tree.specs.Meaning.{Meaning}
 use Rattle.json_tree.specs.Parts.{member_of, items_of}
-use Rattle.json_tree.specs.Texts.{◌>>=◌}
+use Rattle.json_tree.specs.Texts.{◌>>=◌, text_at}
 use Rattle.setup_file.specs.declared.lists.ListRead.{ListRead}
 use Rattle.setup_file.specs.declared.setup.Checkpoint.{Checkpoint}
 use Rattle.setup_file.specs.declared.setup.Tracked.{Tracked}
-use Rattle.setup_file.specs.Forms.{text_at, is_form}
+use Rattle.setup_file.specs.Forms.{is_form}
 use Rattle.setup_file.specs.Lists.{list_of}
 use Rattle.setup_file.specs.Resources.{tracked_as}
 

@@ -6,11 +6,8 @@ use Rattle.std.specs.Str.Parse.{digits_value}
 use Rattle.base_types.specs.declared.revision.Moment.{Moment}
 use Rattle.jiff_fmt.specs.Temporal.{parse_timestamp}
 use Rattle.json_tree.specs.Meaning.{Meaning}
-use Rattle.json_tree.specs.Parts.{member_of, text_of, members_of}
-use Rattle.json_tree.specs.Texts.{◌>>=◌}
-
-abbrev pub text_at : List ℕ → Meaning → Option (List ℕ)
-text_at name tree = member_of name tree >>= text_of
+use Rattle.json_tree.specs.Parts.{members_of}
+use Rattle.json_tree.specs.Texts.{◌>>=◌, text_at}
 
 abbrev pub non_empty : List ℕ → Option (List ℕ)
 non_empty [] = None

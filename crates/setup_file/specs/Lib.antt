@@ -6,6 +6,7 @@ pub mod Forms
 pub mod Lists
 pub mod Objects
 pub mod Reading
+pub mod Requests
 pub mod Resources
 pub mod Snapshots
 pub mod Sound

@@ -1,18 +1,13 @@
 -- Lists of objects (Kubernetes API concepts, "Collections").
 use Rattle.std.specs.Prelude.{ℕ, Bool, true, false, not, List, [], ◌∷◌, Option, Some, None, codes, if◌then◌else◌}
 use Rattle.json_tree.specs.Meaning.{Meaning}
-use Rattle.json_tree.specs.Parts.{member_of, text_of, items_of, is_null}
-use Rattle.json_tree.specs.Texts.{◌>>=◌}
+use Rattle.json_tree.specs.Parts.{member_of, text_of, is_null}
+use Rattle.json_tree.specs.Texts.{◌>>=◌, items_or_none}
 use Rattle.setup_file.specs.declared.lists.ListRead.{ListRead}
 use Rattle.setup_file.specs.declared.setup.Tracked.{Tracked}
 use Rattle.setup_file.specs.declared.setup.SnapshotObject.{SnapshotObject}
 use Rattle.setup_file.specs.Forms.{revision_at}
 use Rattle.setup_file.specs.Objects.{has_text_at, object_of}
-
--- the items of a list: `items` may be null or absent
-abbrev pub items_or_none : Option Meaning → Option (List Meaning)
-items_or_none None = Some []
-items_or_none (Some tree) = if is_null tree then Some [] else items_of tree
 
 -- the object that each tree is
 abbrev pub objects_in : Tracked → List ℕ → List ℕ → List Meaning → Option (List SnapshotObject)

@@ -4,10 +4,10 @@ use Rattle.base_types.specs.Matching.{combined}
 use Rattle.json_tree.specs.Meaning.{Meaning}
 use Rattle.json_tree.specs.Parts.{member_of}
 use Rattle.json_tree.specs.Stored.{stored}
-use Rattle.json_tree.specs.Texts.{◌>>=◌}
+use Rattle.json_tree.specs.Texts.{◌>>=◌, text_at}
 use Rattle.setup_file.specs.declared.setup.Tracked.{Tracked}
 use Rattle.setup_file.specs.declared.setup.SnapshotObject.{SnapshotObject}
-use Rattle.setup_file.specs.Forms.{text_at, filled_at, revision_at}
+use Rattle.setup_file.specs.Forms.{filled_at, revision_at}
 
 -- the `apiVersion` of a group's version: the core group is left out
 abbrev pub api_version_of : List ℕ → List ℕ → List ℕ

@@ -4,11 +4,11 @@ use Rattle.std.specs.List.{list_all}
 use Rattle.json_tree.specs.Meaning.{Meaning}
 use Rattle.json_tree.specs.Parts.{member_of}
 use Rattle.json_tree.specs.Stored.{stored}
-use Rattle.json_tree.specs.Texts.{◌>>=◌}
+use Rattle.json_tree.specs.Texts.{◌>>=◌, text_at}
 use Rattle.setup_file.specs.declared.setup.Tracked.{Tracked}
 use Rattle.setup_file.specs.declared.setup.SnapshotObject.{SnapshotObject}
 use Rattle.setup_file.specs.Distinct.{are_distinct, key_eq}
-use Rattle.setup_file.specs.Forms.{text_at, filled_at, revision_at, is_form}
+use Rattle.setup_file.specs.Forms.{filled_at, revision_at, is_form}
 use Rattle.setup_file.specs.Objects.{has_text_at, has_no}
 use Rattle.setup_file.specs.Resources.{tracked_as}
 

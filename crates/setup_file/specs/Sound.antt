@@ -1,16 +1,12 @@
 -- What those who take a setup may rest on.
-use Rattle.std.specs.Prelude.{◌≡◌, ◌≢◌, ◌≤◌, ◌↔◌, ◌^◌, ℕ, ℤ, pos, neg_ℤ, ◌≤ℤ◌, true, IfSome, List, [], Some, All, AllPairs}
+use Rattle.std.specs.Prelude.{◌≡◌, ◌≢◌, ◌≤◌, ◌↔◌, ◌^◌, ℕ, true, IfSome, List, [], Some, All, AllPairs}
+use Rattle.base_types.specs.Moments.{IsMoment}
 use Rattle.json_tree.specs.Values.{InRange}
 use Rattle.setup_file.specs.declared.setup.Setup.{Setup}
 use Rattle.setup_file.specs.declared.setup.Tracked.{Tracked}
 use Rattle.setup_file.specs.declared.setup.SnapshotObject.{SnapshotObject}
 use Rattle.setup_file.specs.declared.setup.Checkpoint.{Checkpoint}
 use Rattle.setup_file.specs.Resources.{tracked_as}
-
--- the moments that a setup may have, in nanoseconds
-pub record IsMoment (instant : ℤ) : Type 0 where
-  pub low : neg_ℤ (pos (2 ^ 100)) ≤ℤ instant
-  pub high : instant ≤ℤ pos (2 ^ 100)
 
 -- no two resources have one group and resource type, or one group and kind; no resource names a subresource twice
 pub record AreApart (resources : List Tracked) : Type 0 where

@@ -1,7 +1,7 @@
 ghost use Rattle.std.specs.Prelude.{◌≡◌, ◌≤◌, ◌||◌, ◌&&◌, ◌++◌, length, IfOk, option_map, codes, decimal};
 ghost use Rattle.setup_file.specs.Checkpoints.{is_no_text, is_whole_at, checkpoint_of, checkpoints_from, few_checkpoints, checkpoints_of};
 
-use crate::form::{is_form, text_at};
+use crate::form::is_form;
 use crate::lists::{ListRead, read_list};
 use crate::resources::tracked_as;
 use crate::setup::{Checkpoint, Checkpoints, Tracked};
@@ -44,13 +44,13 @@ fn read_checkpoint(
     if !is_form(&["group", "resource", "namespace", "list"], tree) {
         return Ok(None);
     }
-    let Some(group) = text_at(tree, "group") else {
+    let Some(group) = tree.text_at("group") else {
         return Ok(None);
     };
-    let Some(resource) = text_at(tree, "resource") else {
+    let Some(resource) = tree.text_at("resource") else {
         return Ok(None);
     };
-    let Some(namespace) = text_at(tree, "namespace") else {
+    let Some(namespace) = tree.text_at("namespace") else {
         return Ok(None);
     };
     let Some(tracked) = tracked_as(resources, group.as_str(), resource.as_str()) else {

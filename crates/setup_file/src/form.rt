@@ -1,6 +1,6 @@
 ghost use Rattle.std.specs.Prelude.{◌≡◌, map, option_map, bytes_eq};
 ghost use Rattle.std.specs.List.{list_any};
-ghost use Rattle.setup_file.specs.Forms.{text_at, non_empty, filled_at, revision_of, revision_at, moment_of, has_only, is_form};
+ghost use Rattle.setup_file.specs.Forms.{non_empty, filled_at, revision_of, revision_at, moment_of, has_only, is_form};
 
 use base_types::{Moment, Revision, Text, read_revision};
 use jiff::Timestamp;
@@ -25,12 +25,6 @@ pub fn moment(text: &str) -> Option<Moment>
     }
 }
 
-pub fn text_at<'a>(tree: &'a Tree, name: &str) -> Option<&'a Text>
-    ensures { option_map (λ text. text.now) result ≡ text_at name.now tree.now }
-{
-    tree.member(name)?.as_text()
-}
-
 fn non_empty(text: &Text) -> Option<&Text>
     ensures { option_map (λ text. text.now) result ≡ non_empty text.now }
 {
@@ -41,13 +35,14 @@ fn non_empty(text: &Text) -> Option<&Text>
 pub fn filled_at<'a>(tree: &'a Tree, name: &str) -> Option<&'a Text>
     ensures { option_map (λ text. text.now) result ≡ filled_at name.now tree.now }
 {
-    non_empty(text_at(tree, name)?)
+    non_empty(tree.text_at(name)?)
 }
 
+/// The revision that the text of a member is.
 pub fn revision_at(tree: &Tree, name: &str) -> Option<Revision>
     ensures { result ≡ revision_at name.now tree.now }
 {
-    canonical(text_at(tree, name)?)
+    canonical(tree.text_at(name)?)
 }
 
 // Whether a text is one of these.

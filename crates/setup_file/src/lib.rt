@@ -10,19 +10,18 @@ mod form;
 mod lists;
 mod objects;
 mod reading;
+mod requests;
 mod resources;
 mod setup;
 mod snapshot;
 
 pub use fault::{SetupFault, SetupRule};
-pub use form::{canonical, moment};
+pub use form::{canonical, filled_at, moment, revision_at};
 pub use lists::{ListRead, read_list};
 pub use objects::read_object;
 pub use reading::read_setup;
+pub use requests::{is_merge_patch, subresource_named, tracked_of};
 pub use setup::{
     Checkpoint, Checkpoints, Setup, Snapshot, SnapshotObject, Subresource, Subresources, Tracked,
     TrackedList,
 };
-
-#[cfg(test)]
-mod tests;

@@ -1,6 +1,6 @@
 ghost use Rattle.std.specs.Prelude.{◌≡◌, IfOk, option_map};
 ghost use Rattle.json_tree.specs.Parts.{member_of};
-ghost use Rattle.setup_file.specs.Lists.{items_or_none, objects_in, is_blank, goes_on, list_with, list_of};
+ghost use Rattle.setup_file.specs.Lists.{objects_in, is_blank, goes_on, list_with, list_of};
 
 use crate::form::revision_at;
 use crate::objects::{has_text_at, read_object};
@@ -17,17 +17,6 @@ pub struct ListRead {
     /// Whether more pages follow: its `metadata.continue` isn't absent, null or empty.
     pub rest: bool,
     pub items: Snapshot,
-}
-
-// The items of a list, which may be null or absent.
-fn items_or_none<'a>(member: Option<&'a Tree>) -> Option<&'a [Tree]>
-    ensures { option_map (λ trees. trees.now) result ≡ items_or_none (option_map (λ tree. tree.now) member.entry) }
-{
-    match member {
-        None => Some(&[]),
-        Some(tree) if tree.is_null() => Some(&[]),
-        Some(tree) => Some(tree.as_items()?.all.as_slice()),
-    }
 }
 
 fn read_objects(
@@ -80,7 +69,7 @@ fn list_with(
     let Some(revision) = revision_at(metadata, "resourceVersion") else {
         return Ok(None);
     };
-    let Some(trees) = items_or_none(tree.member("items")) else {
+    let Some(trees) = tree.items_at("items") else {
         return Ok(None);
     };
     let Some(items) = read_objects(alloc, tracked, name, namespace, trees)? else {

@@ -1,7 +1,7 @@
 ghost use Rattle.std.specs.Prelude.{◌≡◌, IfOk, option_map, bytes_eq, codes};
 ghost use Rattle.setup_file.specs.Objects.{api_version_of, has_text_at, has_no, is_of_kind, namespace_in, is_under, is_in_namespace, object_of};
 
-use crate::form::{filled_at, revision_at, text_at};
+use crate::form::{filled_at, revision_at};
 use crate::setup::{SnapshotObject, Tracked};
 use base_types::{ObjectKey, OutOfMemory, Text, is_combined};
 use json_tree::{Tree, copy, stored_form};
@@ -11,7 +11,7 @@ use std::alloc::Global;
 pub fn has_text_at(tree: &Tree, name: &str, text: &str) -> bool
     ensures { result ≡ has_text_at name.now text.now tree.now }
 {
-    match text_at(tree, name) {
+    match tree.text_at(name) {
         Some(found) => found.as_str() == text,
         None => false,
     }
@@ -36,7 +36,7 @@ fn is_api_version(group: &Text, version: &Text, text: &Text) -> bool
 fn has_api_version(tracked: &Tracked, tree: &Tree) -> bool
     ensures { result ≡ has_text_at (codes "apiVersion") (api_version_of tracked.now.group tracked.now.version) tree.now }
 {
-    match text_at(tree, "apiVersion") {
+    match tree.text_at("apiVersion") {
         Some(text) => is_api_version(&tracked.group, &tracked.version, text),
         None => false,
     }
@@ -54,7 +54,7 @@ fn namespace_in<'a>(tracked: &Tracked, metadata: &'a Tree) -> Option<&'a str>
     ensures { option_map (λ text. text.now) result ≡ namespace_in tracked.now metadata.now }
 {
     if tracked.namespaced {
-        Some(text_at(metadata, "namespace")?.as_str())
+        Some(metadata.text_at("namespace")?.as_str())
     } else {
         Some("")
     }

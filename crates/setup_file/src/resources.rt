@@ -7,7 +7,7 @@ ghost use Rattle.setup_file.specs.Steps.{IsCause};
 
 use crate::distinct::{are_pairs_distinct, are_texts_distinct};
 use crate::fault::{SetupFault, SetupRule};
-use crate::form::{filled_at, is_form, text_at};
+use crate::form::{filled_at, is_form};
 use crate::setup::{Subresource, Subresources, Tracked, TrackedList};
 use base_types::{OutOfMemory, Text};
 use json_tree::Tree;
@@ -69,7 +69,7 @@ fn read_entry(tree: &Tree) -> Result<Option<Entry>, OutOfMemory>
     if !is_form(&ENTRY_MEMBERS, tree) {
         return Ok(None);
     }
-    let Some(group) = text_at(tree, "group") else {
+    let Some(group) = tree.text_at("group") else {
         return Ok(None);
     };
     let Some(version) = filled_at(tree, "version") else {
@@ -179,10 +179,10 @@ fn read_subresource(alloc: Global, tree: &Tree) -> Result<Option<Subresource>, O
     if !is_form(&["name", "effect", "shapes"], tree) {
         return Ok(None);
     }
-    let Some(name) = text_at(tree, "name") else {
+    let Some(name) = tree.text_at("name") else {
         return Ok(None);
     };
-    let Some(effect) = text_at(tree, "effect") else {
+    let Some(effect) = tree.text_at("effect") else {
         return Ok(None);
     };
     let Some(same) = effect_as(effect.as_str()) else {

@@ -7,7 +7,7 @@ ghost use Rattle.setup_file.specs.Steps.{IsCause};
 
 use crate::distinct::{are_keys_distinct, are_revisions_distinct, are_texts_distinct};
 use crate::fault::{SetupFault, SetupRule};
-use crate::form::{filled_at, is_form, revision_at, text_at};
+use crate::form::{filled_at, is_form, revision_at};
 use crate::objects::{has_no, has_text_at, key_of};
 use crate::resources::tracked_as;
 use crate::setup::{Snapshot, SnapshotObject, Tracked};
@@ -78,10 +78,10 @@ fn read_entry(
     if !is_form(&["group", "resource", "object"], tree) {
         return Ok(None);
     }
-    let Some(group) = text_at(tree, "group") else {
+    let Some(group) = tree.text_at("group") else {
         return Ok(None);
     };
-    let Some(resource) = text_at(tree, "resource") else {
+    let Some(resource) = tree.text_at("resource") else {
         return Ok(None);
     };
     let Some(tracked) = tracked_as(resources, group.as_str(), resource.as_str()) else {

@@ -17,7 +17,7 @@ use Rattle.history_model.specs.Events as model
 use Rattle.history_model.specs.Groups.{Making, IsMaking, IsAnsweredWith, IsKeyOf, IsMember}
 use Rattle.history_model.specs.Histories as past
 use Rattle.history_model.specs.Histories.{History, ByEvent, IsEvent}
-use Rattle.history_model.specs.Keys.{same_key}
+use Rattle.base_types.specs.Keys.{same_key}
 use Rattle.history_model.specs.Makers.{IsMadeVersion, IsSnapshotVersion}
 use Rattle.history_model.specs.Making.{IsAnew, IsEntryAfter, IsEntryBefore, IsLeastFault}
 use Rattle.history_model.specs.Readable.{IsReadable}

@@ -32,7 +32,7 @@ use Rattle.object_past.specs.declared.version.Maker.{Maker}
 use Rattle.object_past.specs.declared.version.Maker.TheVariants as maker
 use Rattle.object_past.specs.declared.version.Version.{Version}
 use Rattle.object_versions.specs.Hidden.{unrecorded_at, unrecorded_if, unrecorded_in}
-use Rattle.rbac_timeline.specs.Index.{key_order}
+use Rattle.clouds.specs.Kept.{key_order}
 use Rattle.rbac_timeline.specs.Known as rbac
 use Rattle.rbac_timeline.specs.Sound.{IsBefore}
 use Rattle.rbac_timeline.specs.declared.version.RbacVersion.{RbacVersion}

@@ -1,41 +1,38 @@
 -- Each number in the trees of a sound log is one that can be read.
-use Rattle.std.proofs.Common.{◌≡◌, inl, inr, ℕ, Bool, true, false, ◌&&◌, List, [], ◌∷◌, ◌++◌, Option, Some, None, if◌then◌else◌, All, refl, sym, subst}
-use Rattle.std.specs.Prelude.{codes, fold, is_some}
+use Rattle.std.proofs.Common.{◌≡◌, ℕ, Bool, true, false, ◌&&◌, List, [], ◌∷◌, ◌++◌, Option, Some, None, if◌then◌else◌, All, refl, sym, subst}
+use Rattle.std.specs.Prelude.{fold, is_some}
 use Rattle.std.specs.List.{flat_map, list_any}
 use Rattle.std.proofs.lemmas.List.Concat.{flat_map-cons}
 use Rattle.std.proofs.lemmas.List.Elements.{All-nil, All-cons, All-head, All-tail, All-append, All-push, All-map}
 use Rattle.json_tree.specs.Meaning.{Meaning, null, flag, whole, words, items, members, Kids, no_kids, kid, Fields, no_fields, field}
-use Rattle.json_tree.specs.Parts.{member_of, items_of, is_null}
 use Rattle.json_tree.specs.Same.{same}
 use Rattle.json_tree.specs.Values.{InRange, KidsInRange, FieldsInRange}
 use Rattle.node_pool.specs.Subtrees.{inside, inside_kids, inside_fields, subtrees, with_tree, interned}
-use Rattle.audit_event.specs.Bodies.{IsSoundBody}
+use Rattle.audit_event.specs.Bodies.{kept}
 use Rattle.audit_event.specs.Events as audit
-use Rattle.audit_event.specs.declared.event.Body.{Body}
-use Rattle.audit_event.specs.declared.event.Body.TheVariants.{Absent, Kept, Unread}
 use Rattle.audit_event.specs.declared.event.Event.{Event}
-use Rattle.setup_file.specs.Forms.{filled_at, revision_at}
-use Rattle.setup_file.specs.Lists.{items_or_none, objects_in, list_with, list_of}
-use Rattle.setup_file.specs.Objects.{has_text_at, is_of_kind, namespace_in, is_under, is_in_namespace, object_of}
+use Rattle.setup_file.specs.Lists.{list_of}
+use Rattle.setup_file.specs.Objects.{object_of}
 use Rattle.setup_file.specs.Sound.{AreInRange, IsLaterList, IsSound}
 use Rattle.setup_file.specs.declared.lists.ListRead.{ListRead}
 use Rattle.setup_file.specs.declared.setup.Checkpoint.{Checkpoint}
 use Rattle.setup_file.specs.declared.setup.Setup.{Setup}
 use Rattle.setup_file.specs.declared.setup.SnapshotObject.{SnapshotObject}
 use Rattle.setup_file.specs.declared.setup.Tracked.{Tracked}
-use Rattle.setup_file.proofs.Chains.{same_some, found_both, where_true, either as chosen}
-use Rattle.setup_file.proofs.Gathered.{gathered_all}
-use Rattle.setup_file.proofs.InRange.{member_in_range, items_in_range, stored_in_range}
-use Rattle.answer_class.specs.Bodies.{kept, answered_object}
+use Rattle.setup_file.proofs.Chains.{found_both}
+use Rattle.answer_class.specs.Bodies.{answered_object}
 use Rattle.answer_class.specs.Covers.{cover_of}
 use Rattle.answer_class.specs.Lists.{answered_list, is_odd, is_old_list}
-use Rattle.answer_class.specs.Requests.{verb_of, is_write, is_read, is_completing, tracked_of, effect_of, is_own, is_unknown, first_value, succeeds, is_code, is_done, is_open, is_empty}
+use Rattle.setup_file.specs.Requests.{tracked_of}
+use Rattle.answer_class.specs.Requests.{verb_of, is_write, is_read, is_completing, effect_of, is_own, is_unknown, first_value, succeeds, is_code, is_done, is_open, is_empty}
 use Rattle.answer_class.specs.Times.{is_early, is_before}
 use Rattle.answer_class.specs.Classes.{saw, listed, got, gathered, read_by, read_class, is_missing, asked_name, is_taken, is_conflict, conflict_class, taken_class, refused_class, is_outside, is_out_of_sight, later_class, removed_uid, removed, is_made_by, made, made_class, is_hidden, is_dry, is_idle, succeeded_class, tracked_class, class_in, class_of}
 use Rattle.answer_class.specs.declared.answer.Answer.{Answer}
 use Rattle.answer_class.specs.declared.answer.Answer.TheVariants.{Made, Opaque, Listed, Free, Aside}
 use Rattle.answer_class.specs.declared.request.Verb.{Verb}
 use Rattle.answer_class.specs.declared.request.Verb.TheVariants.{Create, Update, Patch, Delete, DeleteCollection, Get, Listing, Other}
+use Rattle.audit_event.proofs.BodyLemmas.{kept_in_range}
+use Rattle.setup_file.proofs.SoundLists.{object_in_range, list_in_range}
 use Rattle.version_store.specs.LogTrees.{object_trees, answer_trees, event_trees, checkpoint_trees, with_trees, pooled}
 
 mutual
@@ -80,40 +77,6 @@ flattened P f (x ∷ xs) each all = subst (All InRange) (sym (flat_map-cons f x 
 
 objects_in_range : (objects : List SnapshotObject) → AreInRange objects → All InRange (object_trees objects)
 objects_in_range objects range = All-map InRange (λ (object : SnapshotObject). object.tree) objects range
-
-kept_in_range : (body : Body) (tree : Meaning) → IsSoundBody body → kept body ≡ Some tree → InRange tree
-kept_in_range Absent tree sound e = absurd (cc)
-kept_in_range (Kept found) tree sound e = let same : found ≡ tree = cc in subst InRange same sound
-kept_in_range Unread tree sound e = absurd (cc)
-
-object_in_range : (tracked : Tracked) (name namespace : List ℕ) (tree : Meaning) (object : SnapshotObject) → InRange tree → object_of tracked name namespace tree ≡ Some object → InRange object.tree
-object_in_range tracked name namespace tree object range e =
-    let metadata = found_both (member_of (codes "metadata") tree) _ object e in
-    let own_name = found_both (filled_at (codes "name") metadata.0) _ object metadata.2 in
-    let uid = found_both (filled_at (codes "uid") metadata.0) _ object own_name.2 in
-    let revision = found_both (revision_at (codes "resourceVersion") metadata.0) _ object uid.2 in
-    let own_namespace = found_both (namespace_in tracked metadata.0) _ object revision.2 in
-    let fits = where_true (is_of_kind tracked tree && is_under name own_name.0 && is_in_namespace tracked namespace own_namespace.0) _ object own_namespace.2 in
-    subst (λ (o : SnapshotObject). InRange o.tree) (same_some _ object fits.1) (stored_in_range tree range)
-
-trees_in_range : (member : Option Meaning) (trees : List Meaning) → ((tree : Meaning) → member ≡ Some tree → InRange tree) → items_or_none member ≡ Some trees → All InRange trees
-trees_in_range None trees range e = subst (All InRange) (same_some [] trees e) (All-nil InRange)
-trees_in_range (Some tree) trees range e =
-    elim (chosen (is_null tree) (Some []) (items_of tree) (Some trees) e) [
-      | inl none ↦ subst (All InRange) (same_some [] trees none.1) (All-nil InRange)
-      | inr some ↦ items_in_range tree trees (range tree refl) some.1
-    ]
-
-list_in_range : (tracked : Tracked) (name namespace : List ℕ) (tree : Meaning) (list : ListRead) → InRange tree → list_of tracked name namespace tree ≡ Some list → AreInRange list.items
-list_in_range tracked name namespace tree list range e =
-    let metadata = found_both (member_of (codes "metadata") tree) _ list e in
-    let kind = where_true (has_text_at (codes "kind") tracked.list_kind tree) (list_with tracked name namespace metadata.0 tree) list metadata.2 in
-    let revision = found_both (revision_at (codes "resourceVersion") metadata.0) _ list kind.1 in
-    let trees = found_both (items_or_none (member_of (codes "items") tree)) _ list revision.2 in
-    let objects = found_both (objects_in tracked name namespace trees.0) _ list trees.2 in
-    let all = trees_in_range (member_of (codes "items") tree) trees.0 (λ part. member_in_range (codes "items") tree part range) trees.1 in
-    subst (λ (l : ListRead). AreInRange l.items) (same_some _ list objects.2)
-    (gathered_all (object_of tracked name namespace) (objects_in tracked name namespace) refl (λ one others. refl) InRange (λ (o : SnapshotObject). InRange o.tree) (object_in_range tracked name namespace) trees.0 objects.0 all objects.1)
 
 abbrev Shows : Answer → Type 0
 Shows answer = All InRange (answer_trees answer)

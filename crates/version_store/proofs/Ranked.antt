@@ -6,7 +6,6 @@ use Rattle.std.specs.List.Sorted.{IsPermutation, IsSorted}
 use Rattle.std.specs.Ordering.{ordering_then, ordering_reverse, is_eq, is_lt, nat_cmp}
 use Rattle.std.specs.declared.cmp.Ordering.{Ordering}
 use Rattle.std.specs.declared.cmp.Ordering.TheVariants.{Less, Equal, Greater}
-use Rattle.std.proofs.lemmas.Bool.Decides.{nat_tests}
 use Rattle.std.proofs.lemmas.Cmp.{on_total, then_total, tied_itself}
 use Rattle.std.proofs.lemmas.List.Elements.{Contains-get_or}
 use Rattle.std.proofs.lemmas.List.Sorted.{Contains-permutation, IsPermutation-sym, ranks_by, sorted_far}
@@ -21,7 +20,7 @@ use Rattle.rbac_timeline.specs.Kinds.{kind_of_key}
 use Rattle.rbac_timeline.specs.Sound.{IsBefore}
 use Rattle.rbac_timeline.specs.declared.kind.Kind.{Kind}
 use Rattle.rbac_timeline.specs.declared.version.RbacVersion.{RbacVersion}
-use Rattle.write_groups.proofs.Judging.{apart_moved}
+use Rattle.write_groups.proofs.Judging.{apart_moved, nat_less, then_less, then_next}
 use Rattle.write_groups.proofs.Lists.{made_from, made_has, made_pairs}
 use Rattle.version_store.specs.Roles.{AreRoles, is_role, rbac_version, roles_at, turn_order, turns_from, version_with}
 use Rattle.version_store.specs.declared.roles.Turn.{Turn}
@@ -97,15 +96,6 @@ order_cases : (o : Ordering) → (o ≡ Less) ⊎ (o ≡ Equal) ⊎ (o ≡ Great
 order_cases Less = inl refl
 order_cases Equal = inr (inl refl)
 order_cases Greater = inr (inr refl)
-
-then_less : (o p : Ordering) → o ≡ Less → is_lt (ordering_then o p) ≡ true
-then_less o p e = rw e refl
-
-then_next : (o p : Ordering) → o ≡ Equal → is_lt p ≡ true → is_lt (ordering_then o p) ≡ true
-then_next o p e l = rw e l
-
-nat_less : (a b : ℕ) → a < b → nat_cmp a b ≡ Less
-nat_less a b l = grind (arith, nat_tests)
 
 module _ (trees : List Meaning) (versions : List Version) (order : List Turn) (same : IsPermutation (turns_from 0 versions) order) (sorted : IsSorted turn_order order)
     (rising : AllPairs (λ a b. a.revision < b.revision) versions) (nodes : All (λ v. v.node.0 < length trees) versions) where

@@ -1,9 +1,10 @@
 -- Where in the history a read lets its answer be (Kubernetes API concepts, "Resource versions", "Semantics for get and
 -- list").
-use Rattle.std.specs.Prelude.{ℕ, ◌&&◌, ◌||◌, Bool, false, not, List, Option, Some, None, bytes_eq, codes, if◌then◌else◌}
+use Rattle.std.specs.Prelude.{ℕ, ◌&&◌, ◌||◌, Bool, not, List, Option, Some, None, bytes_eq, codes, if◌then◌else◌}
 use Rattle.base_types.specs.declared.request.RequestAttrs.{RequestAttrs}
 use Rattle.setup_file.specs.Forms.{revision_of}
 use Rattle.answer_class.specs.Requests.{has_filled, first_value}
+use Rattle.audit_event.specs.Members.{is_text}
 use Rattle.write_groups.specs.declared.event.Reading.{Reading}
 use Rattle.write_groups.specs.declared.event.Reading.TheVariants.{MostRecent, AnyVersion, NotOlderThan, Exactly}
 
@@ -12,10 +13,6 @@ is_list attrs = bytes_eq attrs.verb (codes "list")
 
 abbrev pub is_read : RequestAttrs → Bool
 is_read attrs = bytes_eq attrs.verb (codes "get") || is_list attrs
-
-abbrev pub is_text : List ℕ → Option (List ℕ) → Bool
-is_text text None = false
-is_text text (Some found) = bytes_eq found text
 
 -- any version that the server has at hand, or a list that goes on where another one ended
 abbrev pub takes_any : RequestAttrs → Bool

@@ -74,6 +74,3 @@ pub fn log_of(
         selectors,
     })
 }
-
-#[cfg(test)]
-mod tests;

@@ -1,7 +1,7 @@
 ghost use Rattle.std.specs.Prelude.{◌≡◌, ◌<◌, ◌==◌, ◌&&◌, ◌∷◌, [], Some, length, find, option_map, slice_get, AllPairs, Contains, IfSome};
 ghost use Rattle.history_model.specs.Events as model;
 ghost use Rattle.history_model.specs.Histories.{IsEvent};
-ghost use Rattle.history_model.specs.Keys.{same_key};
+ghost use Rattle.base_types.specs.Keys.{same_key};
 ghost use Rattle.history_model.specs.States.{latest};
 ghost use Rattle.object_past.specs.Incarnated.{AreIncarnations};
 ghost use Rattle.object_past.specs.Modelled.{version_of};

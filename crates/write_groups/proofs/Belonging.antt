@@ -14,7 +14,7 @@ use Rattle.history_model.specs.Events.{Event}
 use Rattle.history_model.specs.Groups.{Making, IsMaking, IsAnsweredWith, IsKeyOf, IsMember}
 use Rattle.history_model.specs.Histories.{History, IsEvent}
 use Rattle.history_model.specs.Judging.{IsJudgedBefore, IsOrder}
-use Rattle.history_model.specs.Keys.{same_key}
+use Rattle.base_types.specs.Keys.{same_key}
 use Rattle.write_groups.proofs.Grouping.{IsAnswer, IsAnswered, above_is, answered_from, answered_has, IsMade, made_is}
 use Rattle.write_groups.proofs.Lists.{filter_from, filter_has}
 use Rattle.write_groups.specs.declared.event.Item.{Item}

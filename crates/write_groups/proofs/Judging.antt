@@ -46,13 +46,13 @@ turn_number number event = go (kind number event)
     go (inl k) = ap (λ (t : Turn). t.number) k.1
     go (inr k) = ap (λ (t : Turn). t.number) k.1
 
-nat_less : (a b : ℕ) → a < b → nat_cmp a b ≡ Less
+pub nat_less : (a b : ℕ) → a < b → nat_cmp a b ≡ Less
 nat_less a b l = grind (arith, nat_tests)
 
-then_less : (o p : Ordering) → o ≡ Less → is_lt (ordering_then o p) ≡ true
+pub then_less : (o p : Ordering) → o ≡ Less → is_lt (ordering_then o p) ≡ true
 then_less o p e = rw e refl
 
-then_next : (o p : Ordering) → o ≡ Equal → is_lt p ≡ true → is_lt (ordering_then o p) ≡ true
+pub then_next : (o p : Ordering) → o ≡ Equal → is_lt p ≡ true → is_lt (ordering_then o p) ≡ true
 then_next o p e l = rw e l
 
 less_in_log : (x y : ℤ) (a b n m : ℕ) → (x <ℤ y) ⊎ ((x ≡ y) × (a < b)) → is_lt (ordering_then (int_cmp x y) (ordering_then (nat_cmp a b) (nat_cmp n m))) ≡ true

@@ -7,3 +7,4 @@ pub mod Judging
 pub mod Covering
 pub mod Earliest
 pub mod Timing
+pub mod Meeting

@@ -1,3 +1,6 @@
+ghost use Rattle.std.specs.Prelude.{◌≡◌};
+ghost use Rattle.write_groups.specs.Met.{are_met};
+
 use base_types::{Cover, Decision, Listed, Moment, ObjectKey, Revision, Text};
 use node_pool::NodeId;
 
@@ -21,6 +24,23 @@ pub type Items = Listed<Item>;
 pub struct Preconditions {
     pub revision: Option<Revision>,
     pub uid: Option<Text>,
+}
+
+impl Preconditions {
+    /// Whether an object of this revision and uid meets them.
+    pub fn are_met(&self, revision: Revision, uid: &Text) -> bool
+        ensures { result ≡ are_met self.now revision uid.now }
+    {
+        let by_revision = match self.revision {
+            Some(wanted) => wanted == revision,
+            None => true,
+        };
+        let by_uid = match &self.uid {
+            Some(wanted) => *wanted == *uid,
+            None => true,
+        };
+        by_revision && by_uid
+    }
 }
 
 /// A list of objects at one revision (Kubernetes API concepts, "Collections").

@@ -15,6 +15,3 @@ pub use hidden::{Hidden, Hiding};
 pub use order::order_of;
 pub use spans::spans_of;
 pub use window::{Window, highest, lowest, window_of};
-
-#[cfg(test)]
-mod tests;

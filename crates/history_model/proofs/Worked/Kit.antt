@@ -27,7 +27,7 @@ use Rattle.history_model.specs.Groups.{Making, IsMaking, IsFirstMaking, IsKeyOf,
 use Rattle.history_model.specs.Histories.{History, Span, Version, Removal, ByEvent, IsEvent, ranges}
 use Rattle.history_model.specs.Incarnations.{IsRemoval, IsRemovalOf, AreRemovals, EndsBefore, place_before}
 use Rattle.history_model.specs.Judging.{IsJudgedBefore, PrecedesByKind, IsOrder}
-use Rattle.history_model.specs.Keys.{same_key}
+use Rattle.base_types.specs.Keys.{same_key}
 use Rattle.history_model.specs.Local.{IsRightUnder, AreRightUpTo}
 use Rattle.history_model.specs.Makers.{CouldHaveMade, MustHaveMade, IsMakerOf, sole, able, faulty, IsShowing, IsMadeVersion}
 use Rattle.history_model.specs.Making.{outside, present, used, replaced, unmet, unasked, HasNoFault, HasFoundFault, creates, excludes, changes, IsUsedUid, IsOtherObject, IsEntryBefore, AreMet, MeetsConditions, tree_of}

@@ -1,7 +1,7 @@
 use Rattle.std.proofs.Common.{◌≡◌, true, false, Bor, refl, sym, ◌∙◌}
 use Rattle.std.specs.List.{list_any}
 use Rattle.base_types.specs.declared.key.ObjectKey.{ObjectKey}
-use Rattle.history_model.specs.Keys.{same_key}
+use Rattle.base_types.specs.Keys.{same_key}
 use Rattle.local_bounds.proofs.Among.{repeated, still_apart, keys_more, apart_all, keys_all}
 use Rattle.local_bounds.proofs.Tests.{not_true, not_false, put_key}
 use Rattle.local_bounds.proofs.keys.distinct_keys.Goals as goal

@@ -2,7 +2,8 @@ use Rattle.std.proofs.Common.{◌≢◌, leb, arith, rules}
 use Rattle.std.proofs.lemmas.List.Sorted.{IsPartitionPoint-from_clause, IsPartitionedBy-leb}
 use Rattle.history_model.proofs.Members.{all_from}
 use Rattle.object_past.specs.declared.ending.Ending.{Ending}
-use Rattle.object_past.proofs.Searching.{none_upto, unnumbered}
+use Rattle.base_types.proofs.Upto.{none_upto}
+use Rattle.object_past.proofs.Searching.{unnumbered}
 use Rattle.object_past.proofs.ending.ending_behind.Goals as goal
 
 pub returns-then-upto-eq0-clause-none : goal.returns-then-upto-eq0-clause-none

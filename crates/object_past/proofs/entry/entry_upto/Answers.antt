@@ -2,7 +2,7 @@ use Rattle.std.proofs.Common.{◌<◌, ◌≤◌, ◌-◌, get_or, leb, arith, r
 use Rattle.std.proofs.lemmas.List.Sorted.{IsPartitionPoint-from_clause, IsPartitionedBy-leb}
 use Rattle.history_model.proofs.Members.{all_from}
 use Rattle.object_past.specs.declared.entry.Entry.{Entry}
-use Rattle.object_past.proofs.Searching.{none_upto, last_upto, greatest_upto}
+use Rattle.base_types.proofs.Upto.{none_upto, last_upto, greatest_upto}
 use Rattle.object_past.proofs.entry.entry_upto.Goals as goal
 
 pub returns-then-upto-eq0-clause-none : goal.returns-then-upto-eq0-clause-none

@@ -3,7 +3,7 @@ use Rattle.std.proofs.lemmas.Bool.{le-leb, leb-true, ltb-true}
 use Rattle.std.proofs.lemmas.List.Sorted.{IsPartitionPoint-from_clause, IsPartitionedBy-leb}
 use Rattle.base_types.proofs.Quantifiers.{Any-at}
 use Rattle.object_past.proofs.Absent.{Within}
-use Rattle.object_past.proofs.Searching.{greatest_upto, last_upto, none_upto}
+use Rattle.base_types.proofs.Upto.{greatest_upto, last_upto, none_upto}
 use Rattle.object_past.proofs.past.has_within.Goals as goal
 
 pub returns-then-upto-gt0 : goal.returns-then-upto-gt0

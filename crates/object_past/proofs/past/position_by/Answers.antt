@@ -2,7 +2,8 @@ use Rattle.std.proofs.Common.{◌-◌, ◌<◌, length, leb, arith, rules, refl,
 use Rattle.std.proofs.lemmas.List.Sorted.{IsPartitionPoint-from_clause, IsPartitionedBy-leb}
 use Rattle.std.proofs.lemmas.Option.{slice_get_read}
 use Rattle.object_past.specs.declared.removal.Removal.{Removal}
-use Rattle.object_past.proofs.Searching.{in_order, none_upto, number_found, number_none, unnumbered}
+use Rattle.base_types.proofs.Upto.{none_upto}
+use Rattle.object_past.proofs.Searching.{in_order, number_found, number_none, unnumbered}
 use Rattle.object_past.proofs.past.position_by.Goals as goal
 
 pub returns-then-upto-eq0-clause-removal : goal.returns-then-upto-eq0-clause-removal

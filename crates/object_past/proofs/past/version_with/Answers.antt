@@ -1,7 +1,8 @@
 use Rattle.std.proofs.Common.{◌≢◌, ◌-◌, get_or, leb, arith, rules, sym, ap, ◌∙◌}
 use Rattle.std.proofs.lemmas.List.Sorted.{IsPartitionPoint-from_clause, IsPartitionedBy-leb}
 use Rattle.object_past.specs.declared.version.Version.{Version}
-use Rattle.object_past.proofs.Searching.{in_order, none_upto, number_found, number_none, unnumbered}
+use Rattle.base_types.proofs.Upto.{none_upto}
+use Rattle.object_past.proofs.Searching.{in_order, number_found, number_none, unnumbered}
 use Rattle.object_past.proofs.past.version_with.Goals as goal
 
 pub returns-then-upto-eq0 : goal.returns-then-upto-eq0

@@ -1,6 +1,7 @@
 use Rattle.std.proofs.Common.{◌≢◌, ◌-◌, get_or, leb, arith, rules, sym, ap, ◌∙◌}
 use Rattle.std.proofs.lemmas.List.Sorted.{IsPartitionPoint-from_clause, IsPartitionedBy-leb}
-use Rattle.object_past.proofs.Searching.{in_order, none_upto, number_found, number_none, unnumbered}
+use Rattle.base_types.proofs.Upto.{none_upto}
+use Rattle.object_past.proofs.Searching.{in_order, number_found, number_none, unnumbered}
 use Rattle.write_groups.specs.declared.groups.Group.{Group}
 use Rattle.version_store.proofs.readers.group_at.Goals as goal
 

@@ -2,7 +2,7 @@ use Rattle.std.proofs.Common.{◌≡◌, ◌-◌, ◌<◌, ◌≤◌, ap, get_or
 use Rattle.std.proofs.lemmas.List.Sorted.{IsPartitionPoint-from_clause, IsPartitionedBy-leb}
 use Rattle.std.proofs.Math.Dec.{leb}
 use Rattle.rbac_timeline.specs.declared.history.Gap.{Gap}
-use Rattle.rbac_timeline.proofs.Ordered.{greatest_upto, last_upto, none_upto}
+use Rattle.base_types.proofs.Upto.{greatest_upto, last_upto, none_upto}
 use Rattle.rbac_timeline.proofs.history.Gaps.behind.Goals as goal
 
 pub returns-then-upto-eq0-clause-none : goal.returns-then-upto-eq0-clause-none

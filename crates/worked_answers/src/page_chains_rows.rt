@@ -1,0 +1,188 @@
+use audit_event::{Event, Events, read_item};
+use page_chains::chains;
+use serde_json::Value;
+use setup_file::{Checkpoint, read_setup};
+use std::alloc::Global;
+use std::test::Fail;
+
+const SETUP: &str =
+    r#"{"kind":"PastSetup","version":1,"start":{"revision":"10","time":"2024-05-01T10:00:00Z"},
+    "policy":{"apiVersion":"audit.k8s.io/v1","kind":"Policy","rules":[]},"snapshot":[],"resources":[
+    {"group":"","version":"v1","resource":"configmaps","kind":"ConfigMap","listKind":"ConfigMapList","namespaced":true}]}"#;
+
+// Lists of configmaps in namespace d.
+const FIRST: &str = "/api/v1/namespaces/d/configmaps?limit=1";
+
+const NEXT: &str = "/api/v1/namespaces/d/configmaps?limit=1&continue=t1";
+
+const THIRD: &str = "/api/v1/namespaces/d/configmaps?limit=1&continue=t2";
+
+// Pages: their objects, and the tokens of the pages that follow.
+const A_THEN_T1: &str =
+    r#"{"kind":"ConfigMapList","metadata":{"resourceVersion":"10","continue":"t1"},"items":[
+    {"metadata":{"name":"a","namespace":"d","uid":"A","resourceVersion":"9"}}]}"#;
+
+const B: &str =
+    r#"{"kind":"ConfigMapList","metadata":{"resourceVersion":"10","continue":""},"items":[
+    {"metadata":{"name":"b","namespace":"d","uid":"B","resourceVersion":"8"}}]}"#;
+
+const B_THEN_T1: &str =
+    r#"{"kind":"ConfigMapList","metadata":{"resourceVersion":"10","continue":"t1"},"items":[
+    {"metadata":{"name":"b","namespace":"d","uid":"B","resourceVersion":"8"}}]}"#;
+
+const B_THEN_T2: &str =
+    r#"{"kind":"ConfigMapList","metadata":{"resourceVersion":"10","continue":"t2"},"items":[
+    {"metadata":{"name":"b","namespace":"d","uid":"B","resourceVersion":"8"}}]}"#;
+
+const EMPTY: &str = r#"{"kind":"ConfigMapList","metadata":{"resourceVersion":"10"},"items":[]}"#;
+
+const EMPTY_LATER: &str =
+    r#"{"kind":"ConfigMapList","metadata":{"resourceVersion":"11"},"items":[]}"#;
+
+// Lists, each with its URI, the second in which it was answered, and the answer; and the chains that they make, each
+// with its name and the names of its objects.
+static LOGS: [(&str, &[(&str, &str, &str)]); 15] = [
+    ("pages:1=ab ", &[(FIRST, "02", A_THEN_T1), (NEXT, "04", B)]),
+    ("pages:2=ab ", &[(NEXT, "04", B), (FIRST, "02", A_THEN_T1)]),
+    (
+        "pages:1=ab ",
+        &[
+            (FIRST, "02", A_THEN_T1),
+            (NEXT, "04", B_THEN_T2),
+            (THIRD, "06", EMPTY),
+        ],
+    ),
+    // a page in two chains
+    (
+        "pages:1=ab pages:2=ab ",
+        &[
+            (FIRST, "02", A_THEN_T1),
+            (FIRST, "03", A_THEN_T1),
+            (NEXT, "04", B),
+        ],
+    ),
+    // of two pages that were asked for by one token the one that was answered first
+    (
+        "pages:1=ab ",
+        &[
+            (FIRST, "02", A_THEN_T1),
+            (NEXT, "09", EMPTY),
+            (NEXT, "04", B),
+        ],
+    ),
+    (
+        "pages:1=a ",
+        &[
+            (FIRST, "02", A_THEN_T1),
+            (NEXT, "04", EMPTY),
+            (NEXT, "04", B),
+        ],
+    ),
+    // a page is missing
+    ("", &[(FIRST, "02", A_THEN_T1)]),
+    ("", &[(FIRST, "02", A_THEN_T1), (THIRD, "04", B)]),
+    ("", &[(NEXT, "02", B_THEN_T2), (THIRD, "04", EMPTY)]),
+    // at another revision, and of another scope
+    ("", &[(FIRST, "02", A_THEN_T1), (NEXT, "04", EMPTY_LATER)]),
+    (
+        "",
+        &[
+            (FIRST, "02", A_THEN_T1),
+            ("/api/v1/configmaps?continue=t1", "04", EMPTY),
+        ],
+    ),
+    // a page would come twice
+    ("", &[(FIRST, "02", A_THEN_T1), (NEXT, "04", B_THEN_T1)]),
+    // selectors, and tokens
+    (
+        "",
+        &[
+            (
+                "/api/v1/namespaces/d/configmaps?labelSelector=app",
+                "02",
+                A_THEN_T1,
+            ),
+            (NEXT, "04", B),
+        ],
+    ),
+    (
+        "",
+        &[
+            (FIRST, "02", A_THEN_T1),
+            (
+                "/api/v1/namespaces/d/configmaps?continue=t1&continue=t2",
+                "04",
+                B,
+            ),
+        ],
+    ),
+    (
+        "pages:1=ab ",
+        &[
+            (FIRST, "02", A_THEN_T1),
+            (
+                "/api/v1/namespaces/d/configmaps?continue=&continue=t1&fieldSelector=",
+                "04",
+                B,
+            ),
+        ],
+    ),
+];
+
+fn event(alloc: Global, line: u64, list: (&str, &str, &str)) -> Result<Event, Fail> {
+    let (uri, second, answer) = list;
+    let text = format!(in alloc;
+        r#"{{"level":"RequestResponse","auditID":"a{line}","stage":"ResponseComplete","requestURI":"{uri}","verb":"list",
+        "user":{{"username":"u"}},"responseStatus":{{"code":200}},"responseObject":{answer},
+        "requestReceivedTimestamp":"2024-05-01T10:00:01Z","stageTimestamp":"2024-05-01T10:00:{second}Z"}}"#
+    )?;
+    let value = Value::from_str(alloc, text.as_str())?;
+    Ok(read_item(alloc, &value, line)?)
+}
+
+fn write_chain(text: &mut String, chain: &Checkpoint) -> Result<(), Fail> {
+    text.push_str(chain.name.as_str())?;
+    text.push_str("=")?;
+    for item in &chain.items {
+        text.push_str(item.key.name.as_str())?;
+    }
+    text.push_str(" ")?;
+    Ok(())
+}
+
+#[test]
+fn pages_make_chains(rt: HostRuntime) -> Result<(), Fail> {
+    let setup = read_setup(rt.alloc(), SETUP.as_bytes())?;
+    for (wanted, lists) in LOGS {
+        let mut events = Events::new(rt.alloc());
+        let mut line = 0u64;
+        for list in lists {
+            line = line.saturating_add(1);
+            events.push(event(rt.alloc(), line, *list)?)?;
+        }
+        let found = chains(rt.alloc(), &setup, &events)?;
+        let mut text = String::new(rt.alloc());
+        for chain in &found {
+            write_chain(&mut text, chain)?;
+        }
+        assert_eq!(rt; text.as_str(), wanted, "of {lists:?}");
+    }
+    Ok(())
+}
+
+#[test]
+fn a_chain_is_a_list_of_its_scope(rt: HostRuntime) -> Result<(), Fail> {
+    let setup = read_setup(rt.alloc(), SETUP.as_bytes())?;
+    let mut events = Events::new(rt.alloc());
+    events.push(event(rt.alloc(), 3, (FIRST, "02", A_THEN_T1))?)?;
+    events.push(event(rt.alloc(), 5, (NEXT, "04", B))?)?;
+    let found = chains(rt.alloc(), &setup, &events)?;
+    let [chain] = found.as_slice() else {
+        return Err(Fail::from("not one chain"));
+    };
+    assert_eq!(rt; chain.name.as_str(), "pages:3");
+    assert_eq!(rt; chain.resource.as_str(), "configmaps");
+    assert_eq!(rt; chain.namespace.as_str(), "d");
+    assert_eq!(rt; chain.revision.get(), 10);
+    Ok(())
+}

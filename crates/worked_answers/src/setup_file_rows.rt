@@ -1,0 +1,206 @@
+use SetupRule::{S1, S2, S3, S4, S5, S6, S7, S8, S9, S10, S11, S12, S13, S14, S15};
+use setup_file::{Setup, SetupFault, SetupRule, read_setup};
+use std::alloc::Global;
+use std::test::Fail;
+
+// A setup's members, as they usually are.
+static USUAL: [(&str, &str); 6] = [
+    ("kind", r#""PastSetup""#),
+    ("version", "1"),
+    (
+        "start",
+        r#"{"revision":"10","time":"2024-05-01T10:00:00Z"}"#,
+    ),
+    (
+        "policy",
+        r#"{"apiVersion":"audit.k8s.io/v1","kind":"Policy","rules":[{"level":"RequestResponse"}]}"#,
+    ),
+    (
+        "resources",
+        r#"[{"group":"","version":"v1","resource":"configmaps","kind":"ConfigMap","listKind":"ConfigMapList","namespaced":true}]"#,
+    ),
+    ("snapshot", "[]"),
+];
+
+// One member of a setup with its value, which is missing where that is empty, and the first rule that is broken then.
+static CASES: [(&str, &str, Option<SetupRule>); 45] = [
+    ("x", "", None),
+    ("version", "1.0", Some(S1)),
+    ("kind", r#""Setup""#, Some(S2)),
+    ("start", "", Some(S2)),
+    ("x", "1", Some(S2)),
+    ("checkpoints", "[]", Some(S2)),
+    ("version", "", Some(S3)),
+    ("version", "3", Some(S3)),
+    ("version", r#"null,"until":null"#, Some(S3)),
+    ("version", "2", None),
+    (
+        "start",
+        r#"{"revision":"010","time":"2024-05-01T10:00:00Z"}"#,
+        Some(S4),
+    ),
+    (
+        "start",
+        r#"{"revision":"10","time":"10:00"},"slackNanos":-1"#,
+        Some(S4),
+    ),
+    (
+        "start",
+        r#"{"revision":"10","time":"2024-05-01T10:00:00Z","zone":0}"#,
+        Some(S4),
+    ),
+    ("until", r#""2024-05-01T09:59:59.999999999Z""#, Some(S5)),
+    ("until", r#"null,"lagNanos":-1"#, Some(S5)),
+    ("until", r#""2024-05-01T10:00:00Z""#, None),
+    ("slackNanos", "-1", Some(S6)),
+    ("slackNanos", "1000000000000000001", Some(S6)),
+    ("slackNanos", "1000000000000000000", None),
+    ("lagNanos", "null", Some(S6)),
+    ("policy", r#"{},"authorize":1"#, Some(S7)),
+    ("resources", "null", Some(S8)),
+    (
+        "resources",
+        r#"[{"group":"","version":"","resource":"a","kind":"A","listKind":"L","namespaced":true}]"#,
+        Some(S8),
+    ),
+    (
+        "resources",
+        r#"[{"group":"","version":"v1","resource":"a","kind":"A","listKind":"L","namespaced":true,"shape":[]}]"#,
+        Some(S8),
+    ),
+    (
+        "resources",
+        r#"[{"group":"","version":"v1","resource":"a","kind":"A","listKind":"L","namespaced":true,"shapes":0},{"group":"","version":"v1","resource":"b","kind":"A","listKind":"M","namespaced":true}]"#,
+        Some(S9),
+    ),
+    (
+        "resources",
+        r#"[{"group":"","version":"v1","resource":"a","kind":"A","listKind":"L","namespaced":true,"subresources":0},{"group":"g","version":"v1","resource":"a","kind":"A","listKind":"L","namespaced":true,"shapes":[{"path":"/a"}]}]"#,
+        Some(S10),
+    ),
+    (
+        "resources",
+        r#"[{"group":"","version":"v1","resource":"a","kind":"A","listKind":"L","namespaced":true,"subresources":[{"name":"s","effect":"same"},{"name":"s","effect":"none"}]}]"#,
+        Some(S11),
+    ),
+    (
+        "resources",
+        r#"[{"group":"","version":"v1","resource":"a","kind":"A","listKind":"L","namespaced":true,"subresources":[{"name":"","effect":"some"}]}]"#,
+        Some(S11),
+    ),
+    (
+        "resources",
+        r#"[{"group":"","version":"v1","resource":"a","kind":"A","listKind":"L","namespaced":true,"objectPatch":"merge","shapes":[{"path":"/spec","class":"Defaulted"}],"subresources":[{"name":"","effect":"none","shapes":[]}]}]"#,
+        None,
+    ),
+    ("snapshot", "{}", Some(S12)),
+    (
+        "snapshot",
+        r#"[{"group":"","resource":"pods","object":{"metadata":{"name":"a","namespace":"d","uid":"A","resourceVersion":"9"}}}]"#,
+        Some(S12),
+    ),
+    (
+        "snapshot",
+        r#"[{"group":"","resource":"configmaps","object":{"metadata":{"name":"a","namespace":"","uid":"A","resourceVersion":"11"}}}]"#,
+        Some(S12),
+    ),
+    (
+        "snapshot",
+        r#"[{"group":"","resource":"configmaps","object":{"metadata":{"name":"a","namespace":"d","uid":"A","resourceVersion":"11"}}}]"#,
+        Some(S13),
+    ),
+    (
+        "snapshot",
+        r#"[{"group":"","resource":"configmaps","object":{"metadata":{"name":"a","namespace":"d","uid":"A","resourceVersion":"9"}}},{"group":"","resource":"configmaps","object":{"metadata":{"name":"b","namespace":"d","uid":"A","resourceVersion":"8"}}}]"#,
+        Some(S13),
+    ),
+    (
+        "snapshot",
+        r#"[{"group":"","resource":"configmaps","object":{"kind":"ConfigMap","metadata":{"name":"a","namespace":"d","uid":"A","resourceVersion":"9"}}},{"group":"","resource":"configmaps","object":{"metadata":{"name":"a","namespace":"e","uid":"B","resourceVersion":"10"}}}]"#,
+        None,
+    ),
+    ("authorize", "1", Some(S14)),
+    ("authorize", "true", Some(S14)),
+    ("bypassGroups", "null", Some(S14)),
+    ("skipGroups", "[1]", Some(S14)),
+    ("version", r#"2,"checkpoints":{}"#, Some(S15)),
+    (
+        "version",
+        r#"2,"checkpoints":[{"group":"","resource":"configmaps","namespace":"","list":{"kind":"ConfigMapList","metadata":{"resourceVersion":"9"}}}]"#,
+        Some(S15),
+    ),
+    (
+        "version",
+        r#"2,"checkpoints":[{"group":"","resource":"configmaps","namespace":"","list":{"kind":"ConfigMapList","metadata":{"resourceVersion":"16","continue":"t"}}}]"#,
+        Some(S15),
+    ),
+    (
+        "version",
+        r#"2,"checkpoints":[{"group":"","resource":"configmaps","namespace":"e","list":{"kind":"ConfigMapList","metadata":{"resourceVersion":"16"},"items":[{"metadata":{"name":"a","namespace":"d","uid":"A","resourceVersion":"14"}}]}}]"#,
+        Some(S15),
+    ),
+    (
+        "version",
+        r#"2,"checkpoints":[{"group":"","resource":"configmaps","namespace":"d","list":{"kind":"ConfigMapList","metadata":{"resourceVersion":"16"},"items":[{"metadata":{"name":"a","namespace":"d","uid":"A","resourceVersion":"14"}}]}}]"#,
+        None,
+    ),
+    (
+        "version",
+        r#"2,"checkpoints":[{"group":"","resource":"configmaps","namespace":"","list":{"kind":"ConfigMapList","metadata":{"resourceVersion":"10","continue":null},"items":null}}]"#,
+        None,
+    ),
+];
+
+fn text_with(alloc: Global, member: &str, value: &str) -> Result<String, Fail> {
+    let mut text = String::new(alloc);
+    text.push('{')?;
+    for (name, usual) in &USUAL {
+        if *name != member {
+            text.push_str(&format!(in alloc; "\"{name}\":{usual},")?)?;
+        }
+    }
+    if !value.is_empty() {
+        text.push_str(&format!(in alloc; "\"{member}\":{value},")?)?;
+    }
+    let _comma = text.pop();
+    text.push('}')?;
+    Ok(text)
+}
+
+fn broken_rule(alloc: Global, text: &str) -> Result<Option<SetupRule>, Fail> {
+    match read_setup(alloc, text.as_bytes()) {
+        Ok(_) => Ok(None),
+        Err(SetupFault::Rule(rule)) => Ok(Some(rule)),
+        Err(fault) => Err(fault.into()),
+    }
+}
+
+#[test]
+fn first_broken_rules(rt: HostRuntime) -> Result<(), Fail> {
+    for (member, value, rule) in &CASES {
+        let text = text_with(rt.alloc(), member, value)?;
+        assert_eq!(rt;
+            broken_rule(rt.alloc(), text.as_str())?,
+            *rule,
+            "{member}: {value}"
+        );
+    }
+    assert_eq!(rt; broken_rule(rt.alloc(), "{\"kind\":")?, Some(S1));
+    Ok(())
+}
+
+#[test]
+fn usual_members(rt: HostRuntime) -> Result<(), Fail> {
+    let text = text_with(rt.alloc(), "", "")?;
+    let setup = read_setup(rt.alloc(), text.as_bytes())?;
+    assert_eq!(rt; setup.start.get(), 10);
+    assert_eq!(rt; setup.start_time.0, 1_714_557_600_000_000_000);
+    assert!(rt; setup.until.is_none() && !setup.authorize);
+    assert_eq!(rt; setup.slack, 0);
+    assert_eq!(rt; setup.lag, 0);
+    assert_eq!(rt; setup.bypass.len(), 1);
+    assert_eq!(rt; setup.skip.len(), 1);
+    assert_eq!(rt; setup.skip.as_slice()[0].as_str(), "system:nodes");
+    assert_eq!(rt; setup.checkpoints.len(), 0);
+    Ok(())
+}

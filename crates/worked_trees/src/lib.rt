@@ -1,0 +1,15 @@
+//! Worked values: what is done with trees of JSON values, their patches and their shapes.
+#![tactic(auto)]
+
+#[cfg(test)]
+mod json_patch_rows;
+#[cfg(test)]
+mod json_tree_rows;
+#[cfg(test)]
+mod merge_patch_rows;
+#[cfg(test)]
+mod node_pool_rows;
+#[cfg(test)]
+mod path_shape_rows;
+#[cfg(test)]
+mod reading;
