@@ -26,7 +26,8 @@ use Rattle.version_store.specs.Told.{IsTold}
 use Rattle.version_store.proofs.OneHistory.{one_history}
 use Rattle.kubepast.specs.Command.{Asked, IsAsked, Judge, Make}
 use Rattle.kubepast.specs.Endings.{Answer}
-use Rattle.kubepast.specs.Judging.{IsFound, IsJudged, IsJudgedBy, IsPrinted, IsVerdict, with_chains, write_line}
+use Rattle.window_writes.specs.Lines.{write_line}
+use Rattle.kubepast.specs.Judging.{IsFound, IsJudged, IsJudgedBy, IsPrinted, IsVerdict, with_chains}
 use Rattle.kubepast.specs.OneAnswer.{OneAnswer}
 use Rattle.kubepast.specs.Program.{IsAnswerTo, judged_answer, made_answer}
 use Rattle.kubepast.specs.Refusals.{IsLogRefused, IsSetupRefused, IsSetupStopOf, IsStopOf}

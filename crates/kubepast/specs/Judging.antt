@@ -1,11 +1,8 @@
 -- What a setup and a log come to, of their bytes alone.
 use Rattle.std.specs.Prelude.{◌≡◌, ◌<◌, ◌≤◌, ◌⊎◌, ◌++◌, ℕ, List, Some, Ok, length, map, slice_get}
 use Rattle.audit_event.specs.declared.event.Event.{Event}
-use Rattle.base_types.specs.Keys.{key_spelling}
 use Rattle.base_types.specs.declared.placed.Outcome.{Outcome}
 use Rattle.base_types.specs.declared.placed.Outcome.TheVariants as printed
-use Rattle.base_types.specs.declared.placed.WriteLine.{WriteLine}
-use Rattle.base_types.specs.declared.placed.WriteLine.TheVariants as written
 use Rattle.history_model.specs.Events as model_events
 use Rattle.history_model.specs.Histories.{IsEvent}
 use Rattle.history_model.specs.Outcomes as model
@@ -18,6 +15,7 @@ use Rattle.version_store.specs.Histories.{history_of}
 use Rattle.version_store.specs.Known.{Known}
 use Rattle.version_store.specs.LogTrees.{pooled}
 use Rattle.version_store.specs.Told.{IsTold}
+use Rattle.window_writes.specs.Lines.{write_line}
 use Rattle.kubepast.specs.Refusals.{IsLogRefused, IsSetupRefused}
 use Rattle.kubepast.specs.declared.judged.Judged.{Judged}
 use Rattle.kubepast.specs.declared.judged.Judged.TheVariants.{Refused, Verdict}
@@ -32,10 +30,6 @@ with_chains setup events = record setup { checkpoints = setup.checkpoints ++ cha
 -- the objects of a setup and a log have at most so many distinct values
 abbrev pub most_nodes : ℕ
 most_nodes = 50000000
-
-abbrev pub write_line : model.Write → WriteLine
-write_line (model.MadeAt revision line key) = written.Made revision line (key_spelling key)
-write_line (model.RemovedIn low high line key) = written.Removed low high line (key_spelling key)
 
 -- the outcome with the line and the name of its event, and with the texts of keys
 abbrev pub IsPrinted : Known → model.Outcome → Outcome → Type 0

@@ -6,4 +6,3 @@ pub mod OneAnswer
 pub mod Program
 pub mod Refusals
 pub mod Summary
-pub mod Turns

@@ -14,7 +14,6 @@ mod source;
 mod stop;
 mod summary;
 mod words;
-mod writes;
 
 use edge_io::{FileDesk, StdSink};
 use judge_pool::FreeGate;
