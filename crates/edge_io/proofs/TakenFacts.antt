@@ -2,7 +2,7 @@
 use Rattle.std.proofs.Common.{◌≡◌, ℕ, List, [], ◌∷◌, ◌++◌, length, Option, Some, None, refl, sym, ◌∙◌, ap, subst, arith, append_assoc}
 use Rattle.std.proofs.lemmas.List.{append-nil}
 use Rattle.std.specs.Io.KnownBytes.{Consumes, Keeps, IsAtEnd}
-use Rattle.log_intake.specs.Taking.{HasTaken}
+use Rattle.edge_io.specs.Whole.{HasTaken}
 
 pub taken_nothing : (old : Option (List ℕ)) → HasTaken old old []
 taken_nothing old = λ bytes told. (bytes, told, refl)
