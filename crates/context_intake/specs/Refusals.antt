@@ -10,10 +10,10 @@ use Rattle.log_intake.specs.declared.stop.SetupStop.{SetupStop}
 use Rattle.log_intake.specs.declared.stop.SetupStop.TheVariants as setup_stop
 use Rattle.setup_file.specs.declared.fault.SetupRule.{SetupRule}
 use Rattle.setup_file.specs.declared.fault.SetupRule.TheVariants.{S1, S2, S3, S4, S5, S6, S7, S8, S9, S10, S11, S12, S13, S14, S15}
-use Rattle.kubepast.specs.declared.judged.Limit.{Limit}
-use Rattle.kubepast.specs.declared.judged.Limit.TheVariants.{SetupSize, LineSize, EventCount, InputSize, PoolSize}
-use Rattle.kubepast.specs.declared.judged.Refusal.{Refusal}
-use Rattle.kubepast.specs.declared.judged.Refusal.TheVariants.{BrokenSetup, MalformedLog, PastLimit}
+use Rattle.context_intake.specs.declared.refusal.Limit.{Limit}
+use Rattle.context_intake.specs.declared.refusal.Limit.TheVariants.{SetupSize, LineSize, EventCount, InputSize, PoolSize}
+use Rattle.context_intake.specs.declared.refusal.Refusal.{Refusal}
+use Rattle.context_intake.specs.declared.refusal.Refusal.TheVariants.{BrokenSetup, MalformedLog, PastLimit}
 
 -- the number in a rule's name
 abbrev pub setup_rule_number : SetupRule → ℕ

@@ -11,7 +11,7 @@ pub enum Stop {
 
 impl From<OutOfMemory> for Stop {
     ghost use Rattle.std.specs.Prelude.{◌≡◌};
-    ghost use Rattle.kubepast.specs.declared.stop.Stop.TheVariants as variant;
+    ghost use Rattle.context_intake.specs.declared.stop.Stop.TheVariants as variant;
 
     ghost from_gives = { λ _ stop. stop ≡ variant.OutOfMemory };
 
@@ -22,7 +22,7 @@ impl From<OutOfMemory> for Stop {
 
 impl<T: Drop> From<AllocFailed<T>> for Stop {
     ghost use Rattle.std.specs.Prelude.{◌≡◌};
-    ghost use Rattle.kubepast.specs.declared.stop.Stop.TheVariants as variant;
+    ghost use Rattle.context_intake.specs.declared.stop.Stop.TheVariants as variant;
 
     ghost from_gives = { λ _ stop. stop ≡ variant.OutOfMemory };
 
