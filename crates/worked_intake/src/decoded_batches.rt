@@ -1,9 +1,10 @@
 ghost use Rattle.std.specs.Prelude.{◌≡◌, IfOk, vec_len};
 
-use super::*;
 use base_types::Bytes;
-use judge_pool::FreeGate;
-use std::alloc::AllocError;
+use batch_decode::decode_all;
+use judge_pool::{FreeGate, Gate};
+use line_reader::Line;
+use std::alloc::{AllocError, Global};
 use std::sync::atomic::{AtomicBool, Ordering};
 use std::test::Fail;
 

@@ -1,6 +1,8 @@
-use super::*;
-use base_types::Bytes;
-use std::alloc::AllocError;
+use audit_event::Malformed;
+use base_types::{Bytes, OutOfMemory};
+use batch_decode::{Decoded, ItemFault, decode_line};
+use line_reader::Line;
+use std::alloc::{AllocError, Global};
 use std::test::Fail;
 
 const ITEM: &str =

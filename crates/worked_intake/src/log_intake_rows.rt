@@ -1,10 +1,10 @@
 ghost use Rattle.std.specs.Prelude.{◌≡◌, ◌<◌, length, IfOk};
 
-use crate::{read_log, read_setup_named};
 use audit_event::Events;
 use base_types::{Bytes, Text};
 use edge_io::{InputFile, InputFiles, MemoryDesk};
 use judge_pool::FreeGate;
+use log_intake::{read_log, read_setup_named};
 use std::alloc::{AllocError, Global};
 use std::marker::Sync;
 use std::test::Fail;
