@@ -38,6 +38,3 @@ pub fn decode_all<R: Threads + Sync, G: Gate>(
         .collect(rt, alloc)?;
     Ok(DecodedList::from_vec(gathered?))
 }
-
-#[cfg(test)]
-mod tests;
