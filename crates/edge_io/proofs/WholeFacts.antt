@@ -1,5 +1,5 @@
 -- What is answered to a name that is read to its end, wherever its reading stops.
-use Rattle.std.proofs.Common.{◌≡◌, ◌≢◌, ℕ, ◌-◌, ◌<◌, ◌≤◌, List, [], ◌++◌, length, take, Option, Some, Result, Ok, Err, refl, sym, ◌∙◌, ap, arith}
+use Rattle.std.proofs.Common.{◌≡◌, ◌≢◌, ℕ, ◌-◌, ◌<◌, ◌≤◌, List, [], ◌++◌, length, take, Option, Some, Result, Ok, Err, refl, sym, ◌∙◌, ap, subst, arith}
 use Rattle.std.proofs.lemmas.List.{append-nil, length-append, length-take}
 use Rattle.std.specs.Io.KnownBytes.{Consumes, Keeps, IsAtEnd}
 use Rattle.edge_io.specs.Faults.{Rose}
@@ -28,21 +28,21 @@ whole_failed most old middle now faults faults' bytes within told keeps counted 
 }
 
 -- the bytes ended
-pub whole_ended : (most : ℕ) (old middle now : Option (List ℕ)) (faults faults' : ℕ) (bytes piece : List ℕ) → length bytes ≤ most → HasTaken old middle bytes → Consumes middle now piece → length piece ≡ 0 → IsAtEnd now → faults ≤ faults'
-    → ReadsWhole most old now faults faults' (Ok bytes)
-whole_ended most old middle now faults faults' bytes piece within told consumed none end counted =
-    let all : HasTaken old now (bytes ++ piece) = taken_then old middle now bytes piece told (taken_piece middle now piece consumed) in
+pub whole_ended : (most : ℕ) (old middle now : Option (List ℕ)) (faults faults' : ℕ) (all bytes piece : List ℕ) → all ≡ bytes → length bytes ≤ most → HasTaken old middle bytes → Consumes middle now piece → length piece ≡ 0 → IsAtEnd now → faults ≤ faults'
+    → ReadsWhole most old now faults faults' (Ok all)
+whole_ended most old middle now faults faults' all bytes piece same within told consumed none end counted =
+    let taken : HasTaken old now (bytes ++ piece) = taken_then old middle now bytes piece told (taken_piece middle now piece consumed) in
     let whole : bytes ++ piece ≡ bytes = ap (λ l. bytes ++ l) (nothing_is piece none) ∙ append-nil bytes in
     record {
-      answers = λ all' is. sym (taken_all old now bytes all' (taken_as old now (bytes ++ piece) bytes whole all) is end);
-      within = within;
+      answers = λ all' is. same ∙ sym (taken_all old now bytes all' (taken_as old now (bytes ++ piece) bytes whole taken) is end);
+      within = subst (λ l. length l ≤ most) (sym same) within;
       whole = end;
-      fault = λ is. absurd (let no : Ok bytes ≡ Err ReadFault = is in cc);
+      fault = λ is. absurd (let no : Ok all ≡ Err ReadFault = is in cc);
       counted = counted;
       taken = record {
         front = bytes;
         piece = piece;
-        taken = all;
+        taken = taken;
         within = within;
         short = omega (arith, none);
         blameless = λ _. nothing_is piece none;

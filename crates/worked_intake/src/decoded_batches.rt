@@ -8,7 +8,7 @@ use std::alloc::{AllocError, Global};
 use std::sync::atomic::{AtomicBool, Ordering};
 use std::test::Fail;
 
-const LINES: u32 = 64;
+const LINES: u32 = 8_192;
 
 const TURNS: u32 = 10_000_000;
 
@@ -58,7 +58,7 @@ fn two_lines_are_decoded_at_once(rt: HostRuntime) -> Result<(), Fail> {
     };
     let lines = lines_of(rt.alloc(), LINES)?;
     let decoded = decode_all(&rt, rt.alloc(), lines.as_slice(), &gate)?;
-    assert_eq!(rt; decoded.len(), 64);
+    assert_eq!(rt; decoded.len(), 8_192);
     assert!(rt; gate.met.load(Ordering::SeqCst));
     Ok(())
 }

@@ -4,7 +4,7 @@ use base_types::{Bounds, Reason};
 use std::sync::atomic::{AtomicBool, Ordering};
 use std::test::Fail;
 
-const EVENTS: u32 = 256;
+const EVENTS: u32 = 8_192;
 
 const TURNS: u32 = 10_000_000;
 
@@ -69,7 +69,7 @@ fn two_events_are_judged_at_once(rt: HostRuntime) -> Result<(), Fail> {
         met: AtomicBool::new(false),
     };
     let claims = claims_all(&rt, rt.alloc(), &source, &gate)?;
-    assert_eq!(rt; claims.len(), 256);
+    assert_eq!(rt; claims.len(), 8_192);
     assert!(rt; gate.met.load(Ordering::SeqCst));
     Ok(())
 }

@@ -18,7 +18,7 @@ returns-then-count-eq0-clause-reads g c =
     let a = c.read.auto.into in
     let b = c.pieces.auto.buffer in
     let some = c.requires.some in
-    whole_ended _ _ _ _ _ _ c.pieces.bytes.items (take c.in-Ok.count c.read.new.into) l.within l.told c.in-Ok.ensures.bytes.0 (sym c.in-Ok.ensures.bound.1 ∙ c.if-count-eq0.true)
+    whole_ended _ _ _ _ _ _ c.from_vec.result c.pieces.bytes.items (take c.in-Ok.count c.read.new.into) c.from_vec.ensures l.within l.told c.in-Ok.ensures.bytes.0 (sym c.in-Ok.ensures.bound.1 ∙ c.if-count-eq0.true)
     (c.in-Ok.ensures.bytes.1 c.if-count-eq0.true (omega (arith, a, b, some))) (omega (arith, before, more))
 
 pub returns-then-room-count-clause-reads : goal.returns-then-room-count-clause-reads
