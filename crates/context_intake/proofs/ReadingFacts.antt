@@ -1,10 +1,11 @@
 -- What a setup and a log tell, wherever their reading stops.
-use Rattle.std.proofs.Common.{◌≡◌, ◌≤◌, ℕ, List, Option, Some, Result, Ok, Err, IfOk, length, sym, ◌∙◌, ap, subst}
+use Rattle.std.proofs.Common.{◌≡◌, ◌≤◌, ℕ, List, Option, Some, Result, Ok, Err, IfOk, IsErrOf, length, refl, sym, ◌∙◌, ap, subst}
 use Rattle.std.proofs.lemmas.Result.{IfOk-weaker}
 use Rattle.audit_event.specs.declared.event.Event.{Event}
 use Rattle.log_intake.specs.Log.{IsLogRead}
 use Rattle.log_intake.specs.Setup.{AnswersSetup, IsSetupRead, StaysWithin, TakesSetup}
-use Rattle.log_intake.specs.Taking.{AnswersLog, RefusesNothing, TakesLog}
+use Rattle.log_intake.specs.Taking as taking
+use Rattle.log_intake.specs.Taking.{AnswersLog, TakesLog}
 use Rattle.log_intake.specs.declared.stop.LogStop.{LogStop}
 use Rattle.log_intake.specs.declared.stop.LogStop.TheVariants as log_stop
 use Rattle.log_intake.specs.declared.stop.SetupStop.{SetupStop}
@@ -12,10 +13,11 @@ use Rattle.log_intake.specs.declared.stop.SetupStop.TheVariants as setup_stop
 use Rattle.log_intake.proofs.LogFacts.{takes_nothing}
 use Rattle.setup_file.specs.declared.setup.Setup.{Setup}
 use Rattle.version_store.specs.LogTrees.{pooled}
-use Rattle.context_intake.specs.Contexts.{IsFoundIn, IsRefused, IsToldBy, most_nodes, of_log, of_pool, of_setup, with_chains}
+use Rattle.context_intake.specs.Contexts.{IsFoundIn, IsRefused, IsToldBy, RefusesNothing, most_nodes, of_log, of_pool, of_setup, with_chains}
 use Rattle.context_intake.specs.Refusals.{IsSetupStopOf, IsStopOf}
 use Rattle.context_intake.specs.declared.refusal.Refusal.{Refusal}
 use Rattle.context_intake.specs.declared.stop.Stop.{Stop}
+use Rattle.context_intake.specs.declared.stop.Stop.TheVariants.{OutOfMemory, ReadFault}
 use Rattle.context_intake.specs.declared.told.Told.{Told}
 use Rattle.context_intake.specs.declared.told.Told.TheVariants.{Context, Refused}
 
@@ -99,9 +101,15 @@ log_as old middle now fine fine' same weaker t = subst (λ o. TakesLog o now fin
   blameless = λ is. t.blameless (weaker is);
 })
 
--- a failed read refuses nothing
-pub failed_setup : (stop : SetupStop) → stop ≡ setup_stop.ReadFault → StaysWithin (Err stop)
-failed_setup stop is = subst (λ s. StaysWithin (Err s)) (sym is) tt
+-- a refusal isn't passed on where nothing is refused
+refused_nothing : (result : Result Told Stop) (IsOf : Refusal → Type 0) (Q : Type 0) → IfOk result (λ told. (refusal : Refusal) × IsOf refusal × (told ≡ Refused refusal)) → (IsErrOf result ReadFault → Q) → RefusesNothing result → Q
+refused_nothing (Ok told) IsOf Q (refusal, is, same) failed nothing = absurd (subst (λ t. RefusesNothing (Ok t)) same nothing)
+refused_nothing (Err ReadFault) IsOf Q refused failed nothing = failed refl
+refused_nothing (Err OutOfMemory) IsOf Q refused failed nothing = absurd nothing
 
-pub failed_log : (stop : LogStop) → stop ≡ log_stop.ReadFault → RefusesNothing (Err stop)
-failed_log stop is = subst (λ s. RefusesNothing (Err s)) (sym is) tt
+-- a failed read refuses nothing
+pub failed_setup : (result : Result Told Stop) (stop : SetupStop) → IfOk result (λ told. (refusal : Refusal) × IsSetupStopOf stop refusal × (told ≡ Refused refusal)) → (IsErrOf result ReadFault → stop ≡ setup_stop.ReadFault) → RefusesNothing result → StaysWithin (Err stop)
+failed_setup result stop refused failed nothing = refused_nothing result (IsSetupStopOf stop) (StaysWithin (Err stop)) refused (λ is. subst (λ s. StaysWithin (Err s)) (sym (failed is)) tt) nothing
+
+pub failed_log : (result : Result Told Stop) (stop : LogStop) → IfOk result (λ told. (refusal : Refusal) × IsStopOf stop refusal × (told ≡ Refused refusal)) → (IsErrOf result ReadFault → stop ≡ log_stop.ReadFault) → RefusesNothing result → taking.RefusesNothing (Err stop)
+failed_log result stop refused failed nothing = refused_nothing result (IsStopOf stop) (taking.RefusesNothing (Err stop)) refused (λ is. subst (λ s. taking.RefusesNothing (Err s)) (sym (failed is)) tt) nothing

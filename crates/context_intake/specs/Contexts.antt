@@ -1,5 +1,5 @@
 -- What a setup and a log tell, of their bytes alone.
-use Rattle.std.specs.Prelude.{◌≡◌, ◌<◌, ◌≤◌, ◌++◌, ℕ, List, Ok, length}
+use Rattle.std.specs.Prelude.{◌≡◌, ⊤, ◌<◌, ◌≤◌, ◌++◌, ℕ, List, Result, Ok, Err, length}
 use Rattle.audit_event.specs.declared.event.Event.{Event}
 use Rattle.log_intake.specs.Log.{IsLogRead}
 use Rattle.log_intake.specs.Setup.{IsSetupRead}
@@ -12,6 +12,8 @@ use Rattle.context_intake.specs.Refusals.{IsLogRefused, IsSetupRefused}
 use Rattle.context_intake.specs.declared.refusal.Limit.TheVariants.{PoolSize}
 use Rattle.context_intake.specs.declared.refusal.Refusal.{Refusal}
 use Rattle.context_intake.specs.declared.refusal.Refusal.TheVariants.{PastLimit}
+use Rattle.context_intake.specs.declared.stop.Stop.{Stop}
+use Rattle.context_intake.specs.declared.stop.Stop.TheVariants.{OutOfMemory, ReadFault}
 use Rattle.context_intake.specs.declared.told.Told.{Told}
 use Rattle.context_intake.specs.declared.told.Told.TheVariants.{Context, Refused}
 
@@ -47,3 +49,15 @@ IsToldBy setup log (Context known) = IsContextOf setup log known
 abbrev pub IsFoundIn : Setup → List Event → Told → Type 0
 IsFoundIn setup events (Refused refusal) = (most_nodes < length (pooled setup events)) × (refusal ≡ PastLimit PoolSize)
 IsFoundIn setup events (Context known) = (known.setup ≡ setup) × (known.events ≡ events) × (length (pooled setup events) ≤ most_nodes) × IsTold known
+
+-- both were read to their ends, or up to a failed read
+abbrev pub RefusesNothing : Result Told Stop → Type 0
+RefusesNothing (Ok (Refused refusal)) = ⊥
+RefusesNothing (Ok (Context known)) = ⊤
+RefusesNothing (Err ReadFault) = ⊤
+RefusesNothing (Err OutOfMemory) = ⊥
+
+-- nothing was refused
+abbrev pub IsOfContext : Told → Type 0
+IsOfContext (Refused refusal) = ⊥
+IsOfContext (Context known) = ⊤

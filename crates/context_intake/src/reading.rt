@@ -1,6 +1,6 @@
 ghost use Rattle.std.specs.Prelude.{◌≡◌, ◌≢◌, ◌≤◌, ℕ, List, Some, IfOk, IsErrOf, length};
 ghost use Rattle.std.specs.Io.KnownBytes.{IsAtEnd};
-ghost use Rattle.context_intake.specs.Contexts.{IsFoundIn, IsToldBy, with_chains};
+ghost use Rattle.context_intake.specs.Contexts.{IsFoundIn, IsToldBy, RefusesNothing, with_chains};
 ghost use Rattle.context_intake.specs.Refusals.{IsSetupStopOf, IsStopOf};
 ghost use Rattle.edge_io.specs.Faults.{Rose};
 ghost use Rattle.log_intake.specs.Kept.{AreLogEvents};
@@ -42,8 +42,8 @@ pub fn read_context<R: Threads + Sync, D: Desk, H: Gate>(
     ensures whole { IfOk result (λ told. (known : Known) → told ≡ Told.Context known → IsAtEnd (D.left desk.new setup.now) × IsAtEnd (D.left desk.new log.now)) }
     ensures fault { IsErrOf result Stop.ReadFault → Rose (D.faults desk.old) (D.faults desk.new) }
     ensures counted { D.faults desk.old ≤ D.faults desk.new }
-    ensures setup_taken { TakesSetup (D.left desk.old setup.now) (D.left desk.new setup.now) (IsErrOf result Stop.ReadFault) }
-    ensures log_taken { TakesLog (D.left desk.old log.now) (D.left desk.new log.now) (IsErrOf result Stop.ReadFault) }
+    ensures setup_taken { TakesSetup (D.left desk.old setup.now) (D.left desk.new setup.now) (RefusesNothing result) }
+    ensures log_taken { TakesLog (D.left desk.old log.now) (D.left desk.new log.now) (RefusesNothing result) }
     ensures others { (other : List ℕ) → other ≢ setup.now → other ≢ log.now → D.left desk.new other ≡ D.left desk.old other }
 {
     let Ok(mut buffer) = piece_buffer(alloc) else {

@@ -4,5 +4,5 @@ pub mod Findings
 pub mod Judging
 pub mod OneAnswer
 pub mod Program
-pub mod Refusals
 pub mod Summary
+pub mod Verifying

@@ -11,7 +11,6 @@ mod outcome;
 mod report;
 mod run;
 mod source;
-mod stop;
 mod summary;
 mod words;
 
