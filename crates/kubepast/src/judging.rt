@@ -44,7 +44,8 @@ pub fn judge<R: Threads + Sync, D: Desk, G: Gate, H: Gate>(
     ensures log_taken { TakesLog (D.left desk.old log.now) (D.left desk.new log.now) (IsErrOf result Stop.ReadFault) }
     ensures others { (other : List ℕ) → other ≢ setup.now → other ≢ log.now → D.left desk.new other ≡ D.left desk.old other }
 {
-    let told = ManuallyDrop::new(read_context(rt, alloc, desk, setup, log, gates.lines)?);
+    let found = read_context(rt, alloc, desk, setup, log, gates.lines)?;
+    let told = ManuallyDrop::new(found);
     let judged = judged_of(rt, alloc, &told, gates.events)?;
     Ok(judged)
 }

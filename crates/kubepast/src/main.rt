@@ -12,6 +12,8 @@ mod report;
 mod run;
 mod source;
 mod summary;
+mod verified;
+mod verifying;
 mod words;
 
 use edge_io::{FileDesk, StdSink};

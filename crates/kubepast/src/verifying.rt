@@ -1,6 +1,6 @@
 ghost use Rattle.std.specs.Prelude.{◌≡◌, ◌≢◌, ◌≤◌, ℕ, List, Some, IfOk, IsErrOf, length};
 ghost use Rattle.std.specs.Io.KnownBytes.{IsAtEnd};
-ghost use Rattle.context_intake.specs.Contexts.{IsOfContext};
+ghost use Rattle.context_intake.specs.Contexts.{IsOfContext, IsRefused};
 ghost use Rattle.edge_io.specs.Faults.{Rose};
 ghost use Rattle.edge_io.specs.Whole.{TakesWhole};
 ghost use Rattle.log_intake.specs.Setup.{TakesSetup};
@@ -49,9 +49,11 @@ pub fn verify<R: Threads + Sync, D: Desk, H: Gate>(
     ensures setup_taken { TakesSetup (D.left desk.old setup.now) (D.left desk.new setup.now) (IsErrOf result Stop.ReadFault) }
     ensures log_taken { TakesLog (D.left desk.old log.now) (D.left desk.new log.now) (IsErrOf result Stop.ReadFault) }
     ensures placement_taken { TakesWhole most_placement (D.left desk.old placement.now) (D.left desk.new placement.now) (IsErrOf result Stop.ReadFault) }
-    ensures placement_left { IfOk result (λ verified. (refusal : Refusal) → verified ≡ Verified.Refused refusal → D.left desk.new placement.now ≡ D.left desk.old placement.now) }
+    ensures placement_left { (of_setup of_log : List ℕ) (refusal : Refusal) → D.left desk.old setup.now ≡ Some of_setup → D.left desk.old log.now ≡ Some of_log
+        → IsRefused of_setup of_log refusal → D.left desk.new placement.now ≡ D.left desk.old placement.now }
 {
-    let told = ManuallyDrop::new(read_context(rt, alloc, desk, setup, log, lines)?);
+    let found = read_context(rt, alloc, desk, setup, log, lines)?;
+    let told = ManuallyDrop::new(found);
     verified_of(alloc, desk, placement, &told)
 }
 
@@ -67,7 +69,7 @@ fn verified_of<D: Desk>(
     ensures fault { IsErrOf result Stop.ReadFault → IsOfContext told.now × Rose (D.faults desk.old) (D.faults desk.new) }
     ensures counted { D.faults desk.old ≤ D.faults desk.new }
     ensures taken { TakesWhole most_placement (D.left desk.old placement.now) (D.left desk.new placement.now) (IsErrOf result Stop.ReadFault) }
-    ensures left { IfOk result (λ verified. (refusal : Refusal) → verified ≡ Verified.Refused refusal → D.left desk.new placement.now ≡ D.left desk.old placement.now) }
+    ensures left { (IsOfContext told.now → ⊥) → D.left desk.new placement.now ≡ D.left desk.old placement.now }
     ensures others { (other : List ℕ) → other ≢ placement.now → D.left desk.new other ≡ D.left desk.old other }
 {
     match told {
@@ -84,7 +86,6 @@ fn check_named<D: Desk>(
     context: &Context,
 ) -> Result<Verified, Stop>
     ensures verified { IfOk result (λ verified. (of_placement : List ℕ) → D.left desk.old placement.now ≡ Some of_placement → IsVerifiedBy context.now of_placement verified) }
-    ensures judged { IfOk result (λ verified. (refusal : Refusal) → verified ≡ Verified.Refused refusal → ⊥) }
     ensures whole { IfOk result (λ verified. (checked : Checked) → verified ≡ Verified.Judged checked → IsAtEnd (D.left desk.new placement.now)) }
     ensures fault { IsErrOf result Stop.ReadFault → Rose (D.faults desk.old) (D.faults desk.new) }
     ensures counted { D.faults desk.old ≤ D.faults desk.new }

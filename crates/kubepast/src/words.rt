@@ -12,7 +12,10 @@ pub enum Command<'a> {
     /// Words that are no command.
     Usage,
     /// `judge SETUP LOG`
-    Judge { setup: &'a str, log: &'a str },
+    Judge {
+        setup: &'a str,
+        log: &'a str,
+    },
     /// `verify SETUP LOG PLACEMENT`
     Verify {
         setup: &'a str,
@@ -20,7 +23,10 @@ pub enum Command<'a> {
         placement: &'a str,
     },
     /// `make NUMBER EVENTS`
-    Make { number: u64, events: u32 },
+    Make {
+        number: u64,
+        events: u32,
+    },
 }
 
 /// Reads the words behind the program's name. It takes no memory.
