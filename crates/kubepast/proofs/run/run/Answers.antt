@@ -4,7 +4,7 @@ use Rattle.log_intake.specs.Taking.{TakesLog}
 use Rattle.kubepast.specs.Command.{Judge, Make}
 use Rattle.kubepast.specs.Endings.{Tells}
 use Rattle.kubepast.specs.Program.{IsAnswer, IsAnswerTo, report_answer, usage_answer}
-use Rattle.kubepast.proofs.JudgingFacts.{log_as, setup_as}
+use Rattle.context_intake.proofs.ReadingFacts.{log_as, setup_as}
 use Rattle.kubepast.proofs.RunFacts.{asked_answer, concluded_answer, concluded_fault, of_any_files, of_files, of_names}
 use Rattle.kubepast.proofs.run.run.Goals as goal
 
