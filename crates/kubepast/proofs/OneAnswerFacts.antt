@@ -1,47 +1,38 @@
 -- The words and the bytes have one answer.
 use Rattle.std.proofs.Common.{◌≡◌, ℕ, ◌∷◌, [], ◌^◌, ◌<◌, ◌≤◌, ◌++◌, List, Option, Some, None, Ok, Err, length, map, slice_get, inl, inr, refl, sym, ◌∙◌, ap, subst, codes, decimal, arith}
-use Rattle.std.proofs.lemmas.Fmt.{decimal_injective}
 use Rattle.std.proofs.lemmas.Option.{same_Some}
 use Rattle.base_types.specs.declared.placed.Outcome.{Outcome}
 use Rattle.base_types.specs.declared.placed.Outcome.TheVariants as printed
 use Rattle.case_maker.specs.Case.{log_text, setup_text}
+use Rattle.base_types.specs.declared.placed.PlacedLine.{PlacedLine}
+use Rattle.history_model.specs.Checking as check
 use Rattle.history_model.specs.Histories.{History}
 use Rattle.history_model.specs.Outcomes as model
 use Rattle.history_model.specs.Readable.{IsReadable}
+use Rattle.history_model.proofs.CheckLaw.{fault_is, one_fault_is}
 use Rattle.history_model.proofs.OneOutcome.{one_outcome_is}
+use Rattle.serial_machine.specs.Checks.{IsChecked, check_code}
+use Rattle.serial_machine.specs.declared.checked.Checked.{Checked}
+use Rattle.serial_machine.specs.declared.checked.Checked.TheVariants.{Holds, Wrong}
+use Rattle.serial_machine.specs.declared.fault.WrongCode.{WrongCode}
+use Rattle.serial_machine.specs.declared.fault.WrongCode.TheVariants.{V1, V2, Judged}
+use Rattle.verdict_text.proofs.BegunFacts.{explained_agree}
 use Rattle.context_intake.proofs.OneContextFacts.{one_context, one_refusal, one_way}
 use Rattle.version_store.specs.Answered.{names}
 use Rattle.version_store.specs.Histories.{history_of}
 use Rattle.version_store.specs.Known.{Known}
-use Rattle.kubepast.specs.Command.{Asked, IsAsked, Judge, Make}
+use Rattle.kubepast.specs.Command.{Asked, IsAsked, Judge, Make, Verify}
 use Rattle.kubepast.specs.Endings.{Answer}
 use Rattle.window_writes.specs.Lines.{write_line}
 use Rattle.kubepast.specs.Judging.{IsJudged, IsOutcomeOf, IsPrinted}
 use Rattle.kubepast.specs.OneAnswer.{OneAnswer}
-use Rattle.kubepast.specs.Program.{IsAnswerTo, judged_answer, made_answer}
+use Rattle.kubepast.specs.Program.{IsAnswerTo, judged_answer, made_answer, verified_answer}
+use Rattle.kubepast.specs.Verifying.{IsVerified}
+use Rattle.kubepast.specs.declared.verified.Verified.{Verified}
+use Rattle.kubepast.specs.declared.verified.Verified.TheVariants as verified
 use Rattle.kubepast.specs.declared.judged.Judged.{Judged}
 use Rattle.kubepast.specs.declared.judged.Judged.TheVariants.{Refused, Verdict}
-use Rattle.kubepast.proofs.RunFacts.{judge_or_make, same_names}
-
-same_made : (words : List (List ℕ)) (number events number' events' : ℕ) → IsAsked words (Some (Make number events)) → IsAsked words (Some (Make number' events')) → (number ≡ number') × (events ≡ events')
-same_made words number events number' events' a b =
-    let same : codes "make" ∷ decimal number ∷ decimal events ∷ [] ≡ codes "make" ∷ decimal number' ∷ decimal events' ∷ [] = sym a.0 ∙ b.0 in
-    let few = a.2 in
-    let few' = b.2 in
-    (decimal_injective number number' a.1 b.1 cc, decimal_injective events events' (omega (arith, few)) (omega (arith, few')) cc)
-
-one_asked : (words : List (List ℕ)) (a b : Option Asked) → IsAsked words a → IsAsked words b → a ≡ b
-one_asked words None None x y = refl
-one_asked words None (Some b) x y = absurd (x b y)
-one_asked words (Some a) None x y = absurd (y a x)
-one_asked words (Some (Judge setup log)) (Some (Judge setup' log')) x y =
-    let same = same_names words setup log setup' log' x y in
-    λ i. Some (Judge (same.0 i) (same.1 i))
-one_asked words (Some (Judge setup log)) (Some (Make number events)) x y = absurd (judge_or_make words setup log number events x y)
-one_asked words (Some (Make number events)) (Some (Judge setup log)) x y = absurd (judge_or_make words setup log number events y x)
-one_asked words (Some (Make number events)) (Some (Make number' events')) x y =
-    let same = same_made words number events number' events' x y in
-    λ i. Some (Make (same.0 i) (same.1 i))
+use Rattle.kubepast.proofs.AskedFacts.{one_asked}
 
 -- an outcome has one text of its event
 one_text : (x y : Known) (found : model.Outcome) (a b : Outcome) → history_of x ≡ history_of y → names x.setup x.events ≡ names y.setup y.events → IsPrinted x found a → IsPrinted y found b → a ≡ b
@@ -67,9 +58,53 @@ judged_once setup log (Verdict a) (Verdict b) (known, context, outcome) (known',
     let same = one_context setup log known known' context context' in
     ap Verdict (one_verdict known known' a b same.0 same.1 same.2 context'.told.readable outcome outcome')
 
+one_code : (a b : WrongCode) → check_code a ≡ check_code b → a ≡ b
+one_code V1 V1 e = refl
+one_code V1 V2 e = absurd (let no : check.V1 ≡ check.V2 = e in cc)
+one_code V1 (Judged reason) e = absurd (let no : check.V1 ≡ check.Judged reason = e in cc)
+one_code V2 V1 e = absurd (let no : check.V2 ≡ check.V1 = e in cc)
+one_code V2 V2 e = refl
+one_code V2 (Judged reason) e = absurd (let no : check.V2 ≡ check.Judged reason = e in cc)
+one_code (Judged reason) V1 e = absurd (let no : check.Judged reason ≡ check.V1 = e in cc)
+one_code (Judged reason) V2 e = absurd (let no : check.Judged reason ≡ check.V2 = e in cc)
+one_code (Judged a) (Judged b) e = ap Judged (let judged : check.Judged a ≡ check.Judged b = e in cc)
+
+-- a placement has one first fault, or none
+checked_once : (h : History) (lines : List PlacedLine) (a b : Checked) → IsReadable h → IsChecked h lines a → IsChecked h lines b → a ≡ b
+checked_once h lines Holds Holds readable x y = refl
+checked_once h lines Holds (Wrong line code) readable x y = absurd (fault_is h readable lines line (check_code code) y x)
+checked_once h lines (Wrong line code) Holds readable x y = absurd (fault_is h readable lines line (check_code code) x y)
+checked_once h lines (Wrong line code) (Wrong line' code') readable x y =
+    let same = one_fault_is h readable lines line line' (check_code code) (check_code code') x y in
+    let codes : code ≡ code' = one_code code code' same.1 in
+    λ i. Wrong (same.0 i) (codes i)
+
+verified_once : (setup log placement : List ℕ) (a b : Verified) → IsVerified setup log placement a → IsVerified setup log placement b → a ≡ b
+verified_once setup log placement (verified.Refused a) (verified.Refused b) x y = ap verified.Refused (one_refusal setup log a b x y)
+verified_once setup log placement (verified.Refused a) verified.TooLong x (known, context, of) = absurd (one_way setup log a known x context)
+verified_once setup log placement (verified.Refused a) (verified.Misspelt line) x (known, context, of) = absurd (one_way setup log a known x context)
+verified_once setup log placement (verified.Refused a) (verified.Judged checked) x (known, context, of) = absurd (one_way setup log a known x context)
+verified_once setup log placement verified.TooLong (verified.Refused b) (known, context, of) y = absurd (one_way setup log b known y context)
+verified_once setup log placement verified.TooLong verified.TooLong x y = refl
+verified_once setup log placement verified.TooLong (verified.Misspelt line) (known, context, long) (known', context', short) = absurd (let few = short.0 in omega (arith, long, few))
+verified_once setup log placement verified.TooLong (verified.Judged checked) (known, context, long) (known', context', short) = absurd (let few = short.0 in omega (arith, long, few))
+verified_once setup log placement (verified.Misspelt line) (verified.Refused b) (known, context, of) y = absurd (one_way setup log b known y context)
+verified_once setup log placement (verified.Misspelt line) verified.TooLong (known, context, short) (known', context', long) = absurd (let few = short.0 in omega (arith, long, few))
+verified_once setup log placement (verified.Misspelt line) (verified.Misspelt line') (known, context, x) (known', context', y) = ap verified.Misspelt (y.1.alone line x.1.breaks)
+verified_once setup log placement (verified.Misspelt line) (verified.Judged checked) (known, context, x) (known', context', y) = absurd (x.1.refused (y.1.0, y.1.1.lines_are, y.1.1.spelled))
+verified_once setup log placement (verified.Judged checked) (verified.Refused b) (known, context, of) y = absurd (one_way setup log b known y context)
+verified_once setup log placement (verified.Judged checked) verified.TooLong (known, context, short) (known', context', long) = absurd (let few = short.0 in omega (arith, long, few))
+verified_once setup log placement (verified.Judged checked) (verified.Misspelt line) (known, context, x) (known', context', y) = absurd (y.1.refused (x.1.0, x.1.1.lines_are, x.1.1.spelled))
+verified_once setup log placement (verified.Judged a) (verified.Judged b) (known, context, x) (known', context', y) =
+    let same = one_context setup log known known' context context' in
+    let lines : x.1.0 ≡ y.1.0 = explained_agree x.1.0 y.1.0 x.1.1.lines_are y.1.1.lines_are (x.1.1.spelled ∙ sym y.1.1.spelled) in
+    ap verified.Judged (checked_once (history_of known') y.1.0 a b context'.told.readable (subst (λ l. IsChecked (history_of known') l a) lines (subst (λ h. IsChecked h x.1.0 a) same.2 x.1.2)) y.1.2)
+
 answered_once : (asked : Option Asked) (files : List ℕ → List ℕ) (a b : Answer) → IsAnswerTo asked files a → IsAnswerTo asked files b → a ≡ b
 answered_once None files a b x y = x ∙ sym y
 answered_once (Some (Judge setup log)) files a b (judged, is, told) (judged', is', told') = told ∙ ap judged_answer (judged_once (files setup) (files log) judged judged' is is') ∙ sym told'
+answered_once (Some (Verify setup log placement)) files a b (found, is, told) (found', is', told') =
+    told ∙ ap verified_answer (verified_once (files setup) (files log) (files placement) found found' is is') ∙ sym told'
 answered_once (Some (Make number events)) files a b (judged, is, told) (judged', is', told') = told ∙ ap (made_answer number events) (judged_once setup_text (log_text number events) judged judged' is is') ∙ sym told'
 
 pub one_answer : OneAnswer
