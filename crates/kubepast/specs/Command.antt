@@ -7,6 +7,8 @@ use Rattle.kubepast.specs.declared.words.Command.TheVariants as word
 pub data Asked : Type 0 where
   -- judge a log by a setup, each by its name
   Judge : (setup log : List ℕ) → Asked
+  -- judge it, and give its things moments
+  Strict : (setup log : List ℕ) → Asked
   -- check a placement of a log's events again
   Verify : (setup log placement : List ℕ) → Asked
   -- make the case of a number with so many events, and judge it
@@ -30,6 +32,7 @@ most_made = 100000
 -- the words of a command
 abbrev pub Spells : Asked → List (List ℕ) → Type 0
 Spells (Judge setup log) words = (words ≡ codes "judge" ∷ setup ∷ log ∷ []) × AreNames setup log
+Spells (Strict setup log) words = (words ≡ codes "judge" ∷ codes "--strict" ∷ setup ∷ log ∷ []) × AreNames setup log
 Spells (Verify setup log placement) words =
     (words ≡ codes "verify" ∷ setup ∷ log ∷ placement ∷ []) × AreNames setup log × IsThirdName setup log placement
 Spells (Make number events) words = (words ≡ codes "make" ∷ decimal number ∷ decimal events ∷ []) × IsNumber number × (events ≤ most_made)
@@ -42,6 +45,7 @@ IsAsked words (Some asked) = Spells asked words
 -- the command reads a setup and a log of these names
 abbrev pub IsOfNames : Asked → List ℕ → List ℕ → Type 0
 IsOfNames (Judge setup log) setup' log' = (setup ≡ setup') × (log ≡ log')
+IsOfNames (Strict setup log) setup' log' = (setup ≡ setup') × (log ≡ log')
 IsOfNames (Verify setup log placement) setup' log' = (setup ≡ setup') × (log ≡ log')
 IsOfNames (Make number events) setup' log' = ⊥
 
@@ -52,5 +56,6 @@ AsksOf words setup log = (asked : Asked) × IsAsked words (Some asked) × IsOfNa
 abbrev pub command_asked : Command → Option Asked
 command_asked word.Usage = None
 command_asked (word.Judge setup log) = Some (Judge setup.now log.now)
+command_asked (word.Strict setup log) = Some (Strict setup.now log.now)
 command_asked (word.Verify setup log placement) = Some (Verify setup.now log.now placement.now)
 command_asked (word.Make number events) = Some (Make number events)

@@ -16,6 +16,8 @@ pub enum Command<'a> {
         setup: &'a str,
         log: &'a str,
     },
+    /// `judge --strict SETUP LOG`
+    Strict { setup: &'a str, log: &'a str },
     /// `verify SETUP LOG PLACEMENT`
     Verify {
         setup: &'a str,
@@ -35,6 +37,9 @@ pub fn read_words(words: &[String]) -> Command<'_>
 {
     match words {
         [verb, setup, log] if verb.as_str() == "judge" => judge_words(setup, log),
+        [verb, mode, setup, log] if verb.as_str() == "judge" && mode.as_str() == "--strict" => {
+            strict_words(setup, log)
+        }
         [verb, setup, log, placement] if verb.as_str() == "verify" => {
             verify_words(setup, log, placement)
         }
@@ -48,6 +53,15 @@ fn judge_words<'a>(setup: &'a str, log: &'a str) -> Command<'a>
 {
     if are_names(setup, log) {
         return Command::Judge { setup, log };
+    }
+    Command::Usage
+}
+
+fn strict_words<'a>(setup: &'a str, log: &'a str) -> Command<'a>
+    ensures { IsAsked (codes "judge" ∷ codes "--strict" ∷ setup.entry.now ∷ log.entry.now ∷ []) (command_asked result) }
+{
+    if are_names(setup, log) {
+        return Command::Strict { setup, log };
     }
     Command::Usage
 }
