@@ -22,5 +22,5 @@ verdict_told (told.Refused refusal) judged outcome from is = absurd (let no : Re
 verdict_told (told.Context known) judged outcome from is = (known, refl)
 
 -- a failed read refuses nothing
-pub nothing_refused : (result : Result Told Stop) → result ≡ Err ReadFault → RefusesNothing result
-nothing_refused result is = subst RefusesNothing (sym is) tt
+pub nothing_refused : (result : Result Told Stop) (fine : Type 0) → (fine → IsErrOf result ReadFault) → fine → RefusesNothing result
+nothing_refused result fine failed is = subst RefusesNothing (sym (failed is)) tt

@@ -10,6 +10,8 @@ mod contexts;
 #[cfg(test)]
 mod demands;
 #[cfg(test)]
+mod log_rows;
+#[cfg(test)]
 mod reading;
 #[cfg(test)]
 mod setups;
