@@ -14,9 +14,12 @@ use Rattle.strict_order.specs.declared.moments.Moments.{Moments}
 use Rattle.strict_order.specs.declared.moments.Moments.TheVariants as settled
 use Rattle.strict_order.specs.declared.thing.Thing.{Thing}
 
+abbrev pub line_moment : Thing → Moment → LineMoment
+line_moment thing moment = record { line = thing.line; moment = moment }
+
 -- the line of each thing, with its moment
 abbrev pub lines_of : List Thing → List Moment → List LineMoment
-lines_of things moments = map (λ pair. record { line = pair.0.line; moment = pair.1 }) (zip things moments)
+lines_of things moments = map (λ pair. line_moment pair.0 pair.1) (zip things moments)
 
 -- the answer that moments of the things, or two lines of theirs, come to
 abbrev pub answer_for : List Thing → Moments → StrictAnswer

@@ -1,4 +1,5 @@
 ghost use Rattle.std.specs.Prelude.{◌≡◌, IfOk};
+ghost use Rattle.history_model.specs.Histories.{History};
 ghost use Rattle.log_moments.specs.Answers.{IsStrictAnswer, answer_for, lines_of};
 ghost use Rattle.version_store.specs.Histories.{history_of};
 
@@ -31,15 +32,14 @@ pub enum StrictAnswer {
 fn lines_of(alloc: Global, things: &[Thing], moments: &[Moment]) -> Result<LineMoments, OutOfMemory>
     ensures { IfOk result (λ lines. lines ≡ lines_of things.now moments.now) }
 {
-    let lines = things
-        .iter()
-        .zip(moments)
-        .map(|(thing, moment)| LineMoment {
+    let mut lines = LineMoments::new(alloc);
+    for (thing, moment) in things.iter().zip(moments) {
+        lines.push(LineMoment {
             line: thing.line,
             moment: *moment,
-        })
-        .collect(alloc)?;
-    Ok(Listed::from_vec(lines))
+        })?;
+    }
+    Ok(lines)
 }
 
 fn answer_for(
@@ -67,3 +67,8 @@ pub fn strict_answer(alloc: Global, context: &Context) -> Result<StrictAnswer, O
     let moments = settle_moments(alloc, things.as_slice())?;
     answer_for(alloc, things.as_slice(), moments)
 }
+
+/// A log has one strict answer.
+pub fn one_strict_answer_law()
+    ensures { (h : History) (a b : StrictAnswer) → IsStrictAnswer h a → IsStrictAnswer h b → a ≡ b }
+{}

@@ -11,6 +11,6 @@ mod things;
 mod view;
 mod viewing;
 
-pub use answer::{LineMoment, LineMoments, StrictAnswer, strict_answer};
+pub use answer::{LineMoment, LineMoments, StrictAnswer, one_strict_answer_law, strict_answer};
 pub use text::print_strict;
 pub use things::{Things, things_of};

@@ -1,0 +1,15 @@
+use Rattle.std.proofs.Common.{ap, map, sym}
+use Rattle.object_past.specs.Modelled.{recorded, version_of}
+use Rattle.object_past.specs.declared.version.Version.{Version}
+use Rattle.setup_file.specs.declared.setup.Setup.{Setup}
+use Rattle.version_store.specs.Histories.{history_of}
+use Rattle.write_groups.specs.Modelled.{event_of, span_of}
+use Rattle.log_moments.proofs.Timing.{in_time}
+use Rattle.log_moments.proofs.viewing.view_of.Goals as goal
+
+pub returns-clause-view : goal.returns-clause-view
+returns-clause-view c = λ nexts. ?
+
+pub returns-clause-moments : goal.returns-clause-moments
+returns-clause-moments c = in_time c.args.context.now.setup c.args.context.now.events c.args.context.now.trees c.args.context.now.log (history_of c.args.context.now)
+    c.events-_events.ensures.sound c.log.ensures.logged refl
