@@ -30,7 +30,7 @@ pub struct Status {
 }
 
 /// An audit event: one stage of one request (Kubernetes API, `audit.k8s.io/v1`, Event).
-#[derive(Debug, Drop, PartialEq, Eq)]
+#[derive(Debug, PartialEq, Eq)]
 pub struct Event {
     /// The event's number in the log, or in the list that it is an item of.
     pub line: u64,
@@ -55,6 +55,27 @@ pub struct Event {
     pub staged: Moment,
     /// The annotation `authorization.k8s.io/decision`, where it is `allow` or `forbid`.
     pub decision: Option<Decision>,
+}
+
+// Written out, so that a function which drops events makes one call for each.
+impl Drop for Event {
+    fn drop(self) {
+        let Event {
+            line: _,
+            level: _,
+            audit_id: _,
+            stage: _,
+            attrs: _,
+            user: _,
+            impersonated: _,
+            status: _,
+            request: _,
+            response: _,
+            received: _,
+            staged: _,
+            decision: _,
+        } = self;
+    }
 }
 
 /// Events in order.

@@ -2,18 +2,19 @@ ghost use Rattle.std.specs.Prelude.{◌≡◌, ℕ, Some, IfOk, IfErr, OnOk, tru
 ghost use Rattle.serde_json.specs.View.{view};
 ghost use Rattle.request_attrs.specs.Attributes.{attributes};
 ghost use Rattle.request_attrs.specs.Refusals.{IsReadable};
+ghost use Rattle.audit_event.specs.Bodies.{request_in, response_in, IsSoundBody};
 ghost use Rattle.audit_event.specs.Events.{HasFieldsOf, IsRequestOf, IsEventOf, IsEventOfLine, IsCauseFrom, IsCause, IsLineCause, IsUnreadable, IsSound, fault_for};
 ghost use Rattle.audit_event.specs.Headings.{is_event, is_item};
 ghost use Rattle.audit_event.specs.Levels.{level_in, stage_in};
 ghost use Rattle.audit_event.specs.Numbers.{has_whole_numbers};
 ghost use Rattle.audit_event.specs.Rules.{audit_id_in};
-ghost use Rattle.audit_event.specs.Statuses.{code_in};
+ghost use Rattle.audit_event.specs.Statuses.{code_in, status_in};
 ghost use Rattle.audit_event.specs.Times.{times_in, AreSound};
 ghost use Rattle.audit_event.specs.Users.{users_in};
 
 use crate::bodies::read_body;
 use crate::decision::decision_of;
-use crate::event::Event;
+use crate::event::{Body, Event, Status};
 use crate::fault::{EventFault, Malformed};
 use crate::heading::{is_event, is_item};
 use crate::level::{level_of, stage_of};
@@ -22,7 +23,7 @@ use crate::numbers::has_whole_numbers;
 use crate::status::{read_status, status_code};
 use crate::times::{Times, times_of};
 use crate::user::read_users;
-use base_types::{Level, RequestAttrs, Stage, Text, User};
+use base_types::{Level, OutOfMemory, RequestAttrs, Stage, Text, User};
 use line_reader::Line;
 use request_attrs::{UriFault, attrs_of};
 use serde_json::Value;
@@ -144,7 +145,38 @@ fn read_parties(alloc: Global, value: &Value) -> Result<Parties, EventFault>
     })
 }
 
-// The event of its parts, with what no rule is about.
+// What was sent and answered.
+#[derive(Drop)]
+struct Exchange {
+    status: Status,
+    request: Body,
+    response: Body,
+}
+
+// Reads what no rule is about.
+fn read_exchange(
+    alloc: Global,
+    value: &Value,
+    stage: Stage,
+    code: Option<u16>,
+) -> Result<Exchange, OutOfMemory>
+    ensures status { IfOk result (λ found. found.status ≡ status_in stage code (view value.now)) }
+    ensures request { IfOk result (λ found. found.request ≡ request_in (view value.now)) }
+    ensures sound_request { IfOk result (λ found. IsSoundBody found.request) }
+    ensures response { IfOk result (λ found. found.response ≡ response_in (view value.now)) }
+    ensures sound_response { IfOk result (λ found. IsSoundBody found.response) }
+{
+    let request = read_body(alloc, present(value, "requestObject"))?;
+    let response = read_body(alloc, present(value, "responseObject"))?;
+    let status = read_status(alloc, value, stage, code, response.is_kept())?;
+    Ok(Exchange {
+        status,
+        request,
+        response,
+    })
+}
+
+// The event of its parts.
 fn assemble(
     alloc: Global,
     value: &Value,
@@ -166,14 +198,7 @@ fn assemble(
     ensures sound { IfOk result IsSound }
     ensures cause { IfErr result (λ fault. fault ≡ EventFault.OutOfMemory) }
 {
-    let response = read_body(alloc, present(value, "responseObject"))?;
-    let status = read_status(
-        alloc,
-        value,
-        recording.stage,
-        parties.code,
-        response.is_kept(),
-    )?;
+    let exchange = read_exchange(alloc, value, recording.stage, parties.code)?;
     Ok(Event {
         line,
         level: recording.level,
@@ -182,9 +207,9 @@ fn assemble(
         attrs: request.attrs,
         user: parties.user,
         impersonated: parties.impersonated,
-        status,
-        request: read_body(alloc, present(value, "requestObject"))?,
-        response,
+        status: exchange.status,
+        request: exchange.request,
+        response: exchange.response,
         received: recording.times.received,
         staged: recording.times.staged,
         decision: decision_of(value),

@@ -4,6 +4,7 @@ pub mod Escapes
 pub mod Keys
 pub mod Matching
 pub mod Moments
+pub mod PlaceOrder
 pub mod Placements
 pub mod Reasons
 pub mod Revisions

@@ -13,6 +13,9 @@ use std::alloc::Global;
 use std::marker::Sync;
 use std::thread::Threads;
 
+/// How many lines are worth a thread of their own.
+const LINES_FOR_A_THREAD: usize = 16;
+
 /// What each line holds, in their order. Several threads decode them; each line's index enters the gate
 /// before the line is decoded.
 pub fn decode_all<R: Threads + Sync, G: Gate>(
@@ -26,6 +29,7 @@ pub fn decode_all<R: Threads + Sync, G: Gate>(
 {
     let gathered: Result<Vec<Decoded>, OutOfMemory> = (0..lines.len() as u32)
         .into_par_iter()
+        .with_min_len(LINES_FOR_A_THREAD)
         .map(
             |index: u32| -> Result<Decoded, OutOfMemory>
                 requires { index < length lines.now }
@@ -38,6 +42,3 @@ pub fn decode_all<R: Threads + Sync, G: Gate>(
         .collect(rt, alloc)?;
     Ok(DecodedList::from_vec(gathered?))
 }
-
-#[cfg(test)]
-mod tests;

@@ -110,6 +110,3 @@ pub fn decode_line(alloc: Global, line: &Line) -> Result<Decoded, OutOfMemory>
         Err(_) => Ok(not_json(alloc)),
     }
 }
-
-#[cfg(test)]
-mod tests;

@@ -1,1 +1,3 @@
 mod NamedFiles
+pub mod TakenFacts
+pub mod WholeFacts

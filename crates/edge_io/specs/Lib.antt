@@ -2,3 +2,4 @@ pub mod Files
 pub mod Faults
 pub mod MemoryDesk
 pub mod MemorySink
+pub mod Whole

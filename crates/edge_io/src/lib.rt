@@ -5,8 +5,10 @@ mod edge;
 mod files;
 mod memory;
 mod system;
+mod whole;
 
 pub use edge::{Desk, DeskFailed, Sink, SinkFailed};
 pub use files::{InputFile, InputFiles};
 pub use memory::{MemoryDesk, MemorySink, SINK_ROOM, SteadyDesk};
 pub use system::{FileDesk, STANDARD_INPUT, StdSink};
+pub use whole::{WholeStop, read_whole};

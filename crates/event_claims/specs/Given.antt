@@ -1,7 +1,7 @@
 -- The least four places at which a decision could be given.
 use Rattle.std.specs.Prelude.{◌≡◌, ◌≤◌, ℕ, Bool, true}
+use Rattle.base_types.specs.PlaceOrder.{IsUpTo}
 use Rattle.base_types.specs.declared.placed.Places.{Places}
-use Rattle.history_model.specs.Decisions.{IsUpTo}
 
 abbrev pub IsWithin : (low high place : ℕ) → Type 0
 IsWithin low high place = (low ≤ place) × (place ≤ high)

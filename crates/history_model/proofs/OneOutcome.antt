@@ -2,6 +2,7 @@
 use Rattle.std.proofs.Common.{◌≡◌, ℕ, ◌<◌, ◌≤◌, ◌+◌, ◌⊎◌, List, [], ◌∷◌, length, slice_get, Option, Some, None, inl, inr, refl, sym, ap, ap₂, ◌∙◌, subst, arith}
 use Rattle.std.specs.List.{AllZip}
 use Rattle.std.proofs.lemmas.Option.{same_Some, slice_get_within}
+use Rattle.base_types.specs.PlaceOrder.{IsUpTo}
 use Rattle.base_types.specs.Choices.{IsChoice}
 use Rattle.base_types.specs.declared.claim.Reason.{Reason}
 use Rattle.base_types.specs.declared.placed.PlacedAnswer.{PlacedAnswer}
@@ -16,7 +17,6 @@ use Rattle.history_model.proofs.Fits.{same_event}
 use Rattle.history_model.proofs.Global.{global_is}
 use Rattle.history_model.proofs.OutcomeLaw.{get_within, take_more_in}
 use Rattle.history_model.proofs.SameSorted.{same_sorted, same_by_get}
-use Rattle.history_model.specs.Decisions.{IsUpTo}
 use Rattle.history_model.specs.Events.{Event}
 use Rattle.history_model.specs.Histories.{History, IsEvent, ranges}
 use Rattle.history_model.specs.Local.{AreRightUpTo}

@@ -1,6 +1,7 @@
 -- An authoriser keeps roles, cluster roles, role bindings and cluster role bindings in four caches
 -- (Kubernetes "Using RBAC Authorization", API objects), and each may be behind by itself.
-use Rattle.std.specs.Prelude.{◌≡◌, ◌<◌, ◌≤◌, ℕ, ◌⊎◌, true}
+use Rattle.std.specs.Prelude.{◌≡◌, ◌≤◌, ℕ, true}
+use Rattle.base_types.specs.PlaceOrder.{IsUpTo}
 use Rattle.base_types.specs.declared.placed.Places.{Places}
 use Rattle.history_model.specs.Events.{Event}
 use Rattle.history_model.specs.Histories.{History}
@@ -20,13 +21,6 @@ pub record AreCachePlaces (h : History) (event : Event) (places : Places) : Type
 pub record IsDecidedAt (h : History) (number : ℕ) (event : Event) (places : Places) : Type 0 where
   pub inside : AreCachePlaces h event places
   pub right : h.decides number places ≡ true
-
--- places are compared by their roles, then their cluster roles, bindings and cluster bindings
-abbrev pub IsUpTo : Places → Places → Type 0
-IsUpTo a b = (a.roles < b.roles)
-    ⊎ ((a.roles ≡ b.roles) × (a.cluster_roles < b.cluster_roles))
-    ⊎ ((a.roles ≡ b.roles) × (a.cluster_roles ≡ b.cluster_roles) × (a.bindings < b.bindings))
-    ⊎ ((a.roles ≡ b.roles) × (a.cluster_roles ≡ b.cluster_roles) × (a.bindings ≡ b.bindings) × (a.cluster_bindings ≤ b.cluster_bindings))
 
 pub record AreLeastPlaces (h : History) (number : ℕ) (event : Event) (places : Places) : Type 0 where
   pub decided : IsDecidedAt h number event places

@@ -28,6 +28,9 @@ pub trait ClaimSource {
     ghost one: { (source : Self) (event : ℕ) (a b : Claim) → event < events source → is_claim source event a → is_claim source event b → a ≡ b };
 }
 
+/// How many events are worth a thread of their own.
+const EVENTS_FOR_A_THREAD: usize = 64;
+
 /// The claims of all events, in order. Several threads take them; each event enters the gate before its
 /// claim is taken.
 pub fn claims_all<R: Threads + Sync, S: ClaimSource + Sync, G: Gate>(
@@ -40,6 +43,7 @@ pub fn claims_all<R: Threads + Sync, S: ClaimSource + Sync, G: Gate>(
 {
     let gathered: Result<Vec<Claim>, OutOfMemory> = (0..source.count())
         .into_par_iter()
+        .with_min_len(EVENTS_FOR_A_THREAD)
         .map(
             |event: u32| -> Result<Claim, OutOfMemory>
                 requires { event < S.events source.now }

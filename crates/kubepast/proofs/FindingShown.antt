@@ -11,7 +11,8 @@ use Rattle.history_model.specs.Windows.{high_end, low_end}
 use Rattle.version_store.specs.Answered.{names}
 use Rattle.version_store.specs.Histories.{history_of}
 use Rattle.version_store.specs.Known.{Known}
-use Rattle.kubepast.specs.Findings.{AreWriteLines, IsFindingOf}
+use Rattle.window_writes.specs.Lines.{AreWriteLines}
+use Rattle.kubepast.specs.Findings.{IsFindingOf}
 
 pub record IsOwnWindow (h : History) (event : Event) (reason : Reason) : Type 0 where
   pub low : shown_low h event reason ≡ low_end h event

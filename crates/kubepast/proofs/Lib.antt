@@ -1,8 +1,4 @@
 pub mod EndingFacts
-pub mod TurnGathering
-pub mod TurnShowing
-pub mod TurnLines
-pub mod TurnSorting
 pub mod OutcomeOrder
 pub mod OutcomeClaims
 pub mod OutcomePlacing

@@ -7,8 +7,8 @@ use Rattle.kubepast.specs.Program.{Concludes, IsAnswer, IsAnswerTo, report_answe
 use Rattle.kubepast.specs.declared.report.Report.{Report}
 use Rattle.kubepast.specs.declared.report.Status.{Status}
 use Rattle.kubepast.specs.declared.report.Status.TheVariants.{Explained, Unexplained, SetupRefused, LogRefused, LimitPassed}
-use Rattle.kubepast.specs.declared.stop.Stop.{Stop}
-use Rattle.kubepast.specs.declared.stop.Stop.TheVariants.{OutOfMemory, ReadFault}
+use Rattle.context_intake.specs.declared.stop.Stop.{Stop}
+use Rattle.context_intake.specs.declared.stop.Stop.TheVariants.{OutOfMemory, ReadFault}
 
 -- a report has another status than a failed read
 no_fault : (status : Status) → status_number status ≡ 5 → ⊥

@@ -4,6 +4,4 @@ pub mod Findings
 pub mod Judging
 pub mod OneAnswer
 pub mod Program
-pub mod Refusals
 pub mod Summary
-pub mod Turns

@@ -9,17 +9,17 @@ use Rattle.verdict_text.specs.Words.{ended, spaced}
 use Rattle.kubepast.specs.Command.{Asked, Judge, Make, IsAsked}
 use Rattle.kubepast.specs.Endings.{Answer, Ends, line_of}
 use Rattle.kubepast.specs.Judging.{IsJudged}
-use Rattle.kubepast.specs.Refusals.{event_rule_number, limit_word, setup_rule_number}
+use Rattle.context_intake.specs.Refusals.{event_rule_number, limit_word, setup_rule_number}
 use Rattle.kubepast.specs.Summary.{summary_text}
 use Rattle.kubepast.specs.declared.judged.Judged.{Judged}
 use Rattle.kubepast.specs.declared.judged.Judged.TheVariants.{Refused, Verdict}
-use Rattle.kubepast.specs.declared.judged.Refusal.{Refusal}
-use Rattle.kubepast.specs.declared.judged.Refusal.TheVariants.{BrokenSetup, MalformedLog, PastLimit}
+use Rattle.context_intake.specs.declared.refusal.Refusal.{Refusal}
+use Rattle.context_intake.specs.declared.refusal.Refusal.TheVariants.{BrokenSetup, MalformedLog, PastLimit}
 use Rattle.kubepast.specs.declared.report.Report.{Report}
 use Rattle.kubepast.specs.declared.report.Status.{Status}
 use Rattle.kubepast.specs.declared.report.Status.TheVariants as status
-use Rattle.kubepast.specs.declared.stop.Stop.{Stop}
-use Rattle.kubepast.specs.declared.stop.Stop.TheVariants.{OutOfMemory, ReadFault}
+use Rattle.context_intake.specs.declared.stop.Stop.{Stop}
+use Rattle.context_intake.specs.declared.stop.Stop.TheVariants.{OutOfMemory, ReadFault}
 
 abbrev pub answer : ℕ → List ℕ → Answer
 answer status text = record { status = status; text = text }

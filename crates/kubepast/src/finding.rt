@@ -6,11 +6,11 @@ ghost use Rattle.history_model.specs.Readable.{IsReadable};
 ghost use Rattle.kubepast.specs.Findings.{IsFindingOf};
 ghost use Rattle.version_store.specs.Histories.{history_of};
 
-use crate::writes::writes_within;
 use base_types::{OutOfMemory, Outcome, Reason};
 use claims::decision_window;
 use std::alloc::Global;
 use version_store::Context;
+use window_writes::writes_within;
 use write_groups::Window;
 
 /// The finding of an event that no choice explains together with the events before it.

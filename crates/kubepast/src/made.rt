@@ -4,9 +4,9 @@ ghost use Rattle.kubepast.specs.Judging.{IsJudged};
 
 use crate::judged::Judged;
 use crate::judging::{Gates, judge};
-use crate::stop::Stop;
 use base_types::{Bytes, OutOfMemory, Text};
 use case_maker::{Case, make_case};
+use context_intake::Stop;
 use edge_io::{InputFile, InputFiles, SteadyDesk};
 use judge_pool::Gate;
 use std::alloc::Global;

@@ -11,10 +11,8 @@ mod outcome;
 mod report;
 mod run;
 mod source;
-mod stop;
 mod summary;
 mod words;
-mod writes;
 
 use edge_io::{FileDesk, StdSink};
 use judge_pool::FreeGate;

@@ -1,11 +1,12 @@
 ghost use Rattle.std.specs.Prelude.{◌≡◌, IfOk, string_bytes};
 ghost use Rattle.kubepast.specs.Program.{answer, judged_answer, made_answer, outcome_status, refusal_answer, report_answer, status_number};
-ghost use Rattle.kubepast.specs.Refusals.{event_rule_number, limit_word, setup_rule_number};
+ghost use Rattle.context_intake.specs.Refusals.{event_rule_number, limit_word, setup_rule_number};
 
-use crate::judged::{Judged, Limit, Refusal};
+use crate::judged::Judged;
 use crate::summary::summary;
 use audit_event::Malformed;
 use base_types::{Bytes, OutOfMemory, Outcome};
+use context_intake::{Limit, Refusal};
 use setup_file::SetupRule;
 use std::alloc::Global;
 use verdict_text::print_outcome;

@@ -55,6 +55,3 @@ pub fn matches(selector: &Selector, labels: Option<&Tree>) -> bool
         .iter()
         .all(|requirement| requirement.is_met(labels))
 }
-
-#[cfg(test)]
-mod tests;

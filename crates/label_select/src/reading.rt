@@ -161,6 +161,3 @@ pub fn read_selector(alloc: Global, text: &str) -> Result<Selector, SelectorFaul
         None => Err(SelectorFault::Form),
     }
 }
-
-#[cfg(test)]
-mod tests;

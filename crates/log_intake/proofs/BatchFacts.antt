@@ -13,8 +13,8 @@ use Rattle.line_reader.proofs.ReaderFacts.{continues_both}
 use Rattle.log_intake.specs.declared.batch.BatchEnd.{BatchEnd}
 use Rattle.log_intake.specs.declared.batch.BatchEnd.TheVariants.{GoesOn, Ended, Failed, LineTooLong, InputTooLong}
 use Rattle.log_intake.specs.Batches.{AreShort, EndsBatch, Gathers, GivesLast, GivesLines, GivesRest, HoldsOpen, TakesPiece, TakesSome, fed_with, line_values}
-use Rattle.log_intake.specs.Taking.{HasTaken}
-use Rattle.log_intake.proofs.StreamFacts.{taken_as, taken_kept, taken_nothing, taken_piece, taken_then}
+use Rattle.edge_io.specs.Whole.{HasTaken}
+use Rattle.edge_io.proofs.TakenFacts.{taken_as, taken_kept, taken_nothing, taken_piece, taken_then}
 
 none_short : AreShort []
 none_short = All-nil (λ (l : NumberedLine). length l.bytes ≤ longest_line)

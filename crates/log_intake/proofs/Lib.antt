@@ -9,4 +9,3 @@ pub mod OneSetupFacts
 pub mod ReadFacts
 pub mod SetupFacts
 pub mod StepFacts
-pub mod StreamFacts

@@ -6,7 +6,7 @@ use Rattle.line_reader.specs.Lines.{NumberedLine, longest_line, lines_from}
 use Rattle.line_reader.specs.Reading.{Reading, Continues, HoldsRest, IsTooLong, line_value}
 use Rattle.log_intake.specs.declared.batch.BatchEnd.{BatchEnd}
 use Rattle.log_intake.specs.declared.batch.BatchEnd.TheVariants.{GoesOn, Ended, Failed, LineTooLong, InputTooLong}
-use Rattle.log_intake.specs.Taking.{HasTaken}
+use Rattle.edge_io.specs.Whole.{HasTaken}
 
 abbrev pub line_values : List Line → List NumberedLine
 line_values lines = map line_value lines

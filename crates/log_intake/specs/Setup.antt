@@ -1,13 +1,15 @@
 -- What the bytes of a setup read as, and what is taken of them.
-use Rattle.std.specs.Prelude.{◌≡◌, ⊤, ℕ, ◌<◌, ◌≤◌, List, [], ◌++◌, length, Option, Some, Result, Ok, Err, IfOk, IsErrOf}
+use Rattle.std.specs.Prelude.{◌≡◌, ⊤, ℕ, ◌<◌, ◌≤◌, List, length, Option, Some, Result, Ok, Err, IfOk, IsErrOf}
 use Rattle.std.specs.Io.KnownBytes.{IsAtEnd}
 use Rattle.edge_io.specs.Faults.{Rose}
+use Rattle.edge_io.specs.Whole.{TakesWhole}
+use Rattle.edge_io.specs.declared.whole.WholeStop.{WholeStop}
+use Rattle.edge_io.specs.declared.whole.WholeStop.TheVariants as whole
 use Rattle.setup_file.specs.declared.setup.Setup.{Setup}
 use Rattle.setup_file.specs.Reading.{ReadsAs}
 use Rattle.setup_file.specs.Sound.{IsSound}
 use Rattle.log_intake.specs.declared.stop.SetupStop.{SetupStop}
 use Rattle.log_intake.specs.declared.stop.SetupStop.TheVariants.{Rule, TooLong, ReadFault, OutOfMemory}
-use Rattle.log_intake.specs.Taking.{HasTaken}
 
 -- a setup has at most so many bytes
 abbrev pub most_setup : ℕ
@@ -34,13 +36,14 @@ AnswersSetup bytes (Err ReadFault) = ⊤
 AnswersSetup bytes (Err OutOfMemory) = ⊤
 
 -- a setup that isn't too long so far, and at most a piece behind it; no piece where nothing more was to be taken
-pub record TakesSetup (old now : Option (List ℕ)) (fine : Type 0) : Type 0 where
-  pub front : List ℕ
-  pub piece : List ℕ
-  pub taken : HasTaken old now (front ++ piece)
-  pub within : length front ≤ most_setup
-  pub short : length piece ≤ 65536
-  pub blameless : fine → piece ≡ []
+abbrev pub TakesSetup : Option (List ℕ) → Option (List ℕ) → Type 0 → Type 0
+TakesSetup = TakesWhole most_setup
+
+-- why a setup that wasn't read whole is none
+abbrev pub stop_of : WholeStop → SetupStop
+stop_of whole.TooLong = TooLong
+stop_of whole.ReadFault = ReadFault
+stop_of whole.OutOfMemory = OutOfMemory
 
 -- the setup and the first broken rule are told at the end alone
 abbrev pub IsWhole : Result Setup SetupStop → Type 0

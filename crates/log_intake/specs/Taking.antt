@@ -2,16 +2,13 @@
 use Rattle.std.specs.Prelude.{◌≡◌, ⊤, ℕ, ◌+◌, ◌≤◌, List, ◌++◌, length, Option, Some, Result, Ok, Err, IfOk, OnOk, IsErrOf}
 use Rattle.std.specs.Io.KnownBytes.{IsAtEnd}
 use Rattle.edge_io.specs.Faults.{Rose}
+use Rattle.edge_io.specs.Whole.{HasTaken}
 use Rattle.line_reader.specs.Lines.{longest_line, whole_lines, rest_of, numbered}
 use Rattle.audit_event.specs.declared.event.Event.{Event}
 use Rattle.log_intake.specs.declared.stop.LogStop.{LogStop}
 use Rattle.log_intake.specs.declared.stop.LogStop.TheVariants.{Malformed, LineTooLong, TooManyEvents, TooLong, ReadFault, OutOfMemory}
 use Rattle.log_intake.specs.Kept.{AreLogEvents}
 use Rattle.log_intake.specs.Log.{LogState, IsLogRead, TakesLines, nothing_read, most_input}
-
--- of the bytes that were told, `front` was taken
-abbrev pub HasTaken : Option (List ℕ) → Option (List ℕ) → List ℕ → Type 0
-HasTaken old now front = (bytes : List ℕ) → old ≡ Some bytes → (behind : List ℕ) × (now ≡ Some behind) × (bytes ≡ front ++ behind)
 
 -- a stop that the bytes are the cause of
 abbrev pub IsRefusal : LogStop → Type 0

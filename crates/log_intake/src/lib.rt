@@ -13,6 +13,3 @@ pub use law::{one_reading_law, one_setup_law};
 pub use log::read_log;
 pub use setup::read_setup_named;
 pub use stop::{LogStop, SetupStop};
-
-#[cfg(test)]
-mod tests;

@@ -1,11 +1,11 @@
 ghost use Rattle.std.specs.Prelude.{◌≡◌, ◌≢◌, ℕ, ◌<◌, ◌≤◌, List, length, Err, IfOk};
 ghost use Rattle.setup_file.specs.Sound.{IsSound};
-ghost use Rattle.log_intake.specs.Setup.{AnswersSetup, ReadsSetup, most_checkpoints};
+ghost use Rattle.log_intake.specs.Setup.{AnswersSetup, ReadsSetup, most_checkpoints, stop_of};
 
 use crate::stop::SetupStop;
-use edge_io::{Desk, DeskFailed};
+use edge_io::{Desk, WholeStop, read_whole};
 use setup_file::{Setup, SetupFault, read_setup};
-use std::alloc::{AllocError, Global};
+use std::alloc::Global;
 
 /// A setup may have so many bytes.
 const MOST_SETUP: usize = 268_435_456;
@@ -22,22 +22,19 @@ pub fn read_setup_named<D: Desk>(
     ensures reads { ReadsSetup (D.left desk.old name.now) (D.left desk.new name.now) (D.faults desk.old) (D.faults desk.new) result }
     ensures others { (other : List ℕ) → other ≢ name.now → D.left desk.new other ≡ D.left desk.old other }
 {
-    let mut bytes = Vec::new(alloc);
-    'pieces: loop {
-        let count = match desk.read(name, buffer) {
-            Ok(count) => count,
-            Err(DeskFailed) => return Err(SetupStop::ReadFault),
-        };
-        if count == 0 {
-            return setup_of(alloc, &bytes);
-        }
-        let room = MOST_SETUP - bytes.len();
-        if room < count {
-            return Err(SetupStop::TooLong);
-        }
-        if let Err(AllocError) = bytes.extend_from_slice(&buffer[..count]) {
-            return Err(SetupStop::OutOfMemory);
-        }
+    match read_whole(alloc, desk, name, MOST_SETUP, buffer) {
+        Ok(bytes) => setup_of(alloc, bytes.as_slice()),
+        Err(stop) => Err(stop_of(stop)),
+    }
+}
+
+fn stop_of(stop: WholeStop) -> SetupStop
+    ensures { result ≡ stop_of stop }
+{
+    match stop {
+        WholeStop::TooLong => SetupStop::TooLong,
+        WholeStop::ReadFault => SetupStop::ReadFault,
+        WholeStop::OutOfMemory => SetupStop::OutOfMemory,
     }
 }
 

@@ -1,14 +1,13 @@
 -- A number has one write.
-use Rattle.std.proofs.Common.{◌≡◌, ℕ, Bool, true, false, ◌<◌, length, List, Option, Some, None, map, option_map, option_and_then, slice_get, refl, sym, ap, ◌∙◌, subst}
+use Rattle.std.proofs.Common.{◌≡◌, ℕ, Bool, true, false, List, Option, Some, None, map, option_map, option_and_then, slice_get, refl, sym, ap, ◌∙◌, subst}
 use Rattle.std.specs.Prelude.{IsSome}
-use Rattle.std.proofs.lemmas.Option.{same_Some, slice_get-map, slice_get_within}
+use Rattle.std.proofs.lemmas.Option.{same_Some, slice_get-map}
 use Rattle.history_model.specs.Events as event
 use Rattle.history_model.specs.Groups.{Making, IsMaking}
 use Rattle.history_model.specs.Histories.{History, IsEvent}
 use Rattle.write_groups.proofs.Belonging.{IsFound, item_from}
-use Rattle.write_groups.specs.Grouped.{item_at, made_item}
+use Rattle.write_groups.specs.Grouped.{item_at, made_item, item_in as shown_item}
 use Rattle.write_groups.specs.Modelled.{HasEvents, answer_of, event_of, item_of}
-use Rattle.write_groups.specs.declared.event.Item as logged
 use Rattle.write_groups.specs.declared.event.LogEvent.{LogEvent}
 use Rattle.write_groups.specs.declared.event.Shown.{Shown}
 use Rattle.write_groups.specs.declared.event.Shown.TheVariants.{Made, Removed, Opaque, Saw, SawNone, SawSome, SawOther, Listed, Free, Aside}
@@ -101,15 +100,22 @@ making_from h events m all making = go (item_from events h m all making)
         ∙ ap (making_in m.number found.logged) found.shown
         ∙ ap Some (λ i. making_of m.number (found.is i) (found.of_item i) m.created)
 
--- an event that is a write
-pub write_within : (events : List LogEvent) (number : ℕ) → IsSome (item_at events number) → number < length events
-write_within events number some = go (slice_get events number) refl some
+-- an event that is a write has one
+pub write_found : (events : List LogEvent) (number : ℕ) → IsSome (item_at events number) → None ≡ making_at events number → ⊥
+write_found events number some none = go (slice_get events number) some none
   where
-    go : (found : Option LogEvent) → slice_get events number ≡ found → IsSome (option_and_then made_item found) → number < length events
-    go None at some = absurd (cc some)
-    go (Some e) at some = slice_get_within events number e at
+    of : (e : LogEvent) (shown : Shown) → IsSome (shown_item shown) → None ≡ making_in number e shown → ⊥
+    of e (Made item created) some none = cc none
+    of e (Removed key uid) some none = cc some
+    of e (Opaque cover) some none = cc some
+    of e (Saw item) some none = cc some
+    of e (SawNone key) some none = cc some
+    of e (SawSome key) some none = cc some
+    of e (SawOther key) some none = cc some
+    of e (Listed listing) some none = cc some
+    of e Free some none = cc some
+    of e Aside some none = cc some
 
--- the write at a number whose event has this answer
-pub making_there : (events : List LogEvent) (number : ℕ) (e : LogEvent) (item : logged.Item) (created : Bool) → slice_get events number ≡ Some e → e.answer ≡ Made item created
-    → making_at events number ≡ Some (record { number = number; event = event_of e; item = item_of item; created = created })
-making_there events number e item created at is = ap (option_and_then (λ x. making_in number x x.answer)) at ∙ ap (making_in number e) is
+    go : (found : Option LogEvent) → IsSome (option_and_then made_item found) → None ≡ option_and_then (λ e. making_in number e e.answer) found → ⊥
+    go None some none = cc some
+    go (Some e) some none = of e e.answer some none

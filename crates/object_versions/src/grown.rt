@@ -1,6 +1,6 @@
 ghost use Rattle.std.specs.Prelude.{◌≡◌, ◌<◌, ◌++◌, ◌∷◌, [], ◌↔◌, not, true, IfOk, OnOk, IsTrue, All, AllPairs, Any, option_map, slice_get};
 ghost use Rattle.std.specs.BTreeSet.{contains, Updates};
-ghost use Rattle.object_versions.specs.Growing.{AreFlagged, IsContinued, IsLatestIn};
+ghost use Rattle.object_versions.specs.Growing.{AreFlagged, AreKept, IsContinued, IsLatestIn};
 ghost use Rattle.object_versions.specs.Owners.{owner_order, owner_of};
 
 use crate::owner::Owner;
@@ -10,16 +10,22 @@ use std::alloc::Global;
 use std::collections::{BTreeMap, BTreeSet};
 use std::marker::Model;
 
-/// The versions up to some revision, with what is known of their keys and uids. Contracts see the versions.
+/// What is known of the keys and uids of versions.
 #[derive(Drop)]
-pub struct Grown {
-    versions: Versions,
+struct Index {
     // Of each version, whether its incarnation is the first of its key with its uid.
     firsts: Vec<bool>,
     // The position of each key's latest version.
     last: BTreeMap<ObjectKey, usize>,
     owners: BTreeSet<Owner>,
     uids: BTreeSet<Text>,
+}
+
+/// The versions up to some revision, with what is known of their keys and uids. Contracts see the versions.
+#[derive(Drop)]
+pub struct Grown {
+    versions: Versions,
+    index: Index,
 }
 
 impl Model for Grown {
@@ -32,7 +38,7 @@ impl Model for Grown {
 
     ghost view = { λ g. g.versions };
 
-    ghost invariant = { λ g. AreKept g.versions g.firsts.items g.last g.owners g.uids };
+    ghost invariant = { λ g. AreKept g.versions g.index.firsts.items g.index.last g.index.owners g.index.uids };
 }
 
 /// The latest version of a key, and whether its incarnation is the first of the key with its uid.
@@ -66,16 +72,43 @@ fn add_owner(owners: &mut BTreeSet<Owner>, version: &Version) -> Result<bool, Ou
     Ok(owners.insert(owner)?)
 }
 
+impl Index {
+    // Takes the version behind these; `continued` tells whether its incarnation is the first of its key with its uid,
+    // where it continues the latest one.
+    fn add(
+        &mut self,
+        versions: &[Version],
+        version: &Version,
+        continued: Option<bool>,
+    ) -> Result<(), OutOfMemory>
+        requires kept { AreKept versions.now self.old.firsts.items self.old.last self.old.owners self.old.uids }
+        requires above { All (λ v. v.revision < version.now.revision) versions.now }
+        requires continued { IsContinued versions.now version.now continued }
+        ensures { OnOk result (AreKept (versions.now ++ version.now ∷ []) self.new.firsts.items self.new.last self.new.owners self.new.uids) }
+    {
+        let is_first = match continued {
+            Some(is_first) => is_first,
+            None => add_owner(&mut self.owners, version)?,
+        };
+        let _used = self.uids.insert(version.uid.clone()?)?;
+        let _before = self.last.insert(version.key.clone()?, versions.len())?;
+        self.firsts.push(is_first)?;
+        Ok(())
+    }
+}
+
 impl Grown {
     pub fn new(alloc: Global) -> Grown
         ensures { result ≡ [] }
     {
         Grown {
             versions: Versions::new(alloc),
-            firsts: Vec::new(alloc),
-            last: BTreeMap::new(alloc),
-            owners: BTreeSet::new(alloc),
-            uids: BTreeSet::new(alloc),
+            index: Index {
+                firsts: Vec::new(alloc),
+                last: BTreeMap::new(alloc),
+                owners: BTreeSet::new(alloc),
+                uids: BTreeSet::new(alloc),
+            },
         }
     }
 
@@ -84,9 +117,9 @@ impl Grown {
         ensures latest { IsLatestIn self.now key.now result }
         ensures rising { AllPairs (λ a b. a.revision < b.revision) self.now }
     {
-        let position = *self.last.get(key)?;
+        let position = *self.index.last.get(key)?;
         let version = version_at(self.versions.as_slice(), position)?;
-        let is_first = flag_at(&self.firsts, position)?;
+        let is_first = flag_at(&self.index.firsts, position)?;
         Some(Latest { version, is_first })
     }
 
@@ -94,7 +127,7 @@ impl Grown {
     pub fn is_used(&self, uid: &Text) -> bool
         ensures { IsTrue result ↔ Any (λ v. v.uid ≡ uid.now) self.now }
     {
-        self.uids.contains(uid)
+        self.index.uids.contains(uid)
     }
 
     // Whether a version's incarnation is the first of its key with its uid, where it continues the latest one.
@@ -116,26 +149,11 @@ impl Grown {
         let continued = self.continues(&version);
         let Grown {
             mut versions,
-            mut firsts,
-            mut last,
-            mut owners,
-            mut uids,
+            mut index,
         } = self;
-        let is_first = match continued {
-            Some(is_first) => is_first,
-            None => add_owner(&mut owners, &version)?,
-        };
-        let _used = uids.insert(version.uid.clone()?)?;
-        let _before = last.insert(version.key.clone()?, versions.len())?;
-        firsts.push(is_first)?;
+        index.add(versions.as_slice(), &version, continued)?;
         versions.push(version)?;
-        Ok(Grown {
-            versions,
-            firsts,
-            last,
-            owners,
-            uids,
-        })
+        Ok(Grown { versions, index })
     }
 
     /// The versions, and of each whether its incarnation is the first of its key with its uid.
@@ -144,6 +162,6 @@ impl Grown {
         ensures rising { AllPairs (λ a b. a.revision < b.revision) self }
         ensures firsts { AreFlagged self result.1.items }
     {
-        (self.versions, self.firsts)
+        (self.versions, self.index.firsts)
     }
 }

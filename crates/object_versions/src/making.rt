@@ -7,6 +7,7 @@ ghost use Rattle.object_versions.specs.Faults.{meets, is_other, node_of, clear_c
 ghost use Rattle.object_past.specs.Modelled.{version_of};
 ghost use Rattle.object_versions.specs.Modelled.{making_of};
 ghost use Rattle.object_versions.specs.Surrounded.{IsJudgedBy};
+ghost use Rattle.object_versions.specs.Written.{making_at};
 
 use crate::bodies::Bodies;
 use base_types::{OutOfMemory, Reason, Revision, Text};
@@ -15,7 +16,7 @@ use node_pool::NodeId;
 use object_past::Version;
 use std::alloc::Global;
 use time_windows::Windows;
-use write_groups::{Item, LogEvent, Preconditions, highest, lowest};
+use write_groups::{Item, LogEvent, Preconditions, Shown, highest, lowest};
 
 /// A write, and the object that it was answered with.
 #[derive(Clone, Copy)]
@@ -25,6 +26,22 @@ pub struct Making<'a> {
     pub item: &'a Item,
     /// Whether the answer was `201 Created`.
     pub created: bool,
+}
+
+/// The write of this number; None for an event that is no write.
+pub fn making_at(events: &[LogEvent], number: u32) -> Option<Making<'_>>
+    ensures { option_map making_of result ≡ making_at events.now number }
+{
+    let event = events.get(number as usize)?;
+    match &event.answer {
+        Shown::Made { item, created } => Some(Making {
+            number,
+            event,
+            item,
+            created: *created,
+        }),
+        _ => None,
+    }
 }
 
 // Whether the object meets the preconditions; no object meets those that ask for nothing.

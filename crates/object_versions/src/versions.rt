@@ -18,7 +18,7 @@ ghost use Rattle.object_versions.specs.Written.{making_at, snapshot_version, IsO
 use crate::bodies::Bodies;
 use crate::grown::{Grown, Latest};
 use crate::maker::{Judged, maker_among, shown_by};
-use crate::making::{Making, finding_fault, making_fault};
+use crate::making::{Making, finding_fault, making_at, making_fault};
 use crate::removal::range_behind;
 use crate::removed::Removed;
 use base_types::{OutOfMemory, Revision};
@@ -26,7 +26,7 @@ use clouds::Clouds;
 use object_past::{Maker, Version, Versions};
 use std::alloc::Global;
 use time_windows::Windows;
-use write_groups::{Group, Item, LogEvent, Shown};
+use write_groups::{Group, Item, LogEvent};
 
 /// What of a log its versions are judged by.
 #[derive(Clone, Copy)]
@@ -38,19 +38,13 @@ pub struct Log<'a> {
 }
 
 // The write of this number.
-fn making_at(events: &[LogEvent], number: u32) -> Making<'_>
+fn write_at(events: &[LogEvent], number: u32) -> Making<'_>
     requires { IsSome (item_at events.now number) }
     ensures { making_at events.now number ≡ Some (making_of result) }
 {
-    let event = &events[number as usize];
-    match &event.answer {
-        Shown::Made { item, created } => Making {
-            number,
-            event,
-            item,
-            created: *created,
-        },
-        _ => unreachable!(),
+    match making_at(events, number) {
+        Some(making) => making,
+        None => unreachable!(),
     }
 }
 
@@ -126,7 +120,7 @@ fn judge_each<B: Bodies>(
 {
     let mut judged = Vec::with_capacity(alloc, members.len())?;
     for number in members {
-        let making = making_at(log.events, *number);
+        let making = write_at(log.events, *number);
         judged.push(judge(alloc, log, bodies, grown, making)?)?;
     }
     Ok(judged)
@@ -150,7 +144,7 @@ fn version_in(log: Log<'_>, group: &Group, judged: &[Judged]) -> Result<Version,
     let first = first_number(judged);
     let may_be_unrecorded = log.clouds.may_make(&group.key, group.revision);
     let maker = maker_among(judged, first, may_be_unrecorded);
-    let making = making_at(log.events, shown_by(maker, first));
+    let making = write_at(log.events, shown_by(maker, first));
     Ok(Version {
         key: group.key.clone()?,
         revision: group.revision,

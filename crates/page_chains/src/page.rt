@@ -30,6 +30,16 @@ pub enum Asked {
     Unclear,
 }
 
+/// What joins a page to the pages before it and behind it.
+#[derive(Debug, Drop)]
+pub struct Joint {
+    /// The namespace of the request's path.
+    pub namespace: Text,
+    /// The token with which the next page is asked for.
+    pub token: Option<Text>,
+    pub asked: Asked,
+}
+
 pub type Pages = Listed<Page>;
 
 /// What a page has in common with the one before it, and the token that leads to it.

@@ -1,8 +1,9 @@
 ghost use Rattle.std.specs.Prelude.{◌≡◌, ◌≤◌, length, IfOk, filter, codes, option_map, option_and_then};
+ghost use Rattle.page_chains.specs.Joints.{joint_of};
 ghost use Rattle.page_chains.specs.Pages.{token_of, asked_by, asked_of, is_first, is_selective, page_in};
 ghost use Rattle.page_chains.specs.Parts.{part_of, parts_of};
 
-use crate::page::{Asked, Page, Pages};
+use crate::page::{Asked, Joint, Page, Pages};
 use answer_class::{Answer, class_of, has_filled, one_at_most};
 use audit_event::Event;
 use base_types::{OutOfMemory, RequestAttrs, Text};
@@ -52,9 +53,22 @@ fn token_copied(event: &Event) -> Result<Option<Text>, OutOfMemory>
     }
 }
 
-fn page_in(event: &Event, asked: Asked, answer: Answer) -> Result<Option<Page>, OutOfMemory>
-    requires { asked ≡ asked_of event.now.attrs }
-    ensures { IfOk result (λ page. page ≡ page_in event.now answer) }
+// What joins a page to the pages before it and behind it.
+fn joint_of(event: &Event, asked: Asked) -> Result<Joint, OutOfMemory>
+    ensures { IfOk result (λ joint. joint ≡ joint_of event.now asked) }
+{
+    let namespace = event.attrs.namespace.clone()?;
+    let token = token_copied(event)?;
+    Ok(Joint {
+        namespace,
+        token,
+        asked,
+    })
+}
+
+fn page_in(event: &Event, joint: Joint, answer: Answer) -> Option<Page>
+    requires { joint ≡ joint_of event.now (asked_of event.now.attrs) }
+    ensures { result ≡ page_in event.now answer }
 {
     match answer {
         Answer::Listed {
@@ -65,19 +79,19 @@ fn page_in(event: &Event, asked: Asked, answer: Answer) -> Result<Option<Page>, 
             whole: _,
             items,
             selector: _,
-        } => Ok(Some(Page {
+        } => Some(Page {
             line: event.line,
             staged: event.staged,
             group,
             resource,
-            namespace: event.attrs.namespace.clone()?,
+            namespace: joint.namespace,
             scope,
             revision,
             items,
-            token: token_copied(event)?,
-            asked,
-        })),
-        _ => Ok(None),
+            token: joint.token,
+            asked: joint.asked,
+        }),
+        _ => None,
     }
 }
 
@@ -92,7 +106,8 @@ fn part_of(alloc: Global, setup: &Setup, event: &Event) -> Result<Option<Page>, 
     if is_selective(&event.attrs) {
         return Ok(None);
     }
-    page_in(event, asked, class_of(alloc, setup, event)?)
+    let joint = joint_of(event, asked)?;
+    Ok(page_in(event, joint, class_of(alloc, setup, event)?))
 }
 
 /// The pages among the events that can be parts of a chain, in the order of the events.

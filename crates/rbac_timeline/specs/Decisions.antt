@@ -1,6 +1,7 @@
 -- An authoriser keeps roles, cluster roles, role bindings and cluster role bindings in four caches, and each may be
 -- behind by itself.
-use Rattle.std.specs.Prelude.{◌≡◌, ◌<◌, ◌≤◌, ℕ, ◌⊎◌}
+use Rattle.std.specs.Prelude.{◌≤◌, ℕ}
+use Rattle.base_types.specs.PlaceOrder.{IsUpTo}
 use Rattle.base_types.specs.declared.placed.Places.{Places}
 use Rattle.base_types.specs.declared.request.Decision.{Decision}
 use Rattle.base_types.specs.declared.request.Decision.TheVariants.{Allow, Forbid}
@@ -32,14 +33,6 @@ pub record AreWithin (low high : ℕ) (places : Places) : Type 0 where
 pub record IsDecidedAt (known : Known) (low high : ℕ) (who : User) (attrs : RequestAttrs) (decision : Decision) (places : Places) : Type 0 where
   pub within : AreWithin low high places
   pub possible : IsPossible known places who attrs decision
-
--- the first number is the lesser one, or they are the same and the rest decides
-abbrev pub ComesFirst : ℕ → ℕ → Type 0 → Type 0
-ComesFirst a b rest = (a < b) ⊎ ((a ≡ b) × rest)
-
--- places are compared by their roles, then their cluster roles, bindings and cluster bindings
-abbrev pub IsUpTo : Places → Places → Type 0
-IsUpTo a b = ComesFirst a.roles b.roles (ComesFirst a.cluster_roles b.cluster_roles (ComesFirst a.bindings b.bindings (a.cluster_bindings ≤ b.cluster_bindings)))
 
 pub record AreLeastPlaces (known : Known) (low high : ℕ) (who : User) (attrs : RequestAttrs) (decision : Decision) (places : Places) : Type 0 where
   pub decided : IsDecidedAt known low high who attrs decision places

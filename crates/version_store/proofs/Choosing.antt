@@ -4,16 +4,16 @@ use Rattle.std.specs.Option.{IfNone, IfSome}
 use Rattle.std.proofs.lemmas.Bool.{cases_lt}
 use Rattle.std.proofs.lemmas.Option.{same_Some}
 use Rattle.audit_event.specs.declared.event.Event.{Event}
+use Rattle.base_types.specs.PlaceOrder.{IsUpTo, ComesFirst}
 use Rattle.base_types.specs.declared.placed.Places.{Places}
 use Rattle.base_types.specs.declared.request.Decision.{Decision}
 use Rattle.base_types.specs.declared.request.Decision.TheVariants.{Allow, Forbid}
 use Rattle.base_types.specs.declared.request.Possible.{Possible}
 use Rattle.base_types.specs.declared.request.RequestAttrs.{RequestAttrs}
 use Rattle.base_types.specs.declared.request.User.{User}
-use Rattle.history_model.specs.Decisions as model
 use Rattle.rbac_timeline.proofs.Possible.{is_possible-Decides}
 use Rattle.rbac_timeline.specs.Deciding.{is_possible}
-use Rattle.rbac_timeline.specs.Decisions.{AreWithin, AreLeastPlaces, IsDecidedAt, IsPossible, IsUpTo, ComesFirst}
+use Rattle.rbac_timeline.specs.Decisions.{AreWithin, AreLeastPlaces, IsDecidedAt, IsPossible}
 use Rattle.rbac_timeline.specs.Known.{Known}
 use Rattle.rbac_timeline.specs.Searched.{all_at}
 use Rattle.rbac_timeline.specs.Sound.{AreSound}
@@ -40,22 +40,6 @@ unjudged_decides events log rbac number at places = go (slice_get events number)
     go None d is = refl
     go (Some x) None is = refl
     go (Some x) (Some y) is = absurd (cc is)
-
--- the two orders of places are one
-pub upto_model : (a b : Places) → IsUpTo a b → model.IsUpTo a b
-upto_model a b = first
-  where
-    third : a.roles ≡ b.roles → a.cluster_roles ≡ b.cluster_roles → ComesFirst a.bindings b.bindings (a.cluster_bindings ≤ b.cluster_bindings) → model.IsUpTo a b
-    third same alike (inl less) = inr (inr (inl (same, alike, less)))
-    third same alike (inr equal) = inr (inr (inr (same, alike, equal.0, equal.1)))
-
-    second : a.roles ≡ b.roles → ComesFirst a.cluster_roles b.cluster_roles (ComesFirst a.bindings b.bindings (a.cluster_bindings ≤ b.cluster_bindings)) → model.IsUpTo a b
-    second same (inl less) = inr (inl (same, less))
-    second same (inr alike) = third same alike.0 alike.1
-
-    first : IsUpTo a b → model.IsUpTo a b
-    first (inl less) = inl less
-    first (inr same) = second same.0 same.1
 
 -- the first place is below the others
 rising_or_same : (a b : ℕ) → a ≤ b → (rest : Type 0) → rest → ComesFirst a b rest
@@ -87,7 +71,7 @@ all_given decides low high all upto = record {
     };
     right = all (all_at low);
   };
-  least = λ other given. upto_model (all_at low) other (lowest_first low other given.within.roles_from given.within.cluster_roles_from given.within.bindings_from given.within.cluster_bindings_from);
+  least = λ other given. lowest_first low other given.within.roles_from given.within.cluster_roles_from given.within.bindings_from given.within.cluster_bindings_from;
 }
 
 pub none_given : (decides : Places → Bool) (low high : ℕ) → high < low → AreNoneGiven decides low high
@@ -101,10 +85,10 @@ judged_given events log rbac number low high event decision sound at places leas
     within = least.decided.within;
     right = judged_decides events log rbac number event decision at places ∙ (is_possible-Decides rbac sound places (judged_user event) event.attrs decision).1 least.decided.possible;
   };
-  least = λ other given. upto_model places other (least.least other (record {
+  least = λ other given. least.least other (record {
     within = given.within;
     possible = (is_possible-Decides rbac sound other (judged_user event) event.attrs decision).0 (sym (judged_decides events log rbac number event decision at other) ∙ given.right);
-  }));
+  });
 }
 
 pub judged_none : (events : List Event) (log : List LogEvent) (rbac : Known) (number low high : ℕ) (event : Event) (decision : Decision) → AreSound rbac.versions rbac.ends

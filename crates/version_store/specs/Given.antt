@@ -1,11 +1,11 @@
 -- At which places an authoriser's caches may have been when it gave a decision.
 use Rattle.std.specs.Prelude.{◌≡◌, ℕ, Bool, true, List, Option, Some, slice_get, option_and_then, option_map}
 use Rattle.audit_event.specs.declared.event.Event.{Event}
+use Rattle.base_types.specs.PlaceOrder.{IsUpTo}
 use Rattle.base_types.specs.declared.placed.Places.{Places}
 use Rattle.base_types.specs.declared.request.Decision.{Decision}
 use Rattle.base_types.specs.declared.request.Decision.TheVariants.{Allow, Forbid}
 use Rattle.base_types.specs.declared.request.Possible.{Possible}
-use Rattle.history_model.specs.Decisions.{IsUpTo}
 use Rattle.rbac_timeline.specs.Decisions.{AreWithin}
 use Rattle.write_groups.specs.declared.event.LogEvent.{LogEvent}
 

@@ -21,7 +21,6 @@ use write_groups::{Groups, LogEvent, Window, window_of};
 
 /// What a setup and a log say together. It doesn't change, and threads may share it. Contracts see what it was built
 /// of and what was found, as `history_of` makes of it the history that the laws are about.
-#[derive(Drop)]
 pub struct Context {
     pub(crate) setup: Setup,
     pub(crate) events: Events,
@@ -37,6 +36,27 @@ pub struct Context {
     pub(crate) keys: Vec<ObjectKey>,
     // Where each uid comes first, for those who try other objects before a write.
     pub(crate) uses: Uses,
+}
+
+// Written out, so that a function that lets a context go has one call and not the steps of each field.
+impl Drop for Context {
+    fn drop(self) {
+        let Context {
+            setup: _,
+            events: _,
+            pool: _,
+            log: _,
+            order: _,
+            groups: _,
+            windows: _,
+            clouds: _,
+            past: _,
+            timeline: _,
+            faults: _,
+            keys: _,
+            uses: _,
+        } = self;
+    }
 }
 
 /// What threads may share, and send to one another.

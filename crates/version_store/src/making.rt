@@ -3,8 +3,6 @@ ghost use Rattle.history_model.specs.Groups as model;
 ghost use Rattle.history_model.specs.Groups.{IsMaking};
 ghost use Rattle.history_model.specs.Making.{IsLeastFault};
 ghost use Rattle.object_past.specs.Modelled.{version_of};
-ghost use Rattle.object_versions.specs.Modelled.{making_of};
-ghost use Rattle.object_versions.specs.Written.{making_at};
 ghost use Rattle.version_store.specs.Histories.{history_of};
 
 use crate::bodies::RequestBodies;
@@ -12,25 +10,8 @@ use crate::context::Context;
 use crate::uses::is_used;
 use base_types::{OutOfMemory, Reason};
 use object_past::Version;
-use object_versions::{Making, making_fault};
+use object_versions::{making_at, making_fault};
 use std::alloc::Global;
-use write_groups::{LogEvent, Shown};
-
-// The write of this number.
-fn making_at(log: &[LogEvent], number: u32) -> Option<Making<'_>>
-    ensures { option_map making_of result ≡ making_at log.now number }
-{
-    let event = log.get(number as usize)?;
-    match &event.answer {
-        Shown::Made { item, created } => Some(Making {
-            number,
-            event,
-            item,
-            created: *created,
-        }),
-        _ => None,
-    }
-}
 
 impl Context {
     /// The least code by which a write could not have made its revision, where `before` was the object before it; None

@@ -1,4 +1,5 @@
-use base_types::{Cover, CoverName, ObjectKey, Revision, Text, covers};
+use crate::parts::{key, revision};
+use base_types::{Cover, CoverName, ObjectKey, Text, covers};
 use clouds::{Clouds, KeyRevision, OpaqueSpan};
 use std::alloc::Global;
 use std::marker::{Send, Sync};
@@ -6,19 +7,10 @@ use std::test::Fail;
 
 const MAX: u64 = u64::MAX;
 
-fn key(alloc: Global, name: &str) -> Result<ObjectKey, Fail> {
-    Ok(ObjectKey {
-        group: Text::new(alloc),
-        resource: Text::from_str(alloc, "pods")?,
-        namespace: Text::from_str(alloc, "d")?,
-        name: Text::from_str(alloc, name)?,
-    })
-}
-
 fn write(alloc: Global, name: &str, number: u64) -> Result<KeyRevision, Fail> {
-    let revision = Revision::new(number).ok_or("no revision")?;
+    let revision = revision(number)?;
     Ok(KeyRevision {
-        key: key(alloc, name)?,
+        key: key(alloc, "pods", name)?,
         revision,
     })
 }
@@ -68,7 +60,7 @@ fn binding(alloc: Global) -> Result<Clouds, Fail> {
 
 #[test]
 fn a_write_hidden_until_the_next(rt: HostRuntime) -> Result<(), Fail> {
-    let pod = key(rt.alloc(), "p")?;
+    let pod = key(rt.alloc(), "pods", "p")?;
     let clouds = binding(rt.alloc())?;
     let places = [9, 10, 11, 14, 15, MAX];
     let hidden = places.map(|place| clouds.clouded(&pod, place));
@@ -77,7 +69,7 @@ fn a_write_hidden_until_the_next(rt: HostRuntime) -> Result<(), Fail> {
     let first = ranges.map(|(low, high)| clouds.meets(&pod, low, high));
     assert!(rt; first == [Some(11), Some(13), None, None]);
     for (number, may) in [(10, false), (11, true), (14, true), (15, false)] {
-        let revision = Revision::new(number).ok_or("no revision")?;
+        let revision = revision(number)?;
         assert!(rt; clouds.may_make(&pod, revision) == may);
     }
     shared(&clouds);
@@ -92,7 +84,7 @@ fn hidden_from(alloc: Global, namespace: &str, pattern: &str) -> Result<Option<u
         high: MAX,
     }];
     let clouds = Clouds::build(alloc, &spans, &[])?;
-    Ok(clouds.meets(&key(alloc, "web-1")?, 0, MAX))
+    Ok(clouds.meets(&key(alloc, "pods", "web-1")?, 0, MAX))
 }
 
 #[test]
@@ -163,7 +155,7 @@ fn drawn_writes(alloc: Global, seed: u64) -> Result<Vec<KeyRevision>, Fail> {
 
 /// The clouded places below 10, and the first of them from each place on.
 fn agrees(alloc: Global, seed: u64) -> Result<bool, Fail> {
-    let pod = key(alloc, "ab")?;
+    let pod = key(alloc, "pods", "ab")?;
     let spans = drawn_spans(alloc, seed)?;
     let writes = drawn_writes(alloc, seed)?;
     let clouds = Clouds::build(alloc, &spans, &writes)?;

@@ -1,8 +1,8 @@
 ghost use Rattle.std.specs.Prelude.{◌≡◌};
 
+use crate::parts::{key, revision};
 use base_types::{
-    Cover, CoverName, Decision, Moment, ObjectKey, OutOfMemory, PlacedAnswer, PlacedLine, Places,
-    Reason, Revision, Text,
+    Cover, CoverName, Decision, Moment, OutOfMemory, PlacedAnswer, PlacedLine, Places, Reason, Text,
 };
 use clouds::Clouds;
 use event_claims::{Decisions, View, claim_of, placed_line};
@@ -72,20 +72,11 @@ const CASES: [(Told, Option<Reason>); 11] = [
     (Told::Allowed, Some(Reason::U14)),
 ];
 
-fn key(alloc: Global) -> Result<ObjectKey, Fail> {
-    Ok(ObjectKey {
-        group: Text::new(alloc),
-        resource: Text::from_str(alloc, "configmaps")?,
-        namespace: Text::from_str(alloc, "d")?,
-        name: Text::from_str(alloc, "a")?,
-    })
-}
-
 // A version from before the start.
 fn item(alloc: Global) -> Result<Item, Fail> {
     Ok(Item {
-        key: key(alloc)?,
-        revision: Revision::new(9).ok_or("no revision")?,
+        key: key(alloc, "configmaps", "a")?,
+        revision: revision(9)?,
         uid: Text::from_str(alloc, "u")?,
         node: NodeId(0),
     })
@@ -113,7 +104,7 @@ fn listing(alloc: Global, items: Items) -> Result<Listing, Fail> {
         group: Text::new(alloc),
         resource: Text::from_str(alloc, "configmaps")?,
         namespace: Text::from_str(alloc, "d")?,
-        revision: Revision::new(10).ok_or("no revision")?,
+        revision: revision(10)?,
         whole: true,
         items,
     })
@@ -121,15 +112,19 @@ fn listing(alloc: Global, items: Items) -> Result<Listing, Fail> {
 
 fn answer(alloc: Global, told: Told) -> Result<Shown, Fail> {
     match told {
-        Told::Absent => Ok(Shown::SawNone { key: key(alloc)? }),
-        Told::Present => Ok(Shown::SawSome { key: key(alloc)? }),
+        Told::Absent => Ok(Shown::SawNone {
+            key: key(alloc, "configmaps", "a")?,
+        }),
+        Told::Present => Ok(Shown::SawSome {
+            key: key(alloc, "configmaps", "a")?,
+        }),
         Told::Seen => Ok(Shown::Saw { item: item(alloc)? }),
         Told::Written => Ok(Shown::Made {
             item: item(alloc)?,
             created: false,
         }),
         Told::Removed => Ok(Shown::Removed {
-            key: key(alloc)?,
+            key: key(alloc, "configmaps", "a")?,
             uid: Text::new(alloc),
         }),
         Told::Unrecorded => Ok(Shown::Opaque {
@@ -170,7 +165,7 @@ fn event(alloc: Global, told: Told) -> Result<LogEvent, Fail> {
 
 // The claim's code, and the placed line, of a log of one event. A write of it could not have found its revision.
 fn judged(alloc: Global, told: Told) -> Result<(Option<Reason>, Option<PlacedLine>), Fail> {
-    let start = Revision::new(10).ok_or("no revision")?;
+    let start = revision(10)?;
     let windows = Windows::build(alloc, start, &[])?;
     let clouds = Clouds::build(alloc, &[], &[])?;
     let past = Past::build(alloc, Versions::new(alloc), Removals::new(alloc))?;

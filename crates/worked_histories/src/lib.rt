@@ -8,4 +8,6 @@ mod event_claims_rows;
 #[cfg(test)]
 mod object_versions_rows;
 #[cfg(test)]
+mod parts;
+#[cfg(test)]
 mod write_groups_rows;

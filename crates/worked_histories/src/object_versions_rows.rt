@@ -1,12 +1,13 @@
 ghost use Rattle.std.specs.Prelude.{◌≡◌, ◌<◌, ◌^◌, true, length, IfOk, AllPairs};
 
-use base_types::{Moment, ObjectKey, OutOfMemory, Reason, Revision, Text};
+use crate::parts::{event_of, key, made, revision};
+use base_types::{OutOfMemory, Reason, Revision, Text};
 use node_pool::NodeId;
 use object_past::Maker;
 use object_versions::{Bodies, Removed, past_of};
 use std::alloc::Global;
 use std::test::Fail;
-use write_groups::{Item, LogEvent, Preconditions, Reading, Shown};
+use write_groups::{LogEvent, Reading, Shown};
 
 /// What an event of the test says of an object: its name, its uid and its revision.
 #[derive(Clone, Copy)]
@@ -49,30 +50,9 @@ impl Bodies for AllRight {
     }
 }
 
-fn key(alloc: Global, name: &str) -> Result<ObjectKey, Fail> {
-    Ok(ObjectKey {
-        group: Text::new(alloc),
-        resource: Text::from_str(alloc, "configmaps")?,
-        namespace: Text::from_str(alloc, "d")?,
-        name: Text::from_str(alloc, name)?,
-    })
-}
-
-fn made(alloc: Global, name: &str, uid: &str, number: u64, created: bool) -> Result<Shown, Fail> {
-    Ok(Shown::Made {
-        item: Item {
-            key: key(alloc, name)?,
-            revision: Revision::new(number).ok_or("no revision")?,
-            uid: Text::from_str(alloc, uid)?,
-            node: NodeId(0),
-        },
-        created,
-    })
-}
-
 fn removed(alloc: Global, name: &str, uid: &str) -> Result<Shown, Fail> {
     Ok(Shown::Removed {
-        key: key(alloc, name)?,
+        key: key(alloc, "configmaps", name)?,
         uid: Text::from_str(alloc, uid)?,
     })
 }
@@ -96,20 +76,8 @@ fn wanted(told: Told) -> Option<Revision> {
 fn event(alloc: Global, line: u64, told: Told, lo: i128, hi: i128) -> Result<LogEvent, Fail>
     ensures { IfOk result (λ event. event.line ≡ line) }
 {
-    Ok(LogEvent {
-        line,
-        lo: Moment(lo),
-        hi: Moment(hi),
-        reading: Reading::MostRecent,
-        preconditions: Preconditions {
-            revision: wanted(told),
-            uid: None,
-        },
-        answer: answer(alloc, told)?,
-        other_level: false,
-        omitted_stage: false,
-        decision: None,
-    })
+    let answer = answer(alloc, told)?;
+    Ok(event_of(line, (lo, hi), Reading::MostRecent, wanted(told), answer))
 }
 
 fn log(alloc: Global) -> Result<Vec<LogEvent>, Fail>
@@ -128,7 +96,7 @@ fn log(alloc: Global) -> Result<Vec<LogEvent>, Fail>
 #[test]
 fn past_of_a_log(rt: HostRuntime) -> Result<(), Fail> {
     let alloc = rt.alloc();
-    let start = Revision::new(10).ok_or("no revision")?;
+    let start = revision(10)?;
     let past = past_of(alloc, &AllRight, start, &[], &log(alloc)?)?;
     let versions = [
         ("a", "a1", 11, Maker::Event(0), true),

@@ -1,13 +1,13 @@
 ghost use Rattle.std.specs.Prelude.{◌≡◌, ◌<◌, ◌^◌, length, IfOk, AllPairs};
 
-use base_types::{Cover, CoverName, Moment, ObjectKey, Revision, Text};
-use node_pool::NodeId;
+use crate::parts::{event_of, key, made, revision};
+use base_types::{Cover, CoverName, Moment, Revision, Text};
 use std::alloc::Global;
 use std::test::Fail;
 use time_windows::Windows;
 use write_groups::{
-    Hidden, Item, LogEvent, Preconditions, Reading, Shown, Window, groups_of, highest, lowest,
-    order_of, spans_of, window_of,
+    Hidden, LogEvent, Reading, Shown, Window, groups_of, highest, lowest, order_of, spans_of,
+    window_of,
 };
 
 /// What an event of the test says of an object.
@@ -36,31 +36,6 @@ const LOG: [(Told, i128, i128); 10] = [
     (Told::Checked(12), 0, 0),
 ];
 
-fn key(alloc: Global, name: &str) -> Result<ObjectKey, Fail> {
-    Ok(ObjectKey {
-        group: Text::new(alloc),
-        resource: Text::from_str(alloc, "configmaps")?,
-        namespace: Text::from_str(alloc, "d")?,
-        name: Text::from_str(alloc, name)?,
-    })
-}
-
-fn revision(number: u64) -> Result<Revision, Fail> {
-    Ok(Revision::new(number).ok_or("no revision")?)
-}
-
-fn made(alloc: Global, name: &str, number: u64, created: bool) -> Result<Shown, Fail> {
-    Ok(Shown::Made {
-        item: Item {
-            key: key(alloc, name)?,
-            revision: revision(number)?,
-            uid: Text::from_str(alloc, name)?,
-            node: NodeId(0),
-        },
-        created,
-    })
-}
-
 fn unseen(alloc: Global, name: &str) -> Result<Shown, Fail> {
     Ok(Shown::Opaque {
         cover: Cover {
@@ -75,9 +50,9 @@ fn unseen(alloc: Global, name: &str) -> Result<Shown, Fail> {
 
 fn answer(alloc: Global, told: Told) -> Result<Shown, Fail> {
     match told {
-        Told::Updated(name, number) => Ok(made(alloc, name, number, false)?),
-        Told::Created(name, number) => Ok(made(alloc, name, number, true)?),
-        Told::Replaced(name, number, _) => Ok(made(alloc, name, number, false)?),
+        Told::Updated(name, number) => Ok(made(alloc, name, name, number, false)?),
+        Told::Created(name, number) => Ok(made(alloc, name, name, number, true)?),
+        Told::Replaced(name, number, _) => Ok(made(alloc, name, name, number, false)?),
         Told::Unseen(name) => Ok(unseen(alloc, name)?),
         Told::Checked(_) => Ok(Shown::Free),
     }
@@ -100,20 +75,9 @@ fn wanted(told: Told) -> Option<Revision> {
 fn event(alloc: Global, line: u64, told: Told, lo: i128, hi: i128) -> Result<LogEvent, Fail>
     ensures { IfOk result (λ event. event.line ≡ line) }
 {
-    Ok(LogEvent {
-        line,
-        lo: Moment(lo),
-        hi: Moment(hi),
-        reading: reading(told)?,
-        preconditions: Preconditions {
-            revision: wanted(told),
-            uid: None,
-        },
-        answer: answer(alloc, told)?,
-        other_level: false,
-        omitted_stage: false,
-        decision: None,
-    })
+    let reading = reading(told)?;
+    let answer = answer(alloc, told)?;
+    Ok(event_of(line, (lo, hi), reading, wanted(told), answer))
 }
 
 fn log(alloc: Global) -> Result<Vec<LogEvent>, Fail>
@@ -165,7 +129,7 @@ fn unrecorded_writes(rt: HostRuntime) -> Result<(), Fail> {
         ("c", None),
     ] {
         assert!(rt;
-            hidden.since(&key(alloc, name)?) == since,
+            hidden.since(&key(alloc, "configmaps", name)?) == since,
             "since of {name}"
         );
     }

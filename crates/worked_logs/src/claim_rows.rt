@@ -1,5 +1,7 @@
 //! Logs, and what each of their events asks of the removals' places.
 
+use crate::setups::{CHECKED, EMPTY};
+
 /// A setup, the events of a log with a line each, and what is found of them, as `found` tells it. A line has the seconds
 /// of the receipt and of the answer, and further members of the event.
 pub struct Row {
@@ -11,29 +13,12 @@ pub struct Row {
     pub found: &'static str,
 }
 
-// Nothing was there at the start.
-const EMPTY: &str =
-    r#"{"kind":"PastSetup","version":1,"start":{"revision":"10","time":"2024-05-01T10:00:00Z"},"until":"2024-05-01T11:00:00Z",
-    "policy":{"apiVersion":"audit.k8s.io/v1","kind":"Policy","rules":[{"level":"RequestResponse"}]},
-    "resources":[{"group":"","version":"v1","resource":"configmaps","kind":"ConfigMap","listKind":"ConfigMapList","namespaced":true}],
-    "snapshot":[]}"#;
-
 const ONE_OBJECT: &str =
     r#"{"kind":"PastSetup","version":1,"start":{"revision":"10","time":"2024-05-01T10:00:00Z"},"until":"2024-05-01T11:00:00Z",
     "policy":{"apiVersion":"audit.k8s.io/v1","kind":"Policy","rules":[{"level":"RequestResponse"}]},
     "resources":[{"group":"","version":"v1","resource":"configmaps","kind":"ConfigMap","listKind":"ConfigMapList","namespaced":true}],
     "snapshot":[
     {"group":"","resource":"configmaps","object":{"metadata":{"name":"a","namespace":"d","uid":"A","resourceVersion":"9"},"data":{"k":"x"}}}]}"#;
-
-// Two lists are known from elsewhere.
-const CHECKED: &str =
-    r#"{"kind":"PastSetup","version":2,"start":{"revision":"10","time":"2024-05-01T10:00:00Z"},"until":"2024-05-01T11:00:00Z",
-    "policy":{"apiVersion":"audit.k8s.io/v1","kind":"Policy","rules":[{"level":"RequestResponse"}]},
-    "resources":[{"group":"","version":"v1","resource":"configmaps","kind":"ConfigMap","listKind":"ConfigMapList","namespaced":true}],
-    "snapshot":[],"checkpoints":[
-    {"group":"","resource":"configmaps","namespace":"d","list":{"kind":"ConfigMapList","apiVersion":"v1","metadata":{"resourceVersion":"16"},"items":[]}},
-    {"group":"","resource":"configmaps","namespace":"d","list":{"kind":"ConfigMapList","apiVersion":"v1","metadata":{"resourceVersion":"20"},"items":[
-    {"metadata":{"name":"a","namespace":"d","uid":"A","resourceVersion":"14"},"data":{"k":"x"}}]}}]}"#;
 
 // Nobody may do anything, as there are no roles.
 const AUTHORIZED: &str =

@@ -1,5 +1,7 @@
 //! Logs, and what is found of them.
 
+use crate::setups::{CHECKED, EMPTY};
+
 /// A setup, the events of a log with a line each, and what is found of them, as `found` tells it. A line has the seconds
 /// of the receipt and of the answer, and further members of the event.
 pub struct Row {
@@ -8,13 +10,6 @@ pub struct Row {
     pub log: &'static str,
     pub found: &'static str,
 }
-
-// Nothing was there at the start.
-const EMPTY: &str =
-    r#"{"kind":"PastSetup","version":1,"start":{"revision":"10","time":"2024-05-01T10:00:00Z"},"until":"2024-05-01T11:00:00Z",
-    "policy":{"apiVersion":"audit.k8s.io/v1","kind":"Policy","rules":[{"level":"RequestResponse"}]},
-    "resources":[{"group":"","version":"v1","resource":"configmaps","kind":"ConfigMap","listKind":"ConfigMapList","namespaced":true}],
-    "snapshot":[]}"#;
 
 const TWO_OBJECTS: &str =
     r#"{"kind":"PastSetup","version":1,"start":{"revision":"10","time":"2024-05-01T10:00:00Z"},"until":"2024-05-01T11:00:00Z",
@@ -37,16 +32,6 @@ const FILLED: &str =
     "policy":{"apiVersion":"audit.k8s.io/v1","kind":"Policy","rules":[{"level":"RequestResponse"}]},
     "resources":[{"group":"","version":"v1","resource":"pods","kind":"Pod","listKind":"PodList","namespaced":true,
     "shapes":[{"path":"/spec","class":"Defaulted"},{"path":"/status","class":"Owned"}]}],"snapshot":[]}"#;
-
-/// Two lists are known from elsewhere.
-pub const CHECKED: &str =
-    r#"{"kind":"PastSetup","version":2,"start":{"revision":"10","time":"2024-05-01T10:00:00Z"},"until":"2024-05-01T11:00:00Z",
-    "policy":{"apiVersion":"audit.k8s.io/v1","kind":"Policy","rules":[{"level":"RequestResponse"}]},
-    "resources":[{"group":"","version":"v1","resource":"configmaps","kind":"ConfigMap","listKind":"ConfigMapList","namespaced":true}],
-    "snapshot":[],"checkpoints":[
-    {"group":"","resource":"configmaps","namespace":"d","list":{"kind":"ConfigMapList","apiVersion":"v1","metadata":{"resourceVersion":"16"},"items":[]}},
-    {"group":"","resource":"configmaps","namespace":"d","list":{"kind":"ConfigMapList","apiVersion":"v1","metadata":{"resourceVersion":"20"},"items":[
-    {"metadata":{"name":"a","namespace":"d","uid":"A","resourceVersion":"14"},"data":{"k":"x"}}]}}]}"#;
 
 /// A removal that is seen before its answer.
 pub const SEEN_EARLY: &str = r#"

@@ -1,5 +1,6 @@
-use crate::context_rows::{CHECKED, ROWS, Row, SEEN_EARLY};
+use crate::context_rows::{ROWS, Row, SEEN_EARLY};
 use crate::reading::context;
+use crate::setups::CHECKED;
 use base_types::Revision;
 use node_pool::NodeId;
 use std::alloc::Global;

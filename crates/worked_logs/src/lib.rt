@@ -11,3 +11,5 @@ mod contexts;
 mod demands;
 #[cfg(test)]
 mod reading;
+#[cfg(test)]
+mod setups;

@@ -96,7 +96,7 @@ pub enum Reading {
 }
 
 /// An audit event, or a checkpoint, in the terms of the model of history.
-#[derive(Debug, Drop)]
+#[derive(Debug)]
 pub struct LogEvent {
     /// The line of the log, from 1. Those of checkpoints are behind all lines of a log.
     pub line: u64,
@@ -113,6 +113,23 @@ pub struct LogEvent {
     pub omitted_stage: bool,
     /// The recorded decision, where it is judged.
     pub decision: Option<Decision>,
+}
+
+// Written out, so that a function that lets an event go has one call and not the steps of each field.
+impl Drop for LogEvent {
+    fn drop(self) {
+        let LogEvent {
+            line: _,
+            lo: _,
+            hi: _,
+            reading: _,
+            preconditions: _,
+            answer: _,
+            other_level: _,
+            omitted_stage: _,
+            decision: _,
+        } = self;
+    }
 }
 
 /// Events by line, and the checkpoints behind them.

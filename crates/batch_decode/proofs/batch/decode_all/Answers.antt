@@ -13,13 +13,13 @@ collect-requires-clause-ready g c κs within =
     let lines = c.args.lines.now in
     let ends = c.into_par_iter.ensures in
     let places = nat_range-All (λ place. place < length lines) 0 (length lines) (λ place _ high. high) in
-    rw (c.map.ensures.base, c.map.ensures.f, ends.0, ends.1) (λ k d below. (places k d below, λ y post. tt))
+    rw (c.map.ensures.base, c.map.ensures.f, c.with_min_len.ensures.base, ends.0, ends.1) (λ k d below. (places k d below, λ y post. tt))
 
 pub returns : goal.returns
 returns g c =
     let lines = c.args.lines.now in
     let ends = c.into_par_iter.ensures in
-    let chain = rw (c.map.ensures.base, c.map.ensures.f) at c.in_ok-gathered.ensures in
+    let chain = rw (c.map.ensures.base, c.map.ensures.f, c.with_min_len.ensures.base) at c.in_ok-gathered.ensures in
     let counted : length lines - 0 ≡ length lines = omega arith in
     let places = chain.1.1 ∙ (λ i. nat_range (ends.0 i) (ends.1 i)) ∙ ap (range_with_len 0) counted in
     let gave = rw c.in_ok-gathered-2.was at chain.2 in

@@ -13,14 +13,14 @@ collect-requires-clause-ready g c κs within =
     let count = g.S.ClaimSource.events c.args.source.now in
     let ends = c.into_par_iter.ensures in
     let events = nat_range-All (λ event. event < count) 0 count (λ event _ high. high) in
-    rw (c.map.ensures.base, c.map.ensures.f, ends.0, ends.1, c.count.ensures) (λ k d below. (events k d below, λ y post. tt))
+    rw (c.map.ensures.base, c.map.ensures.f, c.with_min_len.ensures.base, ends.0, ends.1, c.count.ensures) (λ k d below. (events k d below, λ y post. tt))
 
 pub returns : goal.returns
 returns g c =
     let count = g.S.ClaimSource.events c.args.source.now in
     let is_claim = g.S.ClaimSource.is_claim c.args.source.now in
     let ends = c.into_par_iter.ensures in
-    let chain = rw (c.map.ensures.base, c.map.ensures.f) at c.in_ok-gathered.ensures in
+    let chain = rw (c.map.ensures.base, c.map.ensures.f, c.with_min_len.ensures.base) at c.in_ok-gathered.ensures in
     let counted : c.count.result - 0 ≡ count = (let whole = c.count.ensures in omega arith) in
     let events = chain.1.1 ∙ (λ i. nat_range (ends.0 i) (ends.1 i)) ∙ ap (range_with_len 0) counted in
     let gave = rw c.in_ok-gathered-2.was at chain.2 in

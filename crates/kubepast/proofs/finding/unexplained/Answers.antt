@@ -1,6 +1,6 @@
 use Rattle.std.proofs.Common.{Some, sym, ap, ◌∙◌}
 use Rattle.kubepast.proofs.FindingShown.{finding_is}
-use Rattle.kubepast.proofs.TurnShowing.{event_here}
+use Rattle.window_writes.proofs.TurnShowing.{event_here}
 use Rattle.kubepast.proofs.finding.unexplained.Goals as goal
 
 pub returns : goal.returns

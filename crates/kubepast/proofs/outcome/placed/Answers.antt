@@ -3,7 +3,7 @@ use Rattle.std.proofs.lemmas.List.{length-map}
 use Rattle.version_store.specs.Histories.{history_of}
 use Rattle.write_groups.specs.Modelled.{event_of}
 use Rattle.kubepast.proofs.OutcomePlacing.{ArePlacedUpTo, line_found, line_placed, placed_all, placed_before, placed_more, placed_none}
-use Rattle.kubepast.proofs.TurnShowing.{event_here}
+use Rattle.window_writes.proofs.TurnShowing.{event_here}
 use Rattle.kubepast.proofs.outcome.placed.Goals as goal
 
 pub loop-event-init : goal.loop-event-init

@@ -1,6 +1,6 @@
 use Rattle.std.proofs.Common.{string_bytes, sym, ◌∙◌, ap}
 use Rattle.kubepast.specs.Program.{refusal_answer, report_answer}
-use Rattle.kubepast.specs.Refusals.{event_rule_number}
+use Rattle.context_intake.specs.Refusals.{event_rule_number}
 use Rattle.kubepast.proofs.ReportFacts.{malformed_answer}
 use Rattle.kubepast.proofs.report.refusal_report.Goals as goal
 

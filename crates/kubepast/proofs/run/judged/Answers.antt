@@ -1,6 +1,6 @@
 use Rattle.std.proofs.Common.{rules, refl}
 use Rattle.std.specs.Prelude.{IsErrOf}
-use Rattle.kubepast.specs.declared.stop.Stop.TheVariants.{ReadFault}
+use Rattle.context_intake.specs.declared.stop.Stop.TheVariants.{ReadFault}
 use Rattle.kubepast.proofs.JudgingFacts.{log_as, setup_as}
 use Rattle.kubepast.proofs.run.judged.Goals as goal
 

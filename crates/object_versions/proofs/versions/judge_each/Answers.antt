@@ -9,9 +9,9 @@ use Rattle.object_versions.proofs.versions.judge_each.Goals as goal
 
 pub loop-number-preserved : goal.loop-number-preserved
 loop-number-preserved g c =
-    let m = making_of c.making_at-making.result in
+    let m = making_of c.write_at-making.result in
     let i = c.loop-number.number-index in
-    let at : making_at c.args.log.events.now (get_or c.args.members.now i 0) ≡ Some m = c.making_at-making.ensures in
+    let at : making_at c.args.log.events.now (get_or c.args.members.now i 0) ≡ Some m = c.write_at-making.ensures in
     let number : c.in_ok-judge.field-0.number ≡ get_or c.args.members.now i 0 = c.in_ok-judge.ensures.number ∙ number_is c.args.log.events.now (get_or c.args.members.now i 0) m at in (
       ap (map (λ (one : Judged). one.number)) c.in_ok-push.ensures.items ∙ map-append (λ (one : Judged). one.number) c.loop-number.judged.items (c.in_ok-judge.field-0 ∷ [])
           ∙ ap (λ l. l ++ c.in_ok-judge.field-0.number ∷ []) c.loop-number.invariant.0 ∙ ap (λ n. take i c.args.members.now ++ n ∷ []) number ∙ sym (take_more c.args.members.now i 0 c.loop-number-test.true),

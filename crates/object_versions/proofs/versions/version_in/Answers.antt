@@ -9,8 +9,8 @@ use Rattle.object_versions.specs.Modelled.{making_of}
 use Rattle.object_versions.specs.Written.{making_at}
 use Rattle.object_versions.proofs.versions.version_in.Goals as goal
 
-pub making_at-making-requires : goal.making_at-making-requires
-making_at-making-requires c =
+pub write_at-making-requires : goal.write_at-making-requires
+write_at-making-requires c =
     let first = c.first_number-first.result in
     let shown : c.shown_by.result ≡ shown_by first (maker_among c.args.judged.now first c.may_make-may_be_unrecorded.result) =
     c.shown_by.ensures ∙ ap (shown_by first) c.maker_among-maker.ensures in
@@ -25,7 +25,7 @@ returns-clause-made c = λ h of.
     let may = c.may_make-may_be_unrecorded.ensures in
     let choice = chosen h c.args.log.events.now c.args.group.now c.args.judged.now first c.may_make-may_be_unrecorded.result of.all of.grouped of.members (first_find c.args.judged.now ∙ c.first_number-first.ensures)
     (λ t. told.0 (may.0 t), λ m. may.1 (told.1 m)) in
-    made_version h c.args.log.events.now c.args.group.now _ (shown_by first c.maker_among-maker.result) (making_of c.making_at-making.result)
+    made_version h c.args.log.events.now c.args.group.now _ (shown_by first c.maker_among-maker.result) (making_of c.write_at-making.result)
     (subst (λ m. IsChosen h c.args.group.now m (shown_by first m)) (sym c.maker_among-maker.ensures) choice) of.all of.grouped
-    (subst (λ n. making_at c.args.log.events.now n ≡ Some (making_of c.making_at-making.result)) c.shown_by.ensures c.making_at-making.ensures)
+    (subst (λ n. making_at c.args.log.events.now n ≡ Some (making_of c.write_at-making.result)) c.shown_by.ensures c.write_at-making.ensures)
     key refl c.in_ok-clone-2.ensures.cases refl

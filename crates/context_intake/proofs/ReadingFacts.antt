@@ -1,0 +1,115 @@
+-- What a setup and a log tell, wherever their reading stops.
+use Rattle.std.proofs.Common.{◌≡◌, ◌≤◌, ℕ, List, Option, Some, Result, Ok, Err, IfOk, IsErrOf, length, refl, sym, ◌∙◌, ap, subst}
+use Rattle.std.proofs.lemmas.Result.{IfOk-weaker}
+use Rattle.audit_event.specs.declared.event.Event.{Event}
+use Rattle.log_intake.specs.Log.{IsLogRead}
+use Rattle.log_intake.specs.Setup.{AnswersSetup, IsSetupRead, StaysWithin, TakesSetup}
+use Rattle.log_intake.specs.Taking as taking
+use Rattle.log_intake.specs.Taking.{AnswersLog, TakesLog}
+use Rattle.log_intake.specs.declared.stop.LogStop.{LogStop}
+use Rattle.log_intake.specs.declared.stop.LogStop.TheVariants as log_stop
+use Rattle.log_intake.specs.declared.stop.SetupStop.{SetupStop}
+use Rattle.log_intake.specs.declared.stop.SetupStop.TheVariants as setup_stop
+use Rattle.log_intake.proofs.LogFacts.{takes_nothing}
+use Rattle.setup_file.specs.declared.setup.Setup.{Setup}
+use Rattle.version_store.specs.LogTrees.{pooled}
+use Rattle.context_intake.specs.Contexts.{IsFoundIn, IsRefused, IsToldBy, RefusesNothing, most_nodes, of_log, of_pool, of_setup, with_chains}
+use Rattle.context_intake.specs.Refusals.{IsSetupStopOf, IsStopOf}
+use Rattle.context_intake.specs.declared.refusal.Refusal.{Refusal}
+use Rattle.context_intake.specs.declared.stop.Stop.{Stop}
+use Rattle.context_intake.specs.declared.stop.Stop.TheVariants.{OutOfMemory, ReadFault}
+use Rattle.context_intake.specs.declared.told.Told.{Told}
+use Rattle.context_intake.specs.declared.told.Told.TheVariants.{Context, Refused}
+
+-- the setup was refused for its bytes
+setup_answered : (bytes : List ℕ) (stop : SetupStop) (refusal : Refusal) → AnswersSetup bytes (Err stop) → IsSetupStopOf stop refusal → IsSetupRead bytes (Err stop)
+setup_answered bytes (setup_stop.Rule rule) refusal answered is = answered
+setup_answered bytes setup_stop.TooLong refusal answered is = answered
+setup_answered bytes setup_stop.ReadFault refusal answered is = absurd is
+setup_answered bytes setup_stop.OutOfMemory refusal answered is = absurd is
+
+-- the log was refused for its bytes
+log_answered : (bytes : List ℕ) (stop : LogStop) (refusal : Refusal) → AnswersLog bytes (Err stop) → IsStopOf stop refusal → IsLogRead bytes (Err stop)
+log_answered bytes (log_stop.Malformed line code) refusal answered is = answered tt
+log_answered bytes log_stop.LineTooLong refusal answered is = answered tt
+log_answered bytes log_stop.TooManyEvents refusal answered is = answered tt
+log_answered bytes log_stop.TooLong refusal answered is = answered tt
+log_answered bytes log_stop.ReadFault refusal answered is = absurd is
+log_answered bytes log_stop.OutOfMemory refusal answered is = absurd is
+
+-- setup and log were read
+found_told : (setup log : List ℕ) (read : Setup) (events : List Event) (told : Told) → IsSetupRead setup (Ok read) → IsLogRead log (Ok events) → IsFoundIn (with_chains read events) events told → IsToldBy setup log told
+found_told setup log read events (Refused refusal) setup_is log_is found = of_pool read events setup_is log_is found.0 found.1
+found_told setup log read events (Context known) setup_is log_is found = record {
+  read = read;
+  setup_is = setup_is;
+  log_is = subst (λ e. IsLogRead log (Ok e)) (sym found.1) log_is;
+  chained = found.0 ∙ ap (with_chains read) (sym found.1);
+  few = subst (λ s. length (pooled s known.events) ≤ most_nodes) (sym found.0) (subst (λ e. length (pooled (with_chains read events) e) ≤ most_nodes) (sym found.1) found.2);
+  told = found.3;
+}
+
+module _ (left : List ℕ → Option (List ℕ)) (setup log : List ℕ) (result : Result Told Stop) where
+  -- what the names tell that were asked for
+  abbrev pub TellsNames : Told → Type 0
+  TellsNames told = (of_setup of_log : List ℕ) → left setup ≡ Some of_setup → left log ≡ Some of_log → IsToldBy of_setup of_log told
+
+  pub told_setup : (stop : SetupStop) → ((bytes : List ℕ) → left setup ≡ Some bytes → AnswersSetup bytes (Err stop)) → IfOk result (λ told. (refusal : Refusal) × IsSetupStopOf stop refusal × (told ≡ Refused refusal)) → IfOk result TellsNames
+  told_setup stop answers refused =
+      IfOk-weaker result (λ told. (refusal : Refusal) × IsSetupStopOf stop refusal × (told ≡ Refused refusal)) TellsNames
+      (λ told r s l ts tl. subst (IsToldBy s l) (sym r.2) (of_setup (stop, setup_answered s stop r.0 (answers s ts) r.1, r.1)))
+      refused
+
+  -- the log follows a setup that was read
+  pub told_log : (read : Setup) (now : Option (List ℕ)) (stop : LogStop) → ((bytes : List ℕ) → left setup ≡ Some bytes → AnswersSetup bytes (Ok read)) → now ≡ left log
+      → ((bytes : List ℕ) → now ≡ Some bytes → AnswersLog bytes (Err stop)) → IfOk result (λ told. (refusal : Refusal) × IsStopOf stop refusal × (told ≡ Refused refusal)) → IfOk result TellsNames
+  told_log read now stop reads same answers refused =
+      IfOk-weaker result (λ told. (refusal : Refusal) × IsStopOf stop refusal × (told ≡ Refused refusal)) TellsNames
+      (λ told r s l ts tl. subst (IsToldBy s l) (sym r.2) (of_log read (reads s ts) (stop, log_answered l stop r.0 (answers l (same ∙ tl)) r.1, r.1)))
+      refused
+
+  pub told_events : (read : Setup) (now : Option (List ℕ)) (events : List Event) → ((bytes : List ℕ) → left setup ≡ Some bytes → AnswersSetup bytes (Ok read)) → now ≡ left log
+      → ((bytes : List ℕ) → now ≡ Some bytes → AnswersLog bytes (Ok events)) → IfOk result (IsFoundIn (with_chains read events) events) → IfOk result TellsNames
+  told_events read now events reads same answers found =
+      IfOk-weaker result (IsFoundIn (with_chains read events) events) TellsNames
+      (λ told f s l ts tl. found_told s l read events told (reads s ts) (answers l (same ∙ tl)) f)
+      found
+
+-- of a log of which nothing was read
+pub log_untouched : (old now : Option (List ℕ)) (fine : Type 0) → now ≡ old → TakesLog old now fine
+log_untouched old now fine same = subst (λ n. TakesLog old n fine) (sym same) (takes_nothing old fine)
+
+-- what was taken of a setup, by all reads
+pub setup_as : (old middle now : Option (List ℕ)) (fine fine' : Type 0) → now ≡ middle → (fine' → fine) → TakesSetup old middle fine → TakesSetup old now fine'
+setup_as old middle now fine fine' same weaker t = subst (λ n. TakesSetup old n fine') (sym same) (record {
+  front = t.front;
+  piece = t.piece;
+  taken = t.taken;
+  within = t.within;
+  short = t.short;
+  blameless = λ is. t.blameless (weaker is);
+})
+
+pub log_as : (old middle now : Option (List ℕ)) (fine fine' : Type 0) → middle ≡ old → (fine' → fine) → TakesLog middle now fine → TakesLog old now fine'
+log_as old middle now fine fine' same weaker t = subst (λ o. TakesLog o now fine') same (record {
+  front = t.front;
+  batch = t.batch;
+  taken = t.taken;
+  admitted = t.admitted;
+  short = t.short;
+  within = t.within;
+  blameless = λ is. t.blameless (weaker is);
+})
+
+-- a refusal isn't passed on where nothing is refused
+refused_nothing : (result : Result Told Stop) (IsOf : Refusal → Type 0) (Q : Type 0) → IfOk result (λ told. (refusal : Refusal) × IsOf refusal × (told ≡ Refused refusal)) → (IsErrOf result ReadFault → Q) → RefusesNothing result → Q
+refused_nothing (Ok told) IsOf Q (refusal, is, same) failed nothing = absurd (subst (λ t. RefusesNothing (Ok t)) same nothing)
+refused_nothing (Err ReadFault) IsOf Q refused failed nothing = failed refl
+refused_nothing (Err OutOfMemory) IsOf Q refused failed nothing = absurd nothing
+
+-- a failed read refuses nothing
+pub failed_setup : (result : Result Told Stop) (stop : SetupStop) → IfOk result (λ told. (refusal : Refusal) × IsSetupStopOf stop refusal × (told ≡ Refused refusal)) → (IsErrOf result ReadFault → stop ≡ setup_stop.ReadFault) → RefusesNothing result → StaysWithin (Err stop)
+failed_setup result stop refused failed nothing = refused_nothing result (IsSetupStopOf stop) (StaysWithin (Err stop)) refused (λ is. subst (λ s. StaysWithin (Err s)) (sym (failed is)) tt) nothing
+
+pub failed_log : (result : Result Told Stop) (stop : LogStop) → IfOk result (λ told. (refusal : Refusal) × IsStopOf stop refusal × (told ≡ Refused refusal)) → (IsErrOf result ReadFault → stop ≡ log_stop.ReadFault) → RefusesNothing result → taking.RefusesNothing (Err stop)
+failed_log result stop refused failed nothing = refused_nothing result (IsStopOf stop) (taking.RefusesNothing (Err stop)) refused (λ is. subst (λ s. taking.RefusesNothing (Err s)) (sym (failed is)) tt) nothing

@@ -1,0 +1,111 @@
+ghost use Rattle.std.specs.Prelude.{◌≡◌, ◌≢◌, ◌≤◌, ℕ, List, Some, IfOk, IsErrOf, length};
+ghost use Rattle.std.specs.Io.KnownBytes.{IsAtEnd};
+ghost use Rattle.context_intake.specs.Contexts.{IsFoundIn, IsToldBy, RefusesNothing, with_chains};
+ghost use Rattle.context_intake.specs.Refusals.{IsSetupStopOf, IsStopOf};
+ghost use Rattle.edge_io.specs.Faults.{Rose};
+ghost use Rattle.log_intake.specs.Kept.{AreLogEvents};
+ghost use Rattle.log_intake.specs.Setup.{TakesSetup, most_checkpoints};
+ghost use Rattle.log_intake.specs.Taking.{TakesLog};
+ghost use Rattle.setup_file.specs.Sound.{IsSound};
+ghost use Rattle.version_store.specs.Known.{Known};
+
+use crate::chained::with_chains;
+use crate::refusal::{Limit, Refusal};
+use crate::stop::Stop;
+use crate::told::Told;
+use audit_event::Events;
+use edge_io::Desk;
+use judge_pool::Gate;
+use log_intake::{LogStop, SetupStop, read_log, read_setup_named};
+use setup_file::Setup;
+use std::alloc::{AllocError, Global};
+use std::marker::Sync;
+use std::thread::Threads;
+use version_store::{BuildFault, Context};
+
+/// What a read offers room for, in bytes.
+const PIECE: usize = 65_536;
+
+/// Reads a setup and then a log from a desk, each by its name, and finds what they tell. Several threads decode the
+/// lines of a batch; each line's index in it enters the gate.
+pub fn read_context<R: Threads + Sync, D: Desk, H: Gate>(
+    rt: &R,
+    alloc: Global,
+    desk: &mut D,
+    setup: &str,
+    log: &str,
+    lines: &H,
+) -> Result<Told, Stop>
+    requires { setup.now ≢ log.now }
+    ensures told { IfOk result (λ told. (of_setup of_log : List ℕ) → D.left desk.old setup.now ≡ Some of_setup → D.left desk.old log.now ≡ Some of_log
+        → IsToldBy of_setup of_log told) }
+    ensures whole { IfOk result (λ told. (known : Known) → told ≡ Told.Context known → IsAtEnd (D.left desk.new setup.now) × IsAtEnd (D.left desk.new log.now)) }
+    ensures fault { IsErrOf result Stop.ReadFault → Rose (D.faults desk.old) (D.faults desk.new) }
+    ensures counted { D.faults desk.old ≤ D.faults desk.new }
+    ensures setup_taken { TakesSetup (D.left desk.old setup.now) (D.left desk.new setup.now) (RefusesNothing result) }
+    ensures log_taken { TakesLog (D.left desk.old log.now) (D.left desk.new log.now) (RefusesNothing result) }
+    ensures others { (other : List ℕ) → other ≢ setup.now → other ≢ log.now → D.left desk.new other ≡ D.left desk.old other }
+{
+    let Ok(mut buffer) = piece_buffer(alloc) else {
+        return Err(Stop::OutOfMemory);
+    };
+    let setup = match read_setup_named(alloc, desk, setup, &mut buffer) {
+        Ok(setup) => setup,
+        Err(stop) => return refused_setup(stop),
+    };
+    match read_log(rt, alloc, desk, log, &mut buffer, lines) {
+        Ok(events) => told_by(alloc, setup, events),
+        Err(stop) => refused_log(stop),
+    }
+}
+
+fn piece_buffer(alloc: Global) -> Result<Vec<u8>, AllocError>
+    ensures { IfOk result (λ buffer. length buffer.items ≡ 65536) }
+{
+    vec![in alloc; 0u8; PIECE]
+}
+
+fn refused_setup(stop: SetupStop) -> Result<Told, Stop>
+    ensures refused { IfOk result (λ told. (refusal : Refusal) × IsSetupStopOf stop refusal × (told ≡ Told.Refused refusal)) }
+    ensures fault { IsErrOf result Stop.ReadFault → stop ≡ SetupStop.ReadFault }
+{
+    match stop {
+        SetupStop::Rule(rule) => Ok(Told::Refused(Refusal::BrokenSetup(rule))),
+        SetupStop::TooLong => Ok(Told::Refused(Refusal::PastLimit(Limit::SetupSize))),
+        SetupStop::ReadFault => Err(Stop::ReadFault),
+        SetupStop::OutOfMemory => Err(Stop::OutOfMemory),
+    }
+}
+
+fn refused_log(stop: LogStop) -> Result<Told, Stop>
+    ensures refused { IfOk result (λ told. (refusal : Refusal) × IsStopOf stop refusal × (told ≡ Told.Refused refusal)) }
+    ensures fault { IsErrOf result Stop.ReadFault → stop ≡ LogStop.ReadFault }
+{
+    match stop {
+        LogStop::Malformed { line, code } => Ok(Told::Refused(Refusal::MalformedLog {
+            line,
+            code,
+        })),
+        LogStop::LineTooLong => Ok(Told::Refused(Refusal::PastLimit(Limit::LineSize))),
+        LogStop::TooManyEvents => Ok(Told::Refused(Refusal::PastLimit(Limit::EventCount))),
+        LogStop::TooLong => Ok(Told::Refused(Refusal::PastLimit(Limit::InputSize))),
+        LogStop::ReadFault => Err(Stop::ReadFault),
+        LogStop::OutOfMemory => Err(Stop::OutOfMemory),
+    }
+}
+
+// What a setup and the events of a log tell.
+fn told_by(alloc: Global, setup: Setup, events: Events) -> Result<Told, Stop>
+    requires setup { IsSound setup }
+    requires few { length setup.checkpoints ≤ most_checkpoints }
+    requires events { AreLogEvents events }
+    ensures found { IfOk result (IsFoundIn (with_chains setup events) events) }
+    ensures no_fault { IsErrOf result Stop.ReadFault → ⊥ }
+{
+    let chained = with_chains(alloc, setup, &events)?;
+    match Context::build(alloc, chained, events) {
+        Ok(context) => Ok(Told::Context(context)),
+        Err(BuildFault::PoolFull) => Ok(Told::Refused(Refusal::PastLimit(Limit::PoolSize))),
+        Err(BuildFault::OutOfMemory) => Err(Stop::OutOfMemory),
+    }
+}

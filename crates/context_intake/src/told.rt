@@ -1,0 +1,10 @@
+use crate::refusal::Refusal;
+use version_store::Context;
+
+/// What a setup and a log tell.
+#[derive(Drop)]
+pub enum Told {
+    /// Nothing, for what their bytes are.
+    Refused(Refusal),
+    Context(Context),
+}

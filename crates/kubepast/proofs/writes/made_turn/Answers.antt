@@ -1,5 +1,0 @@
-use Rattle.std.proofs.Common.{refl}
-use Rattle.kubepast.proofs.writes.made_turn.Goals as goal
-
-pub returns-clause-turn : goal.returns-clause-turn
-returns-clause-turn c = record { made = refl; of_place = c.get.ensures.value; line = c.shown_line.ensures }

@@ -1,5 +1,0 @@
-use Rattle.kubepast.specs.Turns.{AreMadeTurns}
-use Rattle.kubepast.proofs.writes.made_within.Given as goal
-
-abbrev pub invariant-loop-position : goal.invariant-loop-position
-invariant-loop-position l = AreMadeTurns l.context l.window.low l.window.high l.position l.turns.items

@@ -1,5 +1,0 @@
-use Rattle.kubepast.specs.Turns.{AreRemovedTurns}
-use Rattle.kubepast.proofs.writes.removed_within.Given as goal
-
-abbrev pub invariant-loop-position : goal.invariant-loop-position
-invariant-loop-position l = AreRemovedTurns l.context l.window.low l.window.high l.position l.turns.items

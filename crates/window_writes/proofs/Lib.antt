@@ -1,0 +1,4 @@
+pub mod TurnGathering
+pub mod TurnShowing
+pub mod TurnLines
+pub mod TurnSorting

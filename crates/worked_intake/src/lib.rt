@@ -1,0 +1,9 @@
+//! Worked lines and logs: what is decoded of lines, and what is read of logs and setups.
+#![tactic(auto)]
+
+#[cfg(test)]
+mod batch_decode_rows;
+#[cfg(test)]
+mod decoded_batches;
+#[cfg(test)]
+mod log_intake_rows;
