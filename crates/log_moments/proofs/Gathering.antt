@@ -1,19 +1,16 @@
 -- The things of a log, one event after another.
-use Rattle.std.proofs.Common.{◌≡◌, ℕ, ℤ, ◌+◌, ◌-◌, ◌*◌, ◌<◌, ◌≤◌, ◌⊎◌, ⊎_elim, inl, inr, Bool, List, [], ◌∷◌, ◌++◌, length, All, AllPairs, Contains, Option, Some, None, slice_get, refl, sym, ap, ◌∙◌, subst, arith}
-use Rattle.std.specs.Prelude.{◌↔◌}
+use Rattle.std.proofs.Common.{◌≡◌, ℕ, zero, suc, ℤ, ◌+◌, ◌<◌, ◌≤◌, ◌≤ℤ◌, ◌⊎◌, ⊎_elim, List, [], ◌∷◌, ◌++◌, length, All, AllPairs, Contains, Some, slice_get, refl, sym, ap, ◌∙◌, subst, arith}
 use Rattle.std.proofs.lemmas.Bool.{cases_lt}
 use Rattle.std.proofs.lemmas.List.Elements.{Contains-append_left, Contains-append_right, Contains-push_cases}
 use Rattle.std.proofs.lemmas.Option.{same_Some, slice_get_within}
 use Rattle.base_types.specs.declared.key.ObjectKey.{ObjectKey}
-use Rattle.base_types.specs.declared.revision.Moment.{Moment}
-use Rattle.history_model.proofs.Members.{all_at, all_from, at_in, here, not_in_none, pairs_head, pairs_tail}
-use Rattle.history_model.specs.Events.{Answer, Event, Made, Removed, Opaque, Saw, SawNone, SawSome, SawOther, Listed, Free, Aside}
-use Rattle.history_model.specs.Histories.{History, Version, IsEvent}
+use Rattle.history_model.proofs.Members.{all_at, all_from, at_in, here, pairs_head, pairs_tail}
+use Rattle.history_model.specs.Events.{Answer, Event, Item, Made, Removed, Opaque, Saw, SawNone, SawSome, SawOther, Listed, Free, Aside}
+use Rattle.history_model.specs.Histories.{History, IsEvent}
 use Rattle.history_model.specs.Readable.{IsReadable}
 use Rattle.history_model.specs.Words.{Word, Makes, Removes, At, Strays, Nothing, word}
 use Rattle.object_versions.proofs.Mapped.{pairs_push}
-use Rattle.log_moments.specs.Things.{AreThings, HasNumbers, HasNumbersAt, IsLastNumber, IsThing, IsThingOf, ShowsVersion, before_next, greatest_for, without_end}
-use Rattle.log_moments.specs.Views.{AreNumbers, IsFoundThing}
+use Rattle.log_moments.specs.Things.{AreThings, HasNumbers, HasNumbersAt, IsLastNumber, IsThingOf, ShowsVersion, before_next, greatest_for, without_end}
 use Rattle.log_moments.specs.declared.numbers.Numbers.{Numbers}
 use Rattle.strict_order.specs.declared.thing.Thing.{Thing}
 
@@ -30,7 +27,7 @@ last_once h key revision a b (without_end none p) (without_end other q) = p ∙ 
 same_numbers : (a b : Numbers) → a.least ≡ b.least → a.greatest ≡ b.greatest → a ≡ b
 same_numbers a b least greatest = λ i. record { least = least i; greatest = greatest i }
 
-shown_once : (h : History) (event : Event) (item : _) (a b : Numbers) → ShowsVersion h event item a → ShowsVersion h event item b → a ≡ b
+shown_once : (h : History) (event : Event) (item : Item) (a b : Numbers) → ShowsVersion h event item a → ShowsVersion h event item b → a ≡ b
 shown_once h event item a b x y = same_numbers a b (x.least ∙ sym y.least)
     (x.greatest ∙ ap (greatest_for event.reading) (last_once h item.key item.revision x.last y.last x.is_last y.is_last) ∙ sym y.greatest)
 
@@ -150,3 +147,10 @@ pub thing_is : (h : History) (number : ℕ) (event : Event) (numbers : Numbers) 
     → HasNumbers h event event.answer (word h number event) numbers → HasNumbers h event event.answer (word h number event) (record { least = thing.least; greatest = thing.greatest })
 thing_is h number event numbers thing least greatest has =
     subst (HasNumbers h event event.answer (word h number event)) (same_numbers numbers (record { least = thing.least; greatest = thing.greatest }) (sym least) (sym greatest)) has
+
+-- where no event ends before it begins, no thing does
+pub things_in_time : (h : History) (things : List Thing) → AreThings h things → ((number : ℕ) (event : Event) → IsEvent h number event → event.lo ≤ℤ event.hi)
+    → All (λ t. t.lo.0 ≤ℤ t.hi.0) things
+things_in_time h things are timed = all_from (λ (t : Thing). t.lo.0 ≤ℤ t.hi.0) things (λ t among.
+    let is = (are.exact t).0 among in
+    subst (λ (z : ℤ). z ≤ℤ t.hi.0) (sym is.3.lo) (subst (λ (z : ℤ). is.1.lo ≤ℤ z) (sym is.3.hi) (timed is.0 is.1 is.2)))

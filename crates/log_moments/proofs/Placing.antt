@@ -6,12 +6,15 @@ use Rattle.history_model.specs.Events.{Answer, Event, Item, Made, Removed, Text}
 use Rattle.history_model.specs.Groups.{Making}
 use Rattle.history_model.specs.Histories.{History, Removal}
 use Rattle.history_model.specs.Words.{Word, Makes, At, Strays, answer_word, removal_word}
-use Rattle.log_moments.specs.Things.{HasNumbers, ShowsVersion}
+use Rattle.log_moments.specs.Things.{HasNumbers, ShowsList, ShowsVersion}
 use Rattle.log_moments.specs.Views.{IsStanding}
 use Rattle.log_moments.specs.declared.numbers.Numbers.{Numbers}
 use Rattle.log_moments.specs.declared.standing.Standing.{Standing}
-use Rattle.write_groups.specs.Modelled.{answer_of}
+use Rattle.write_groups.specs.Modelled.{answer_of, item_of, listing_of}
+use Rattle.write_groups.specs.declared.event.Item.{Item as Recorded}
+use Rattle.write_groups.specs.declared.event.Listing.{Listing}
 use Rattle.write_groups.specs.declared.event.Shown.{Shown}
+use Rattle.write_groups.specs.declared.event.Shown.TheVariants.{Saw, Listed}
 
 -- a write that found its version shows it
 pub shows_at : (h : History) (event : Event) (item : Item) (created : Bool) (w : Word) → w ≡ At → (numbers : Numbers)
@@ -39,3 +42,15 @@ pub standing_is : (h : History) (event : Event) (number : ℕ) (found shown : Sh
     → IsStanding h event (answer_of found) (answer_word h number event (answer_of found)) standing
 standing_is h event number found shown standing is at =
     subst (λ (a : Shown). IsStanding h event (answer_of a) (answer_word h number event (answer_of a)) standing) (sym is) at
+
+-- a read that shows an object
+pub saw_is : (h : History) (event : Event) (number : ℕ) (found : Shown) (item : Recorded) → found ≡ Saw item → (numbers : Numbers)
+    → HasNumbers h event (answer_of found) (answer_word h number event (answer_of found)) numbers ↔ ShowsVersion h event (item_of item) numbers
+saw_is h event number found item is numbers =
+    subst (λ (a : Shown). HasNumbers h event (answer_of a) (answer_word h number event (answer_of a)) numbers ↔ ShowsVersion h event (item_of item) numbers) (sym is) (λ x. x, λ x. x)
+
+-- a list
+pub listed_is : (h : History) (event : Event) (number : ℕ) (found : Shown) (listing : Listing) → found ≡ Listed listing → (numbers : Numbers)
+    → HasNumbers h event (answer_of found) (answer_word h number event (answer_of found)) numbers ↔ ShowsList event (listing_of listing) numbers
+listed_is h event number found listing is numbers =
+    subst (λ (a : Shown). HasNumbers h event (answer_of a) (answer_word h number event (answer_of a)) numbers ↔ ShowsList event (listing_of listing) numbers) (sym is) (λ x. x, λ x. x)

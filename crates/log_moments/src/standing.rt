@@ -25,7 +25,7 @@ pub enum Standing<'a> {
     Nowhere,
 }
 
-fn is_key(key: &ObjectKey, other: &ObjectKey) -> bool
+pub fn is_key(key: &ObjectKey, other: &ObjectKey) -> bool
     ensures { result ≡ same_key key.now other.now }
 {
     *key == *other

@@ -6,7 +6,8 @@ use Rattle.object_past.specs.Modelled.{version_of}
 use Rattle.write_groups.specs.Modelled.{event_of, item_of, reading_of}
 use Rattle.log_moments.proofs.Counting.{clouded_ends, in_turn, shows, unknown_has_none}
 use Rattle.log_moments.specs.Nexts.{AreNexts}
-use Rattle.log_moments.specs.Things.{greatest_for}
+use Rattle.log_moments.specs.Things.{ShowsVersion, greatest_for}
+use Rattle.log_moments.specs.Views.{AreNumbers}
 use Rattle.log_moments.specs.declared.numbers.Numbers.{Numbers}
 use Rattle.log_moments.proofs.numbers.shown_numbers.Goals as goal
 
@@ -19,8 +20,9 @@ returns-then-is_clouded_within c = λ h v numbers shown.
 
 pub returns-in_err-position : goal.returns-in_err-position
 returns-in_err-position c = λ h v.
-    unknown_has_none h c.versions-versions.result.now (event_of c.args.event.now) (item_of c.args.item.now)
-    (v.past.versions ∙ ap (map version_of) (sym c.versions-versions.ensures.versions)) c.in_err-position.ensures.none
+    subst (AreNumbers (ShowsVersion h (event_of c.args.event.now) (item_of c.args.item.now))) (sym c.from_residual.ensures)
+    (unknown_has_none h c.versions-versions.result.now (event_of c.args.event.now) (item_of c.args.item.now)
+    (v.past.versions ∙ ap (map version_of) (sym c.versions-versions.ensures.versions)) c.in_err-position.ensures.none)
 
 pub returns : goal.returns
 returns c = λ h v.
