@@ -26,21 +26,21 @@ loop-number-preserved c =
     let event = event_of c.event-item.result in
     elim c.match-thing_of.branch [
       | in-Some+in_ok-push w ↦ rw (w.things-is, w.in_ok-push.ensures.items) (record {
-          things = λ h v r.
-              let known = subst (λ (x : LogEvent). IsEvent h n (event_of x)) (sym c.event-item.is) (logged h log n c.event-item.result v.events c.loop-number-test.true) in
-              let is = subst (IsFoundThing (IsThingOf h n event)) w.in-Some.is (c.thing_of.ensures h v) in
-              things_more h n event r known things (c.loop-number.invariant.things h v r) w.in-Some.thing is.0;
-          numbers = λ h v.
-              let is = subst (IsFoundThing (IsThingOf h n event)) w.in-Some.is (c.thing_of.ensures h v) in
-              All-push (λ (t : Thing). t.least ≤ t.greatest) things w.in-Some.thing (c.loop-number.invariant.numbers h v) is.1;
-        })
+        things = λ h v r.
+            let known = subst (λ (x : LogEvent). IsEvent h n (event_of x)) (sym c.event-item.is) (logged h log n c.event-item.result v.events c.loop-number-test.true) in
+            let is = subst (IsFoundThing (IsThingOf h n event)) w.in-Some.is (c.thing_of.ensures h v) in
+            things_more h n event r known things (c.loop-number.invariant.things h v r) w.in-Some.thing is.0;
+        numbers = λ h v.
+            let is = subst (IsFoundThing (IsThingOf h n event)) w.in-Some.is (c.thing_of.ensures h v) in
+            All-push (λ (t : Thing). t.least ≤ t.greatest) things w.in-Some.thing (c.loop-number.invariant.numbers h v) is.1;
+      })
       | in_default w ↦ rw w.things-is (record {
-          things = λ h v r.
-              let known = subst (λ (x : LogEvent). IsEvent h n (event_of x)) (sym c.event-item.is) (logged h log n c.event-item.result v.events c.loop-number-test.true) in
-              let none = subst (IsFoundThing (IsThingOf h n event)) w.in_default.is (c.thing_of.ensures h v) in
-              things_same h n event r known things (c.loop-number.invariant.things h v r) none;
-          numbers = c.loop-number.invariant.numbers;
-        })
+        things = λ h v r.
+            let known = subst (λ (x : LogEvent). IsEvent h n (event_of x)) (sym c.event-item.is) (logged h log n c.event-item.result v.events c.loop-number-test.true) in
+            let none = subst (IsFoundThing (IsThingOf h n event)) w.in_default.is (c.thing_of.ensures h v) in
+            things_same h n event r known things (c.loop-number.invariant.things h v r) none;
+        numbers = c.loop-number.invariant.numbers;
+      })
     ]
 
 pub returns : goal.returns

@@ -19,4 +19,4 @@ returns-clause-view c = λ nexts. record {
 
 pub returns-clause-moments : goal.returns-clause-moments
 returns-clause-moments c = in_time c.args.context.now.setup c.args.context.now.events c.args.context.now.trees c.args.context.now.log (history_of c.args.context.now)
-    c.events-_events.ensures.sound c.log.ensures.logged refl
+    c.events-events.ensures.sound c.log.ensures.logged refl
