@@ -1,8 +1,8 @@
 -- The numbers of what an event shows.
-use Rattle.std.proofs.Common.{◌≡◌, ◌≢◌, ℕ, ◌+◌, ◌*◌, ◌<◌, ◌≤◌, List, map, length, get_or, All, Any, Contains, Option, Some, None, option_and_then, slice_get, refl, sym, ap, ◌∙◌, subst, arith}
-use Rattle.std.specs.Prelude.{AllPairs, option_map, ◌↔◌}
+use Rattle.std.proofs.Common.{◌≡◌, ◌≢◌, ℕ, ◌+◌, ◌*◌, ◌<◌, ◌≤◌, List, map, length, get_or, All, Any, Contains, Option, Some, None, option_and_then, slice_get, sym, ap, ◌∙◌, subst, arith}
+use Rattle.std.specs.Prelude.{◌↔◌}
 use Rattle.std.proofs.lemmas.Option.{slice_get-get_or, slice_get_within}
-use Rattle.base_types.proofs.Quantifiers.{Any-contains, Any-map}
+use Rattle.base_types.proofs.Quantifiers.{Any-contains}
 use Rattle.history_model.proofs.Members.{all_at, at_in}
 use Rattle.history_model.specs.Events.{Event, Item, Reading, MostRecent, AnyVersion, NotOlderThan, Exactly, Checkpoint}
 use Rattle.history_model.specs.Histories as past

@@ -1,8 +1,7 @@
 -- The lines of things with their moments, one after another.
-use Rattle.std.proofs.Common.{◌≡◌, ℕ, zero, suc, ◌<◌, min, List, [], ◌∷◌, ◌++◌, length, get_or, take, refl, sym, ap, ap₂, arith}
+use Rattle.std.proofs.Common.{◌≡◌, ℕ, zero, suc, ◌<◌, min, List, [], ◌∷◌, ◌++◌, length, get_or, take, refl, ap, ap₂, arith}
 use Rattle.base_types.specs.declared.revision.Moment.{Moment}
 use Rattle.log_moments.specs.Answers.{line_moment, lines_of}
-use Rattle.log_moments.specs.declared.answer.LineMoment.{LineMoment}
 use Rattle.strict_order.specs.declared.thing.Thing.{Thing}
 
 -- one thing more

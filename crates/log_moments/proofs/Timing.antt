@@ -1,5 +1,5 @@
 -- No event of a log ends before it begins.
-use Rattle.std.proofs.Common.{◌≡◌, ℕ, ℤ, pos, ◌≤ℤ◌, ◌+ℤ◌, ◌-ℤ◌, ◌^◌, ◌≤◌, List, map, Some, slice_get, All, sym, ap, subst, arith}
+use Rattle.std.proofs.Common.{ℕ, ℤ, pos, ◌≤ℤ◌, ◌+ℤ◌, ◌-ℤ◌, List, All, sym, subst, arith}
 use Rattle.std.proofs.lemmas.Int.{ints}
 use Rattle.audit_event.specs.Events as audit
 use Rattle.audit_event.specs.declared.event.Event.{Event}
@@ -7,12 +7,11 @@ use Rattle.history_model.proofs.Members.{all_at, at_in}
 use Rattle.history_model.specs.Events as model
 use Rattle.history_model.specs.Histories.{History, IsEvent}
 use Rattle.json_tree.specs.Meaning.{Meaning}
-use Rattle.setup_file.specs.Sound.{IsSound}
 use Rattle.setup_file.specs.declared.setup.Setup.{Setup}
 use Rattle.version_store.proofs.LogLemmas.{Standing, of_event, of_checkpoint, standing}
 use Rattle.version_store.specs.Logged.{AreLogged}
 use Rattle.write_groups.proofs.Belonging.{logged_from, IsLogged as IsLoggedAt}
-use Rattle.write_groups.specs.Modelled.{HasEvents, event_of}
+use Rattle.write_groups.specs.Modelled.{HasEvents}
 use Rattle.write_groups.specs.declared.event.LogEvent.{LogEvent}
 
 -- what clocks may be off widens the time of an event

@@ -4,7 +4,7 @@ use Rattle.history_model.specs.Events.{Event, Answer}
 use Rattle.history_model.specs.Histories.{History}
 use Rattle.history_model.specs.Words.{Word}
 use Rattle.log_moments.specs.Nexts.{AreNexts}
-use Rattle.log_moments.specs.Things.{HasNumbers, IsThingOf, ShowsList, ShowsVersion}
+use Rattle.log_moments.specs.Things.{HasNumbers, ShowsList, ShowsVersion}
 use Rattle.log_moments.specs.declared.numbers.Numbers.{Numbers}
 use Rattle.log_moments.specs.declared.standing.Standing.{Standing}
 use Rattle.log_moments.specs.declared.standing.Standing.TheVariants.{Writes, Shows, Lists, Nowhere}

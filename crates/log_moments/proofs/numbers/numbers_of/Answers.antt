@@ -1,9 +1,9 @@
 use Rattle.std.proofs.Common.{arith, subst}
 use Rattle.history_model.specs.Words.{word}
 use Rattle.log_moments.proofs.Counting.{numbers_by}
-use Rattle.log_moments.specs.Things.{HasNumbers, ShowsList, ShowsVersion}
+use Rattle.log_moments.specs.Things.{HasNumbers, ShowsVersion}
 use Rattle.log_moments.specs.Views.{IsStanding}
-use Rattle.write_groups.specs.Modelled.{event_of, item_of, listing_of}
+use Rattle.write_groups.specs.Modelled.{event_of, item_of}
 use Rattle.log_moments.proofs.numbers.numbers_of.Goals as goal
 
 pub returns-in-Writes : goal.returns-in-Writes

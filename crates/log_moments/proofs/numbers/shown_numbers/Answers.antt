@@ -1,4 +1,4 @@
-use Rattle.std.proofs.Common.{◌≡◌, ◌∙◌, ap, false, map, subst, sym, true≢false}
+use Rattle.std.proofs.Common.{◌∙◌, ap, map, subst, sym, true≢false}
 use Rattle.std.specs.Prelude.{option_map}
 use Rattle.history_model.specs.Clouds.{IsCloudedWithin}
 use Rattle.history_model.specs.Windows.{low_end, high_end}

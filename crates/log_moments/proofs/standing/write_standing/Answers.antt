@@ -1,4 +1,4 @@
-use Rattle.std.proofs.Common.{◌∙◌, sym, arith, Some, None}
+use Rattle.std.proofs.Common.{◌∙◌, arith, Some, None}
 use Rattle.event_claims.proofs.Wording.{making, old_write, new_write, stray_is, found_is, made_is}
 use Rattle.history_model.specs.Events.{Made}
 use Rattle.object_past.specs.Modelled.{version_of}

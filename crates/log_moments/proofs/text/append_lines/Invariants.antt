@@ -1,6 +1,5 @@
-use Rattle.std.proofs.Common.{◌≡◌, ◌++◌, ◌∷◌, [], codes, decimal, length, take, string_bytes}
+use Rattle.std.proofs.Common.{◌≡◌, ◌++◌, take, string_bytes}
 use Rattle.log_moments.specs.Texts.{lines_text}
-use Rattle.verdict_text.specs.Words.{ended, spaced}
 use Rattle.log_moments.proofs.text.append_lines.Given as goal
 
 abbrev pub invariant-loop-line : goal.invariant-loop-line

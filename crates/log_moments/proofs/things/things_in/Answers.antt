@@ -2,7 +2,7 @@ use Rattle.std.proofs.Common.{◌≤◌, All, length, subst, sym, arith}
 use Rattle.std.proofs.lemmas.List.{length-map}
 use Rattle.std.proofs.lemmas.List.Elements.{All-push}
 use Rattle.event_claims.proofs.Logging.{logged}
-use Rattle.history_model.specs.Histories.{History, IsEvent}
+use Rattle.history_model.specs.Histories.{IsEvent}
 use Rattle.log_moments.proofs.Gathering.{AreThingsBefore, all_things, no_things, things_more, things_same}
 use Rattle.log_moments.specs.Things.{IsThingOf}
 use Rattle.log_moments.specs.Views.{IsFoundThing}
