@@ -1,0 +1,5 @@
+pub mod Answers
+pub mod Nexts
+pub mod Texts
+pub mod Things
+pub mod Views

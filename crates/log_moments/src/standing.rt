@@ -1,0 +1,89 @@
+ghost use Rattle.std.specs.Prelude.{◌≡◌, Bool};
+ghost use Rattle.base_types.specs.Keys.{same_key};
+ghost use Rattle.history_model.specs.Events.{Event, Made};
+ghost use Rattle.history_model.specs.Histories.{History};
+ghost use Rattle.history_model.specs.Words.{answer_word, is_by, word};
+ghost use Rattle.log_moments.specs.Views.{IsStanding};
+ghost use Rattle.object_past.specs.Modelled.{maker_of};
+ghost use Rattle.object_past.specs.Past.{HasPast};
+ghost use Rattle.write_groups.specs.Modelled.{event_of, item_of};
+
+use base_types::{ObjectKey, Revision};
+use object_past::{Maker, Past};
+use write_groups::{Item, Listing, LogEvent, Shown};
+
+/// What gives an event its place in the order of revisions.
+#[derive(Clone, Copy)]
+pub enum Standing<'a> {
+    /// It made this revision.
+    Writes(u64),
+    /// It shows the object of one revision.
+    Shows(&'a Item),
+    /// It shows all objects of a scope at one revision.
+    Lists(&'a Listing),
+    /// Nothing does.
+    Nowhere,
+}
+
+pub fn is_key(key: &ObjectKey, other: &ObjectKey) -> bool
+    ensures { result ≡ same_key key.now other.now }
+{
+    *key == *other
+}
+
+// Whether the event of this number is the maker.
+fn is_maker(maker: Maker, number: usize) -> bool
+    ensures { result ≡ is_by number (maker_of maker) }
+{
+    match maker {
+        Maker::Event(event) => event as usize == number,
+        Maker::Snapshot => false,
+        Maker::Unknown => false,
+    }
+}
+
+// A write makes the version of the revision that it was answered with, or finds it there; or the revision is of another
+// object.
+fn write_standing<'a>(past: &Past, start: Revision, number: usize, item: &'a Item) -> Standing<'a>
+    ensures { (h : History) (event : Event) (created : Bool) → h.start ≡ start → HasPast past.now h
+        → IsStanding h event (Made (item_of item.now) created) (answer_word h number event (Made (item_of item.now) created)) result }
+{
+    let revision = item.revision.get();
+    if revision <= start.get() {
+        return Standing::Shows(item);
+    }
+    let Some(version) = past.at(revision) else {
+        return Standing::Shows(item);
+    };
+    if !is_key(&version.key, &item.key) {
+        return Standing::Nowhere;
+    }
+    if !is_maker(version.maker, number) {
+        return Standing::Shows(item);
+    }
+    Standing::Writes(revision)
+}
+
+/// What gives the event of this number its place in the order of revisions.
+pub fn standing_of<'a>(
+    past: &Past,
+    start: Revision,
+    number: usize,
+    event: &'a LogEvent,
+) -> Standing<'a>
+    ensures { (h : History) → h.start ≡ start → HasPast past.now h
+        → IsStanding h (event_of event.now) (event_of event.now).answer (word h number (event_of event.now)) result }
+{
+    match &event.answer {
+        Shown::Made { item, created: _ } => write_standing(past, start, number, item),
+        Shown::Removed { key: _, uid: _ } => Standing::Nowhere,
+        Shown::Opaque { cover: _ } => Standing::Nowhere,
+        Shown::Saw { item } => Standing::Shows(item),
+        Shown::SawNone { key: _ } => Standing::Nowhere,
+        Shown::SawSome { key: _ } => Standing::Nowhere,
+        Shown::SawOther { key: _ } => Standing::Nowhere,
+        Shown::Listed { listing } => Standing::Lists(listing),
+        Shown::Free => Standing::Nowhere,
+        Shown::Aside => Standing::Nowhere,
+    }
+}
