@@ -4,7 +4,7 @@ ghost use Rattle.history_model.specs.Histories.{IsEvent};
 ghost use Rattle.history_model.specs.Machine as model;
 ghost use Rattle.history_model.specs.Words.{Strays, word};
 ghost use Rattle.object_past.specs.Modelled.{version_of};
-ghost use Rattle.serial_machine.specs.Held.{HasMade, end_of, is_unmade, unmade_puts};
+ghost use Rattle.serial_machine.specs.Held.{HasMade, HasRooms, end_of, is_unmade, unmade_puts};
 ghost use Rattle.serial_machine.specs.Made.{IsAstray, IsLineOf, IsMade, IsRightLine, IsStepAs, IsStepFault, StandsBehind};
 ghost use Rattle.serial_machine.specs.Stepping.{step_of};
 ghost use Rattle.version_store.specs.Histories.{history_of};
@@ -124,6 +124,7 @@ fn right_step<'a>(
     machine: &Machine,
     placed: &PlacedLine,
 ) -> Result<Option<Step<'a>>, StepFault>
+    requires { HasRooms (history_of context.now) machine.now.objects }
     ensures right { IfOk result (λ found. (done : List model.Step) → HasMade (history_of context.now) machine.now done
         → IsRightLine (history_of context.now) done placed.now (option_map step_of found)) }
     ensures wrong { IfErr result (λ fault. (done : List model.Step) → HasMade (history_of context.now) machine.now done

@@ -4,6 +4,7 @@ ghost use Rattle.base_types.specs.Keys.{same_key};
 ghost use Rattle.base_types.specs.declared.key.ObjectKey.{ObjectKey as Key};
 ghost use Rattle.history_model.specs.Right.{InScope, IsAmong, IsLacked, IsListed, IsListRight, IsUnlistable};
 ghost use Rattle.object_past.specs.Modelled.{version_of};
+ghost use Rattle.serial_machine.specs.Held.{HasRooms};
 ghost use Rattle.serial_machine.specs.Listed.{AreShown, shows_key};
 ghost use Rattle.serial_machine.specs.Stepping.{scene_objects};
 ghost use Rattle.version_store.specs.Histories.{history_of};
@@ -119,6 +120,7 @@ pub fn is_list_right(
     place: u64,
     listing: &Listing,
 ) -> Result<bool, OutOfMemory>
+    requires { HasRooms (history_of scene.context.now) scene.machine.now.objects }
     ensures { IfOk result (λ right. IsTrue right
         ↔ IsListRight (history_of scene.entry.context.now) number (listing_of listing.now) place (scene_objects scene.entry)) }
 {

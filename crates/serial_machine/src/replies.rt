@@ -6,6 +6,7 @@ ghost use Rattle.history_model.specs.Right.{IsRefused, IsRight, IsShown, answer_
 ghost use Rattle.history_model.specs.States.{Map};
 ghost use Rattle.history_model.specs.Words.{At, word};
 ghost use Rattle.object_past.specs.Modelled.{version_of};
+ghost use Rattle.serial_machine.specs.Held.{HasRooms};
 ghost use Rattle.serial_machine.specs.Stepping.{IsVerdictOn, scene_objects};
 ghost use Rattle.version_store.specs.Histories.{history_of};
 ghost use Rattle.write_groups.specs.Modelled.{answer_of, conditions_of, event_of, item_of};
@@ -63,6 +64,7 @@ fn is_right(
 ) -> Result<bool, OutOfMemory>
     requires known { IsEvent (history_of scene.context.now) number (event_of event.now) }
     requires placed { word (history_of scene.context.now) number (event_of event.now) ≡ At }
+    requires rooms { HasRooms (history_of scene.context.now) scene.machine.now.objects }
     ensures { IfOk result (λ right. IsTrue right ↔ IsRight (history_of scene.entry.context.now) number (event_of event.now) place (scene_objects scene.entry)) }
 {
     match &event.answer {
@@ -133,6 +135,7 @@ pub fn reply_verdict(
 ) -> Result<Option<Reason>, OutOfMemory>
     requires known { IsEvent (history_of scene.context.now) number (event_of event.now) }
     requires placed { word (history_of scene.context.now) number (event_of event.now) ≡ At }
+    requires rooms { HasRooms (history_of scene.context.now) scene.machine.now.objects }
     ensures { IfOk result (IsVerdictOn (history_of scene.entry.context.now) (scene_objects scene.entry) (model.Reply number (event_of event.now) place)) }
 {
     if is_right(alloc, scene, number, event, place)? {

@@ -3,7 +3,7 @@ ghost use Rattle.base_types.specs.Placements.{RisesByLine};
 ghost use Rattle.history_model.specs.Checking.{AreAllowed, EachStep, IsFitting, IsStepFault};
 ghost use Rattle.history_model.specs.Machine as model;
 ghost use Rattle.history_model.specs.Machine.{Runs, after_all, snapshot_map};
-ghost use Rattle.serial_machine.specs.Held.{HasMade};
+ghost use Rattle.serial_machine.specs.Held.{HasMade, HasRooms};
 ghost use Rattle.serial_machine.specs.Ordered.{row_step};
 ghost use Rattle.serial_machine.specs.Running.{IsFirstForbidden};
 ghost use Rattle.serial_machine.specs.Stepping.{IsOfHistory, IsVerdictOn, step_of};
@@ -25,7 +25,8 @@ fn step_verdict(
     machine: &Machine,
     step: Step<'_>,
 ) -> Result<Option<Reason>, OutOfMemory>
-    requires { IsOfHistory (history_of context.now) (step_of step) }
+    requires known { IsOfHistory (history_of context.now) (step_of step) }
+    requires rooms { HasRooms (history_of context.now) machine.now.objects }
     ensures { IfOk result (λ found. (done : List model.Step) → HasMade (history_of context.now) machine.now done
         → IsVerdictOn (history_of context.now) (after_all (snapshot_map (history_of context.now)) done) (step_of step.entry) found) }
 {

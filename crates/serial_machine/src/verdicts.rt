@@ -3,6 +3,7 @@ ghost use Rattle.history_model.specs.Clouds.{IsCloudedWithin};
 ghost use Rattle.history_model.specs.Machine as model;
 ghost use Rattle.history_model.specs.Machine.{MayRemove, MeetsPreconditions};
 ghost use Rattle.object_past.specs.Modelled.{recorded, version_of};
+ghost use Rattle.serial_machine.specs.Held.{HasRooms};
 ghost use Rattle.serial_machine.specs.Stepping.{IsOfHistory, IsVerdictOn, scene_objects, step_of};
 ghost use Rattle.version_store.specs.Histories.{history_of};
 ghost use Rattle.write_groups.specs.Modelled.{event_of};
@@ -83,8 +84,8 @@ fn may_remove(scene: Scene<'_>, event: &LogEvent, removal: &Removal) -> bool
     meets_preconditions(scene.context, event, removal, version.revision)
 }
 
+// Why the removal doesn't have the object of the key to remove.
 fn remove_verdict(scene: Scene<'_>, removal: &Removal) -> Option<Reason>
-    requires { Contains (history_of scene.context.now).removals (recorded removal.now) }
     ensures { (place : ℕ) → IsVerdictOn (history_of scene.entry.context.now) (scene_objects scene.entry) (model.Remove (record { removal = recorded removal.now; place = place })) result }
 {
     let event = scene.context.log().get(removal.range.event as usize)?;
@@ -100,7 +101,8 @@ pub fn verdict(
     scene: Scene<'_>,
     step: Step<'_>,
 ) -> Result<Option<Reason>, OutOfMemory>
-    requires { IsOfHistory (history_of scene.context.now) (step_of step) }
+    requires known { IsOfHistory (history_of scene.context.now) (step_of step) }
+    requires rooms { HasRooms (history_of scene.context.now) scene.machine.now.objects }
     ensures { IfOk result (IsVerdictOn (history_of scene.entry.context.now) (scene_objects scene.entry) (step_of step.entry)) }
 {
     match step {
