@@ -70,6 +70,7 @@ removal_key h cut r c = go (r.removals.sound cut.removal c)
 pub made_more : (h : History) (old new : Machine) (done : List Step) (step : Step) → HasMade h old done → HasRooms h new.objects
     → ((key : ObjectKey) → objects_in h new.objects key ≡ after (objects_in h old.objects) step key) → new.place ≡ step_place step → HasMade h new (done ++ step ∷ [])
 made_more h old new done step made rooms objects place = record {
+  readable = made.readable;
   objects = λ key. objects key ∙ after_alike key step ∙ ap (λ (m : Map). m key) (sym (after_append done (step ∷ []) (snapshot_map h)));
   rooms = rooms;
   place = place ∙ sym (end_append h.start done (step ∷ []));

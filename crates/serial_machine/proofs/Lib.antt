@@ -4,4 +4,9 @@ pub mod Placing
 pub mod Arranging
 pub mod Allowing
 pub mod Showing
-pub mod Listing
+pub mod RightLists
+pub mod Starting
+pub mod Gathering
+pub mod Running
+pub mod Seeking
+pub mod Lating

@@ -89,11 +89,11 @@ end_append start [] ys = refl
 end_append start (x ∷ xs) ys = end_append (step_place x) xs ys
 
 -- what a machine shows up to a place is what its steps left, and behind them the versions without a maker
-pub shown_upto : (h : History) (machine : Machine) (done : List Step) (place : ℕ) (key : ObjectKey) → IsReadable h → HasMade h machine done
+pub shown_upto : (h : History) (machine : Machine) (done : List Step) (place : ℕ) (key : ObjectKey) → HasMade h machine done
     → objects_upto h machine place key ≡ after_all (snapshot_map h) (done ++ unmade_puts h (end_of h.start done) place) key
-shown_upto h machine done place key r made =
+shown_upto h machine done place key made =
     ap (or_else (latest (unmade h machine.place place) key place)) (made.objects key)
-    ∙ sym (unmade_after h (after_all (snapshot_map h) done) machine.place place key r)
+    ∙ sym (unmade_after h (after_all (snapshot_map h) done) machine.place place key made.readable)
     ∙ ap (λ z. after_all (after_all (snapshot_map h) done) (unmade_puts h z place) key) made.place
     ∙ ap (λ (m : Map). m key) (sym (after_append done (unmade_puts h (end_of h.start done) place) (snapshot_map h)))
 
@@ -111,3 +111,18 @@ pub shown_here : (h : History) (machine : Machine) (done : List Step) (key : Obj
 shown_here h machine done key made =
     ap (λ vs. or_else (latest vs key machine.place) (objects_of h machine key)) (none_between machine.place h.versions)
     ∙ made.objects key
+
+-- the versions up to a place aren't behind it
+pub not_unmade : (low high : ℕ) (v : Version) → v.revision ≤ low → is_unmade low high v ≡ false
+not_unmade low high v l = go (is_unmade low high v) refl
+  where
+    go : (t : Bool) → is_unmade low high v ≡ t → is_unmade low high v ≡ false
+    go true e = absurd (omega (arith, l, (unmade_parts low high v e).1.0))
+    go false e = e
+
+pub above_unmade : (low high : ℕ) (v : Version) → high < v.revision → is_unmade low high v ≡ false
+above_unmade low high v l = go (is_unmade low high v) refl
+  where
+    go : (t : Bool) → is_unmade low high v ≡ t → is_unmade low high v ≡ false
+    go true e = absurd (omega (arith, l, (unmade_parts low high v e).1.1))
+    go false e = e

@@ -5,6 +5,7 @@ use Rattle.base_types.specs.declared.key.ObjectKey.{ObjectKey}
 use Rattle.clouds.specs.Kept.{key_order}
 use Rattle.history_model.specs.Histories.{History, Version, Maker, Snapshot, ByEvent, Unknown}
 use Rattle.history_model.specs.Machine.{Step, Put, after_all, snapshot_map, step_place}
+use Rattle.history_model.specs.Readable.{IsReadable}
 use Rattle.history_model.specs.States.{Map, latest}
 use Rattle.serial_machine.specs.declared.machine.Machine.{Machine}
 
@@ -56,6 +57,7 @@ end_of start (step ∷ steps) = end_of (step_place step) steps
 
 -- the machine began with the snapshot and made these steps, one after the other
 pub record HasMade (h : History) (machine : Machine) (done : List Step) : Type 0 where
+  pub readable : IsReadable h
   pub objects : (key : ObjectKey) → objects_of h machine key ≡ after_all (snapshot_map h) done key
   pub rooms : HasRooms h machine.objects
   pub place : machine.place ≡ end_of h.start done

@@ -1,6 +1,6 @@
-ghost use Rattle.std.specs.Prelude.{◌≡◌, ◌≢◌, ◌<◌, ◌↔◌, ◌++◌, ℕ, List, IfErr, IfNone, IfOk, IfSome, IsTrue, OnErr, OnOk, AllPairs, filter, length, map, option_map};
+ghost use Rattle.std.specs.Prelude.{◌≡◌, ◌≢◌, ◌<◌, ◌↔◌, ◌++◌, ℕ, List, IfErr, IfNone, IfOk, IfSome, IsTrue, OnErr, OnOk, AllPairs, Contains, filter, length, map, option_map};
 ghost use Rattle.history_model.specs.Events.{Event};
-ghost use Rattle.history_model.specs.Histories.{IsEvent};
+ghost use Rattle.history_model.specs.Histories.{IsEvent, Version as Recorded};
 ghost use Rattle.history_model.specs.Machine as model;
 ghost use Rattle.history_model.specs.Words.{Strays, word};
 ghost use Rattle.object_past.specs.Modelled.{version_of};
@@ -13,12 +13,12 @@ use crate::fault::WrongCode;
 use crate::lines::has_words;
 use crate::machine::Machine;
 use crate::places::{answer_place, decision_places, is_out_of_caches, is_outside};
-use crate::scene::Scene;
+use crate::scene::{Scene, has_no_maker};
 use crate::step::Step;
 use crate::verdicts::verdict;
 use crate::words::{Word, removal_by, word_at};
 use base_types::{OutOfMemory, PlacedLine, Reason};
-use object_past::{Maker, Version};
+use object_past::Version;
 use std::alloc::Global;
 use thiserror::Error;
 use version_store::Context;
@@ -171,13 +171,14 @@ fn is_unmade(version: &Version, low: u64, high: u64) -> bool
     ensures { result ≡ is_unmade low high (version_of version.now) }
 {
     let revision = version.revision.get();
-    version.maker == Maker::Unknown && low < revision && revision <= high
+    has_no_maker(version.maker) && (low < revision && revision <= high)
 }
 
 // Those of the versions that come behind the place.
 fn versions_behind(versions: &[Version], place: u64) -> &[Version]
     requires { AllPairs (λ a b. a.revision < b.revision) versions.now }
-    ensures { (high : ℕ) → filter (is_unmade place high) (map version_of result.now) ≡ filter (is_unmade place high) (map version_of versions.now) }
+    ensures among { (v : Recorded) → Contains (map version_of result.now) v → Contains (map version_of versions.now) v }
+    ensures unmade { (high : ℕ) → filter (is_unmade place high) (map version_of result.now) ≡ filter (is_unmade place high) (map version_of versions.now) }
 {
     let upto = versions.partition_point(|version| version.revision.get() <= place);
     let (_, behind) = versions.split_at(upto);
@@ -191,7 +192,8 @@ impl Machine {
             → HasMade (history_of context.now) self.new (done ++ unmade_puts (history_of context.now) (end_of (history_of context.now).start done) upto) }
     {
         let place = self.place;
-        for version in versions_behind(context.past().versions(), place) {
+        let versions = versions_behind(context.past().versions(), place);
+        for version in versions {
             if version.revision.get() > upto {
                 break;
             }

@@ -75,9 +75,12 @@ impl Machine {
     pub fn start(alloc: Global, context: &Context) -> Result<Machine, OutOfMemory>
         ensures { IfOk result (λ machine. HasMade (history_of context.now) machine []) }
     {
+        // For the proof alone: what a context tells of its history is known where its log is looked at.
+        let _log = context.log();
         let start = context.setup().start.get();
+        let keys = context.past().keys();
         let mut objects = BTreeMap::new(alloc);
-        for key in context.past().keys() {
+        for key in keys {
             let revision = revision_of(context.latest(key, start));
             let _none = objects.insert(key.clone()?, revision)?;
         }
@@ -96,7 +99,7 @@ impl Machine {
 
     /// Makes a step.
     pub(crate) fn make(&mut self, step: Step<'_>)
-        ensures { (h : History) (done : List model.Step) → IsReadable h → IsOfHistory h (step_of step.entry) → HasMade h self.old done
+        ensures { (h : History) (done : List model.Step) → IsOfHistory h (step_of step.entry) → HasMade h self.old done
             → HasMade h self.new (done ++ step_of step.entry ∷ []) }
     {
         change(&mut self.objects, step);

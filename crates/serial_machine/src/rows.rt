@@ -108,8 +108,9 @@ fn put_rows(alloc: Global, context: &Context) -> Result<Rows<'_>, OutOfMemory>
 {
     let log = context.log();
     let start = context.setup().start.get();
+    let versions = context.versions();
     let mut rows = Vec::new(alloc);
-    for version in context.versions() {
+    for version in versions {
         if start < version.revision.get() {
             rows.push(put_row(log, version))?;
         }
@@ -183,6 +184,8 @@ pub fn rows_of<'a>(
     requires fitting { IsFitting (history_of context.now) lines.now }
     ensures { IfOk result (λ rows. AreRows (history_of context.now) lines.now rows.items) }
 {
+    // For the proof alone, as for a machine's start.
+    let _log = context.log();
     let mut rows = put_rows(alloc, context)?;
     rows.append(&mut removal_rows(alloc, context, lines)?)?;
     rows.append(&mut reply_rows(alloc, context, lines)?)?;

@@ -1,8 +1,8 @@
 ghost use Rattle.std.specs.Prelude.{◌≡◌, ◌↔◌, IsTrue, option_map};
 ghost use Rattle.history_model.specs.Clouds.{IsClouded};
 ghost use Rattle.history_model.specs.States.{latest};
-ghost use Rattle.object_past.specs.Modelled.{version_of};
-ghost use Rattle.serial_machine.specs.Held.{unmade};
+ghost use Rattle.object_past.specs.Modelled.{maker_of, version_of};
+ghost use Rattle.serial_machine.specs.Held.{has_no_maker, unmade};
 ghost use Rattle.serial_machine.specs.Stepping.{scene_objects};
 ghost use Rattle.version_store.specs.Histories.{history_of};
 
@@ -20,6 +20,17 @@ pub struct Scene<'a> {
     pub upto: u64,
 }
 
+/// Whether nobody of the log made the version.
+pub fn has_no_maker(maker: Maker) -> bool
+    ensures { result ≡ has_no_maker (maker_of maker) }
+{
+    match maker {
+        Maker::Snapshot => false,
+        Maker::Event(_) => false,
+        Maker::Unknown => true,
+    }
+}
+
 // The key's latest version that has no maker, behind the one place and not behind the other.
 fn last_unmade<'a>(
     context: &'a Context,
@@ -29,6 +40,8 @@ fn last_unmade<'a>(
 ) -> Option<&'a Version>
     ensures { option_map (λ v. version_of v.now) result ≡ latest (unmade (history_of context.now) low high) key.now high }
 {
+    // For the proof alone, as for a machine's start.
+    let _log = context.log();
     let mut place = high;
     while low < place {
         let version = context.latest(key, place)?;
@@ -36,7 +49,7 @@ fn last_unmade<'a>(
         if revision <= low {
             return None;
         }
-        if version.maker == Maker::Unknown {
+        if has_no_maker(version.maker) {
             return Some(version);
         }
         place = revision - 1;

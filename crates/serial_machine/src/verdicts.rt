@@ -26,6 +26,8 @@ fn put_verdict(
     requires { Contains (history_of scene.context.now).versions (version_of version.now) }
     ensures { IfOk result (IsVerdictOn (history_of scene.entry.context.now) (scene_objects scene.entry) (model.Put (version_of version.now))) }
 {
+    // For the proof alone, as for a machine's start.
+    let _log = scene.context.log();
     match version.maker {
         Maker::Event(number) => {
             let before = scene.object(&version.key);
