@@ -10,3 +10,4 @@ pub mod Gathering
 pub mod Running
 pub mod Seeking
 pub mod Lating
+pub mod Entering

@@ -1,5 +1,5 @@
 -- The keys that items show, one item after another.
-use Rattle.std.proofs.Common.{◌≡◌, ◌≢◌, ℕ, ◌+◌, ◌<◌, ◌≤◌, ◌⊎◌, Bool, true, false, ◌||◌, Bor, List, [], ◌∷◌, ◌++◌, length, get_or, take, AllPairs, Contains, inl, inr, refl, sym, ap, ◌∙◌, subst, true≢false, arith}
+use Rattle.std.proofs.Common.{◌≡◌, ◌≢◌, ℕ, ◌+◌, ◌<◌, ◌≤◌, ◌⊎◌, Bool, true, false, not, ◌||◌, Bor, List, [], ◌∷◌, ◌++◌, length, get_or, take, AllPairs, Contains, inl, inr, refl, sym, ap, ◌∙◌, subst, true≢false, arith}
 use Rattle.std.specs.Bool.{MatchBool}
 use Rattle.std.specs.List.{list_any}
 use Rattle.std.specs.List.Sorted.{IsPermutation}
@@ -95,3 +95,11 @@ apart_all items i over apart = subst (AllPairs (λ a b. a.key ≢ b.key)) (take_
 
 pub put_key : (P Q : Type 0) (added : Bool) → MatchBool added P Q → added ≡ true → P
 put_key P Q added m t = let F : Bool → Type 0 = λ v. MatchBool v P Q in subst F t m
+
+pub not_true : (b : Bool) → not b ≡ true → b ≡ false
+not_true true e = absurd (true≢false (sym e))
+not_true false e = refl
+
+pub not_false : (b : Bool) → not b ≡ false → b ≡ true
+not_false true e = refl
+not_false false e = absurd (true≢false e)

@@ -1,4 +1,4 @@
-ghost use Rattle.std.specs.Prelude.{◌≡◌, ◌≢◌, ◌<◌, ◌↔◌, ◌++◌, ℕ, List, IfErr, IfNone, IfOk, IfSome, IsTrue, OnErr, OnOk, AllPairs, Contains, filter, length, map, option_map};
+ghost use Rattle.std.specs.Prelude.{◌≡◌, ◌≢◌, ◌<◌, ◌^◌, ◌↔◌, ◌++◌, ℕ, List, Some, IfErr, IfNone, IfOk, IfSome, IsTrue, OnErr, OnOk, AllPairs, Contains, filter, length, map, option_map, slice_get};
 ghost use Rattle.history_model.specs.Events.{Event};
 ghost use Rattle.history_model.specs.Histories.{IsEvent, Version as Recorded};
 ghost use Rattle.history_model.specs.Machine as model;
@@ -8,6 +8,7 @@ ghost use Rattle.serial_machine.specs.Held.{HasMade, HasRooms, end_of, is_unmade
 ghost use Rattle.serial_machine.specs.Made.{IsAstray, IsLineOf, IsMade, IsRightLine, IsStepAs, IsStepFault, StandsBehind};
 ghost use Rattle.serial_machine.specs.Stepping.{step_of};
 ghost use Rattle.version_store.specs.Histories.{history_of};
+ghost use Rattle.write_groups.specs.declared.event.LogEvent.{LogEvent};
 
 use crate::fault::WrongCode;
 use crate::lines::has_words;
@@ -22,6 +23,7 @@ use object_past::Version;
 use std::alloc::Global;
 use thiserror::Error;
 use version_store::Context;
+use write_groups::LogEvent;
 
 /// Why a machine doesn't make a line of a placement.
 #[derive(Clone, Copy, Debug, PartialEq, Eq, Error)]
@@ -43,12 +45,13 @@ impl From<OutOfMemory> for StepFault {
 }
 
 // The number of the event of this line.
-fn number_at(context: &Context, line: u64) -> Option<u32>
-    ensures within { IfSome result (λ number. number < length context.now.log) }
-    ensures some { IfSome result (λ number. (event : Event) → IsEvent (history_of context.now) number event → event.line ≡ line) }
-    ensures none { IfNone result ((number : ℕ) (event : Event) → IsEvent (history_of context.now) number event → event.line ≢ line) }
+fn number_at(log: &[LogEvent], line: u64) -> Option<u32>
+    requires rising { AllPairs (λ a b. a.line < b.line) log.now }
+    requires few { length log.now < 2 ^ 32 }
+    ensures within { IfSome result (λ number. number < length log.now) }
+    ensures some { IfSome result (λ number. (event : LogEvent) → slice_get log.now number ≡ Some event → event.line ≡ line) }
+    ensures none { IfNone result ((event : LogEvent) → Contains log.now event → event.line ≢ line) }
 {
-    let log = context.log();
     let upto = log.partition_point(|event| event.line <= line);
     if upto == 0 {
         return None;
@@ -65,7 +68,7 @@ fn event_of_line(context: &Context, placed: &PlacedLine) -> Option<u32>
     ensures some { IfSome result (λ number. (event : Event) → IsEvent (history_of context.now) number event → IsLineOf (history_of context.now) placed.now number event) }
     ensures none { IfNone result ((number : ℕ) (event : Event) → IsLineOf (history_of context.now) placed.now number event → ⊥) }
 {
-    let number = number_at(context, placed.line)?;
+    let number = number_at(context.log(), placed.line)?;
     if !has_words(context, number, placed) {
         return None;
     }

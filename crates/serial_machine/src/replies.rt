@@ -2,6 +2,7 @@ ghost use Rattle.std.specs.Prelude.{◌≡◌, ◌↔◌, ◌⊎◌, ℕ, Some, 
 ghost use Rattle.history_model.specs.Clouds.{IsClouded};
 ghost use Rattle.history_model.specs.Machine as model;
 ghost use Rattle.history_model.specs.Histories.{IsEvent};
+ghost use Rattle.history_model.specs.Making.{MeetsConditions};
 ghost use Rattle.history_model.specs.Right.{IsRefused, IsRight, IsShown, answer_code};
 ghost use Rattle.history_model.specs.States.{Map};
 ghost use Rattle.history_model.specs.Words.{At, word};
@@ -19,18 +20,28 @@ use std::alloc::Global;
 use version_store::Context;
 use write_groups::{Item, LogEvent, Preconditions, Shown};
 
-// Whether the object is the item.
+// Whether the version is the item.
+fn is_item(item: &Item, version: &Version) -> bool
+    ensures { IsTrue result ↔ IsShown (item_of item.now) (Some (version_of version.now)) }
+{
+    version.revision == item.revision && version.uid == item.uid && version.node == item.node
+}
+
+/// Whether the object is the item.
 pub fn is_shown(item: &Item, found: Option<&Version>) -> bool
     ensures { IsTrue result ↔ IsShown (item_of item.now) (option_map (λ v. version_of v.now) found.entry) }
 {
     match found {
-        Some(version) => {
-            version.revision == item.revision
-                && version.uid == item.uid
-                && version.node == item.node
-        }
+        Some(version) => is_item(item, version),
         None => false,
     }
+}
+
+// Whether the version meets the preconditions.
+fn is_met(asked: &Preconditions, version: &Version) -> bool
+    ensures { IsTrue result ↔ MeetsConditions (conditions_of asked.now) (Some (version_of version.now)) }
+{
+    asked.are_met(version.revision, &version.uid)
 }
 
 // Whether the request was rightly refused for the object.
@@ -38,7 +49,7 @@ fn is_refused(asked: &Preconditions, found: Option<&Version>) -> bool
     ensures { IsTrue result ↔ IsRefused (conditions_of asked.now) (option_map (λ v. version_of v.now) found.entry) }
 {
     match found {
-        Some(version) => !asked.are_met(version.revision, &version.uid),
+        Some(version) => !is_met(asked, version),
         None => asked.uid.is_some(),
     }
 }

@@ -1,0 +1,115 @@
+-- One line of a placement, and its step.
+use Rattle.std.proofs.Common.{◌≡◌, ◌≢◌, ℕ, zero, suc, ◌<◌, ◌≤◌, ◌⊎◌, ◌==◌, List, [], ◌∷◌, ◌++◌, length, map, find, Option, Some, None, slice_get, Contains, inl, inr, refl, sym, ap, ◌∙◌, subst, arith}
+use mathlib.Core.Path.{fun_ext}
+use Rattle.std.specs.Prelude.{option_map}
+use Rattle.std.proofs.lemmas.Option.{slice_get-map, same_Some}
+use Rattle.base_types.specs.Reasons.{code_number}
+use Rattle.base_types.specs.declared.claim.Reason.{Reason}
+use Rattle.base_types.specs.declared.placed.PlacedLine.{PlacedLine}
+use Rattle.history_model.proofs.Members.{apart}
+use Rattle.history_model.proofs.WordLemmas.{IsMadeBy, found_in, not_found, eq_test, test_eq, word_makes, word_removes}
+use Rattle.history_model.specs.Events.{Event}
+use Rattle.history_model.specs.Groups.{Making}
+use Rattle.history_model.specs.Histories as histories
+use Rattle.history_model.specs.Histories.{History, IsEvent}
+use Rattle.history_model.specs.Machine.{Step, Put, Remove, Reply, after_all, snapshot_map, step_place}
+use Rattle.history_model.specs.Readable.{IsReadable}
+use Rattle.history_model.specs.States.{Map}
+use Rattle.history_model.specs.Words.{Word, Makes, Removes, At, Strays, Nothing, word}
+use Rattle.object_past.specs.Modelled.{recorded, version_of}
+use Rattle.object_past.specs.declared.removal.Removal.{Removal}
+use Rattle.object_past.specs.declared.version.Version.{Version}
+use Rattle.write_groups.proofs.Lists.{map_from, map_has}
+use Rattle.write_groups.specs.Modelled.{event_of}
+use Rattle.write_groups.specs.declared.event.LogEvent.{LogEvent}
+use Rattle.serial_machine.proofs.Unmade.{shown_upto, shown_here}
+use Rattle.serial_machine.specs.Held.{HasMade, end_of, objects_upto, unmade_puts}
+use Rattle.serial_machine.specs.Made.{IsAstray, IsLineOf, IsStepAs, IsStepOf, map_before}
+use Rattle.serial_machine.specs.Stepping.{IsOfHistory}
+use Rattle.serial_machine.specs.declared.machine.Machine.{Machine}
+
+-- the events of a history are those of its log
+pub event_in : (log : List LogEvent) (number : ℕ) (event : Event) → slice_get (map event_of log) number ≡ Some event → (e : LogEvent) × (slice_get log number ≡ Some e) × (event_of e ≡ event)
+event_in [] number event e = absurd (cc e)
+event_in (x ∷ xs) zero event e = (x, refl, same_Some (event_of x) event e)
+event_in (x ∷ xs) (suc number) event e = event_in xs number event e
+
+pub event_there : (log : List LogEvent) (number : ℕ) → number < length log → (event : Event) × (slice_get (map event_of log) number ≡ Some event)
+event_there [] number l = absurd (omega arith)
+event_there (x ∷ xs) zero l = (event_of x, refl)
+event_there (x ∷ xs) (suc number) l = event_there xs number (omega arith)
+
+-- what a scene shows is what the steps left
+pub scene_is : (h : History) (machine : Machine) (done : List Step) (step : Step) (place : ℕ) → place ≡ step_place step → HasMade h machine done → objects_upto h machine place ≡ map_before h done step
+scene_is h machine done step place e made = fun_ext (λ key. shown_upto h machine done place key made)
+    ∙ ap (λ z. after_all (snapshot_map h) (done ++ unmade_puts h (end_of h.start done) z)) e
+
+pub scene_here : (h : History) (machine : Machine) (done : List Step) → HasMade h machine done → objects_upto h machine machine.place ≡ after_all (snapshot_map h) done
+scene_here h machine done made = fun_ext (λ key. shown_here h machine done key made)
+
+-- a step of a line is one of the history
+pub step_known : (h : History) (number : ℕ) (event : Event) (place : ℕ) (step : Step) → IsEvent h number event → IsStepAs h number event place (word h number event) step → IsOfHistory h step
+step_known h number event place step known as' = go (word h number event) refl as'
+  where
+    go : (w : Word) → word h number event ≡ w → IsStepAs h number event place w step → IsOfHistory h step
+    go (Makes m) e (v, c, r, s) = subst (IsOfHistory h) (sym s) c
+    go (Removes removal) e s = subst (IsOfHistory h) (sym s) (word_removes h number event removal e).0
+    go At e s = subst (IsOfHistory h) (sym s) (known, e)
+    go Strays e s = absurd s
+    go Nothing e s = absurd s
+
+-- an event without a step that is no stray says nothing
+pub nothing_left : (h : History) (number : ℕ) (event : Event) (place : ℕ) → IsReadable h → IsEvent h number event
+    → ((step : Step) → IsStepAs h number event place (word h number event) step → ⊥) → (word h number event ≡ Strays → ⊥) → word h number event ≡ Nothing
+nothing_left h number event place r known none stray = go (word h number event) refl none
+  where
+    go : (w : Word) → word h number event ≡ w → ((step : Step) → IsStepAs h number event place w step → ⊥) → word h number event ≡ Nothing
+    go (Makes m) e n = absurd (made (word_makes h number event m r known e))
+      where
+        made : (v : histories.Version) × IsMadeBy h m v × (m.number ≡ number) × (m.event ≡ event) → ⊥
+        made (v, b, p, q) = n (Put v) (v, b.known, b.at_revision, refl)
+    go (Removes removal) e n = absurd (n (Remove (record { removal = removal; place = place })) refl)
+    go At e n = absurd (n (Reply number event place) refl)
+    go Strays e n = absurd (stray e)
+    go Nothing e n = e
+
+-- the version that a write made
+pub made_step : (h : History) (versions : List Version) (number : ℕ) (event : Event) (place revision : ℕ) (m : Making) (v : Version) → h.versions ≡ map version_of versions
+    → word h number event ≡ Makes m → m.item.revision ≡ revision → Some v ≡ find (λ w. w.revision == revision) versions → IsStepAs h number event place (word h number event) (Put (version_of v))
+made_step h versions number event place revision m v past e at found = subst (λ w. IsStepAs h number event place w (Put (version_of v))) (sym e)
+    (version_of v, subst (λ vs. Contains vs (version_of v)) (sym past) (map_has version_of versions v f.0), eq_test v.revision revision f.1 ∙ sym at, refl)
+  where
+    f : Contains versions v × ((v.revision == revision) ≡ true)
+    f = found_in (λ (w : Version). w.revision == revision) versions v (sym found)
+
+pub unmade_step : (h : History) (versions : List Version) (number : ℕ) (event : Event) (place revision : ℕ) (m : Making) (step : Step) → h.versions ≡ map version_of versions
+    → word h number event ≡ Makes m → m.item.revision ≡ revision → None ≡ find (λ w. w.revision == revision) versions → IsStepAs h number event place (word h number event) step → ⊥
+unmade_step h versions number event place revision m step past e at none as' = go (subst (λ w. IsStepAs h number event place w step) e as')
+  where
+    go : IsStepAs h number event place (Makes m) step → ⊥
+    go (v, c, r, s) = by (map_from version_of versions v (subst (λ vs. Contains vs v) past c))
+      where
+        by : (w : Version) × Contains versions w × (version_of w ≡ v) → ⊥
+        by (w, d, q) = not_found (λ (w : Version). w.revision == revision) versions (sym none) w d (test_eq w.revision revision (ap (λ (z : histories.Version). z.revision) q ∙ r ∙ at))
+
+-- the removal of an event
+module _ (h : History) (removals : List Removal) (number : ℕ) (event : Event) (place : ℕ) (removal : histories.Removal) (r : IsReadable h) (past : h.removals ≡ map recorded removals) (e : word h number event ≡ Removes removal) where
+  of_word : Contains h.removals removal × (removal.range.event ≡ number)
+  of_word = word_removes h number event removal e
+
+  pub removal_step : (found : Removal) → Some found ≡ find (λ z. z.range.event == number) removals → IsStepAs h number event place (word h number event) (Remove (record { removal = recorded found; place = place }))
+  removal_step found f = subst (λ w. IsStepAs h number event place w (Remove (record { removal = recorded found; place = place }))) (sym e)
+      (ap (λ z. Remove (record { removal = z; place = place })) same)
+    where
+      g : Contains removals found × ((found.range.event == number) ≡ true)
+      g = found_in (λ (z : Removal). z.range.event == number) removals found (sym f)
+
+      same : recorded found ≡ removal
+      same = apart (λ (z : histories.Removal). z.range.event) h.removals (recorded found) removal r.removals.rising (subst (λ rs. Contains rs (recorded found)) (sym past) (map_has recorded removals found g.0)) of_word.0
+          (eq_test found.range.event number g.1 ∙ sym of_word.1)
+
+  pub no_removal : None ≡ find (λ (z : Removal). z.range.event == number) removals → ⊥
+  no_removal f = by (map_from recorded removals removal (subst (λ rs. Contains rs removal) past of_word.0))
+    where
+      by : (w : Removal) × Contains removals w × (recorded w ≡ removal) → ⊥
+      by (w, d, q) = not_found (λ (z : Removal). z.range.event == number) removals (sym f) w d (test_eq w.range.event number (ap (λ (z : histories.Removal). z.range.event) q ∙ of_word.1))
