@@ -99,9 +99,6 @@ module _ (h : History) (number : ℕ) (event : Event) (known : IsEvent h number 
   found_low item created code (excludes c e) = subst (λ z. code_number z ≤ 10) (sym c) (omega arith)
   found_low item created code (changes c e) = subst (λ z. code_number z ≤ 10) (sym c) (omega arith)
 
-  abbrev same_reply : ℕ → Event → ℕ → Event → Type 0
-  same_reply n e m f = (n ≡ m) × (e ≡ f)
-
   reply_parts : (n m : ℕ) (e f : Event) (x y : ℕ) → Reply n e x ≡ Reply m f y → (n ≡ m) × (e ≡ f) × (x ≡ y)
   reply_parts n m e f x y p = (cc p, cc p, cc p)
 

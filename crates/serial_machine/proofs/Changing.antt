@@ -42,8 +42,10 @@ module _ (h : History) (old new : BTreeMap ObjectKey (Option ℕ)) (key : Object
     where
       go : ((same_key other key ≡ true) × (other ≡ key)) ⊎ ((same_key other key ≡ false) × (other ≢ key))
           → objects_in h new other ≡ cond (same_key other key) (option_and_then (λ revision. find (λ (v : Version). v.revision == revision) h.versions) revision) (objects_in h old other)
-      go (inl t) = rw (t.0, at_key other t.1) refl
-      go (inr t) = rw (t.0, at_other other t.1) refl
+      go (inl t) = ap (λ g. option_and_then (λ revision. find (λ (v : Version). v.revision == revision) h.versions) (held g)) (at_key other t.1)
+          ∙ sym (ap (λ b. cond b (option_and_then (λ revision. find (λ (v : Version). v.revision == revision) h.versions) revision) (objects_in h old other)) t.0)
+      go (inr t) = ap (λ g. option_and_then (λ revision. find (λ (v : Version). v.revision == revision) h.versions) (held g)) (at_other other t.1)
+          ∙ sym (ap (λ b. cond b (option_and_then (λ revision. find (λ (v : Version). v.revision == revision) h.versions) revision) (objects_in h old other)) t.0)
 
   pub rooms_after : IsSome (get key_order old key) → HasRooms h old → HasRooms h new
   rooms_after some rooms = λ other. go other (key_tells other key)
@@ -52,7 +54,7 @@ module _ (h : History) (old new : BTreeMap ObjectKey (Option ℕ)) (key : Object
           → IsSome (get key_order new other) ↔ ((v : Version) × Contains h.versions v × (v.key ≡ other))
       go other (inl t) = (
         λ s. (rooms other).0 (subst (λ k. IsSome (get key_order old k)) (sym t.1) some),
-        λ w. subst (λ o. IsSome o) (sym (at_key other t.1)) tt,
+        λ w. subst (λ o. IsSome o) (sym (at_key other t.1)) refl,
       )
       go other (inr t) = (
         λ s. (rooms other).0 (subst (λ o. IsSome o) (at_other other t.1) s),
@@ -65,6 +67,27 @@ removal_key h cut r c = go (r.removals.sound cut.removal c)
   where
     go : IsRemoval h cut.removal → (v : Version) × Contains h.versions v × (v.key ≡ cut.removal.key)
     go i = (i.version, i.known, sym i.behind.of_key)
+
+-- where a key has a version, it is there
+has_room : (h : History) (old : BTreeMap ObjectKey (Option ℕ)) (key : ObjectKey) → HasRooms h old → (v : Version) × Contains h.versions v × (v.key ≡ key) → IsSome (get key_order old key)
+has_room h old key rooms w = (rooms key).1 w
+
+module _ (h : History) (old new : BTreeMap ObjectKey (Option ℕ)) (v : Version) (r : IsReadable h) (c : Contains h.versions v)
+    (updates : IsSome (get key_order old v.key) → Updates key_order old new v.key (Some (Some v.revision))) (rooms : HasRooms h old) where
+  pub put_rooms : HasRooms h new
+  put_rooms = let some = has_room h old v.key rooms (v, c, refl) in rooms_after h old new v.key (Some v.revision) (updates some) some rooms
+
+  pub put_changes : (key : ObjectKey) → objects_in h new key ≡ after (objects_in h old) (Put v) key
+  put_changes key = held_after h old new v.key (Some v.revision) (updates (has_room h old v.key rooms (v, c, refl))) key
+      ∙ ap (λ o. cond (same_key key v.key) o (objects_in h old key)) (found_by h v r c)
+
+module _ (h : History) (old new : BTreeMap ObjectKey (Option ℕ)) (cut : Cut) (r : IsReadable h) (c : Contains h.removals cut.removal)
+    (updates : IsSome (get key_order old cut.removal.key) → Updates key_order old new cut.removal.key (Some None)) (rooms : HasRooms h old) where
+  pub removal_rooms : HasRooms h new
+  removal_rooms = let some = has_room h old cut.removal.key rooms (removal_key h cut r c) in rooms_after h old new cut.removal.key None (updates some) some rooms
+
+  pub removal_changes : (key : ObjectKey) → objects_in h new key ≡ after (objects_in h old) (Remove cut) key
+  removal_changes key = held_after h old new cut.removal.key None (updates (has_room h old cut.removal.key rooms (removal_key h cut r c))) key
 
 -- one step more
 pub made_more : (h : History) (old new : Machine) (done : List Step) (step : Step) → HasMade h old done → HasRooms h new.objects

@@ -113,3 +113,8 @@ module _ (h : History) (removals : List Removal) (number : ℕ) (event : Event) 
     where
       by : (w : Removal) × Contains removals w × (recorded w ≡ removal) → ⊥
       by (w, d, q) = not_found (λ (z : Removal). z.range.event == number) removals (sym f) w d (test_eq w.range.event number (ap (λ (z : histories.Removal). z.range.event) q ∙ of_word.1))
+
+pub event_within : (log : List LogEvent) (number : ℕ) (event : Event) → slice_get (map event_of log) number ≡ Some event → number < length log
+event_within [] number event e = absurd (cc e)
+event_within (x ∷ xs) zero event e = omega arith
+event_within (x ∷ xs) (suc number) event e = let l : number < length xs = event_within xs number event e in omega arith

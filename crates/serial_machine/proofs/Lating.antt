@@ -37,7 +37,7 @@ module _ (low high : ℕ) (versions : List Version) (i : ℕ) (v : Version) (wit
       ∙ ap (map Put) (filter-append (is_unmade low high) (map version_of (take i versions)) (map version_of (v ∷ []))) ∙ map-append Put (filter (is_unmade low high) (map version_of (take i versions))) (filter (is_unmade low high) (map version_of (v ∷ [])))
 
   pub late_more : is_unmade low high (version_of v) ≡ true → late_in low high (take (i + 1) versions) ≡ late_in low high (take i versions) ++ Put (version_of v) ∷ []
-  late_more e = split ∙ ap (λ l. late_in low high (take i versions) ++ l) (rw e refl)
+  late_more e = split ∙ ap (λ l. late_in low high (take i versions) ++ l) (let one : late_in low high (v ∷ []) ≡ Put (version_of v) ∷ [] = rw e refl in one)
 
   pub late_skipped : is_unmade low high (version_of v) ≡ false → late_in low high (take (i + 1) versions) ≡ late_in low high (take i versions)
   late_skipped e = split ∙ ap (λ l. late_in low high (take i versions) ++ l) (let none : late_in low high (v ∷ []) ≡ [] = rw e refl in none) ∙ append-nil (late_in low high (take i versions))

@@ -11,3 +11,4 @@ pub mod Running
 pub mod Seeking
 pub mod Lating
 pub mod Entering
+pub mod Telling

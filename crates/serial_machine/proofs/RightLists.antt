@@ -39,7 +39,7 @@ none_there h machine upto key rooms none = go (latest (unmade h machine.place up
         → or_else o (option_and_then (λ revision. find (λ (v : histories.Version). v.revision == revision) h.versions) (held g)) ≡ None
     go (Some v) is g e = absurd (none v (in_filter (is_unmade machine.place upto) h.versions v is.0).0 is.1)
     go None is None e = refl
-    go None is (Some revision) e = absurd (at ((rooms key).0 (subst (λ o. IsSome o) (sym e) tt)))
+    go None is (Some revision) e = absurd (at ((rooms key).0 (subst (λ o. IsSome o) (sym e) refl)))
       where
         at : (v : histories.Version) × Contains h.versions v × (v.key ≡ key) → ⊥
         at (v, c, k) = none v c k

@@ -48,7 +48,7 @@ module _ (rows : List Row) (i : ℕ) (row : Row) (within : i < length rows) (is 
   }
 
   pub row_in : Contains rows row
-  row_in = (i, within, subst (λ z. get_or rows i z ≡ z) refl (sym is))
+  row_in = (i, within, sym is)
 
   pub run_stops : (h : History) (machine : Machine) (line : ℕ) (code : Reason) → IsVerdictOn h (after_all (snapshot_map h) (map row_step (take i rows))) (row_step row) (Some code)
       → line ≡ row.turn.line → HasRun h machine (take i rows) → IsFirstForbidden h rows line code

@@ -1,5 +1,5 @@
 -- A machine begins with the snapshot.
-use Rattle.std.proofs.Common.{◌≡◌, ◌≢◌, ℕ, ◌+◌, ◌<◌, ◌≤◌, ◌⊎◌, ◌↔◌, ◌==◌, Bool, true, false, List, [], ◌∷◌, ◌++◌, length, get_or, take, map, find, Option, Some, None, IsSome, Contains, inl, inr, refl, sym, ap, ◌∙◌, subst, arith}
+use Rattle.std.proofs.Common.{◌≡◌, ◌≢◌, ℕ, ◌+◌, ◌<◌, ◌≤◌, ◌⊎◌, ◌↔◌, ◌==◌, Bool, true, false, List, [], ◌∷◌, ◌++◌, length, get_or, take, map, find, Option, Some, None, IsSome, Contains, inl, inr, refl, sym, ap, ◌∙◌, subst, arith, true≢false}
 use Rattle.std.specs.Prelude.{option_and_then, option_map}
 use Rattle.std.specs.BTreeMap.{BTreeMap, Updates, get}
 use Rattle.std.specs.Ordering.{is_eq}
@@ -35,11 +35,20 @@ pub record IsBegun (h : History) (keys : List ObjectKey) (objects : BTreeMap Obj
 not_in : {X : Type 0} {x : X} → Contains [] x → ⊥
 not_in (k, l, e) = omega arith
 
+abbrev nothing_there : Option (Option ℕ)
+nothing_there = None
+
 pub begun_none : (h : History) (objects : BTreeMap ObjectKey (Option ℕ)) → objects.entries ≡ [] → IsBegun h [] objects
 begun_none h objects e = record {
   there = λ key c. absurd (not_in c);
-  only = λ key s. absurd (let none : IsSome (get key_order (record { entries = [] }) key) = subst (λ (es : List (ObjectKey × Option ℕ)). IsSome (get key_order (record { entries = es }) key)) e s in none);
+  only = λ key s. absurd (nowhere (subst (λ o. IsSome o) (unfound key) s));
 }
+  where
+    unfound : (key : ObjectKey) → get key_order objects key ≡ None
+    unfound key = rw e refl
+
+    nowhere : IsSome (nothing_there) → ⊥
+    nowhere s = true≢false (sym s)
 
 begun_push : (h : History) (keys : List ObjectKey) (key : ObjectKey) (old new : BTreeMap ObjectKey (Option ℕ)) → Updates key_order old new key (Some (first_revision h key))
     → IsBegun h keys old → IsBegun h (keys ++ key ∷ []) new
@@ -84,7 +93,7 @@ begun_all h keys i machine versions r past over exact begun place = record { rea
         by (w, (k, l, at), s) = (k, w, l, at, ap (λ (z : histories.Version). z.key) s ∙ e)
 
     from : (key : ObjectKey) → (v : histories.Version) × Contains h.versions v × (v.key ≡ key) → IsSome (get key_order machine.objects key)
-    from key w = subst (λ o. IsSome o) (sym (all.there key (has key w))) tt
+    from key w = subst (λ o. IsSome o) (sym (all.there key (has key w))) refl
 
     shown : (o : Option histories.Version) (key : ObjectKey) → IsLatest h.versions key h.start o
         → option_and_then (λ revision. find (λ (v : histories.Version). v.revision == revision) h.versions) (option_map (λ (v : histories.Version). v.revision) o) ≡ o
@@ -106,7 +115,7 @@ begun_all h keys i machine versions r past over exact begun place = record { rea
             at : (o : Option histories.Version) → IsLatest h.versions key h.start o → None ≡ o
             at None is = refl
             at (Some v) is = absurd (not_found (λ (v : histories.Version). same_key v.key key) h.versions q v is.0 (key_is v.key key is.1))
-        go (Some revision) e None q = absurd (at (to key (subst (λ o. IsSome o) (sym e) tt)))
+        go (Some revision) e None q = absurd (at (to key (subst (λ o. IsSome o) (sym e) refl)))
           where
             at : (v : histories.Version) × Contains h.versions v × (v.key ≡ key) → ⊥
             at (v, c, k) = not_found (λ (v : histories.Version). same_key v.key key) h.versions q v c (key_is v.key key k)

@@ -68,7 +68,9 @@ fn event_of_line(context: &Context, placed: &PlacedLine) -> Option<u32>
     ensures some { IfSome result (λ number. (event : Event) → IsEvent (history_of context.now) number event → IsLineOf (history_of context.now) placed.now number event) }
     ensures none { IfNone result ((number : ℕ) (event : Event) → IsLineOf (history_of context.now) placed.now number event → ⊥) }
 {
-    let number = number_at(context.log(), placed.line)?;
+    let Some(number) = number_at(context.log(), placed.line) else {
+        return None;
+    };
     if !has_words(context, number, placed) {
         return None;
     }
@@ -85,6 +87,17 @@ fn is_astray(context: &Context, placed: &PlacedLine, number: u32) -> bool
     outside || out_of_caches
 }
 
+fn reply_at(context: &Context, number: u32, place: u64) -> Step<'_>
+    requires { number < length context.now.log }
+    ensures { (event : Event) → IsEvent (history_of context.now) number event → step_of result ≡ model.Reply number event place }
+{
+    Step::Reply {
+        number,
+        event: &context.log()[number as usize],
+        place,
+    }
+}
+
 // The step of the event of this number at the place; strays, and events that say nothing, have none.
 fn step_at(context: &Context, number: u32, place: u64) -> Option<Step<'_>>
     requires { number < length context.now.log }
@@ -94,19 +107,15 @@ fn step_at(context: &Context, number: u32, place: u64) -> Option<Step<'_>>
         → IsStepAs (history_of context.now) number event place (word (history_of context.now) number event) step → ⊥) }
 {
     match word_at(context, number) {
-        Word::Makes(revision) => Some(Step::Put(context.past().at(revision)?)),
-        Word::Removes(_) => {
-            let removal = removal_by(context.past(), number)?;
-            Some(Step::Remove { removal, place })
-        }
-        Word::At => {
-            let event = &context.log()[number as usize];
-            Some(Step::Reply {
-                number,
-                event,
-                place,
-            })
-        }
+        Word::Makes(revision) => match context.past().at(revision) {
+            Some(version) => Some(Step::Put(version)),
+            None => None,
+        },
+        Word::Removes(_) => match removal_by(context.past(), number) {
+            Some(removal) => Some(Step::Remove { removal, place }),
+            None => None,
+        },
+        Word::At => Some(reply_at(context, number, place)),
         Word::Strays => None,
         Word::Nothing => None,
     }

@@ -92,6 +92,23 @@ fn are_listed(
     Ok(true)
 }
 
+// Whether the key is shown, or rightly lacked.
+fn is_right_about(
+    scene: Scene<'_>,
+    number: u32,
+    place: u64,
+    key: &ObjectKey,
+    shown: &Shown<'_>,
+) -> Result<bool, OutOfMemory>
+    ensures { IfOk result (λ right. IsTrue right ↔ (list_any (λ other. same_key key.now other.now) shown.now.keys ≡ false
+        → IsLacked (history_of scene.entry.context.now) number place key.now (scene_objects scene.entry key.now))) }
+{
+    if has_key(shown, key) {
+        return Ok(true);
+    }
+    is_lacked(scene, number, place, key)
+}
+
 // Whether the list rightly lacks each of the keys that it doesn't show.
 fn are_lacked(
     scene: Scene<'_>,
@@ -105,7 +122,7 @@ fn are_lacked(
         → IsLacked (history_of scene.entry.context.now) number place key (scene_objects scene.entry key)) keys.now) }
 {
     for key in keys {
-        if !has_key(shown, key) && !is_lacked(scene, number, place, key)? {
+        if !is_right_about(scene, number, place, key, shown)? {
             return Ok(false);
         }
     }

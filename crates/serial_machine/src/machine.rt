@@ -48,9 +48,10 @@ fn held_at(objects: &Objects, key: &ObjectKey) -> Option<u64>
 fn hold(objects: &mut Objects, key: &ObjectKey, revision: Option<u64>)
     ensures { IsSome (get key_order objects.old key.now) → Updates key_order objects.old objects.new key.now (Some revision) }
 {
-    if let Some(held) = objects.get_mut(key) {
-        *held = revision;
-    }
+    let Some(held) = objects.get_mut(key) else {
+        return;
+    };
+    *held = revision;
 }
 
 // What the step leaves of the objects.
@@ -94,7 +95,10 @@ impl Machine {
     pub(crate) fn object<'a>(&self, context: &'a Context, key: &ObjectKey) -> Option<&'a Version>
         ensures { option_map (λ v. version_of v.now) result ≡ objects_of (history_of context.now) self.now key.now }
     {
-        context.past().at(held_at(&self.objects, key)?)
+        let Some(revision) = held_at(&self.objects, key) else {
+            return None;
+        };
+        context.past().at(revision)
     }
 
     /// Makes a step.

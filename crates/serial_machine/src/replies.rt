@@ -1,4 +1,4 @@
-ghost use Rattle.std.specs.Prelude.{◌≡◌, ◌↔◌, ◌⊎◌, ℕ, Some, None, IfOk, IsTrue, option_map};
+ghost use Rattle.std.specs.Prelude.{◌≡◌, ◌↔◌, ◌⊎◌, ℕ, Some, None, IfOk, IsNone, IsSome, IsTrue, option_map};
 ghost use Rattle.history_model.specs.Clouds.{IsClouded};
 ghost use Rattle.history_model.specs.Machine as model;
 ghost use Rattle.history_model.specs.Histories.{IsEvent};
@@ -14,7 +14,7 @@ ghost use Rattle.write_groups.specs.Modelled.{answer_of, conditions_of, event_of
 
 use crate::listing::is_list_right;
 use crate::scene::Scene;
-use base_types::{OutOfMemory, Reason};
+use base_types::{ObjectKey, OutOfMemory, Reason};
 use object_past::Version;
 use std::alloc::Global;
 use version_store::Context;
@@ -62,7 +62,52 @@ fn is_found(scene: Scene<'_>, item: &Item, place: u64, fault: Option<Reason>) ->
     if scene.is_clouded(&item.key, place) {
         return true;
     }
-    fault.is_none() && is_shown(item, scene.object(&item.key))
+    if fault.is_some() {
+        return false;
+    }
+    is_shown(item, scene.object(&item.key))
+}
+
+// Whether the object is the item, or its key is clouded.
+fn is_seen(scene: Scene<'_>, item: &Item, place: u64) -> bool
+    ensures { IsTrue result ↔ (IsClouded (history_of scene.entry.context.now) item.now.key place
+        ⊎ IsShown (item_of item.now) (scene_objects scene.entry item.now.key)) }
+{
+    if scene.is_clouded(&item.key, place) {
+        return true;
+    }
+    is_shown(item, scene.object(&item.key))
+}
+
+// Whether there is no object, or the key is clouded.
+fn is_absent(scene: Scene<'_>, key: &ObjectKey, place: u64) -> bool
+    ensures { IsTrue result ↔ (IsClouded (history_of scene.entry.context.now) key.now place ⊎ IsNone (scene_objects scene.entry key.now)) }
+{
+    if scene.is_clouded(key, place) {
+        return true;
+    }
+    scene.object(key).is_none()
+}
+
+// Whether there is an object, or the key is clouded.
+fn is_present(scene: Scene<'_>, key: &ObjectKey, place: u64) -> bool
+    ensures { IsTrue result ↔ (IsClouded (history_of scene.entry.context.now) key.now place ⊎ IsSome (scene_objects scene.entry key.now)) }
+{
+    if scene.is_clouded(key, place) {
+        return true;
+    }
+    scene.object(key).is_some()
+}
+
+// Whether the request was rightly refused for the object, or the key is clouded.
+fn is_other(scene: Scene<'_>, key: &ObjectKey, place: u64, asked: &Preconditions) -> bool
+    ensures { IsTrue result ↔ (IsClouded (history_of scene.entry.context.now) key.now place
+        ⊎ IsRefused (conditions_of asked.now) (scene_objects scene.entry key.now)) }
+{
+    if scene.is_clouded(key, place) {
+        return true;
+    }
+    is_refused(asked, scene.object(key))
 }
 
 // Whether the answer is right at the place.
@@ -80,22 +125,15 @@ fn is_right(
 {
     match &event.answer {
         Shown::Made { item, created: _ } => {
-            Ok(is_found(scene, item, place, scene.context.fault(number)))
+            let fault = scene.context.fault(number);
+            Ok(is_found(scene, item, place, fault))
         }
         Shown::Removed { key, uid: _ } => Ok(scene.is_clouded(key, place)),
         Shown::Opaque { cover: _ } => Ok(true),
-        Shown::Saw { item } => {
-            Ok(scene.is_clouded(&item.key, place) || is_shown(item, scene.object(&item.key)))
-        }
-        Shown::SawNone { key } => {
-            Ok(scene.is_clouded(key, place) || scene.object(key).is_none())
-        }
-        Shown::SawSome { key } => {
-            Ok(scene.is_clouded(key, place) || scene.object(key).is_some())
-        }
-        Shown::SawOther { key } => Ok(
-            scene.is_clouded(key, place) || is_refused(&event.preconditions, scene.object(key)),
-        ),
+        Shown::Saw { item } => Ok(is_seen(scene, item, place)),
+        Shown::SawNone { key } => Ok(is_absent(scene, key, place)),
+        Shown::SawSome { key } => Ok(is_present(scene, key, place)),
+        Shown::SawOther { key } => Ok(is_other(scene, key, place, &event.preconditions)),
         Shown::Listed { listing } => is_list_right(alloc, scene, number, place, listing),
         Shown::Free => Ok(true),
         Shown::Aside => Ok(true),

@@ -44,7 +44,9 @@ fn last_unmade<'a>(
     let _log = context.log();
     let mut place = high;
     while low < place {
-        let version = context.latest(key, place)?;
+        let Some(version) = context.latest(key, place) else {
+            return None;
+        };
         let revision = version.revision.get();
         if revision <= low {
             return None;

@@ -1,4 +1,4 @@
-ghost use Rattle.std.specs.Prelude.{◌≡◌, ◌↔◌, ◌-◌, ℕ, IfOk, IfSome, IsTrue, Contains};
+ghost use Rattle.std.specs.Prelude.{◌≡◌, ◌↔◌, ◌-◌, ℕ, IfOk, IsTrue, Contains};
 ghost use Rattle.history_model.specs.Clouds.{IsCloudedWithin};
 ghost use Rattle.history_model.specs.Machine as model;
 ghost use Rattle.history_model.specs.Machine.{MayRemove, MeetsPreconditions};
@@ -6,6 +6,7 @@ ghost use Rattle.object_past.specs.Modelled.{recorded, version_of};
 ghost use Rattle.serial_machine.specs.Held.{HasRooms};
 ghost use Rattle.serial_machine.specs.Stepping.{IsOfHistory, IsVerdictOn, scene_objects, step_of};
 ghost use Rattle.version_store.specs.Histories.{history_of};
+ghost use Rattle.write_groups.specs.Met.{asks_uid};
 ghost use Rattle.write_groups.specs.Modelled.{event_of};
 
 use crate::replies::reply_verdict;
@@ -39,7 +40,7 @@ fn put_verdict(
 }
 
 fn is_wanted_uid(wanted: &Option<Text>, uid: &Text) -> bool
-    ensures { IsTrue result ↔ IfSome wanted.now (λ wanted. wanted ≡ uid.now) }
+    ensures { result ≡ asks_uid wanted.now uid.now }
 {
     match wanted {
         Some(wanted) => *wanted == *uid,
@@ -90,7 +91,9 @@ fn may_remove(scene: Scene<'_>, event: &LogEvent, removal: &Removal) -> bool
 fn remove_verdict(scene: Scene<'_>, removal: &Removal) -> Option<Reason>
     ensures { (place : ℕ) → IsVerdictOn (history_of scene.entry.context.now) (scene_objects scene.entry) (model.Remove (record { removal = recorded removal.now; place = place })) result }
 {
-    let event = scene.context.log().get(removal.range.event as usize)?;
+    let Some(event) = scene.context.log().get(removal.range.event as usize) else {
+        return None;
+    };
     if may_remove(scene, event, removal) {
         return None;
     }
