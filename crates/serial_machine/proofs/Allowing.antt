@@ -163,3 +163,11 @@ module _ (h : History) (number : ℕ) (event : Event) (known : IsEvent h number 
         go (Listed listing) e = none_of (λ i c m. cc (e, m))
         go Free e = none_of (λ i c m. cc (e, m))
         go Aside e = none_of (λ i c m. cc (e, m))
+
+  -- a write could have found its revision exactly where it has no fault
+  pub none_if : (item : Item) (created : Bool) → event.answer ≡ Made item created → CouldHaveFound h (write_of item created) → fault ≡ None
+  none_if item created answer could = go fault refl
+    where
+      go : (f : Option Reason) → fault ≡ f → fault ≡ None
+      go None e = e
+      go (Some code) e = absurd (could code (could_not item created code answer e).0)

@@ -12,7 +12,7 @@ use Rattle.history_model.specs.Events.{Event}
 use Rattle.history_model.specs.Groups.{Making}
 use Rattle.history_model.specs.Histories as histories
 use Rattle.history_model.specs.Histories.{History, IsEvent}
-use Rattle.history_model.specs.Machine.{Step, Put, Remove, Reply, after_all, snapshot_map, step_place}
+use Rattle.history_model.specs.Machine.{Step, Put, Remove, Reply, after_all, snapshot_map, step_place, event_line}
 use Rattle.history_model.specs.Readable.{IsReadable}
 use Rattle.history_model.specs.States.{Map}
 use Rattle.history_model.specs.Words.{Word, Makes, Removes, At, Strays, Nothing, word}
@@ -118,3 +118,19 @@ pub event_within : (log : List LogEvent) (number : ℕ) (event : Event) → slic
 event_within [] number event e = absurd (cc e)
 event_within (x ∷ xs) zero event e = omega arith
 event_within (x ∷ xs) (suc number) event e = let l : number < length xs = event_within xs number event e in omega arith
+
+-- the event that is found in the log
+pub event_known : (log found : List LogEvent) (number : ℕ) (e : LogEvent) → found ≡ log → Some e ≡ slice_get found number → slice_get (map event_of log) number ≡ Some (event_of e)
+event_known log found number e same at = slice_get-map event_of log number ∙ ap (λ l. option_map event_of (slice_get l number)) (sym same) ∙ ap (option_map event_of) (sym at)
+
+pub event_unknown : (log found : List LogEvent) (number : ℕ) (event : Event) → found ≡ log → None ≡ slice_get found number → slice_get (map event_of log) number ≡ Some event → ⊥
+event_unknown log found number event same none known = go (event_in log number event known)
+  where
+    go : (e : LogEvent) × (slice_get log number ≡ Some e) × (event_of e ≡ event) → ⊥
+    go (e, at, is) = let both : None ≡ Some e = none ∙ ap (λ l. slice_get l number) same ∙ at in cc both
+
+pub line_found : (h : History) (log : List LogEvent) (number : ℕ) (e : LogEvent) → h.events ≡ map event_of log → Some e ≡ slice_get log number → e.line ≡ event_line (slice_get h.events number)
+line_found h log number e has at = sym (ap event_line (ap (λ l. slice_get l number) has ∙ event_known log log number e refl at))
+
+pub line_none : (h : History) (log : List LogEvent) (number : ℕ) → h.events ≡ map event_of log → None ≡ slice_get log number → 0 ≡ event_line (slice_get h.events number)
+line_none h log number has none = sym (ap event_line (ap (λ l. slice_get l number) has ∙ slice_get-map event_of log number ∙ ap (option_map event_of) (sym none)))

@@ -11,7 +11,7 @@ ghost use Rattle.version_store.specs.Histories.{history_of};
 ghost use Rattle.write_groups.specs.Modelled.{HasEvents, event_of};
 
 use crate::places::line_place;
-use crate::step::Step;
+use crate::step::{Step, event_at};
 use base_types::{OutOfMemory, PlacedAnswer, PlacedLine};
 use object_past::{Maker, Removal, Version};
 use std::alloc::Global;
@@ -40,7 +40,7 @@ pub type Rows<'a> = Vec<Row<'a>>;
 fn line_of(log: &[LogEvent], number: u32) -> u64
     ensures { (h : History) → HasEvents log.now h → result ≡ event_line (slice_get h.events number) }
 {
-    match log.get(number as usize) {
+    match event_at(log, number) {
         Some(event) => event.line,
         None => 0,
     }

@@ -1,4 +1,4 @@
-ghost use Rattle.std.specs.Prelude.{◌≡◌};
+ghost use Rattle.std.specs.Prelude.{◌≡◌, option_map, slice_get};
 ghost use Rattle.history_model.specs.Machine.{step_place};
 ghost use Rattle.serial_machine.specs.Stepping.{step_of};
 
@@ -38,4 +38,11 @@ impl<'a> Step<'a> {
             } => place,
         }
     }
+}
+
+/// The event of this number.
+pub fn event_at(log: &[LogEvent], number: u32) -> Option<&LogEvent>
+    ensures { option_map (λ event. event.now) result ≡ slice_get log.now number }
+{
+    log.get(number as usize)
 }

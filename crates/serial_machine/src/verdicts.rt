@@ -11,7 +11,7 @@ ghost use Rattle.write_groups.specs.Modelled.{event_of};
 
 use crate::replies::reply_verdict;
 use crate::scene::Scene;
-use crate::step::Step;
+use crate::step::{Step, event_at};
 use base_types::{ObjectKey, OutOfMemory, Range, Reason, Revision, Text};
 use object_past::{Maker, Removal, Version};
 use std::alloc::Global;
@@ -91,7 +91,7 @@ fn may_remove(scene: Scene<'_>, event: &LogEvent, removal: &Removal) -> bool
 fn remove_verdict(scene: Scene<'_>, removal: &Removal) -> Option<Reason>
     ensures { (place : ℕ) → IsVerdictOn (history_of scene.entry.context.now) (scene_objects scene.entry) (model.Remove (record { removal = recorded removal.now; place = place })) result }
 {
-    let Some(event) = scene.context.log().get(removal.range.event as usize) else {
+    let Some(event) = event_at(scene.context.log(), removal.range.event) else {
         return None;
     };
     if may_remove(scene, event, removal) {

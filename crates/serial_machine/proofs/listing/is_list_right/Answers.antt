@@ -29,9 +29,11 @@ pub returns-then-not-listing : goal.returns-then-not-listing
 returns-then-not-listing c =
     let told = rw c.as_slice-2.ensures at c.in_ok-are_listed.ensures in
     let some = rw c.in-Some.is at c.in_ok-shown.ensures.some in
-    let distinct = rw c.as_slice.ensures at some.0 in
-    ((λ t. right_of (history_of c.args.scene.context.now) c.args.number c.args.place (scene_objects c.args.scene) c.args.listing.now (c.if-place-get.false ∙ c.get.ensures.value) distinct
-    (told.0 (not_false _ c.if-not-branch.false)) (λ whole. absurd (cc (whole, c.if-not-listing.true)))), λ right. refl)
+    let distinct = rw c.as_slice.ensures at some.0 in (
+      (λ t. right_of (history_of c.args.scene.context.now) c.args.number c.args.place (scene_objects c.args.scene) c.args.listing.now (c.if-place-get.false ∙ c.get.ensures.value) distinct
+          (told.0 (not_false _ c.if-not-branch.false)) (λ whole. absurd (cc (whole, c.if-not-listing.true)))),
+      λ right. refl,
+    )
 
 pub returns : goal.returns
 returns c =
