@@ -1,13 +1,15 @@
 -- One line of a placement, and its step.
-use Rattle.std.proofs.Common.{◌≡◌, ◌≢◌, ℕ, zero, suc, ◌<◌, ◌≤◌, ◌⊎◌, ◌==◌, List, [], ◌∷◌, ◌++◌, length, map, find, Option, Some, None, slice_get, Contains, inl, inr, refl, sym, ap, ◌∙◌, subst, arith}
+use Rattle.std.proofs.Common.{◌≡◌, ◌≢◌, ℕ, zero, suc, ◌<◌, ◌≤◌, ◌⊎◌, ◌==◌, true, List, [], ◌∷◌, ◌++◌, length, map, find, Option, Some, None, slice_get, Contains, inl, inr, refl, sym, ap, ◌∙◌, subst, arith}
 use mathlib.Core.Path.{fun_ext}
 use Rattle.std.specs.Prelude.{option_map}
 use Rattle.std.proofs.lemmas.Option.{slice_get-map, same_Some}
 use Rattle.base_types.specs.Reasons.{code_number}
 use Rattle.base_types.specs.declared.claim.Reason.{Reason}
 use Rattle.base_types.specs.declared.placed.PlacedLine.{PlacedLine}
-use Rattle.history_model.proofs.Members.{apart}
+use Rattle.history_model.proofs.Fits.{same_event}
+use Rattle.history_model.proofs.Members.{apart, at_in, at_apart}
 use Rattle.history_model.proofs.WordLemmas.{IsMadeBy, found_in, not_found, eq_test, test_eq, word_makes, word_removes}
+use Rattle.history_model.specs.Checking.{HasWords}
 use Rattle.history_model.specs.Events.{Event}
 use Rattle.history_model.specs.Groups.{Making}
 use Rattle.history_model.specs.Histories as histories
@@ -134,3 +136,25 @@ line_found h log number e has at = sym (ap event_line (ap (λ l. slice_get l num
 
 pub line_none : (h : History) (log : List LogEvent) (number : ℕ) → h.events ≡ map event_of log → None ≡ slice_get log number → 0 ≡ event_line (slice_get h.events number)
 line_none h log number has none = sym (ap event_line (ap (λ l. slice_get l number) has ∙ slice_get-map event_of log number ∙ ap (option_map event_of) (sym none)))
+
+-- the line of an event
+pub line_of : (log : List LogEvent) (number line : ℕ) → ((e : LogEvent) → slice_get log number ≡ Some e → e.line ≡ line) → (event : Event) → slice_get (map event_of log) number ≡ Some event → event.line ≡ line
+line_of log number line of event known = go (event_in log number event known)
+  where
+    go : (e : LogEvent) × (slice_get log number ≡ Some e) × (event_of e ≡ event) → event.line ≡ line
+    go (e, at, is) = ap (λ (z : Event). z.line) (sym is) ∙ of e at
+
+pub no_line : (h : History) (log : List LogEvent) (placed : PlacedLine) → h.events ≡ map event_of log → ((e : LogEvent) → Contains log e → e.line ≢ placed.line)
+    → (number : ℕ) (event : Event) → IsLineOf h placed number event → ⊥
+no_line h log placed has none number event line = go (event_in log number event (subst (λ es. slice_get es number ≡ Some event) has line.known))
+  where
+    go : (e : LogEvent) × (slice_get log number ≡ Some e) × (event_of e ≡ event) → ⊥
+    go (e, at, is) = none e (at_in log number e at) (ap (λ (z : Event). z.line) is ∙ line.of_line)
+
+pub no_words : (h : History) (placed : PlacedLine) (number : ℕ) (event : Event) → IsReadable h → IsEvent h number event → event.line ≡ placed.line → (HasWords h number event placed → ⊥)
+    → (other : ℕ) (found : Event) → IsLineOf h placed other found → ⊥
+no_words h placed number event r known of none other found line = none (subst (λ e. HasWords h number e placed) (same_event h number found event (subst (λ n. IsEvent h n found) same line.known) known)
+    (subst (λ n. HasWords h n found placed) same line.words))
+  where
+    same : other ≡ number
+    same = at_apart (λ (z : Event). z.line) h.events other number found event r.lines line.known known (line.of_line ∙ sym of)

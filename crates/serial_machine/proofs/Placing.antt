@@ -24,7 +24,7 @@ use Rattle.serial_machine.specs.Ordered.{puts_above, placed_puts, placed_removal
 
 pub pairs_append : {X : Type 0} (R : X → X → Type 0) (xs ys : List X) → AllPairs R xs → AllPairs R ys → ((x y : X) → Contains xs x → Contains ys y → R x y) → AllPairs R (xs ++ ys)
 pairs_append R [] ys p q across = q
-pairs_append R (x ∷ xs) ys p q across = pairs_cons R x (xs ++ ys)
+pairs_append {X} R (x ∷ xs) ys p q across = pairs_cons R x (xs ++ ys)
     (all_from (R x) (xs ++ ys) (λ y c. go y (Contains-append_cases xs ys y c)))
     (pairs_append R xs ys (pairs_tail R x xs p) q (λ a b c d. across a b (there x a xs c) d))
   where
@@ -239,16 +239,13 @@ reply_in lines start (x ∷ xs) number zero event line place n e l a = subst (λ
 
     same : Reply start x place ≡ Reply number event place
     same = ap (λ z. Reply z x place) here_is ∙ ap (λ z. Reply number z place) (same_Some x event e)
-reply_in lines start (x ∷ xs) number (suc i) event line place n e l a = go (answer_at lines start)
+reply_in lines start (x ∷ xs) number (suc i) event line place n e l a = go (answer_at lines start) (reply_in lines (start + 1) xs number i event line place (omega (arith, n)) e l a)
   where
-    rest : Contains (replies_from lines (start + 1) xs) (Reply number event place)
-    rest = reply_in lines (start + 1) xs number i event line place (omega (arith, n)) e l a
+    go : (o : Option ℕ) → Contains (replies_from lines (start + 1) xs) (Reply number event place) → Contains (reply_before start x o (replies_from lines (start + 1) xs)) (Reply number event place)
+    go None rest = rest
+    go (Some at) rest = there (Reply start x at) (Reply number event place) (replies_from lines (start + 1) xs) rest
 
-    go : (o : Option ℕ) → Contains (reply_before start x o (replies_from lines (start + 1) xs)) (Reply number event place)
-    go None = rest
-    go (Some at) = there (Reply start x at) (Reply number event place) (replies_from lines (start + 1) xs) rest
-
-replier : Step → ℕ
+abbrev replier : Step → ℕ
 replier (Put v) = 0
 replier (Remove cut) = 0
 replier (Reply number event place) = number

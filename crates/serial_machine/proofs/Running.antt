@@ -1,5 +1,6 @@
 -- One step after another, up to the first that isn't allowed.
-use Rattle.std.proofs.Common.{◌≡◌, ℕ, suc, ◌+◌, ◌<◌, ◌≤◌, ◌⊎◌, List, [], ◌∷◌, ◌++◌, length, get_or, take, drop, map, Option, Some, None, All, Contains, inl, inr, refl, sym, ap, ◌∙◌, subst, arith}
+use Rattle.std.proofs.Common.{◌≡◌, ℕ, suc, ◌+◌, ◌<◌, ◌≤◌, ◌⊎◌, List, [], ◌∷◌, ◌++◌, length, get_or, take, drop, map, Option, Some, None, IfSome, All, Contains, inl, inr, refl, sym, ap, ◌∙◌, subst, arith}
+use Rattle.std.specs.Prelude.{IfNone}
 use Rattle.std.proofs.lemmas.List.{map-append, take_more, take_all, take-append-drop}
 use Rattle.std.proofs.lemmas.List.Elements.{Contains-append_right}
 use Rattle.base_types.specs.Reasons.{code_number}
@@ -95,3 +96,15 @@ module _ (h : History) (lines : List PlacedLine) (rows : List Row) (are : AreRow
 
   pub allowed_are : Runs h EachStep (snapshot_map h) (map row_step rows) → AreAllowed h lines
   allowed_are runs = record { steps = map row_step rows; are = are.are; runs = runs }
+
+pub run_begins : (h : History) (machine : Machine) (rows : List Row) → HasMade h machine [] → HasRun h machine (take 0 rows)
+run_begins h machine rows made = record { made = made; runs = tt }
+
+-- what holds of the value holds of it as another fact
+pub some_weaker : {X : Type 0} (P Q : X → Type 0) (o : Option X) → ((x : X) → P x → Q x) → IfSome o P → IfSome o Q
+some_weaker P Q None f held = held
+some_weaker P Q (Some x) f held = f x held
+
+pub none_weaker : {X : Type 0} (P Q : Type 0) (o : Option X) → (P → Q) → IfNone o P → IfNone o Q
+none_weaker P Q None f held = f held
+none_weaker P Q (Some x) f held = held

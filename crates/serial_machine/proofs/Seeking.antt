@@ -68,3 +68,9 @@ module _ (h : History) (r : IsReadable h) (key : ObjectKey) (low high place : �
             other : w.revision ≡ v.revision → ⊥
             other q = let same : w ≡ v = apart (λ z. z.revision) h.versions w v r.versions.rising c found.0 q in
                 true≢false (sym (unmade_parts low high w u).0 ∙ ap (λ (z : Version). has_no_maker z.maker) same ∙ m)
+
+pub last_upto : (h : History) (key : ObjectKey) (place : ℕ) (v : Version) → Some v ≡ latest h.versions key place → v.revision ≤ place
+last_upto h key place v e = go (subst (IsLatest h.versions key place) (sym e) (latest_is h.versions key place))
+  where
+    go : IsLatest h.versions key place (Some v) → v.revision ≤ place
+    go is = is.2

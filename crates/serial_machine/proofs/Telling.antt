@@ -1,6 +1,8 @@
 -- What tests of objects tell.
 use Rattle.std.proofs.Common.{◌≡◌, ◌≢◌, ℕ, ◌-◌, ◌+◌, ◌<◌, ◌≤◌, ◌⊎◌, ◌==◌, ◌++◌, length, get_or, take, All, Bool, true, false, not, Bor, List, [], ◌∷◌, map, find, Option, Some, None, is_some, Contains, inl, inr, refl, sym, ap, ◌∙◌, subst, true≢false}
 use Rattle.std.specs.Prelude.{◌↔◌, IsTrue, IsSome, IsNone, IfSome, IfNone, option_map}
+use Rattle.std.specs.Prelude.{bytes_eq}
+use Rattle.std.specs.Cmp.Lexicographic.{bytes_decides}
 use Rattle.std.proofs.lemmas.List.{take_more, take_all}
 use Rattle.std.proofs.lemmas.List.Elements.{All-append}
 use Rattle.base_types.specs.declared.key.ObjectKey.{ObjectKey}
@@ -15,6 +17,7 @@ use Rattle.history_model.specs.Histories.{History, Removal}
 use Rattle.history_model.specs.Machine.{MayRemove, MeetsPreconditions}
 use Rattle.object_past.specs.Modelled.{version_of}
 use Rattle.object_past.specs.declared.version.Version.{Version}
+use Rattle.write_groups.specs.Met.{asks_uid}
 
 -- the first of two facts holds, or the test tells the second
 pub first_holds : {P Q : Type 0} → P → IsTrue true ↔ (P ⊎ Q)
@@ -152,3 +155,22 @@ one_fails P xs i x within is n = not_so (λ all. n (all_at P xs x all (i, within
 pub false_told : (b listable : Bool) → b ≡ listable → IsTrue (not b) ↔ (listable ≡ false)
 false_told true listable e = ((λ t. absurd (true≢false (sym t))), λ f. absurd (true≢false (e ∙ f)))
 false_told false listable e = ((λ t. sym e), λ f. refl)
+
+pub lent_revision : (o : Option (Bor Version)) → option_map (λ (v : Bor Version). v.now.revision) o ≡ option_map (λ (v : histories.Version). v.revision) (option_map (λ (v : Bor Version). version_of v.now) o)
+lent_revision None = refl
+lent_revision (Some v) = refl
+
+pub uid_told : (wanted : Option (List ℕ)) (uid : List ℕ) → IsTrue (asks_uid wanted uid) ↔ IfSome wanted (λ asked. asked ≡ uid)
+uid_told None uid = ((λ t. tt), λ held. refl)
+uid_told (Some asked) uid = ((λ t. (bytes_decides asked uid).0 t), λ held. (bytes_decides asked uid).1 held)
+
+pub uid_same : (a b : List ℕ) (differ : Bool) → differ ≡ not (bytes_eq a b) → differ ≡ false → a ≡ b
+uid_same a b differ e f = go (bytes_eq a b) refl
+  where
+    go : (t : Bool) → bytes_eq a b ≡ t → a ≡ b
+    go true q = (bytes_decides a b).0 q
+    go false q = absurd (true≢false (sym (ap not q) ∙ sym e ∙ f))
+
+pub flipped : (r s : Bool) → s ≡ not r → r ≡ not s
+flipped true s e = sym (ap not e)
+flipped false s e = sym (ap not e)

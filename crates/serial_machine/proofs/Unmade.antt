@@ -100,11 +100,11 @@ shown_upto h machine done place key made =
 -- none lie between a place and itself
 none_between : (low : ℕ) (versions : List Version) → filter (is_unmade low low) versions ≡ []
 none_between low [] = refl
-none_between low (v ∷ vs) = go (is_unmade low low v) refl
+none_between low (v ∷ vs) = go (is_unmade low low v) refl (none_between low vs)
   where
-    go : (t : Bool) → is_unmade low low v ≡ t → filter (is_unmade low low) (v ∷ vs) ≡ []
-    go true e = let p = unmade_parts low low v e in absurd (omega (arith, p.1.0, p.1.1))
-    go false e = rw e (none_between low vs)
+    go : (t : Bool) → is_unmade low low v ≡ t → filter (is_unmade low low) vs ≡ [] → filter (is_unmade low low) (v ∷ vs) ≡ []
+    go true e rest = let p = unmade_parts low low v e in absurd (omega (arith, p.1.0, p.1.1))
+    go false e rest = rw e rest
 
 pub shown_here : (h : History) (machine : Machine) (done : List Step) (key : ObjectKey) → HasMade h machine done
     → objects_upto h machine machine.place key ≡ after_all (snapshot_map h) done key

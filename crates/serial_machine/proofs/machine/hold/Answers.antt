@@ -1,4 +1,5 @@
-use Rattle.std.proofs.Common.{ap, is_some, false≢true, ◌∙◌}
+use Rattle.std.proofs.Common.{ap, is_some, ◌∙◌}
+use Rattle.std.proofs.lemmas.Bool.{false≢true}
 use Rattle.serial_machine.proofs.machine.hold.Goals as goal
 
 pub returns-in_default : goal.returns-in_default

@@ -14,7 +14,7 @@ pub returns-in-Some : goal.returns-in-Some
 returns-in-Some c = λ place objects wrong. code_by (history_of c.args.context.now) c.args.number (event_of c.args.event.now) c.requires.known c.requires.placed c.fault.result
     (c.fault.ensures (event_of c.args.event.now) c.requires.known) place objects wrong c.in-Some.code c.in-Some.is
 
-pub returns : goal.returns
-returns c = λ place objects wrong. subst (λ z. IsVerdictOn (history_of c.args.context.now) objects (Reply c.args.number (event_of c.args.event.now) place) (Some z)) (sym c.code_of.ensures)
+pub returns-in-None : goal.returns-in-None
+returns-in-None c = λ place objects wrong. subst (λ z. IsVerdictOn (history_of c.args.context.now) objects (Reply c.args.number (event_of c.args.event.now) place) (Some z)) (sym c.code_of.ensures)
     (wrong_code (history_of c.args.context.now) c.args.number (event_of c.args.event.now) c.requires.known c.requires.placed c.fault.result
     (c.fault.ensures (event_of c.args.event.now) c.requires.known) place objects wrong c.in-None.is)
