@@ -1,5 +1,6 @@
 -- Why steps aren't allowed, and the least code of each.
 use Rattle.std.proofs.Common.{◌≡◌, ◌≢◌, ℕ, ◌≤◌, ◌⊎◌, Bool, true, false, Option, Some, None, IfSome, Contains, inl, inr, refl, sym, ap, ◌∙◌, subst, arith, true≢false}
+use Rattle.std.specs.Prelude.{◌↔◌, IsTrue}
 use Rattle.base_types.specs.Reasons.{code_number}
 use Rattle.base_types.specs.declared.claim.Reason.{Reason}
 use Rattle.base_types.specs.declared.claim.Reason.TheVariants.{U4, U7, U8, U10}
@@ -14,7 +15,7 @@ use Rattle.history_model.specs.Histories.{History, Version, Maker, Snapshot, ByE
 use Rattle.history_model.specs.Machine.{Step, Put, Remove, Reply, IsAllowed, MayRemove}
 use Rattle.history_model.specs.Making.{HasFault, HasFoundFault, CouldHaveFound, IsLeastFault, creates, excludes, changes}
 use Rattle.history_model.specs.Readable.{IsReadable}
-use Rattle.history_model.specs.Right.{IsRight, IsRightAnswer, answer_code}
+use Rattle.history_model.specs.Right.{IsRight, IsRightAnswer, IsShown, answer_code}
 use Rattle.history_model.specs.States.{Cut, Map}
 use Rattle.history_model.specs.Words.{At, word}
 use Rattle.object_past.specs.Faulted.{IsFaultBy, IsFaultOf, IsFindingFault, IsLeastFoundFault}
@@ -171,3 +172,16 @@ module _ (h : History) (number : ℕ) (event : Event) (known : IsEvent h number 
       go : (f : Option Reason) → fault ≡ f → fault ≡ None
       go None e = e
       go (Some code) e = absurd (could code (could_not item created code answer e).0)
+
+  -- the test of a write's answer, by its fault
+  pub found_told : (item : Item) (created : Bool) (place : ℕ) (map : Map) (b : Bool) → event.answer ≡ Made item created
+      → IsTrue b ↔ (IsClouded h item.key place ⊎ (IsShown item (map item.key) × (fault ≡ None))) → IsTrue b ↔ IsRight h number event place map
+  found_told item created place map b answer told = subst (λ a. IsTrue b ↔ IsRightAnswer h number event place map a) (sym answer) ((λ t. to (told.0 t)), λ right. told.1 (from right))
+    where
+      to : IsClouded h item.key place ⊎ (IsShown item (map item.key) × (fault ≡ None)) → IsRightAnswer h number event place map (Made item created)
+      to (inl cloud) = inl cloud
+      to (inr (shown, none)) = inr (shown, could_have item created answer none)
+
+      from : IsRightAnswer h number event place map (Made item created) → IsClouded h item.key place ⊎ (IsShown item (map item.key) × (fault ≡ None))
+      from (inl cloud) = inl cloud
+      from (inr (shown, could)) = inr (shown, none_if item created answer could)

@@ -9,7 +9,7 @@ use Rattle.base_types.specs.declared.placed.PlacedLine.{PlacedLine}
 use Rattle.history_model.proofs.Fits.{same_event}
 use Rattle.history_model.proofs.Members.{apart, at_in, at_apart}
 use Rattle.history_model.proofs.WordLemmas.{IsMadeBy, found_in, not_found, eq_test, test_eq, word_makes, word_removes}
-use Rattle.history_model.specs.Checking.{HasWords}
+use Rattle.history_model.specs.Checking.{HasWords, Judged}
 use Rattle.history_model.specs.Events.{Event}
 use Rattle.history_model.specs.Groups.{Making}
 use Rattle.history_model.specs.Histories as histories
@@ -18,6 +18,7 @@ use Rattle.history_model.specs.Machine.{Step, Put, Remove, Reply, after_all, sna
 use Rattle.history_model.specs.Readable.{IsReadable}
 use Rattle.history_model.specs.States.{Map}
 use Rattle.history_model.specs.Words.{Word, Makes, Removes, At, Strays, Nothing, word}
+use Rattle.history_model.specs.Placed.{answer_place}
 use Rattle.object_past.specs.Modelled.{recorded, version_of}
 use Rattle.object_past.specs.declared.removal.Removal.{Removal}
 use Rattle.object_past.specs.declared.version.Version.{Version}
@@ -26,8 +27,8 @@ use Rattle.write_groups.specs.Modelled.{event_of}
 use Rattle.write_groups.specs.declared.event.LogEvent.{LogEvent}
 use Rattle.serial_machine.proofs.Unmade.{shown_upto, shown_here}
 use Rattle.serial_machine.specs.Held.{HasMade, end_of, objects_upto, unmade_puts}
-use Rattle.serial_machine.specs.Made.{IsAstray, IsLineOf, IsStepAs, IsStepOf, map_before}
-use Rattle.serial_machine.specs.Stepping.{IsOfHistory}
+use Rattle.serial_machine.specs.Made.{IsAstray, IsLineOf, IsMade, IsRightLine, IsStepAs, IsStepOf, IsWrong, map_before, forbidden, nowhere, stands}
+use Rattle.serial_machine.specs.Stepping.{IsOfHistory, IsVerdictOn}
 use Rattle.serial_machine.specs.declared.machine.Machine.{Machine}
 
 -- the events of a history are those of its log
@@ -158,3 +159,31 @@ no_words h placed number event r known of none other found line = none (subst (�
   where
     same : other ≡ number
     same = at_apart (λ (z : Event). z.line) h.events other number found event r.lines line.known known (line.of_line ∙ sym of)
+
+-- a line that stands at its place, and its step
+module _ (h : History) (done : List Step) (placed : PlacedLine) (number : ℕ) (event : Event) (line : IsLineOf h placed number event) (inside : IsAstray h placed number event → ⊥)
+    (place : ℕ) (at : place ≡ answer_place placed.answer) (step : Step) (as' : IsStepAs h number event place (word h number event) step) where
+  of_line : IsStepOf h placed number event step
+  of_line = record { line = line; inside = inside; as_word = subst (λ p. IsStepAs h number event p (word h number event) step) at as' }
+
+  pub step_wrong : (machine : Machine) (upto : ℕ) (code : Reason) → upto ≡ step_place step → HasMade h machine done → IsVerdictOn h (objects_upto h machine upto) step (Some code)
+      → IsWrong h done placed (Judged code)
+  step_wrong machine upto code e made verdict = forbidden number event step code refl of_line has.0 has.1
+    where
+      has : IsVerdictOn h (map_before h done step) step (Some code)
+      has = subst (λ m. IsVerdictOn h m step (Some code)) (scene_is h machine done step upto e made) verdict
+
+  pub step_right : (machine : Machine) (upto : ℕ) → upto ≡ step_place step → HasMade h machine done → IsVerdictOn h (objects_upto h machine upto) step None
+      → IsRightLine h done placed (Some step)
+  step_right machine upto e made verdict = (number, event, of_line, subst (λ m. IsVerdictOn h m step None) (scene_is h machine done step upto e made) verdict)
+
+-- a right line, once its step is made
+pub line_made : (h : History) (done : List Step) (placed : PlacedLine) (old mid new : Machine) (step : Step) (upto : ℕ) → IsRightLine h done placed (Some step) → upto ≡ step_place step
+    → HasMade h mid (done ++ unmade_puts h (end_of h.start done) upto)
+    → (IsOfHistory h step → HasMade h mid (done ++ unmade_puts h (end_of h.start done) upto) → HasMade h new (done ++ unmade_puts h (end_of h.start done) upto ++ step ∷ []))
+    → IsMade h done placed old new
+line_made h done placed old mid new step upto (number, event, of, allowed) e put make = stands number event step of allowed
+    (subst (λ p. HasMade h new (done ++ unmade_puts h (end_of h.start done) p ++ step ∷ [])) e (make (step_known h number event (answer_place placed.answer) step of.line.known of.as_word) put))
+
+pub line_nowhere : (h : History) (done : List Step) (placed : PlacedLine) (old : Machine) → IsRightLine h done placed None → IsMade h done placed old old
+line_nowhere h done placed old (number, event, line, inside, none) = nowhere number event line inside none refl

@@ -1,6 +1,6 @@
 -- Rows, one after another.
 use Rattle.std.proofs.Common.{◌≡◌, ℕ, suc, ◌+◌, ◌<◌, ◌≤◌, ◌⊎◌, inl, inr, Bool, true, false, nat_lt, nat_le, List, [], ◌∷◌, ◌++◌, append_assoc, append-nil, length, get_or, drop, drop-cons, add-one, map, Option, Some, None, slice_get, All, Contains, refl, sym, ap, ◌∙◌, subst, arith}
-use Rattle.std.specs.Prelude.{option_and_then}
+use Rattle.std.specs.Prelude.{option_and_then, Result, Ok, Err, IfOk}
 use Rattle.std.proofs.lemmas.List.{map-append}
 use Rattle.std.proofs.lemmas.Bool.Decides.{leb_tells}
 use Rattle.std.proofs.lemmas.List.Elements.{All-append}
@@ -73,3 +73,14 @@ module _ (lines : List PlacedLine) (log : List LogEvent) (i : ℕ) (event : LogE
       → replies_from lines i (map event_of (drop i log)) ≡ replies_from lines (i + 1) (map event_of (drop (i + 1) log))
   reply_skipped e = ap (λ es. replies_from lines i (map event_of es)) (rest_at log i event within is)
       ∙ ap (λ o. reply_before i (event_of event) o (replies_from lines (i + 1) (map event_of (drop (i + 1) log)))) e
+
+pub rows_join : (h : History) (puts removals replies : List Step) (a b c : List Row) → AreRowsOf h puts a → AreRowsOf h removals b → AreRowsOf h replies c → AreRowsOf h ((puts ++ removals) ++ replies) ((a ++ b) ++ c)
+rows_join h puts removals replies a b c x y z = record {
+  turns = All-append (IsInTurn h) (a ++ b) c (All-append (IsInTurn h) a b x.turns y.turns) z.turns;
+  are = map-append row_step (a ++ b) c ∙ ap (λ l. l ++ map row_step c) (map-append row_step a b) ∙ ap (λ l. (map row_step a ++ l) ++ map row_step c) y.are
+      ∙ ap (λ l. (l ++ removals) ++ map row_step c) x.are ∙ ap (λ l. (puts ++ removals) ++ l) z.are;
+}
+
+pub both_ok : {X E : Type 0} (P Q R : X → Type 0) (o : Result X E) → ((x : X) → P x → Q x → R x) → IfOk o P → IfOk o Q → IfOk o R
+both_ok P Q R (Ok x) f p q = f x p q
+both_ok P Q R (Err e) f p q = tt

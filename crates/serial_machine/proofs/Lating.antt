@@ -1,8 +1,10 @@
 -- The versions without a maker are put, one after another.
-use Rattle.std.proofs.Common.{◌≡◌, ℕ, zero, suc, ◌+◌, ◌<◌, ◌≤◌, ◌⊎◌, Bool, true, false, cond, List, [], ◌∷◌, ◌++◌, append_assoc, append-nil, length, get_or, take, drop, map, All, AllPairs, Contains, inl, inr, refl, sym, ap, ◌∙◌, subst, arith}
+use Rattle.std.proofs.Common.{◌≡◌, ℕ, zero, suc, ◌+◌, ◌<◌, ◌≤◌, ◌⊎◌, Bool, true, false, leb, cond, List, [], ◌∷◌, ◌++◌, append_assoc, append-nil, length, get_or, take, drop, map, All, AllPairs, Contains, inl, inr, refl, sym, ap, ◌∙◌, subst, arith}
 use Rattle.std.specs.List.{filter}
-use Rattle.std.proofs.lemmas.List.{map-append, take_more, take-append-drop, take_all}
-use Rattle.std.proofs.lemmas.List.Elements.{filter-append, Contains-append_left, Contains-append_right}
+use Rattle.std.proofs.lemmas.Bool.{leb-true}
+use Rattle.base_types.proofs.Upto.{Upto}
+use Rattle.std.proofs.lemmas.List.{map-append, take_more, take-append-drop, take_all, get_or-take, length-take}
+use Rattle.std.proofs.lemmas.List.Elements.{Contains-get_or, filter-append, Contains-append_left, Contains-append_right}
 use Rattle.history_model.proofs.Members.{not_in_none, here, there, in_cons, all_at, pairs_head, pairs_tail}
 use Rattle.history_model.specs.Histories as histories
 use Rattle.history_model.specs.Histories.{History}
@@ -61,3 +63,26 @@ module _ (low high : ℕ) (versions : List Version) (i : ℕ) (v : Version) (wit
       ∙ ap (map Put) (sym (filter-append (is_unmade low high) (map version_of (take i versions)) (map version_of (drop i versions))))
       ∙ ap (λ z. map Put (filter (is_unmade low high) z)) (sym (map-append version_of (take i versions) (drop i versions)))
       ∙ ap (late_in low high) (take-append-drop i versions)
+
+-- those in front of the first that is above the place
+pub taken_upto : (place : ℕ) (versions : List Version) (n : ℕ) → Upto (λ (v : Version). v.revision) place versions n → n ≤ length versions → (v : Version) → Contains (take n versions) v → v.revision ≤ place
+taken_upto place versions n parts bound v among =
+    let front : among.0 < n = (let before = among.1 in omega (arith, length-take n versions)) in
+    let low : (get_or versions among.0 v).revision ≤ place = leb-true _ place (parts.0 among.0 v (omega arith) front) in
+    let of : (get_or versions among.0 v).revision ≡ v.revision = ap (λ (x : Version). x.revision) (sym (get_or-take n versions among.0 v front) ∙ among.2) in
+    omega arith
+
+pub rising_behind : (versions : List Version) (n : ℕ) → AllPairs (λ a b. a.revision < b.revision) versions → AllPairs (λ a b. a.revision < b.revision) (drop n versions)
+rising_behind versions zero p = p
+rising_behind [] (suc n) p = p
+rising_behind (v ∷ vs) (suc n) p = rising_behind vs n (pairs_tail (λ a b. a.revision < b.revision) v vs p)
+
+pub item_in : (versions : List Version) (i : ℕ) (v : Version) → i < length versions → v ≡ get_or versions i v → Contains versions v
+item_in versions i v within is = subst (λ w. Contains versions w) (sym is) (Contains-get_or versions i v within)
+
+-- all of them, of the history
+pub late_all : (h : History) (machine : Machine) (done : List Step) (upto : ℕ) (behind all known : List Version) → h.versions ≡ map version_of known → all ≡ known
+    → ((high : ℕ) → filter (is_unmade machine.place high) (map version_of behind) ≡ filter (is_unmade machine.place high) (map version_of all)) → HasMade h machine done
+    → late_in machine.place upto behind ≡ unmade_puts h (end_of h.start done) upto
+late_all h machine done upto behind all known past e same made = ap (map Put) (same upto) ∙ ap (λ l. map Put (filter (is_unmade machine.place upto) (map version_of l))) e
+    ∙ ap (λ l. map Put (filter (is_unmade machine.place upto) l)) (sym past) ∙ ap (λ z. unmade_puts h z upto) made.place

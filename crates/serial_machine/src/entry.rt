@@ -106,12 +106,15 @@ fn step_at(context: &Context, number: u32, place: u64) -> Option<Step<'_>>
     ensures none { IfNone result ((event : Event) (step : model.Step) → IsEvent (history_of context.now) number event
         → IsStepAs (history_of context.now) number event place (word (history_of context.now) number event) step → ⊥) }
 {
+    // For the proof alone, as for a machine's start.
+    let _log = context.log();
+    let past = context.past();
     match word_at(context, number) {
-        Word::Makes(revision) => match context.past().at(revision) {
+        Word::Makes(revision) => match past.at(revision) {
             Some(version) => Some(Step::Put(version)),
             None => None,
         },
-        Word::Removes(_) => match removal_by(context.past(), number) {
+        Word::Removes(_) => match removal_by(past, number) {
             Some(removal) => Some(Step::Remove { removal, place }),
             None => None,
         },
@@ -190,6 +193,7 @@ fn is_unmade(version: &Version, low: u64, high: u64) -> bool
 fn versions_behind(versions: &[Version], place: u64) -> &[Version]
     requires { AllPairs (λ a b. a.revision < b.revision) versions.now }
     ensures among { (v : Recorded) → Contains (map version_of result.now) v → Contains (map version_of versions.now) v }
+    ensures rising { AllPairs (λ a b. a.revision < b.revision) result.now }
     ensures unmade { (high : ℕ) → filter (is_unmade place high) (map version_of result.now) ≡ filter (is_unmade place high) (map version_of versions.now) }
 {
     let upto = versions.partition_point(|version| version.revision.get() <= place);

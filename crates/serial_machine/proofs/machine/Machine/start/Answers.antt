@@ -19,7 +19,7 @@ loop-key-preserved c =
     c.loop-key-test.true c.key-item.is (same_key _ _ parts.0 parts.1.0 parts.1.1.0 parts.1.1.1)
     (c.revision_of-revision.ensures ∙ lent_revision c.latest.result ∙ ap (option_map (λ (v : Version). v.revision)) c.latest.ensures.latest
     ∙ ap (λ place. option_map (λ (v : Version). v.revision) (latest (history_of c.args.context.now).versions c.key-item.result place)) (c.get-start.ensures.value ∙ ap (λ (s : Setup). s.start) c.setup.ensures))
-    c.in_ok-insert.ensures.updates c.loop-key.invariant
+    c.in_ok-_none.ensures.updates c.loop-key.invariant
 
 pub returns : goal.returns
 returns c = begun_all (history_of c.args.context.now) c.keys-keys.result.now c.loop-key.key-index _ c.args.context.now.versions c.log-log.ensures.readable refl c.loop-key-test.false
