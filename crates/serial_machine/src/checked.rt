@@ -1,0 +1,61 @@
+ghost use Rattle.std.specs.Prelude.{◌≡◌, IfOk, string_bytes};
+ghost use Rattle.serial_machine.specs.Checks.{IsChecked};
+ghost use Rattle.serial_machine.specs.Texts.{checked_text, code_text};
+ghost use Rattle.version_store.specs.Histories.{history_of};
+
+use crate::checking::check;
+use crate::fault::{CheckFault, WrongCode};
+use base_types::{Bytes, OutOfMemory, Placement};
+use std::alloc::Global;
+use version_store::Context;
+
+/// What a placement comes to that is checked.
+#[derive(Clone, Copy, Debug, PartialEq, Eq)]
+pub enum Checked {
+    Holds,
+    /// The first fault.
+    Wrong { line: u64, code: WrongCode },
+}
+
+/// Checks a placement.
+pub fn verify(
+    alloc: Global,
+    context: &Context,
+    placement: &Placement,
+) -> Result<Checked, OutOfMemory>
+    ensures { IfOk result (IsChecked (history_of context.now) placement.now) }
+{
+    match check(alloc, context, placement) {
+        Ok(()) => Ok(Checked::Holds),
+        Err(CheckFault::Wrong { line, code }) => Ok(Checked::Wrong { line, code }),
+        Err(CheckFault::OutOfMemory) => Err(OutOfMemory),
+    }
+}
+
+fn code_text(alloc: Global, code: WrongCode) -> Result<String, OutOfMemory>
+    ensures { IfOk result (λ text. string_bytes text ≡ code_text code) }
+{
+    let text = match code {
+        WrongCode::V1 => format!(in alloc; "V1")?,
+        WrongCode::V2 => format!(in alloc; "V2")?,
+        WrongCode::Judged(reason) => {
+            let number = reason.number();
+            format!(in alloc; "U{number}")?
+        }
+    };
+    Ok(text)
+}
+
+/// The text of what a placement comes to, as `verify` prints it.
+pub fn print_checked(alloc: Global, checked: &Checked) -> Result<Bytes, OutOfMemory>
+    ensures { IfOk result (λ text. text ≡ checked_text checked.now) }
+{
+    let text = match checked {
+        Checked::Holds => format!(in alloc; "holds\n")?,
+        Checked::Wrong { line, code } => {
+            let name = code_text(alloc, *code)?;
+            format!(in alloc; "wrong {line} {}\n", name.as_str())?
+        }
+    };
+    Ok(Bytes::from_vec(text.into_bytes()))
+}
