@@ -1,0 +1,6 @@
+mod Leasts
+mod Numbering
+mod Knowing
+mod Wording
+mod Differing
+mod Firsts

@@ -3,12 +3,13 @@ ghost use Rattle.base_types.specs.Placements.{RisesByLine};
 ghost use Rattle.history_model.specs.Checking.{DiffersAt, HasAnswerWord, HasDecisionWord, HasWords, IsLeastLine, NoLine};
 ghost use Rattle.history_model.specs.Events.{Event};
 ghost use Rattle.history_model.specs.Histories.{IsEvent};
+ghost use Rattle.history_model.specs.Readable.{IsReadable};
 ghost use Rattle.history_model.specs.Words as model;
 ghost use Rattle.serial_machine.specs.Lines.{IsAlike, IsUnlike};
 ghost use Rattle.serial_machine.specs.Words.{IsSaid};
 ghost use Rattle.version_store.specs.Histories.{history_of};
 
-use crate::words::{Word, word_at};
+use crate::words::{Word, event_count, word_at};
 use base_types::{Decision, PlacedAnswer, PlacedDecision, PlacedLine};
 use version_store::Context;
 
@@ -84,12 +85,14 @@ pub fn first_difference(context: &Context, lines: &[PlacedLine]) -> Option<u64>
     requires { RisesByLine lines.now }
     ensures some { IfSome result (IsLeastLine (DiffersAt (history_of context.now) lines.now)) }
     ensures none { IfNone result (NoLine (DiffersAt (history_of context.now) lines.now)) }
+    ensures readable { IsReadable (history_of context.now) }
 {
-    for number in 0..context.count() {
+    let count = event_count(context);
+    for number in 0..count {
         if let Some(at) = difference_at(context, lines, number) {
             return Some(at);
         }
     }
-    let further = line_at(lines, context.count())?;
+    let further = line_at(lines, count)?;
     Some(further.line)
 }

@@ -9,7 +9,7 @@ ghost use Rattle.history_model.specs.Words as model;
 ghost use Rattle.serial_machine.specs.Places.{AreOutOfCaches, IsMisplaced};
 ghost use Rattle.version_store.specs.Histories.{history_of};
 
-use crate::words::{Word, word_at};
+use crate::words::{Word, event_count, word_at};
 use base_types::{Moment, PlacedAnswer, PlacedDecision, PlacedLine, Places};
 use version_store::Context;
 use write_groups::{Window, highest, lowest};
@@ -142,7 +142,7 @@ pub fn first_misplaced(context: &Context, lines: &[PlacedLine]) -> Option<u64>
     ensures some { IfSome result (IsLeastLine (IsMisplacedAt (history_of context.now) lines.now)) }
     ensures none { IfNone result (NoLine (IsMisplacedAt (history_of context.now) lines.now)) }
 {
-    for number in 0..context.count() {
+    for number in 0..event_count(context) {
         if is_misplaced(context, lines, number) {
             return Some(context.line_of(number));
         }
