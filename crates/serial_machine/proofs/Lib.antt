@@ -4,3 +4,5 @@ mod Knowing
 mod Wording
 mod Differing
 mod Firsts
+mod Deciding
+mod Texting

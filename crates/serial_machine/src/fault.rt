@@ -1,3 +1,5 @@
+ghost use Rattle.std.specs.Prelude.{◌≡◌};
+
 use base_types::{OutOfMemory, Reason};
 use thiserror::Error;
 

@@ -25,12 +25,18 @@ fn has_answer_word(word: Word, answer: PlacedAnswer) -> bool
     }
 }
 
+fn is_same(decision: Decision, other: Decision) -> bool
+    ensures { IsTrue result ↔ (decision ≡ other) }
+{
+    decision == other
+}
+
 // Whether this decision was placed.
 fn is_placed(decided: Decision, placed: Option<PlacedDecision>) -> bool
     ensures { IsTrue result ↔ HasDecisionWord (Some decided) placed }
 {
     match placed {
-        Some(placed) => placed.decision == decided,
+        Some(placed) => is_same(placed.decision, decided),
         None => false,
     }
 }
@@ -44,8 +50,8 @@ fn has_decision_word(decision: Option<Decision>, placed: Option<PlacedDecision>)
     }
 }
 
-// Whether the line has this event's words.
-fn has_words(context: &Context, number: u32, line: &PlacedLine) -> bool
+/// Whether the line has this event's words.
+pub fn has_words(context: &Context, number: u32, line: &PlacedLine) -> bool
     requires { number < length context.now.log }
     ensures { (event : Event) → IsEvent (history_of context.now) number event → IsTrue result ↔ HasWords (history_of context.now) number event line.now }
 {

@@ -14,7 +14,8 @@ use base_types::{Moment, PlacedAnswer, PlacedDecision, PlacedLine, Places};
 use version_store::Context;
 use write_groups::{Window, highest, lowest};
 
-fn answer_place(answer: PlacedAnswer) -> u64
+/// The place of an answer.
+pub fn answer_place(answer: PlacedAnswer) -> u64
     ensures { result ≡ answer_place answer }
 {
     match answer {
@@ -25,8 +26,8 @@ fn answer_place(answer: PlacedAnswer) -> u64
     }
 }
 
-// The place of the answer in the line of this number.
-fn line_place(lines: &[PlacedLine], number: u32) -> u64
+/// The place of the answer in the line of this number.
+pub fn line_place(lines: &[PlacedLine], number: u32) -> u64
     ensures { result ≡ line_place (slice_get lines.now number) }
 {
     match lines.get(number as usize) {
@@ -35,7 +36,8 @@ fn line_place(lines: &[PlacedLine], number: u32) -> u64
     }
 }
 
-fn decision_places(decision: Option<PlacedDecision>) -> Places
+/// The places of a decision.
+pub fn decision_places(decision: Option<PlacedDecision>) -> Places
     ensures { result ≡ decision_places decision }
 {
     match decision {
@@ -65,8 +67,8 @@ fn lies_within(low: u64, high: u64, place: u64) -> bool
     low <= place && place <= high
 }
 
-// Whether the answer of the event of this number can't stand at the place.
-fn is_outside(context: &Context, number: u32, place: u64) -> bool
+/// Whether the answer of the event of this number can't stand at the place.
+pub fn is_outside(context: &Context, number: u32, place: u64) -> bool
     requires { number < length context.now.log }
     ensures { (event : Event) → IsEvent (history_of context.now) number event
         → IsTrue result ↔ IsOutside (history_of context.now) event (model.word (history_of context.now) number event) place }
@@ -117,8 +119,8 @@ fn are_cache_places(context: &Context, number: u32, places: &Places) -> bool
         && lies_within(window.low, window.high, places.cluster_bindings)
 }
 
-// Whether a decision is judged that can't have been given at these places.
-fn is_out_of_caches(context: &Context, number: u32, places: &Places) -> bool
+/// Whether a decision is judged that can't have been given at these places.
+pub fn is_out_of_caches(context: &Context, number: u32, places: &Places) -> bool
     requires { number < length context.now.log }
     ensures { (event : Event) → IsEvent (history_of context.now) number event
         → IsTrue result ↔ AreOutOfCaches (history_of context.now) event places.now }

@@ -80,8 +80,8 @@ fn removal_at(removals: &[Removal], position: u32) -> Option<&Removal>
     removals.get(position as usize)
 }
 
-// The removal by the event of this number.
-fn removal_by(past: &Past, number: u32) -> Option<&Removal>
+/// The removal by the event of this number.
+pub fn removal_by(past: &Past, number: u32) -> Option<&Removal>
     ensures { option_map (λ removal. removal.now) result ≡ find (λ removal. removal.range.event == number) past.now.removals }
 {
     let position = past.removal_by(number)?;
