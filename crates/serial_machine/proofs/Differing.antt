@@ -1,7 +1,7 @@
 -- The first difference between a placement and its log.
-use Rattle.std.proofs.Common.{◌≡◌, ◌≢◌, ℕ, ◌<◌, ◌≤◌, ◌⊎◌, List, None, Some, Option, Contains, length, get_or, slice_get, inl, inr, refl, sym, ap, ◌∙◌, subst, arith}
+use Rattle.std.proofs.Common.{◌≡◌, ◌≢◌, ℕ, ◌<◌, ◌≤◌, ◌⊎◌, List, None, Some, Contains, length, get_or, slice_get, inl, inr, refl, sym, ap, ◌∙◌, subst, arith}
 use Rattle.std.specs.Prelude.{min}
-use Rattle.std.proofs.lemmas.Option.{same_Some, slice_get_within, slice_get_cases}
+use Rattle.std.proofs.lemmas.Option.{slice_get_within, slice_get_cases}
 use Rattle.base_types.specs.Placements.{RisesByLine}
 use Rattle.base_types.specs.declared.placed.PlacedLine.{PlacedLine}
 use Rattle.history_model.proofs.Members.{at_in, in_at, apart}

@@ -5,8 +5,6 @@ use Rattle.history_model.specs.Events.{Event}
 use Rattle.history_model.specs.Histories.{IsEvent}
 use Rattle.object_past.specs.Modelled.{recorded, version_of}
 use Rattle.object_past.specs.Past.{HasPast, Recorded}
-use Rattle.object_past.specs.declared.removal.Removal.{Removal}
-use Rattle.object_past.specs.declared.version.Version.{Version}
 use Rattle.serial_machine.proofs.Numbering.{numbered}
 use Rattle.time_windows.specs.History as timed
 use Rattle.version_store.specs.Histories.{history_of}

@@ -1,5 +1,5 @@
 -- What an event is, by what the past finds.
-use Rattle.std.proofs.Common.{◌≡◌, ℕ, ◌<◌, ◌≤◌, ◌⊎◌, Bool, true, false, nat_le, ◌==◌, List, [], ◌∷◌, map, Option, Some, None, find, inl, inr, refl, sym, ap, ◌∙◌, arith, subst}
+use Rattle.std.proofs.Common.{◌≡◌, ℕ, ◌<◌, ◌≤◌, ◌⊎◌, Bool, true, false, nat_le, ◌==◌, List, [], ◌∷◌, map, Option, Some, find, inl, inr, refl, sym, ap, ◌∙◌, arith}
 use Rattle.std.specs.Prelude.{option_map}
 use Rattle.std.proofs.lemmas.Bool.Decides.{leb_tells}
 use Rattle.base_types.specs.Keys.{same_key}
@@ -7,7 +7,7 @@ use Rattle.history_model.specs.Events.{Item, Event, Made}
 use Rattle.history_model.specs.Groups.{Making}
 use Rattle.history_model.specs.Histories as model
 use Rattle.history_model.specs.Histories.{History}
-use Rattle.history_model.specs.Words.{Makes, Removes, At, Strays, is_by, write_word, removal_word, answer_word}
+use Rattle.history_model.specs.Words.{Makes, At, Strays, is_by, write_word, removal_word, answer_word}
 use Rattle.object_past.specs.Modelled.{version_of, recorded}
 use Rattle.object_past.specs.Past.{Recorded, HasPast}
 use Rattle.object_past.specs.declared.removal.Removal.{Removal}

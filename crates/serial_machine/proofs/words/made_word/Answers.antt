@@ -1,5 +1,4 @@
 use Rattle.std.proofs.Common.{None, Some, arith, subst, sym}
-use Rattle.object_past.specs.Modelled.{version_of}
 use Rattle.serial_machine.proofs.Wording.{early_write, late_write}
 use Rattle.serial_machine.proofs.words.made_word.Goals as goal
 use Rattle.serial_machine.specs.Words.{IsSaid}
