@@ -6,3 +6,4 @@ mod Differing
 mod Firsts
 mod Deciding
 mod Texting
+mod OneAnswer

@@ -1,5 +1,9 @@
-ghost use Rattle.std.specs.Prelude.{◌≡◌, ◌∷◌, [], codes, decimal, IfOk, string_bytes};
+ghost use Rattle.std.specs.Prelude.{◌≡◌, ◌∷◌, [], List, codes, decimal, IfOk, string_bytes};
+ghost use Rattle.base_types.specs.declared.placed.PlacedLine.{PlacedLine};
+ghost use Rattle.history_model.specs.Histories.{History};
+ghost use Rattle.history_model.specs.Readable.{IsReadable};
 ghost use Rattle.serial_machine.specs.Checks.{IsChecked};
+ghost use Rattle.serial_machine.specs.declared.checked.Checked.{Checked};
 ghost use Rattle.serial_machine.specs.Texts.{checked_text, code_text};
 ghost use Rattle.verdict_text.specs.Words.{ended, spaced};
 ghost use Rattle.version_store.specs.Histories.{history_of};
@@ -74,3 +78,8 @@ pub fn print_checked(alloc: Global, checked: &Checked) -> Result<Bytes, OutOfMem
     let text = checked_text(alloc, checked)?;
     Ok(Bytes::from_vec(text.into_bytes()))
 }
+
+/// A placement comes to one answer.
+pub fn one_answer_law()
+    ensures { (h : History) (lines : List PlacedLine) (answer other : Checked) → IsReadable h → IsChecked h lines answer → IsChecked h lines other → answer ≡ other }
+{}

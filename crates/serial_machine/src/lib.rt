@@ -12,6 +12,6 @@ mod standing;
 mod steps;
 mod words;
 
-pub use checked::{Checked, print_checked, verify};
+pub use checked::{Checked, one_answer_law, print_checked, verify};
 pub use checking::check;
 pub use fault::{CheckFault, WrongCode};
