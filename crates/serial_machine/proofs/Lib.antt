@@ -12,3 +12,12 @@ pub mod Seeking
 pub mod Lating
 pub mod Entering
 pub mod Telling
+mod Leasts
+mod Numbering
+mod Knowing
+mod Wording
+mod Differing
+mod Firsts
+mod Deciding
+mod Texting
+mod OneAnswer

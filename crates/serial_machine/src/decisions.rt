@@ -6,6 +6,7 @@ ghost use Rattle.serial_machine.specs.Places.{IsUndecided};
 ghost use Rattle.version_store.specs.Histories.{history_of};
 
 use crate::places::line_places;
+use crate::words::event_count;
 use base_types::PlacedLine;
 use version_store::Context;
 
@@ -24,7 +25,7 @@ pub fn first_undecided(context: &Context, lines: &[PlacedLine]) -> Option<u64>
     ensures some { IfSome result (IsLeastLine (IsUndecidedAt (history_of context.now) lines.now)) }
     ensures none { IfNone result (NoLine (IsUndecidedAt (history_of context.now) lines.now)) }
 {
-    for number in 0..context.count() {
+    for number in 0..event_count(context) {
         if is_undecided(context, lines, number) {
             return Some(context.line_of(number));
         }

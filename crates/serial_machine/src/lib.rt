@@ -20,7 +20,7 @@ mod steps;
 mod verdicts;
 mod words;
 
-pub use checked::{Checked, print_checked, verify};
+pub use checked::{Checked, one_answer_law, print_checked, verify};
 pub use checking::check;
 pub use entry::StepFault;
 pub use fault::{CheckFault, WrongCode};

@@ -3,12 +3,13 @@ ghost use Rattle.base_types.specs.Placements.{RisesByLine};
 ghost use Rattle.history_model.specs.Checking.{DiffersAt, HasAnswerWord, HasDecisionWord, HasWords, IsLeastLine, NoLine};
 ghost use Rattle.history_model.specs.Events.{Event};
 ghost use Rattle.history_model.specs.Histories.{IsEvent};
+ghost use Rattle.history_model.specs.Readable.{IsReadable};
 ghost use Rattle.history_model.specs.Words as model;
 ghost use Rattle.serial_machine.specs.Lines.{IsAlike, IsUnlike};
 ghost use Rattle.serial_machine.specs.Words.{IsSaid};
 ghost use Rattle.version_store.specs.Histories.{history_of};
 
-use crate::words::{Word, word_at};
+use crate::words::{Word, event_count, word_at};
 use base_types::{Decision, PlacedAnswer, PlacedDecision, PlacedLine};
 use version_store::Context;
 
@@ -24,12 +25,18 @@ fn has_answer_word(word: Word, answer: PlacedAnswer) -> bool
     }
 }
 
+fn is_same(decision: Decision, other: Decision) -> bool
+    ensures { IsTrue result ↔ (decision ≡ other) }
+{
+    decision == other
+}
+
 // Whether this decision was placed.
 fn is_placed(decided: Decision, placed: Option<PlacedDecision>) -> bool
     ensures { IsTrue result ↔ HasDecisionWord (Some decided) placed }
 {
     match placed {
-        Some(placed) => placed.decision == decided,
+        Some(placed) => is_same(placed.decision, decided),
         None => false,
     }
 }
@@ -43,7 +50,7 @@ fn has_decision_word(decision: Option<Decision>, placed: Option<PlacedDecision>)
     }
 }
 
-// Whether the line has this event's words.
+/// Whether the line has this event's words.
 pub fn has_words(context: &Context, number: u32, line: &PlacedLine) -> bool
     requires { number < length context.now.log }
     ensures { (event : Event) → IsEvent (history_of context.now) number event → IsTrue result ↔ HasWords (history_of context.now) number event line.now }
@@ -84,12 +91,14 @@ pub fn first_difference(context: &Context, lines: &[PlacedLine]) -> Option<u64>
     requires { RisesByLine lines.now }
     ensures some { IfSome result (IsLeastLine (DiffersAt (history_of context.now) lines.now)) }
     ensures none { IfNone result (NoLine (DiffersAt (history_of context.now) lines.now)) }
+    ensures readable { IsReadable (history_of context.now) }
 {
-    for number in 0..context.count() {
+    let count = event_count(context);
+    for number in 0..count {
         if let Some(at) = difference_at(context, lines, number) {
             return Some(at);
         }
     }
-    let further = line_at(lines, context.count())?;
+    let further = line_at(lines, count)?;
     Some(further.line)
 }

@@ -9,11 +9,12 @@ ghost use Rattle.history_model.specs.Words as model;
 ghost use Rattle.serial_machine.specs.Places.{AreOutOfCaches, IsMisplaced};
 ghost use Rattle.version_store.specs.Histories.{history_of};
 
-use crate::words::{Word, word_at};
+use crate::words::{Word, event_count, word_at};
 use base_types::{Moment, PlacedAnswer, PlacedDecision, PlacedLine, Places};
 use version_store::Context;
 use write_groups::{Window, highest, lowest};
 
+/// The place of an answer.
 pub fn answer_place(answer: PlacedAnswer) -> u64
     ensures { result ≡ answer_place answer }
 {
@@ -25,7 +26,7 @@ pub fn answer_place(answer: PlacedAnswer) -> u64
     }
 }
 
-// The place of the answer in the line of this number.
+/// The place of the answer in the line of this number.
 pub fn line_place(lines: &[PlacedLine], number: u32) -> u64
     ensures { result ≡ line_place (slice_get lines.now number) }
 {
@@ -35,6 +36,7 @@ pub fn line_place(lines: &[PlacedLine], number: u32) -> u64
     }
 }
 
+/// The places of a decision.
 pub fn decision_places(decision: Option<PlacedDecision>) -> Places
     ensures { result ≡ decision_places decision }
 {
@@ -65,7 +67,7 @@ fn lies_within(low: u64, high: u64, place: u64) -> bool
     low <= place && place <= high
 }
 
-// Whether the answer of the event of this number can't stand at the place.
+/// Whether the answer of the event of this number can't stand at the place.
 pub fn is_outside(context: &Context, number: u32, place: u64) -> bool
     requires { number < length context.now.log }
     ensures { (event : Event) → IsEvent (history_of context.now) number event
@@ -117,7 +119,7 @@ fn are_cache_places(context: &Context, number: u32, places: &Places) -> bool
         && lies_within(window.low, window.high, places.cluster_bindings)
 }
 
-// Whether a decision is judged that can't have been given at these places.
+/// Whether a decision is judged that can't have been given at these places.
 pub fn is_out_of_caches(context: &Context, number: u32, places: &Places) -> bool
     requires { number < length context.now.log }
     ensures { (event : Event) → IsEvent (history_of context.now) number event
@@ -142,7 +144,7 @@ pub fn first_misplaced(context: &Context, lines: &[PlacedLine]) -> Option<u64>
     ensures some { IfSome result (IsLeastLine (IsMisplacedAt (history_of context.now) lines.now)) }
     ensures none { IfNone result (NoLine (IsMisplacedAt (history_of context.now) lines.now)) }
 {
-    for number in 0..context.count() {
+    for number in 0..event_count(context) {
         if is_misplaced(context, lines, number) {
             return Some(context.line_of(number));
         }

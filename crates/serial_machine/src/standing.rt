@@ -9,7 +9,7 @@ ghost use Rattle.serial_machine.specs.Words.{IsSaid};
 ghost use Rattle.version_store.specs.Histories.{history_of};
 ghost use Rattle.write_groups.specs.Modelled.{event_of};
 
-use crate::words::{Word, word_at};
+use crate::words::{Word, event_count, word_at};
 use base_types::Reason;
 use version_store::Context;
 use write_groups::LogEvent;
@@ -50,7 +50,7 @@ pub fn first_standing(context: &Context) -> Option<(u64, Reason)>
     ensures least { IfSome result (λ found. (other : Reason) → HasCodeAt (history_of context.now) found.0 other → code_number found.1 ≤ code_number other) }
     ensures none { IfNone result (NoLine (HasSomeCodeAt (history_of context.now))) }
 {
-    for number in 0..context.count() {
+    for number in 0..event_count(context) {
         if let Some(reason) = code_at(context, number) {
             return Some((context.line_of(number), reason));
         }

@@ -2,6 +2,7 @@ ghost use Rattle.std.specs.Prelude.{◌≡◌, ◌<◌, ◌==◌, Bool, find, le
 ghost use Rattle.base_types.specs.Keys.{same_key};
 ghost use Rattle.history_model.specs.Events.{Event, Made};
 ghost use Rattle.history_model.specs.Histories.{History, IsEvent};
+ghost use Rattle.history_model.specs.Readable.{IsReadable};
 ghost use Rattle.history_model.specs.Words.{word, answer_word, is_by, removal_word, write_word};
 ghost use Rattle.object_past.specs.Modelled.{maker_of, version_of};
 ghost use Rattle.object_past.specs.Past.{HasPast};
@@ -63,10 +64,11 @@ fn made_word(past: &Past, start: Revision, number: u32, item: &Item) -> Word
     ensures { (h : History) (event : Event) (created : Bool) → h.start ≡ start → HasPast past.now h
         → IsSaid (answer_word h number event (Made (item_of item.now) created)) result }
 {
-    if item.revision.get() <= start.get() {
+    let revision = item.revision.get();
+    if revision <= start.get() {
         return Word::At;
     }
-    match past.at(item.revision.get()) {
+    match past.at(revision) {
         Some(version) => version_word(version, number, item),
         None => Word::At,
     }
@@ -78,7 +80,7 @@ fn removal_at(removals: &[Removal], position: u32) -> Option<&Removal>
     removals.get(position as usize)
 }
 
-// The removal by the event of this number.
+/// The removal by the event of this number.
 pub fn removal_by(past: &Past, number: u32) -> Option<&Removal>
     ensures { option_map (λ removal. removal.now) result ≡ find (λ removal. removal.range.event == number) past.now.removals }
 {
@@ -112,6 +114,14 @@ fn word_of(past: &Past, start: Revision, number: u32, event: &LogEvent) -> Word
         Shown::Free => Word::Nothing,
         Shown::Aside => Word::Nothing,
     }
+}
+
+/// How many events and checkpoints the log has.
+pub fn event_count(context: &Context) -> u32
+    ensures count { result ≡ length context.now.log }
+    ensures readable { IsReadable (history_of context.now) }
+{
+    context.log().len() as u32
 }
 
 /// What the event of this number is in a placement.
