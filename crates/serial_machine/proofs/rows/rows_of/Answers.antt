@@ -12,4 +12,4 @@ returns c =
     let lines = c.args.lines.now in
     let of = subst (λ l. AreRowsOf h (placed_steps h lines) l) (sym (c.in_ok-append-2.ensures.items ∙ ap (λ l. l ++ c.in_ok-reply_rows.field-0.items) c.in_ok-append.ensures.items))
     (rows_join h (placed_puts h) (placed_removals h lines) (placed_replies h lines) _ _ _ c.in_ok-rows.ensures c.in_ok-removal_rows.ensures c.in_ok-reply_rows.ensures) in
-    both_ok _ _ _ c.sorted.result (λ sorted same order. rows_are h c.log-log.ensures.readable lines c.requires.rising c.requires.fitting _ sorted of same order) c.sorted.ensures.same c.sorted.ensures.sorted
+    both_ok _ _ _ c.sorted.result (λ sorted same order. rows_are h c.log-log.ensures.readable lines c.requires.rising c.requires.fitting _ sorted.items of same order) c.sorted.ensures.same c.sorted.ensures.sorted

@@ -1,4 +1,4 @@
-use Rattle.std.proofs.Common.{◌++◌, ◌+◌, ◌∷◌, [], List, Contains, map, take, append_assoc, append-nil, sym, subst, ap, ◌∙◌}
+use Rattle.std.proofs.Common.{◌++◌, ◌+◌, ◌<◌, ◌∷◌, [], List, Contains, map, take, drop, refl, append_assoc, append-nil, sym, subst, ap, ◌∙◌}
 use Rattle.history_model.specs.Machine.{Step, Put}
 use Rattle.object_past.specs.Modelled.{version_of}
 use Rattle.version_store.specs.Histories.{history_of}
@@ -35,4 +35,15 @@ loop-version-preserved c = λ done made.
     ]
 
 pub returns-then-get-upto : goal.returns-then-get-upto
-returns-then-get-upto c = ?
+returns-then-get-upto c = λ done made.
+    let h = history_of c.args.context.now in
+    let versions = c.versions_behind-versions.result.now in
+    let i = c.loop-version.version-index in
+    let v = c.version-item.result in
+    let low = c.args.self.now.place in
+    let high = c.args.upto in
+    let above : c.args.upto < c.version-item.result.revision = rw c.get.ensures.value at c.if-get-upto.true in
+    let stops = late_stops low high versions i v c.loop-version-test.true c.version-item.is (drop (i + 1) versions) (rest_at versions i v c.loop-version-test.true c.version-item.is)
+    (rising_behind versions i c.versions_behind-versions.ensures.rising) above in
+    let all = late_all h c.args.self.now done high versions c.versions.result.now c.args.context.now.versions refl (c.versions.ensures.versions ∙ c.past.ensures.versions) c.versions_behind-versions.ensures.unmade made in
+    subst (λ l. HasMade h c.loop-version.self (done ++ l)) (stops ∙ all) (c.loop-version.invariant done made)
