@@ -1,0 +1,12 @@
+pub mod Words
+pub mod Lines
+pub mod Standing
+pub mod Places
+pub mod Checks
+pub mod Texts
+pub mod Held
+pub mod Stepping
+pub mod Ordered
+pub mod Listed
+pub mod Running
+pub mod Made
