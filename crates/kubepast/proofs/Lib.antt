@@ -8,6 +8,7 @@ pub mod FindingShown
 pub mod JudgingFacts
 pub mod AskedFacts
 pub mod OneAnswerFacts
+pub mod StrictlyFacts
 pub mod VerifyingFacts
 pub mod RunFacts
 pub mod MadeFacts

@@ -4,29 +4,28 @@ use Rattle.std.proofs.lemmas.Option.{same_Some}
 use Rattle.base_types.specs.declared.placed.Outcome.{Outcome}
 use Rattle.base_types.specs.declared.placed.Outcome.TheVariants as printed
 use Rattle.case_maker.specs.Case.{log_text, setup_text}
-use Rattle.base_types.specs.declared.placed.PlacedLine.{PlacedLine}
-use Rattle.history_model.specs.Checking as check
 use Rattle.history_model.specs.Histories.{History}
 use Rattle.history_model.specs.Outcomes as model
 use Rattle.history_model.specs.Readable.{IsReadable}
-use Rattle.history_model.proofs.CheckLaw.{fault_is, one_fault_is}
 use Rattle.history_model.proofs.OneOutcome.{one_outcome_is}
-use Rattle.serial_machine.specs.Checks.{IsChecked, check_code}
-use Rattle.serial_machine.specs.declared.checked.Checked.{Checked}
-use Rattle.serial_machine.specs.declared.checked.Checked.TheVariants.{Holds, Wrong}
-use Rattle.serial_machine.specs.declared.fault.WrongCode.{WrongCode}
-use Rattle.serial_machine.specs.declared.fault.WrongCode.TheVariants.{V1, V2, Judged}
+use Rattle.log_moments.specs.Answers.{IsStrictAnswer}
+use Rattle.log_moments.proofs.OneAnswer.{one_strict_answer}
+use Rattle.serial_machine.specs.Checks.{IsChecked}
+use Rattle.serial_machine.proofs.OneAnswer.{one_answer_is}
 use Rattle.verdict_text.proofs.BegunFacts.{explained_agree}
 use Rattle.context_intake.proofs.OneContextFacts.{one_context, one_refusal, one_way}
 use Rattle.version_store.specs.Answered.{names}
 use Rattle.version_store.specs.Histories.{history_of}
 use Rattle.version_store.specs.Known.{Known}
-use Rattle.kubepast.specs.Command.{Asked, IsAsked, Judge, Make, Verify}
+use Rattle.kubepast.specs.Command.{Asked, IsAsked, Judge, Make, Strict, Verify}
 use Rattle.kubepast.specs.Endings.{Answer}
 use Rattle.window_writes.specs.Lines.{write_line}
 use Rattle.kubepast.specs.Judging.{IsJudged, IsOutcomeOf, IsPrinted}
 use Rattle.kubepast.specs.OneAnswer.{OneAnswer}
-use Rattle.kubepast.specs.Program.{IsAnswerTo, judged_answer, made_answer, verified_answer}
+use Rattle.kubepast.specs.Program.{IsAnswerTo, judged_answer, made_answer, strictly_answer, verified_answer}
+use Rattle.kubepast.specs.Strictly.{IsExplained, IsStrictlyJudged}
+use Rattle.kubepast.specs.declared.strictly.StrictlyJudged.{StrictlyJudged}
+use Rattle.kubepast.specs.declared.strictly.StrictlyJudged.TheVariants.{Plain, Settled}
 use Rattle.kubepast.specs.Verifying.{IsVerified}
 use Rattle.kubepast.specs.declared.verified.Verified.{Verified}
 use Rattle.kubepast.specs.declared.verified.Verified.TheVariants as verified
@@ -58,26 +57,23 @@ judged_once setup log (Verdict a) (Verdict b) (known, context, outcome) (known',
     let same = one_context setup log known known' context context' in
     ap Verdict (one_verdict known known' a b same.0 same.1 same.2 context'.told.readable outcome outcome')
 
-one_code : (a b : WrongCode) → check_code a ≡ check_code b → a ≡ b
-one_code V1 V1 e = refl
-one_code V1 V2 e = absurd (let no : check.V1 ≡ check.V2 = e in cc)
-one_code V1 (Judged reason) e = absurd (let no : check.V1 ≡ check.Judged reason = e in cc)
-one_code V2 V1 e = absurd (let no : check.V2 ≡ check.V1 = e in cc)
-one_code V2 V2 e = refl
-one_code V2 (Judged reason) e = absurd (let no : check.V2 ≡ check.Judged reason = e in cc)
-one_code (Judged reason) V1 e = absurd (let no : check.Judged reason ≡ check.V1 = e in cc)
-one_code (Judged reason) V2 e = absurd (let no : check.Judged reason ≡ check.V2 = e in cc)
-one_code (Judged a) (Judged b) e = ap Judged (let judged : check.Judged a ≡ check.Judged b = e in cc)
-
--- a placement has one first fault, or none
-checked_once : (h : History) (lines : List PlacedLine) (a b : Checked) → IsReadable h → IsChecked h lines a → IsChecked h lines b → a ≡ b
-checked_once h lines Holds Holds readable x y = refl
-checked_once h lines Holds (Wrong line code) readable x y = absurd (fault_is h readable lines line (check_code code) y x)
-checked_once h lines (Wrong line code) Holds readable x y = absurd (fault_is h readable lines line (check_code code) x y)
-checked_once h lines (Wrong line code) (Wrong line' code') readable x y =
-    let same = one_fault_is h readable lines line line' (check_code code) (check_code code') x y in
-    let codes : code ≡ code' = one_code code code' same.1 in
-    λ i. Wrong (same.0 i) (codes i)
+strictly_once : (setup log : List ℕ) (a b : StrictlyJudged) → IsStrictlyJudged setup log a → IsStrictlyJudged setup log b → a ≡ b
+strictly_once setup log (Plain a) (Plain b) x y = ap Plain (judged_once setup log a b x.0 y.0)
+strictly_once setup log (Plain (Refused a)) (Settled outcome answer) x (known, context, settled) = absurd (one_way setup log a known x.0 context)
+strictly_once setup log (Plain (Verdict a)) (Settled outcome answer) x (known, context, settled) =
+    let here = x.0 in
+    let same = one_context setup log here.0 known here.1 context in
+    absurd (x.1 (subst IsExplained (sym (one_verdict here.0 known a outcome same.0 same.1 same.2 context.told.readable here.2 settled.is)) settled.explained))
+strictly_once setup log (Settled outcome answer) (Plain (Refused b)) (known, context, settled) y = absurd (one_way setup log b known y.0 context)
+strictly_once setup log (Settled outcome answer) (Plain (Verdict b)) (known, context, settled) y =
+    let here = y.0 in
+    let same = one_context setup log known here.0 context here.1 in
+    absurd (y.1 (subst IsExplained (one_verdict known here.0 outcome b same.0 same.1 same.2 here.1.told.readable settled.is here.2) settled.explained))
+strictly_once setup log (Settled outcome answer) (Settled outcome' answer') (known, context, settled) (known', context', settled') =
+    let same = one_context setup log known known' context context' in
+    let outcomes = one_verdict known known' outcome outcome' same.0 same.1 same.2 context'.told.readable settled.is settled'.is in
+    let answers = one_strict_answer (history_of known') answer answer' (subst (λ h. IsStrictAnswer h answer) same.2 settled.strict) settled'.strict in
+    λ i. Settled (outcomes i) (answers i)
 
 verified_once : (setup log placement : List ℕ) (a b : Verified) → IsVerified setup log placement a → IsVerified setup log placement b → a ≡ b
 verified_once setup log placement (verified.Refused a) (verified.Refused b) x y = ap verified.Refused (one_refusal setup log a b x y)
@@ -98,11 +94,13 @@ verified_once setup log placement (verified.Judged checked) (verified.Misspelt l
 verified_once setup log placement (verified.Judged a) (verified.Judged b) (known, context, x) (known', context', y) =
     let same = one_context setup log known known' context context' in
     let lines : x.1.0 ≡ y.1.0 = explained_agree x.1.0 y.1.0 x.1.1.lines_are y.1.1.lines_are (x.1.1.spelled ∙ sym y.1.1.spelled) in
-    ap verified.Judged (checked_once (history_of known') y.1.0 a b context'.told.readable (subst (λ l. IsChecked (history_of known') l a) lines (subst (λ h. IsChecked h x.1.0 a) same.2 x.1.2)) y.1.2)
+    ap verified.Judged (one_answer_is (history_of known') y.1.0 a b context'.told.readable (subst (λ l. IsChecked (history_of known') l a) lines (subst (λ h. IsChecked h x.1.0 a) same.2 x.1.2)) y.1.2)
 
 answered_once : (asked : Option Asked) (files : List ℕ → List ℕ) (a b : Answer) → IsAnswerTo asked files a → IsAnswerTo asked files b → a ≡ b
 answered_once None files a b x y = x ∙ sym y
 answered_once (Some (Judge setup log)) files a b (judged, is, told) (judged', is', told') = told ∙ ap judged_answer (judged_once (files setup) (files log) judged judged' is is') ∙ sym told'
+answered_once (Some (Strict setup log)) files a b (found, is, told) (found', is', told') =
+    told ∙ ap strictly_answer (strictly_once (files setup) (files log) found found' is is') ∙ sym told'
 answered_once (Some (Verify setup log placement)) files a b (found, is, told) (found', is', told') =
     told ∙ ap verified_answer (verified_once (files setup) (files log) (files placement) found found' is is') ∙ sym told'
 answered_once (Some (Make number events)) files a b (judged, is, told) (judged', is', told') = told ∙ ap (made_answer number events) (judged_once setup_text (log_text number events) judged judged' is is') ∙ sym told'

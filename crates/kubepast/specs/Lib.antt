@@ -6,3 +6,4 @@ pub mod OneAnswer
 pub mod Program
 pub mod Summary
 pub mod Verifying
+pub mod Strictly

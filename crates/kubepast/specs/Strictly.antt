@@ -34,3 +34,19 @@ pub record AreSettled (known : Known) (outcome : Outcome) (answer : StrictAnswer
 abbrev pub IsStrictlyJudged : List ℕ → List ℕ → StrictlyJudged → Type 0
 IsStrictlyJudged setup log (Plain found) = IsJudged setup log found × IsLeftPlain found
 IsStrictlyJudged setup log (Settled outcome answer) = (known : Known) × IsContextOf setup log known × AreSettled known outcome answer
+
+-- what the setup and the log come to, of what they tell
+abbrev pub IsSettledFrom : Known → StrictlyJudged → Type 0
+IsSettledFrom known (Plain (judged.Refused refusal)) = ⊥
+IsSettledFrom known (Plain (judged.Verdict outcome)) = IsOutcomeOf known outcome × (IsExplained outcome → ⊥)
+IsSettledFrom known (Settled outcome answer) = AreSettled known outcome answer
+
+abbrev pub IsStrictlyFrom : Told → StrictlyJudged → Type 0
+IsStrictlyFrom (told.Refused refusal) found = found ≡ Plain (judged.Refused refusal)
+IsStrictlyFrom (told.Context known) found = IsSettledFrom known found
+
+-- the log was judged
+abbrev pub IsVerdict : StrictlyJudged → Type 0
+IsVerdict (Plain (judged.Refused refusal)) = ⊥
+IsVerdict (Plain (judged.Verdict outcome)) = Unit {0}
+IsVerdict (Settled outcome answer) = Unit {0}

@@ -11,6 +11,7 @@ mod outcome;
 mod report;
 mod run;
 mod source;
+mod strictly;
 mod summary;
 mod verified;
 mod verifying;

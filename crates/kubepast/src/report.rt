@@ -1,13 +1,15 @@
-ghost use Rattle.std.specs.Prelude.{◌≡◌, IfOk, string_bytes};
-ghost use Rattle.kubepast.specs.Program.{answer, checked_status, judged_answer, made_answer, outcome_status, refusal_answer, report_answer, status_number, verified_answer};
+ghost use Rattle.std.specs.Prelude.{◌≡◌, ◌++◌, IfOk, string_bytes};
+ghost use Rattle.kubepast.specs.Program.{answer, checked_status, judged_answer, made_answer, outcome_status, refusal_answer, report_answer, settled_answer, status_number, strictly_answer, verified_answer};
 ghost use Rattle.context_intake.specs.Refusals.{event_rule_number, limit_word, setup_rule_number};
 
 use crate::judged::Judged;
+use crate::strictly::StrictlyJudged;
 use crate::summary::summary;
 use crate::verified::Verified;
 use audit_event::Malformed;
 use base_types::{Bytes, OutOfMemory, Outcome};
 use context_intake::{Limit, Refusal};
+use log_moments::{StrictAnswer, print_strict};
 use serial_machine::{Checked, print_checked};
 use setup_file::SetupRule;
 use std::alloc::Global;
@@ -79,6 +81,45 @@ pub fn made_report(
             text: summary(alloc, number, events, outcome)?,
         }),
     }
+}
+
+/// The report of what a setup and a log come to where moments are asked for.
+pub fn strictly_report(alloc: Global, found: &StrictlyJudged) -> Result<Report, OutOfMemory>
+    ensures { IfOk result (λ report. report_answer report ≡ strictly_answer found.now) }
+{
+    match found {
+        StrictlyJudged::Plain(judged) => judged_report(alloc, judged),
+        StrictlyJudged::Settled { outcome, answer } => settled_report(alloc, outcome, answer),
+    }
+}
+
+fn settled_report(
+    alloc: Global,
+    outcome: &Outcome,
+    answer: &StrictAnswer,
+) -> Result<Report, OutOfMemory>
+    ensures { IfOk result (λ report. report_answer report ≡ settled_answer outcome.now answer.now) }
+{
+    let text = print_strict(alloc, answer)?;
+    match answer {
+        StrictAnswer::Strict(_) => Ok(Report {
+            status: Status::Explained,
+            text: put_behind(print_outcome(alloc, outcome)?, &text)?,
+        }),
+        StrictAnswer::Crossed { .. } => Ok(Report {
+            status: Status::Unexplained,
+            text,
+        }),
+    }
+}
+
+// One text behind another.
+fn put_behind(front: Bytes, text: &Bytes) -> Result<Bytes, OutOfMemory>
+    ensures { IfOk result (λ whole. whole ≡ front ++ text.now) }
+{
+    let mut bytes = front.into_vec();
+    bytes.extend_from_slice(text.as_slice())?;
+    Ok(Bytes::from_vec(bytes))
 }
 
 /// The report of what a placement comes to.

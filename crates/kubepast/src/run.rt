@@ -5,7 +5,7 @@ ghost use Rattle.edge_io.specs.Faults.{Rose};
 ghost use Rattle.edge_io.specs.Whole.{TakesWhole};
 ghost use Rattle.log_intake.specs.Setup.{TakesSetup};
 ghost use Rattle.log_intake.specs.Taking.{TakesLog};
-ghost use Rattle.kubepast.specs.Command.{AsksOf, IsAsked, Judge, Make, Verify, most_made};
+ghost use Rattle.kubepast.specs.Command.{AsksOf, IsAsked, Judge, Make, Strict, Verify, most_made};
 ghost use Rattle.kubepast.specs.Verifying.{most_placement};
 ghost use Rattle.kubepast.specs.Endings.{IsAnswered, Tells, Ends};
 ghost use Rattle.kubepast.specs.Program.{Concludes, IsAnswer, IsAnswerTo, report_answer, status_number, usage_answer};
@@ -13,7 +13,8 @@ ghost use Rattle.kubepast.specs.Program.{Concludes, IsAnswer, IsAnswerTo, report
 use crate::ending::end_with;
 use crate::judging::{Gates, judge};
 use crate::made::judge_made;
-use crate::report::{Report, judged_report, made_report, verified_report};
+use crate::report::{Report, judged_report, made_report, strictly_report, verified_report};
+use crate::strictly::judge_strictly;
 use crate::verifying::verify;
 use crate::words::{Command, read_words};
 use context_intake::{Refusal, Stop};
@@ -71,6 +72,10 @@ pub fn run<R: Threads + Sync, D: Desk, K: Sink, G: Gate, H: Gate>(
             let found = judged(rt, alloc, desk, setup, log, gates);
             conclude(out, found)
         }
+        Command::Strict { setup, log } => {
+            let found = strictly(rt, alloc, desk, setup, log, gates);
+            conclude(out, found)
+        }
         Command::Verify {
             setup,
             log,
@@ -117,6 +122,28 @@ fn judged<R: Threads + Sync, D: Desk, G: Gate, H: Gate>(
 {
     let judged = judge(rt, alloc, desk, setup, log, gates)?;
     Ok(judged_report(alloc, &judged)?)
+}
+
+// Judges a log by a setup, each by its name, and asks for moments.
+fn strictly<R: Threads + Sync, D: Desk, G: Gate, H: Gate>(
+    rt: &R,
+    alloc: Global,
+    desk: &mut D,
+    setup: &str,
+    log: &str,
+    gates: Gates<'_, G, H>,
+) -> Result<Report, Stop>
+    requires { setup.now ≢ log.now }
+    ensures answered { IfOk result (λ report. (files : List ℕ → List ℕ) → Tells (D.left desk.old) files
+        → IsAnswerTo (Some (Strict setup.now log.now)) files (report_answer report)) }
+    ensures whole { IfOk result (λ report. (status_number report.status ≡ 0) ⊎ (status_number report.status ≡ 1)
+        → IsAtEnd (D.left desk.new setup.now) × IsAtEnd (D.left desk.new log.now)) }
+    ensures fault { IsErrOf result Stop.ReadFault → Rose (D.faults desk.old) (D.faults desk.new) }
+    ensures setup_taken { TakesSetup (D.left desk.old setup.now) (D.left desk.new setup.now) (IsErrOf result Stop.ReadFault) }
+    ensures log_taken { TakesLog (D.left desk.old log.now) (D.left desk.new log.now) (IsErrOf result Stop.ReadFault) }
+{
+    let found = judge_strictly(rt, alloc, desk, setup, log, gates)?;
+    Ok(strictly_report(alloc, &found)?)
 }
 
 // Checks a placement again, by a setup and a log, each by its name.

@@ -17,7 +17,10 @@ pub enum Command<'a> {
         log: &'a str,
     },
     /// `judge --strict SETUP LOG`
-    Strict { setup: &'a str, log: &'a str },
+    Strict {
+        setup: &'a str,
+        log: &'a str,
+    },
     /// `verify SETUP LOG PLACEMENT`
     Verify {
         setup: &'a str,

@@ -26,4 +26,3 @@ returns-clause-setup_taken g c = setup_as _ _ _ (RefusesNothing c.read_context.r
 
 pub returns-clause-log_taken : goal.returns-clause-log_taken
 returns-clause-log_taken g c = log_as _ _ _ (RefusesNothing c.read_context.result) _ refl (λ is. absurd (let no : Ok c.in_ok-judged.judged ≡ Err ReadFault = is in cc)) c.read_context.ensures.log_taken
-
