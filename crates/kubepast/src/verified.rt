@@ -2,7 +2,7 @@ use context_intake::Refusal;
 use serial_machine::Checked;
 
 /// What a placement comes to by a setup and a log.
-#[derive(Clone, Copy, Debug, PartialEq, Eq)]
+#[derive(Clone, Copy)]
 pub enum Verified {
     /// The setup or the log tells nothing.
     Refused(Refusal),
