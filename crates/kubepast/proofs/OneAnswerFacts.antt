@@ -2,6 +2,7 @@
 use Rattle.std.proofs.Common.{◌≡◌, ℕ, ◌∷◌, [], ◌^◌, ◌<◌, ◌≤◌, ◌++◌, List, Option, Some, None, Ok, Err, length, map, slice_get, inl, inr, refl, sym, ◌∙◌, ap, subst, codes, decimal, arith}
 use Rattle.std.proofs.lemmas.Option.{same_Some}
 use Rattle.base_types.specs.declared.placed.Outcome.{Outcome}
+use Rattle.base_types.specs.declared.placed.PlacedLine.{PlacedLine}
 use Rattle.base_types.specs.declared.placed.Outcome.TheVariants as printed
 use Rattle.case_maker.specs.Case.{log_text, setup_text}
 use Rattle.history_model.specs.Histories.{History}
@@ -11,7 +12,7 @@ use Rattle.history_model.proofs.OneOutcome.{one_outcome_is}
 use Rattle.log_moments.specs.Answers.{IsStrictAnswer}
 use Rattle.log_moments.proofs.OneAnswer.{one_strict_answer}
 use Rattle.serial_machine.specs.Checks.{IsChecked}
-use Rattle.serial_machine.proofs.OneAnswer.{one_answer_is}
+use Rattle.serial_machine.specs.declared.checked.Checked.{Checked}
 use Rattle.verdict_text.proofs.BegunFacts.{explained_agree}
 use Rattle.context_intake.proofs.OneContextFacts.{one_context, one_refusal, one_way}
 use Rattle.version_store.specs.Answered.{names}
@@ -75,38 +76,42 @@ strictly_once setup log (Settled outcome answer) (Settled outcome' answer') (kno
     let answers = one_strict_answer (history_of known') answer answer' (subst (λ h. IsStrictAnswer h answer) same.2 settled.strict) settled'.strict in
     λ i. Settled (outcomes i) (answers i)
 
-verified_once : (setup log placement : List ℕ) (a b : Verified) → IsVerified setup log placement a → IsVerified setup log placement b → a ≡ b
-verified_once setup log placement (verified.Refused a) (verified.Refused b) x y = ap verified.Refused (one_refusal setup log a b x y)
-verified_once setup log placement (verified.Refused a) verified.TooLong x (known, context, of) = absurd (one_way setup log a known x context)
-verified_once setup log placement (verified.Refused a) (verified.Misspelt line) x (known, context, of) = absurd (one_way setup log a known x context)
-verified_once setup log placement (verified.Refused a) (verified.Judged checked) x (known, context, of) = absurd (one_way setup log a known x context)
-verified_once setup log placement verified.TooLong (verified.Refused b) (known, context, of) y = absurd (one_way setup log b known y context)
-verified_once setup log placement verified.TooLong verified.TooLong x y = refl
-verified_once setup log placement verified.TooLong (verified.Misspelt line) (known, context, long) (known', context', short) = absurd (let few = short.0 in omega (arith, long, few))
-verified_once setup log placement verified.TooLong (verified.Judged checked) (known, context, long) (known', context', short) = absurd (let few = short.0 in omega (arith, long, few))
-verified_once setup log placement (verified.Misspelt line) (verified.Refused b) (known, context, of) y = absurd (one_way setup log b known y context)
-verified_once setup log placement (verified.Misspelt line) verified.TooLong (known, context, short) (known', context', long) = absurd (let few = short.0 in omega (arith, long, few))
-verified_once setup log placement (verified.Misspelt line) (verified.Misspelt line') (known, context, x) (known', context', y) = ap verified.Misspelt (y.1.alone line x.1.breaks)
-verified_once setup log placement (verified.Misspelt line) (verified.Judged checked) (known, context, x) (known', context', y) = absurd (x.1.refused (y.1.0, y.1.1.lines_are, y.1.1.spelled))
-verified_once setup log placement (verified.Judged checked) (verified.Refused b) (known, context, of) y = absurd (one_way setup log b known y context)
-verified_once setup log placement (verified.Judged checked) verified.TooLong (known, context, short) (known', context', long) = absurd (let few = short.0 in omega (arith, long, few))
-verified_once setup log placement (verified.Judged checked) (verified.Misspelt line) (known, context, x) (known', context', y) = absurd (y.1.refused (x.1.0, x.1.1.lines_are, x.1.1.spelled))
-verified_once setup log placement (verified.Judged a) (verified.Judged b) (known, context, x) (known', context', y) =
+-- a placement comes to one answer
+abbrev pub OneCheck : Type 0
+OneCheck = (h : History) (lines : List PlacedLine) (answer other : Checked) → IsReadable h → IsChecked h lines answer → IsChecked h lines other → answer ≡ other
+
+verified_once : OneCheck → (setup log placement : List ℕ) (a b : Verified) → IsVerified setup log placement a → IsVerified setup log placement b → a ≡ b
+verified_once once setup log placement (verified.Refused a) (verified.Refused b) x y = ap verified.Refused (one_refusal setup log a b x y)
+verified_once once setup log placement (verified.Refused a) verified.TooLong x (known, context, of) = absurd (one_way setup log a known x context)
+verified_once once setup log placement (verified.Refused a) (verified.Misspelt line) x (known, context, of) = absurd (one_way setup log a known x context)
+verified_once once setup log placement (verified.Refused a) (verified.Judged checked) x (known, context, of) = absurd (one_way setup log a known x context)
+verified_once once setup log placement verified.TooLong (verified.Refused b) (known, context, of) y = absurd (one_way setup log b known y context)
+verified_once once setup log placement verified.TooLong verified.TooLong x y = refl
+verified_once once setup log placement verified.TooLong (verified.Misspelt line) (known, context, long) (known', context', short) = absurd (let few = short.0 in omega (arith, long, few))
+verified_once once setup log placement verified.TooLong (verified.Judged checked) (known, context, long) (known', context', short) = absurd (let few = short.0 in omega (arith, long, few))
+verified_once once setup log placement (verified.Misspelt line) (verified.Refused b) (known, context, of) y = absurd (one_way setup log b known y context)
+verified_once once setup log placement (verified.Misspelt line) verified.TooLong (known, context, short) (known', context', long) = absurd (let few = short.0 in omega (arith, long, few))
+verified_once once setup log placement (verified.Misspelt line) (verified.Misspelt line') (known, context, x) (known', context', y) = ap verified.Misspelt (y.1.alone line x.1.breaks)
+verified_once once setup log placement (verified.Misspelt line) (verified.Judged checked) (known, context, x) (known', context', y) = absurd (x.1.refused (y.1.0, y.1.1.lines_are, y.1.1.spelled))
+verified_once once setup log placement (verified.Judged checked) (verified.Refused b) (known, context, of) y = absurd (one_way setup log b known y context)
+verified_once once setup log placement (verified.Judged checked) verified.TooLong (known, context, short) (known', context', long) = absurd (let few = short.0 in omega (arith, long, few))
+verified_once once setup log placement (verified.Judged checked) (verified.Misspelt line) (known, context, x) (known', context', y) = absurd (y.1.refused (x.1.0, x.1.1.lines_are, x.1.1.spelled))
+verified_once once setup log placement (verified.Judged a) (verified.Judged b) (known, context, x) (known', context', y) =
     let same = one_context setup log known known' context context' in
     let lines : x.1.0 ≡ y.1.0 = explained_agree x.1.0 y.1.0 x.1.1.lines_are y.1.1.lines_are (x.1.1.spelled ∙ sym y.1.1.spelled) in
-    ap verified.Judged (one_answer_is (history_of known') y.1.0 a b context'.told.readable (subst (λ l. IsChecked (history_of known') l a) lines (subst (λ h. IsChecked h x.1.0 a) same.2 x.1.2)) y.1.2)
+    ap verified.Judged (once (history_of known') y.1.0 a b context'.told.readable (subst (λ l. IsChecked (history_of known') l a) lines (subst (λ h. IsChecked h x.1.0 a) same.2 x.1.2)) y.1.2)
 
-answered_once : (asked : Option Asked) (files : List ℕ → List ℕ) (a b : Answer) → IsAnswerTo asked files a → IsAnswerTo asked files b → a ≡ b
-answered_once None files a b x y = x ∙ sym y
-answered_once (Some (Judge setup log)) files a b (judged, is, told) (judged', is', told') = told ∙ ap judged_answer (judged_once (files setup) (files log) judged judged' is is') ∙ sym told'
-answered_once (Some (Strict setup log)) files a b (found, is, told) (found', is', told') =
+answered_once : OneCheck → (asked : Option Asked) (files : List ℕ → List ℕ) (a b : Answer) → IsAnswerTo asked files a → IsAnswerTo asked files b → a ≡ b
+answered_once once None files a b x y = x ∙ sym y
+answered_once once (Some (Judge setup log)) files a b (judged, is, told) (judged', is', told') = told ∙ ap judged_answer (judged_once (files setup) (files log) judged judged' is is') ∙ sym told'
+answered_once once (Some (Strict setup log)) files a b (found, is, told) (found', is', told') =
     told ∙ ap strictly_answer (strictly_once (files setup) (files log) found found' is is') ∙ sym told'
-answered_once (Some (Verify setup log placement)) files a b (found, is, told) (found', is', told') =
-    told ∙ ap verified_answer (verified_once (files setup) (files log) (files placement) found found' is is') ∙ sym told'
-answered_once (Some (Make number events)) files a b (judged, is, told) (judged', is', told') = told ∙ ap (made_answer number events) (judged_once setup_text (log_text number events) judged judged' is is') ∙ sym told'
+answered_once once (Some (Verify setup log placement)) files a b (found, is, told) (found', is', told') =
+    told ∙ ap verified_answer (verified_once once (files setup) (files log) (files placement) found found' is is') ∙ sym told'
+answered_once once (Some (Make number events)) files a b (judged, is, told) (judged', is', told') = told ∙ ap (made_answer number events) (judged_once setup_text (log_text number events) judged judged' is is') ∙ sym told'
 
-pub one_answer : OneAnswer
-one_answer = λ words files a b (asked, spelled, x) (asked', spelled', y). once words files a b asked asked' spelled spelled' x y
+pub one_answer : OneCheck → OneAnswer
+one_answer check = λ words files a b (asked, spelled, x) (asked', spelled', y). once words files a b asked asked' spelled spelled' x y
   where
     once : (words : List (List ℕ)) (files : List ℕ → List ℕ) (a b : Answer) (asked asked' : Option Asked) → IsAsked words asked → IsAsked words asked' → IsAnswerTo asked files a → IsAnswerTo asked' files b → a ≡ b
-    once words files a b asked asked' spelled spelled' x y = answered_once asked files a b x (subst (λ o. IsAnswerTo o files b) (one_asked words asked' asked spelled' spelled) y)
+    once words files a b asked asked' spelled spelled' x y = answered_once check asked files a b x (subst (λ o. IsAnswerTo o files b) (one_asked words asked' asked spelled' spelled) y)

@@ -1,5 +1,5 @@
 -- Answers that are passed on.
-use Rattle.std.proofs.Common.{◌≡◌, ℕ, List, Option, Some, Result, Ok, Err, IfOk, inl, inr, refl, sym, ◌∙◌, arith}
+use Rattle.std.proofs.Common.{◌≡◌, ℕ, ◌⊎◌, List, Option, Some, Result, Ok, Err, IfOk, inl, inr, refl, sym, ◌∙◌, arith}
 use Rattle.edge_io.specs.Faults.{Rose}
 use Rattle.kubepast.specs.Command.{Asked, IsAsked}
 use Rattle.kubepast.specs.Endings.{Answer, IsAnswered}
@@ -30,6 +30,20 @@ module _ (faults_before faults_now : ℕ) (before now : Option (List ℕ)) (resu
   concluded_fault (Ok report) (inr (part, rose, rest)) is = absurd (omega (arith, part, is))
   concluded_fault (Err ReadFault) ends is = refl
   concluded_fault (Err OutOfMemory) ends is = absurd (let memory = ends.0 in omega (arith, memory, is))
+
+  -- what holds with the statuses of a verdict holds of the report
+  pub concluded_whole : (Q : Type 0) (found : Result Report Stop) → IfOk found (λ report. (status_number report.status ≡ 0) ⊎ (status_number report.status ≡ 1) → Q)
+      → Concludes found faults_before faults_now before now result → (result ≡ 0) ⊎ (result ≡ 1) → Q
+  concluded_whole Q (Ok report) holds (inl (whole, rest)) (inl is) = holds (inl (sym whole ∙ is))
+  concluded_whole Q (Ok report) holds (inl (whole, rest)) (inr is) = holds (inr (sym whole ∙ is))
+  concluded_whole Q (Ok report) holds (inr (part, rest)) (inl is) = absurd (omega (arith, part, is))
+  concluded_whole Q (Ok report) holds (inr (part, rest)) (inr is) = absurd (omega (arith, part, is))
+  concluded_whole Q (Err ReadFault) holds (inl (whole, rest)) (inl is) = absurd (omega (arith, whole, is))
+  concluded_whole Q (Err ReadFault) holds (inl (whole, rest)) (inr is) = absurd (omega (arith, whole, is))
+  concluded_whole Q (Err ReadFault) holds (inr (part, rest)) (inl is) = absurd (omega (arith, part, is))
+  concluded_whole Q (Err ReadFault) holds (inr (part, rest)) (inr is) = absurd (omega (arith, part, is))
+  concluded_whole Q (Err OutOfMemory) holds ends (inl is) = absurd (let memory = ends.0 in omega (arith, memory, is))
+  concluded_whole Q (Err OutOfMemory) holds ends (inr is) = absurd (let memory = ends.0 in omega (arith, memory, is))
 
 -- the answer to the words
 pub asked_answer : (words : List (List ℕ)) (asked : Asked) (files : List ℕ → List ℕ) (found : Result Report Stop) → IsAsked words (Some asked)

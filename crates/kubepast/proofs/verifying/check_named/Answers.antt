@@ -1,4 +1,5 @@
-use Rattle.std.proofs.Common.{◌≡◌, Ok, Err, refl}
+use Rattle.std.proofs.Common.{◌≡◌, Ok, Err, refl, sym, subst}
+use Rattle.edge_io.specs.Whole.{StaysWithin}
 use Rattle.context_intake.specs.declared.stop.Stop.TheVariants.{OutOfMemory, ReadFault}
 use Rattle.kubepast.specs.declared.verified.Verified.TheVariants.{TooLong}
 use Rattle.kubepast.proofs.VerifyingFacts.{whole_from, whole_untouched}
@@ -14,10 +15,10 @@ pub returns-in-Ok-read_whole-clause-taken : goal.returns-in-Ok-read_whole-clause
 returns-in-Ok-read_whole-clause-taken g c = whole_from _ _ _ _ _ _ refl (λ is. tt) c.in-Ok-read_whole.ensures.reads.taken
 
 pub returns-in-Err-TooLong-clause-taken : goal.returns-in-Err-TooLong-clause-taken
-returns-in-Err-TooLong-clause-taken g c = ?
+returns-in-Err-TooLong-clause-taken g c = whole_from _ _ _ _ _ _ refl (λ is. absurd (let no : Ok TooLong ≡ Err ReadFault = is in cc)) c.in-Err-TooLong.ensures.reads.taken
 
 pub returns-in-Err-ReadFault-clause-taken : goal.returns-in-Err-ReadFault-clause-taken
-returns-in-Err-ReadFault-clause-taken g c = ?
+returns-in-Err-ReadFault-clause-taken g c = whole_from _ _ _ _ _ _ refl (λ _. subst (λ s. StaysWithin (Err s)) (sym c.in-Err-ReadFault.field-0-is) tt) c.in-Err-ReadFault.ensures.reads.taken
 
 pub returns-clause-taken : goal.returns-clause-taken
-returns-clause-taken g c = ?
+returns-clause-taken g c = whole_from _ _ _ _ _ _ refl (λ is. absurd (let no : Err OutOfMemory ≡ Err ReadFault = is in cc)) c.in-Err-OutOfMemory.ensures.reads.taken

@@ -1,5 +1,6 @@
 use Rattle.std.proofs.Common.{◌≡◌, ◌≢◌, ℕ, List, Some, IsErrOf, refl, sym, ◌∙◌, subst, rules, arith}
 use Rattle.std.proofs.lemmas.Result.{IfOk-weaker}
+use Rattle.std.specs.Io.KnownBytes.{IsAtEnd}
 use Rattle.context_intake.specs.Contexts.{IsOfContext, IsToldBy, RefusesNothing}
 use Rattle.context_intake.specs.declared.stop.Stop.TheVariants.{ReadFault}
 use Rattle.context_intake.proofs.ReadingFacts.{log_as, setup_as}
@@ -27,7 +28,13 @@ returns-clause-verified g c =
     (subst (λ t. IsVerifiedFrom t p verified) (c.deref.ensures ∙ c.new-told.ensures) (from p (c.in_ok-found.ensures.others c.args.placement.now c.requires.not_setup c.requires.not_log ∙ tp)))) c.verified_of.ensures.verified
 
 pub returns-clause-whole : goal.returns-clause-whole
-returns-clause-whole g c = ?
+returns-clause-whole g c =
+    IfOk-weaker c.verified_of.result _ _ (λ verified ended checked is.
+    let both = ended checked is in
+    let known = context_told c.in_ok-found.found (subst IsOfContext (c.deref.ensures ∙ c.new-told.ensures) both.0) in
+    let ends = c.in_ok-found.ensures.whole known.0 known.1 in
+    (subst IsAtEnd (sym (c.verified_of.ensures.others c.args.setup.now (λ e. c.requires.not_setup (sym e)))) ends.0, subst IsAtEnd (sym (c.verified_of.ensures.others c.args.log.now (λ e. c.requires.not_log (sym e)))) ends.1, both.1))
+    c.verified_of.ensures.whole
 
 pub returns-clause-fault : goal.returns-clause-fault
 returns-clause-fault g c = λ is. rose_from _ _ _ c.in_ok-found.ensures.counted (c.verified_of.ensures.fault is).1
