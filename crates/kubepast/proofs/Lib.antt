@@ -6,10 +6,7 @@ pub mod OutcomeTrees
 pub mod OutcomeSharing
 pub mod FindingShown
 pub mod JudgingFacts
-pub mod AskedFacts
 pub mod OneAnswerFacts
-pub mod StrictlyFacts
-pub mod VerifyingFacts
 pub mod RunFacts
 pub mod MadeFacts
 pub mod ReportFacts

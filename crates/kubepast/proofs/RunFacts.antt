@@ -1,7 +1,7 @@
 -- Answers that are passed on.
-use Rattle.std.proofs.Common.{◌≡◌, ℕ, ◌⊎◌, List, Option, Some, Result, Ok, Err, IfOk, inl, inr, refl, sym, ◌∙◌, arith}
+use Rattle.std.proofs.Common.{◌≡◌, ℕ, List, [], ◌∷◌, Option, Some, Result, Ok, Err, IfOk, inl, inr, refl, sym, ◌∙◌, ap, subst, codes, arith}
 use Rattle.edge_io.specs.Faults.{Rose}
-use Rattle.kubepast.specs.Command.{Asked, IsAsked}
+use Rattle.kubepast.specs.Command.{Asked, IsAsked, Judge, Make}
 use Rattle.kubepast.specs.Endings.{Answer, IsAnswered}
 use Rattle.kubepast.specs.Program.{Concludes, IsAnswer, IsAnswerTo, report_answer, status_number}
 use Rattle.kubepast.specs.declared.report.Report.{Report}
@@ -31,20 +31,6 @@ module _ (faults_before faults_now : ℕ) (before now : Option (List ℕ)) (resu
   concluded_fault (Err ReadFault) ends is = refl
   concluded_fault (Err OutOfMemory) ends is = absurd (let memory = ends.0 in omega (arith, memory, is))
 
-  -- what holds with the statuses of a verdict holds of the report
-  pub concluded_whole : (Q : Type 0) (found : Result Report Stop) → IfOk found (λ report. (status_number report.status ≡ 0) ⊎ (status_number report.status ≡ 1) → Q)
-      → Concludes found faults_before faults_now before now result → (result ≡ 0) ⊎ (result ≡ 1) → Q
-  concluded_whole Q (Ok report) holds (inl (whole, rest)) (inl is) = holds (inl (sym whole ∙ is))
-  concluded_whole Q (Ok report) holds (inl (whole, rest)) (inr is) = holds (inr (sym whole ∙ is))
-  concluded_whole Q (Ok report) holds (inr (part, rest)) (inl is) = absurd (omega (arith, part, is))
-  concluded_whole Q (Ok report) holds (inr (part, rest)) (inr is) = absurd (omega (arith, part, is))
-  concluded_whole Q (Err ReadFault) holds (inl (whole, rest)) (inl is) = absurd (omega (arith, whole, is))
-  concluded_whole Q (Err ReadFault) holds (inl (whole, rest)) (inr is) = absurd (omega (arith, whole, is))
-  concluded_whole Q (Err ReadFault) holds (inr (part, rest)) (inl is) = absurd (omega (arith, part, is))
-  concluded_whole Q (Err ReadFault) holds (inr (part, rest)) (inr is) = absurd (omega (arith, part, is))
-  concluded_whole Q (Err OutOfMemory) holds ends (inl is) = absurd (let memory = ends.0 in omega (arith, memory, is))
-  concluded_whole Q (Err OutOfMemory) holds ends (inr is) = absurd (let memory = ends.0 in omega (arith, memory, is))
-
 -- the answer to the words
 pub asked_answer : (words : List (List ℕ)) (asked : Asked) (files : List ℕ → List ℕ) (found : Result Report Stop) → IsAsked words (Some asked)
     → IfOk found (λ report. IsAnswerTo (Some asked) files (report_answer report)) → IfOk found (λ report. IsAnswer words files (report_answer report))
@@ -59,3 +45,23 @@ of_files (Err stop) IsRight IsOf files tells right = tt
 pub of_any_files : (found : Result Report Stop) (IsRight : (List ℕ → List ℕ) → Report → Type 0) (files : List ℕ → List ℕ) → IfOk found (λ report. (files : List ℕ → List ℕ) → IsRight files report) → IfOk found (IsRight files)
 of_any_files (Ok report) IsRight files right = right files
 of_any_files (Err stop) IsRight files right = tt
+
+-- the words spell one command at most
+abbrev first_byte : List (List ℕ) → ℕ
+first_byte [] = 0
+first_byte ([] ∷ words) = 0
+first_byte ((byte ∷ bytes) ∷ words) = byte
+
+pub same_names : (words : List (List ℕ)) (setup log setup' log' : List ℕ) → IsAsked words (Some (Judge setup log)) → IsAsked words (Some (Judge setup' log')) → (setup ≡ setup') × (log ≡ log')
+same_names words setup log setup' log' a b =
+    let same : codes "judge" ∷ setup ∷ log ∷ [] ≡ codes "judge" ∷ setup' ∷ log' ∷ [] = sym a.0 ∙ b.0 in
+    (cc, cc)
+
+pub judge_or_make : (words : List (List ℕ)) (setup log : List ℕ) (number events : ℕ) → IsAsked words (Some (Judge setup log)) → IsAsked words (Some (Make number events)) → ⊥
+judge_or_make words setup log number events a b = let bytes : 106 ≡ 109 = ap first_byte (sym a.0 ∙ b.0) in omega (arith, bytes)
+
+-- what holds of the names that were asked for
+pub of_names : (words : List (List ℕ)) (setup log setup' log' : List ℕ) (P : List ℕ → List ℕ → Type 0) → IsAsked words (Some (Judge setup log)) → IsAsked words (Some (Judge setup' log')) → P setup log → P setup' log'
+of_names words setup log setup' log' P a b holds =
+    let same = same_names words setup log setup' log' a b in
+    subst (λ s. P s log') same.0 (subst (λ l. P setup l) same.1 holds)

@@ -5,5 +5,3 @@ pub mod Judging
 pub mod OneAnswer
 pub mod Program
 pub mod Summary
-pub mod Verifying
-pub mod Strictly

@@ -11,10 +11,7 @@ mod outcome;
 mod report;
 mod run;
 mod source;
-mod strictly;
 mod summary;
-mod verified;
-mod verifying;
 mod words;
 
 use edge_io::{FileDesk, StdSink};

@@ -1,23 +1,18 @@
 ghost use Rattle.std.specs.Prelude.{◌≡◌, ◌≢◌, ◌≤◌, ◌⊎◌, ℕ, List, Some, None, IfOk, IsErrOf, map, string_bytes};
 ghost use Rattle.std.specs.Io.KnownBytes.{IsAtEnd, Keeps};
-ghost use Rattle.context_intake.specs.Contexts.{IsRefused};
 ghost use Rattle.edge_io.specs.Faults.{Rose};
-ghost use Rattle.edge_io.specs.Whole.{TakesWhole};
 ghost use Rattle.log_intake.specs.Setup.{TakesSetup};
 ghost use Rattle.log_intake.specs.Taking.{TakesLog};
-ghost use Rattle.kubepast.specs.Command.{AsksOf, IsAsked, Judge, Make, Strict, Verify, most_made};
-ghost use Rattle.kubepast.specs.Verifying.{most_placement};
+ghost use Rattle.kubepast.specs.Command.{IsAsked, Judge, Make, most_made};
 ghost use Rattle.kubepast.specs.Endings.{IsAnswered, Tells, Ends};
 ghost use Rattle.kubepast.specs.Program.{Concludes, IsAnswer, IsAnswerTo, report_answer, status_number, usage_answer};
 
 use crate::ending::end_with;
 use crate::judging::{Gates, judge};
 use crate::made::judge_made;
-use crate::report::{Report, judged_report, made_report, strictly_report, verified_report};
-use crate::strictly::judge_strictly;
-use crate::verifying::verify;
+use crate::report::{Report, judged_report, made_report};
 use crate::words::{Command, read_words};
-use context_intake::{Refusal, Stop};
+use context_intake::Stop;
 use edge_io::{Desk, Sink};
 use judge_pool::Gate;
 use std::alloc::Global;
@@ -48,19 +43,13 @@ pub fn run<R: Threads + Sync, D: Desk, K: Sink, G: Gate, H: Gate>(
     ensures read_fault { result ≡ 5 → Rose (D.faults desk.old) (D.faults desk.new) }
     ensures write_fault { result ≡ 6 → Rose (K.faults out.old) (K.faults out.new) }
     ensures memory { result ≡ 8 → Keeps (K.written out.old) (K.written out.new) }
-    ensures desk_left { ((setup log : List ℕ) → AsksOf (map string_bytes words.now) setup log → ⊥) → desk.new ≡ desk.old }
-    ensures whole { (setup log : List ℕ) → AsksOf (map string_bytes words.now) setup log → (result ≡ 0) ⊎ (result ≡ 1)
+    ensures desk_left { ((setup log : List ℕ) → IsAsked (map string_bytes words.now) (Some (Judge setup log)) → ⊥) → desk.new ≡ desk.old }
+    ensures whole { (setup log : List ℕ) → IsAsked (map string_bytes words.now) (Some (Judge setup log)) → (result ≡ 0) ⊎ (result ≡ 1)
         → IsAtEnd (D.left desk.new setup) × IsAtEnd (D.left desk.new log) }
-    ensures setup_taken { (setup log : List ℕ) → AsksOf (map string_bytes words.now) setup log
+    ensures setup_taken { (setup log : List ℕ) → IsAsked (map string_bytes words.now) (Some (Judge setup log))
         → TakesSetup (D.left desk.old setup) (D.left desk.new setup) (result ≡ 5) }
-    ensures log_taken { (setup log : List ℕ) → AsksOf (map string_bytes words.now) setup log
+    ensures log_taken { (setup log : List ℕ) → IsAsked (map string_bytes words.now) (Some (Judge setup log))
         → TakesLog (D.left desk.old log) (D.left desk.new log) (result ≡ 5) }
-    ensures placement_whole { (setup log placement : List ℕ) → IsAsked (map string_bytes words.now) (Some (Verify setup log placement))
-        → (result ≡ 0) ⊎ (result ≡ 1) → IsAtEnd (D.left desk.new placement) }
-    ensures placement_taken { (setup log placement : List ℕ) → IsAsked (map string_bytes words.now) (Some (Verify setup log placement))
-        → TakesWhole most_placement (D.left desk.old placement) (D.left desk.new placement) (result ≡ 5) }
-    ensures placement_left { (setup log placement : List ℕ) (files : List ℕ → List ℕ) (refusal : Refusal) → IsAsked (map string_bytes words.now) (Some (Verify setup log placement))
-        → Tells (D.left desk.old) files → IsRefused (files setup) (files log) refusal → D.left desk.new placement ≡ D.left desk.old placement }
 {
     let gates = Gates {
         events: gate,
@@ -70,18 +59,6 @@ pub fn run<R: Threads + Sync, D: Desk, K: Sink, G: Gate, H: Gate>(
         Command::Usage => end_with(out, 2, b"usage\n"),
         Command::Judge { setup, log } => {
             let found = judged(rt, alloc, desk, setup, log, gates);
-            conclude(out, found)
-        }
-        Command::Strict { setup, log } => {
-            let found = strictly(rt, alloc, desk, setup, log, gates);
-            conclude(out, found)
-        }
-        Command::Verify {
-            setup,
-            log,
-            placement,
-        } => {
-            let found = verified(rt, alloc, desk, setup, log, placement, lines);
             conclude(out, found)
         }
         Command::Make { number, events } => {
@@ -122,56 +99,6 @@ fn judged<R: Threads + Sync, D: Desk, G: Gate, H: Gate>(
 {
     let judged = judge(rt, alloc, desk, setup, log, gates)?;
     Ok(judged_report(alloc, &judged)?)
-}
-
-// Judges a log by a setup, each by its name, and asks for moments.
-fn strictly<R: Threads + Sync, D: Desk, G: Gate, H: Gate>(
-    rt: &R,
-    alloc: Global,
-    desk: &mut D,
-    setup: &str,
-    log: &str,
-    gates: Gates<'_, G, H>,
-) -> Result<Report, Stop>
-    requires { setup.now ≢ log.now }
-    ensures answered { IfOk result (λ report. (files : List ℕ → List ℕ) → Tells (D.left desk.old) files
-        → IsAnswerTo (Some (Strict setup.now log.now)) files (report_answer report)) }
-    ensures whole { IfOk result (λ report. (status_number report.status ≡ 0) ⊎ (status_number report.status ≡ 1)
-        → IsAtEnd (D.left desk.new setup.now) × IsAtEnd (D.left desk.new log.now)) }
-    ensures fault { IsErrOf result Stop.ReadFault → Rose (D.faults desk.old) (D.faults desk.new) }
-    ensures setup_taken { TakesSetup (D.left desk.old setup.now) (D.left desk.new setup.now) (IsErrOf result Stop.ReadFault) }
-    ensures log_taken { TakesLog (D.left desk.old log.now) (D.left desk.new log.now) (IsErrOf result Stop.ReadFault) }
-{
-    let found = judge_strictly(rt, alloc, desk, setup, log, gates)?;
-    Ok(strictly_report(alloc, &found)?)
-}
-
-// Checks a placement again, by a setup and a log, each by its name.
-fn verified<R: Threads + Sync, D: Desk, H: Gate>(
-    rt: &R,
-    alloc: Global,
-    desk: &mut D,
-    setup: &str,
-    log: &str,
-    placement: &str,
-    lines: &H,
-) -> Result<Report, Stop>
-    requires differ { setup.now ≢ log.now }
-    requires not_setup { placement.now ≢ setup.now }
-    requires not_log { placement.now ≢ log.now }
-    ensures answered { IfOk result (λ report. (files : List ℕ → List ℕ) → Tells (D.left desk.old) files
-        → IsAnswerTo (Some (Verify setup.now log.now placement.now)) files (report_answer report)) }
-    ensures whole { IfOk result (λ report. (status_number report.status ≡ 0) ⊎ (status_number report.status ≡ 1)
-        → IsAtEnd (D.left desk.new setup.now) × IsAtEnd (D.left desk.new log.now) × IsAtEnd (D.left desk.new placement.now)) }
-    ensures fault { IsErrOf result Stop.ReadFault → Rose (D.faults desk.old) (D.faults desk.new) }
-    ensures setup_taken { TakesSetup (D.left desk.old setup.now) (D.left desk.new setup.now) (IsErrOf result Stop.ReadFault) }
-    ensures log_taken { TakesLog (D.left desk.old log.now) (D.left desk.new log.now) (IsErrOf result Stop.ReadFault) }
-    ensures placement_taken { TakesWhole most_placement (D.left desk.old placement.now) (D.left desk.new placement.now) (IsErrOf result Stop.ReadFault) }
-    ensures placement_left { (files : List ℕ → List ℕ) (refusal : Refusal) → Tells (D.left desk.old) files → IsRefused (files setup.now) (files log.now) refusal
-        → D.left desk.new placement.now ≡ D.left desk.old placement.now }
-{
-    let verified = verify(rt, alloc, desk, setup, log, placement, lines)?;
-    Ok(verified_report(alloc, verified)?)
 }
 
 // Judges a made case.

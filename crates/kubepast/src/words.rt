@@ -1,5 +1,5 @@
-ghost use Rattle.std.specs.Prelude.{◌≡◌, ◌≢◌, ◌≤◌, ℕ, ◌∷◌, [], IfSome, IfNone, IsTrue, ◌↔◌, map, string_bytes, codes, decimal};
-ghost use Rattle.kubepast.specs.Command.{AreNames, IsAsked, IsThirdName, command_asked, most_made};
+ghost use Rattle.std.specs.Prelude.{◌≡◌, ◌≢◌, ◌≤◌, ℕ, ◌∷◌, [], IfSome, IfNone, map, string_bytes, codes, decimal};
+ghost use Rattle.kubepast.specs.Command.{IsAsked, command_asked, most_made};
 
 use verdict_text::read_number;
 
@@ -12,26 +12,9 @@ pub enum Command<'a> {
     /// Words that are no command.
     Usage,
     /// `judge SETUP LOG`
-    Judge {
-        setup: &'a str,
-        log: &'a str,
-    },
-    /// `judge --strict SETUP LOG`
-    Strict {
-        setup: &'a str,
-        log: &'a str,
-    },
-    /// `verify SETUP LOG PLACEMENT`
-    Verify {
-        setup: &'a str,
-        log: &'a str,
-        placement: &'a str,
-    },
+    Judge { setup: &'a str, log: &'a str },
     /// `make NUMBER EVENTS`
-    Make {
-        number: u64,
-        events: u32,
-    },
+    Make { number: u64, events: u32 },
 }
 
 /// Reads the words behind the program's name. It takes no memory.
@@ -40,12 +23,6 @@ pub fn read_words(words: &[String]) -> Command<'_>
 {
     match words {
         [verb, setup, log] if verb.as_str() == "judge" => judge_words(setup, log),
-        [verb, mode, setup, log] if verb.as_str() == "judge" && mode.as_str() == "--strict" => {
-            strict_words(setup, log)
-        }
-        [verb, setup, log, placement] if verb.as_str() == "verify" => {
-            verify_words(setup, log, placement)
-        }
         [verb, number, events] if verb.as_str() == "make" => make_words(number, events),
         _ => Command::Usage,
     }
@@ -54,44 +31,10 @@ pub fn read_words(words: &[String]) -> Command<'_>
 fn judge_words<'a>(setup: &'a str, log: &'a str) -> Command<'a>
     ensures { IsAsked (codes "judge" ∷ setup.entry.now ∷ log.entry.now ∷ []) (command_asked result) }
 {
-    if are_names(setup, log) {
+    if setup != log && setup != "-" {
         return Command::Judge { setup, log };
     }
     Command::Usage
-}
-
-fn strict_words<'a>(setup: &'a str, log: &'a str) -> Command<'a>
-    ensures { IsAsked (codes "judge" ∷ codes "--strict" ∷ setup.entry.now ∷ log.entry.now ∷ []) (command_asked result) }
-{
-    if are_names(setup, log) {
-        return Command::Strict { setup, log };
-    }
-    Command::Usage
-}
-
-fn verify_words<'a>(setup: &'a str, log: &'a str, placement: &'a str) -> Command<'a>
-    ensures { IsAsked (codes "verify" ∷ setup.entry.now ∷ log.entry.now ∷ placement.entry.now ∷ []) (command_asked result) }
-{
-    if are_names(setup, log) && is_third_name(setup, log, placement) {
-        return Command::Verify {
-            setup,
-            log,
-            placement,
-        };
-    }
-    Command::Usage
-}
-
-fn are_names(setup: &str, log: &str) -> bool
-    ensures { IsTrue result ↔ AreNames setup.now log.now }
-{
-    setup != log && setup != "-"
-}
-
-fn is_third_name(setup: &str, log: &str, placement: &str) -> bool
-    ensures { IsTrue result ↔ IsThirdName setup.now log.now placement.now }
-{
-    placement != setup && placement != log && placement != "-"
 }
 
 fn make_words<'a>(number: &str, events: &str) -> Command<'a>
