@@ -10,7 +10,7 @@ pub type Item = SnapshotObject;
 pub type Items = Snapshot;
 
 /// What an event says of the cluster. Trees are in stored form.
-#[derive(Debug, Drop)]
+#[derive(Drop)]
 pub enum Answer {
     /// A write that made this object.
     Made {

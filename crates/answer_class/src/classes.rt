@@ -1,6 +1,7 @@
-ghost use Rattle.std.specs.Prelude.{◌≡◌, IfOk, option_map};
+ghost use Rattle.std.specs.Prelude.{◌≡◌, IfOk, Some, option_map};
 ghost use Rattle.answer_class.specs.Covers.{cover_of};
 ghost use Rattle.answer_class.specs.Lists.{list_namespace};
+ghost use Rattle.answer_class.specs.Requests.{verb_of};
 ghost use Rattle.answer_class.specs.Classes.{key_named, path_key, saw, listed, got, gathered, read_by, read_class, tells_kind, may_miss, is_missing, asked_name, is_taken, tells_conflict, is_conflict, conflict_class, taken_class, refused_class, is_outside, is_out_of_sight, later_class, deleted_uid, ended_uid, removed_uid, removed, is_made_by, made, made_class, is_hidden_by, is_hidden, is_dry, is_idle, succeeded_class, tracked_class, class_of};
 ghost use Rattle.answer_class.specs.Table.{by_table};
 
@@ -59,6 +60,25 @@ fn path_key(
     key_named(alloc, tracked, attrs, &attrs.name)
 }
 
+// What a read saw under a key.
+fn saw_under(key: ObjectKey, object: SnapshotObject) -> Answer
+    ensures { result ≡ Answer.Saw key object.revision object.uid object.tree }
+{
+    let SnapshotObject {
+        key: named,
+        revision,
+        uid,
+        tree,
+    } = object;
+    drop(named);
+    Answer::Saw {
+        key,
+        revision,
+        uid,
+        tree,
+    }
+}
+
 fn saw(
     alloc: Global,
     tracked: &Tracked,
@@ -70,19 +90,11 @@ fn saw(
     let Some(object) = object else {
         return Ok(Answer::Aside);
     };
-    let key = path_key(alloc, tracked, &event.attrs)?;
-    let SnapshotObject {
-        key: _,
-        revision,
-        uid,
-        tree,
-    } = object;
-    Ok(Answer::Saw {
-        key,
-        revision,
-        uid,
-        tree,
-    })
+    let Ok(key) = path_key(alloc, tracked, &event.attrs) else {
+        drop(object);
+        return Err(OutOfMemory);
+    };
+    Ok(saw_under(key, object))
 }
 
 fn listed(
@@ -409,7 +421,41 @@ fn made(setup: &Setup, event: &Event, object: SnapshotObject) -> Answer
     if setup.start.get() < object.revision.get() || !is_early(setup, event) {
         return made_of(object, is_code(201, event.status.code));
     }
+    drop(object);
     Answer::Aside
+}
+
+// The class of a write that was made, and was answered this object if any, which isn't what it made.
+fn removed_class(
+    alloc: Global,
+    setup: &Setup,
+    tracked: &Tracked,
+    event: &Event,
+    object: Option<&SnapshotObject>,
+) -> Result<Answer, OutOfMemory>
+    ensures { IfOk result (λ answer. answer ≡ removed setup.now tracked.now event.now (removed_uid (verb_of event.now.attrs.verb) event.now (option_map (λ o. o.now) object.entry))) }
+{
+    let uid = removed_uid(verb_of(event.attrs.verb.as_str()), event, object)?;
+    removed(alloc, setup, tracked, event, uid)
+}
+
+// The class of a write that was made and was answered this object.
+fn object_class(
+    alloc: Global,
+    setup: &Setup,
+    tracked: &Tracked,
+    event: &Event,
+    object: SnapshotObject,
+) -> Result<Answer, OutOfMemory>
+    ensures { IfOk result (λ answer. answer ≡ made_class setup.now tracked.now event.now (Some object)) }
+{
+    let verb = verb_of(event.attrs.verb.as_str());
+    if is_done(event.status.code) && is_made_by(verb, &object.tree) {
+        return Ok(made(setup, event, object));
+    }
+    let answer = removed_class(alloc, setup, tracked, event, Some(&object));
+    drop(object);
+    answer
 }
 
 fn made_class(
@@ -421,16 +467,10 @@ fn made_class(
 ) -> Result<Answer, OutOfMemory>
     ensures { IfOk result (λ answer. answer ≡ made_class setup.now tracked.now event.now object) }
 {
-    let verb = verb_of(event.attrs.verb.as_str());
-    let Some(object) = object else {
-        let uid = removed_uid(verb, event, None)?;
-        return removed(alloc, setup, tracked, event, uid);
-    };
-    if is_done(event.status.code) && is_made_by(verb, &object.tree) {
-        return Ok(made(setup, event, object));
+    match object {
+        Some(object) => object_class(alloc, setup, tracked, event, object),
+        None => removed_class(alloc, setup, tracked, event, None),
     }
-    let uid = removed_uid(verb, event, Some(&object))?;
-    removed(alloc, setup, tracked, event, uid)
 }
 
 fn is_hidden_by(verb: Verb, effect: Effect) -> bool

@@ -10,7 +10,7 @@ use setup_file::{Setup, Tracked, filled_at, revision_at, tracked_of};
 use std::alloc::Global;
 
 /// What a request asks of the object that it is for (Kubernetes `meta/v1`, Preconditions).
-#[derive(Debug, Drop, PartialEq, Eq)]
+#[derive(Drop, PartialEq, Eq)]
 pub struct Conditions {
     /// The object's `metadata.resourceVersion`, where it is one of the cluster's revisions.
     pub revision: Option<Revision>,

@@ -12,7 +12,7 @@ use setup_file::{ListRead, Setup, Tracked, canonical, read_list, revision_at};
 use std::alloc::Global;
 
 /// Whether a list is all that there is, and which labels it asked for.
-#[derive(Debug, Drop)]
+#[derive(Drop)]
 pub struct Extent {
     pub whole: bool,
     pub selector: Option<Selector>,

@@ -5,7 +5,7 @@ use base_types::{Level, Pair, RequestAttrs, Stage, Text};
 use setup_file::{Tracked, subresource_named};
 
 /// A request verb of the Kubernetes API (Kubernetes "Authorization", "Request verbs").
-#[derive(Clone, Copy, Debug, PartialEq, Eq)]
+#[derive(Clone, Copy)]
 pub enum Verb {
     Create,
     Update,
@@ -19,7 +19,7 @@ pub enum Verb {
 }
 
 /// What a request does to the object at its path.
-#[derive(Clone, Copy, Debug, PartialEq, Eq)]
+#[derive(Clone, Copy)]
 pub enum Effect {
     /// It is for the object itself.
     Own,

@@ -2,7 +2,7 @@ use base_types::{Decision, Level, Listed, Moment, RequestAttrs, Stage, Text, Use
 use json_tree::Tree;
 
 /// What an event records of an object that was sent or answered.
-#[derive(Debug, Drop, PartialEq, Eq)]
+#[derive(Drop, PartialEq, Eq)]
 pub enum Body {
     /// Not recorded, or null.
     Absent,
@@ -13,7 +13,7 @@ pub enum Body {
 
 /// How a request was answered (Kubernetes API, `meta/v1`, Status). The texts are empty where the answer
 /// has none.
-#[derive(Debug, Drop, PartialEq, Eq)]
+#[derive(Drop, PartialEq, Eq)]
 pub struct Status {
     /// The HTTP status, from 1 to 999; none where the request panicked.
     pub code: Option<u16>,
@@ -30,7 +30,7 @@ pub struct Status {
 }
 
 /// An audit event: one stage of one request (Kubernetes API, `audit.k8s.io/v1`, Event).
-#[derive(Debug, PartialEq, Eq)]
+#[derive(PartialEq, Eq)]
 pub struct Event {
     /// The event's number in the log, or in the list that it is an item of.
     pub line: u64,
@@ -65,16 +65,18 @@ impl Drop for Event {
             level: _,
             audit_id: _,
             stage: _,
-            attrs: _,
+            attrs,
             user: _,
             impersonated: _,
-            status: _,
+            status,
             request: _,
             response: _,
             received: _,
             staged: _,
             decision: _,
         } = self;
+        drop(attrs);
+        drop(status);
     }
 }
 

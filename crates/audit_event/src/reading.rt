@@ -92,10 +92,26 @@ fn read_attrs(alloc: Global, verb: &str, uri: &str) -> Result<RequestAttrs, Even
 }
 
 // Which request it was.
-#[derive(Drop)]
 struct Request {
     audit_id: Text,
     attrs: RequestAttrs,
+}
+
+// Written out, so that a function which drops a request makes one call for it.
+impl Drop for Request {
+    fn drop(self) {
+        let Request { audit_id: _, attrs } = self;
+        drop(attrs);
+    }
+}
+
+impl Request {
+    fn into_parts(self) -> (Text, RequestAttrs)
+        ensures { result ≡ (self.audit_id, self.attrs) }
+    {
+        let Request { audit_id, attrs } = self;
+        (audit_id, attrs)
+    }
 }
 
 // Reads what the rules from `M7` to `M9` are about.
@@ -113,8 +129,8 @@ fn read_request(alloc: Global, value: &Value) -> Result<Request, EventFault>
     let Some(verb) = filled_at(value, "verb") else {
         return Err(EventFault::Malformed(Malformed::M9));
     };
-    let attrs = read_attrs(alloc, verb, uri)?;
     let audit_id = Text::from_str(alloc, audit_id)?;
+    let attrs = read_attrs(alloc, verb, uri)?;
     Ok(Request { audit_id, attrs })
 }
 
@@ -176,15 +192,31 @@ fn read_exchange(
     })
 }
 
-// The event of its parts.
-fn assemble(
-    alloc: Global,
-    value: &Value,
-    line: u64,
-    recording: Recording,
-    request: Request,
+// What is told of a request besides what it is.
+#[derive(Drop)]
+struct Told {
     parties: Parties,
-) -> Result<Event, EventFault>
+    exchange: Exchange,
+}
+
+// Reads what the rules from `M10` on are about, and what none is about.
+fn read_told(alloc: Global, value: &Value, stage: Stage) -> Result<Told, EventFault>
+    ensures users { IfOk result (λ told. users_in (view value.now) ≡ Some (told.parties.user, told.parties.impersonated)) }
+    ensures code { IfOk result (λ told. code_in (view value.now) ≡ Some told.parties.code) }
+    ensures status { IfOk result (λ told. told.exchange.status ≡ status_in stage told.parties.code (view value.now)) }
+    ensures request { IfOk result (λ told. told.exchange.request ≡ request_in (view value.now)) }
+    ensures sound_request { IfOk result (λ told. IsSoundBody told.exchange.request) }
+    ensures response { IfOk result (λ told. told.exchange.response ≡ response_in (view value.now)) }
+    ensures sound_response { IfOk result (λ told. IsSoundBody told.exchange.response) }
+    ensures cause { IfErr result (IsCauseFrom 10 (view value.now)) }
+{
+    let parties = read_parties(alloc, value)?;
+    let exchange = read_exchange(alloc, value, stage, parties.code)?;
+    Ok(Told { parties, exchange })
+}
+
+// The event of its parts.
+fn assemble(value: &Value, line: u64, recording: Recording, request: Request, told: Told) -> Event
     requires level { level_in (view value.now) ≡ Some recording.level }
     requires stage { stage_in (view value.now) ≡ Some recording.stage }
     requires times { times_in (view value.now) ≡ Some recording.times }
@@ -192,19 +224,24 @@ fn assemble(
     requires numbers { has_whole_numbers (view value.now) ≡ true }
     requires audit_id { audit_id_in (view value.now) ≡ Some request.audit_id }
     requires attrs { IsRequestOf (view value.now) request.attrs }
-    requires users { users_in (view value.now) ≡ Some (parties.user, parties.impersonated) }
-    requires code { code_in (view value.now) ≡ Some parties.code }
-    ensures fields { IfOk result (HasFieldsOf (view value.now) line) }
-    ensures sound { IfOk result IsSound }
-    ensures cause { IfErr result (λ fault. fault ≡ EventFault.OutOfMemory) }
+    requires users { users_in (view value.now) ≡ Some (told.parties.user, told.parties.impersonated) }
+    requires code { code_in (view value.now) ≡ Some told.parties.code }
+    requires status { told.exchange.status ≡ status_in recording.stage told.parties.code (view value.now) }
+    requires sent { told.exchange.request ≡ request_in (view value.now) }
+    requires sound_sent { IsSoundBody told.exchange.request }
+    requires answered { told.exchange.response ≡ response_in (view value.now) }
+    requires sound_answered { IsSoundBody told.exchange.response }
+    ensures fields { HasFieldsOf (view value.now) line result }
+    ensures sound { IsSound result }
 {
-    let exchange = read_exchange(alloc, value, recording.stage, parties.code)?;
-    Ok(Event {
+    let (audit_id, attrs) = request.into_parts();
+    let Told { parties, exchange } = told;
+    Event {
         line,
         level: recording.level,
-        audit_id: request.audit_id,
+        audit_id,
         stage: recording.stage,
-        attrs: request.attrs,
+        attrs,
         user: parties.user,
         impersonated: parties.impersonated,
         status: exchange.status,
@@ -213,7 +250,7 @@ fn assemble(
         received: recording.times.received,
         staged: recording.times.staged,
         decision: decision_of(value),
-    })
+    }
 }
 
 // The event of a value whose heading is right.
@@ -224,8 +261,8 @@ fn read_fields(alloc: Global, value: &Value, line: u64) -> Result<Event, EventFa
 {
     let recording = read_recording(value)?;
     let request = read_request(alloc, value)?;
-    let parties = read_parties(alloc, value)?;
-    assemble(alloc, value, line, recording, request, parties)
+    let told = read_told(alloc, value, recording.stage)?;
+    Ok(assemble(value, line, recording, request, told))
 }
 
 /// The event of a JSON value, or the first rule from `M2` on that it breaks. Unknown members are ignored.

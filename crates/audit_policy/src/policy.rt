@@ -2,7 +2,7 @@ use base_types::{Listed, OutOfMemory, PolicyLevel, StageSet, Text, Texts};
 use thiserror::Error;
 
 /// An audit policy: its rules in order, and the stages that no event is written of.
-#[derive(Debug, Drop, PartialEq, Eq)]
+#[derive(Drop, PartialEq, Eq)]
 pub struct Policy {
     pub omitted: StageSet,
     pub rules: AuditRules,
@@ -11,7 +11,7 @@ pub struct Policy {
 pub type AuditRules = Listed<AuditRule>;
 
 /// One rule of a policy. An empty list puts no condition.
-#[derive(Debug, Drop, PartialEq, Eq)]
+#[derive(Drop, PartialEq, Eq)]
 pub struct AuditRule {
     pub level: PolicyLevel,
     pub users: Texts,
@@ -30,7 +30,7 @@ pub struct AuditRule {
 pub type GroupResourcesList = Listed<GroupResources>;
 
 /// Resources of one API group: `pods`, `pods/log`, `pods/*`, `*/scale` or `*`; none for the whole group.
-#[derive(Debug, Drop, PartialEq, Eq)]
+#[derive(Drop, PartialEq, Eq)]
 pub struct GroupResources {
     pub group: Text,
     pub resources: Texts,

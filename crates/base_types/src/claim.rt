@@ -62,7 +62,7 @@ impl Reason {
 }
 
 /// What one event asks of the place of one removal: from `low` to `high`, both among them.
-#[derive(Clone, Copy, Debug, PartialEq, Eq)]
+#[derive(Clone, Copy, PartialEq, Eq)]
 pub struct Bound {
     /// The position of the removal's range in the list of ranges.
     pub range: u32,
@@ -74,7 +74,7 @@ pub struct Bound {
 pub type Bounds = Listed<Bound>;
 
 /// What one event asks of the choice of the removals' places.
-#[derive(Debug, Drop, PartialEq, Eq)]
+#[derive(Drop, PartialEq, Eq)]
 pub struct Claim {
     /// The least code that the event has under every choice.
     pub fails: Option<Reason>,

@@ -10,7 +10,7 @@ use std::alloc::Global;
 
 /// The identity of an object: its API group, resource, namespace and name, compared in this order by
 /// bytes. `namespace` is empty for a cluster-wide resource, `group` for the core group.
-#[derive(Clone, Debug, Drop, PartialEq, Eq, PartialOrd, Ord, Hash)]
+#[derive(Clone, Drop, PartialEq, Eq, PartialOrd, Ord, Hash)]
 pub struct ObjectKey {
     pub group: Text,
     pub resource: Text,
@@ -101,7 +101,7 @@ pub fn read_key(alloc: Global, word: &str) -> Result<Option<ObjectKey>, OutOfMem
 }
 
 /// The objects whose unrecorded writes an event may stand for.
-#[derive(Clone, Debug, Drop, PartialEq, Eq)]
+#[derive(Clone, Drop, PartialEq, Eq)]
 pub struct Cover {
     pub group: Text,
     pub resource: Text,
@@ -113,7 +113,7 @@ pub struct Cover {
 }
 
 /// The names that a cover takes.
-#[derive(Clone, Debug, Drop, PartialEq, Eq)]
+#[derive(Clone, Drop, PartialEq, Eq)]
 pub enum CoverName {
     Exact(Text),
     /// Each name that begins so (Kubernetes API concepts, "Generated names").
@@ -163,6 +163,3 @@ pub fn exact_key(alloc: Global, cover: &Cover) -> Result<Option<ObjectKey>, OutO
         name: name.clone()?,
     }))
 }
-
-#[cfg(test)]
-mod tests;

@@ -7,7 +7,7 @@ use std::marker::Model;
 use std::slice;
 
 /// A list that contracts see as the list of its items.
-#[derive(Debug, Drop)]
+#[derive(Drop)]
 pub struct Listed<T> {
     items: Vec<T>,
 }

@@ -33,39 +33,3 @@ pub fn is_combined(text: &str, resource: &str, subresource: &str) -> bool
         None => false,
     }
 }
-
-#[cfg(test)]
-mod tests {
-    use super::*;
-    use std::test::Fail;
-
-    #[test]
-    fn entries_and_patterns(rt: HostRuntime) -> Result<(), Fail> {
-        let text = |text: &str| Text::from_str(rt.alloc(), text);
-        let entries = [
-            ("/healthz", "/healthz", true),
-            ("/healthz", "/healthz/", false),
-            ("/healthz*", "/healthz", true),
-            ("/healthz*", "/healthz/ping", true),
-            ("/healthz/*", "/healthz", false),
-            ("*", "/x", true),
-            ("*", "", true),
-            ("/a**", "/a*b", true),
-            ("/a**", "/ab", false),
-            ("", "/", false),
-        ];
-        for (entry, path, taken) in entries {
-            assert_eq!(rt; path_matches(&text(entry)?, &text(path)?), taken);
-        }
-        assert!(rt; is_combined("pods/log", "pods", "log"));
-        assert!(rt; is_combined("/", "", ""));
-        assert!(rt; !is_combined("pods", "pods", ""));
-        assert!(rt; !is_combined("pods.log", "pods", "log"));
-        let mut texts = Texts::new(rt.alloc());
-        texts.push(text("a")?)?;
-        texts.push(text("b")?)?;
-        assert!(rt; has_text(&texts, &text("b")?));
-        assert!(rt; !has_text(&texts, &text("ab")?));
-        Ok(())
-    }
-}

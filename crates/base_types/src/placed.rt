@@ -21,7 +21,7 @@ pub enum PlacedAnswer {
 }
 
 /// The places of an authoriser's four caches.
-#[derive(Clone, Copy, Debug, PartialEq, Eq, PartialOrd, Ord)]
+#[derive(Clone, Copy, PartialEq, Eq, PartialOrd, Ord)]
 pub struct Places {
     pub roles: u64,
     pub cluster_roles: u64,
@@ -30,14 +30,14 @@ pub struct Places {
 }
 
 /// A judged decision with the places at which it is right.
-#[derive(Clone, Copy, Debug, PartialEq, Eq)]
+#[derive(Clone, Copy, PartialEq, Eq)]
 pub struct PlacedDecision {
     pub decision: Decision,
     pub places: Places,
 }
 
 /// One event's part of a placement.
-#[derive(Clone, Copy, Debug, PartialEq, Eq)]
+#[derive(Clone, Copy, PartialEq, Eq)]
 pub struct PlacedLine {
     /// The event's line of the log, or the number of a checkpoint.
     pub line: u64,
@@ -46,7 +46,7 @@ pub struct PlacedLine {
 }
 
 /// The placed lines of all events, whose line numbers rise strictly.
-#[derive(Debug, Drop)]
+#[derive(Drop)]
 pub struct Placement {
     lines: Vec<PlacedLine>,
 }
@@ -95,7 +95,7 @@ impl Placement {
 
 /// A write in the window of an event: a recorded revision, or the range of a removal. `line` is that
 /// of the event that wrote, and `key` is the text of the object's key.
-#[derive(Debug, Drop, PartialEq, Eq)]
+#[derive(Drop, PartialEq, Eq)]
 pub enum WriteLine {
     Made {
         revision: u64,
@@ -113,7 +113,7 @@ pub enum WriteLine {
 pub type WriteLines = Listed<WriteLine>;
 
 /// What a log comes to: a placement that explains it, or the earliest event that none explains.
-#[derive(Debug, Drop)]
+#[derive(Drop)]
 pub enum Outcome {
     Explained(Placement),
     Unexplained {

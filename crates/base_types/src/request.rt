@@ -2,14 +2,14 @@ use crate::listed::Listed;
 use crate::text::{Text, Texts};
 
 /// Who asks (Kubernetes "Auditing", `user` and `impersonatedUser` of an event).
-#[derive(Debug, Drop, PartialEq, Eq)]
+#[derive(Drop, PartialEq, Eq)]
 pub struct User {
     pub name: Text,
     pub groups: Texts,
 }
 
 /// How much of a request an audit event records (Kubernetes "Auditing", "Audit policy").
-#[derive(Clone, Copy, Debug, PartialEq, Eq, PartialOrd, Ord)]
+#[derive(Clone, Copy, PartialEq, Eq, PartialOrd, Ord)]
 pub enum Level {
     Metadata,
     Request,
@@ -17,14 +17,14 @@ pub enum Level {
 }
 
 /// The level that a policy gives a request. `NoLevel` is the policy's `None`: no event is written.
-#[derive(Clone, Copy, Debug, PartialEq, Eq)]
+#[derive(Clone, Copy, PartialEq, Eq)]
 pub enum PolicyLevel {
     NoLevel,
     Set(Level),
 }
 
 /// When in the life of a request an event was written (Kubernetes "Auditing", "stages").
-#[derive(Clone, Copy, Debug, PartialEq, Eq, PartialOrd, Ord, Hash)]
+#[derive(Clone, Copy, PartialEq, Eq, PartialOrd, Ord, Hash)]
 pub enum Stage {
     /// `RequestReceived`
     Received,
@@ -37,7 +37,7 @@ pub enum Stage {
 }
 
 /// A set of stages, one flag for each.
-#[derive(Clone, Copy, Debug, PartialEq, Eq)]
+#[derive(Clone, Copy, PartialEq, Eq)]
 pub struct StageSet {
     pub received: bool,
     pub started: bool,
@@ -53,14 +53,14 @@ pub enum Decision {
 }
 
 /// Which decisions an authoriser could have given.
-#[derive(Clone, Copy, Debug, PartialEq, Eq)]
+#[derive(Clone, Copy, PartialEq, Eq)]
 pub struct Possible {
     pub allow: bool,
     pub forbid: bool,
 }
 
 /// One member of a query.
-#[derive(Debug, Drop, PartialEq, Eq)]
+#[derive(Drop, PartialEq, Eq)]
 pub struct Pair {
     pub name: Text,
     pub value: Text,
@@ -71,7 +71,7 @@ pub type Pairs = Listed<Pair>;
 
 /// The attributes by which a request is classified, as the API server reads them of its verb and URI
 /// (Kubernetes "Authorization", "Review your request attributes").
-#[derive(Debug, Drop, PartialEq, Eq)]
+#[derive(Drop, PartialEq, Eq)]
 pub struct RequestAttrs {
     /// The request verb, as `get`, `list` or `create`.
     pub verb: Text,

@@ -63,34 +63,5 @@ pub fn read_revision(text: &[u8]) -> Option<Revision>
 }
 
 /// A moment of the wall clock, in nanoseconds since 1970-01-01T00:00:00Z.
-#[derive(Clone, Copy, Debug, Drop, PartialEq, Eq, PartialOrd, Ord)]
+#[derive(Clone, Copy, Drop, PartialEq, Eq, PartialOrd, Ord)]
 pub struct Moment(pub i128);
-
-#[cfg(test)]
-mod tests {
-    use super::*;
-
-    #[test]
-    fn revisions(rt: HostRuntime) {
-        let cases: [(&[u8], Option<u64>); 15] = [
-            (b"1", Some(1)),
-            (b"10", Some(10)),
-            (b"907", Some(907)),
-            (b"18446744073709551614", Some(18446744073709551614)),
-            (b"18446744073709551615", None),
-            (b"18446744073709551616", None),
-            (b"184467440737095516140", None),
-            (b"0", None),
-            (b"01", None),
-            (b"", None),
-            (b"+1", None),
-            (b"-1", None),
-            (b"1 ", None),
-            (b"1a", None),
-            (b"1\xFF", None),
-        ];
-        for (text, number) in cases {
-            assert_eq!(rt; read_revision(text).map(|revision| revision.get()), number);
-        }
-    }
-}

@@ -11,7 +11,7 @@ pub struct ItemFault {
 }
 
 /// What a line of a log holds.
-#[derive(Debug, Drop, PartialEq, Eq)]
+#[derive(Drop, PartialEq, Eq)]
 pub struct Decoded {
     /// The events before the first broken one. Their `line` is their number in the list, from 0.
     pub events: Events,

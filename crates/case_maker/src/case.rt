@@ -6,7 +6,7 @@ use base_types::{Bytes, OutOfMemory};
 use std::alloc::Global;
 
 /// A setup and a log for trials.
-#[derive(Debug, Drop, PartialEq, Eq)]
+#[derive(Drop, PartialEq, Eq)]
 pub struct Case {
     pub setup: Bytes,
     pub log: Bytes,
@@ -32,6 +32,3 @@ pub fn make_case(alloc: Global, number: u64, events: u32) -> Result<Case, OutOfM
         log: Bytes::from_vec(log.into_bytes()),
     })
 }
-
-#[cfg(test)]
-mod tests;

@@ -2,7 +2,7 @@ ghost use Rattle.std.specs.Prelude.{◌≡◌, ◌<◌, ◌+◌, ◌^◌, Option
 ghost use Rattle.case_maker.specs.Exchanges.{exchange_of, object_after, revision_after};
 
 /// An object that is there.
-#[derive(Clone, Copy, Debug, PartialEq, Eq)]
+#[derive(Clone, Copy, PartialEq, Eq)]
 pub struct Held {
     /// The number of the event that created it.
     pub created: u32,
@@ -13,7 +13,7 @@ pub struct Held {
 }
 
 /// What an event does.
-#[derive(Clone, Copy, Debug, PartialEq, Eq)]
+#[derive(Clone, Copy, PartialEq, Eq)]
 pub enum Exchange {
     /// The object as created.
     Create(Held),

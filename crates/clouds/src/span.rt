@@ -2,7 +2,7 @@ use base_types::{Cover, Listed, ObjectKey, Revision};
 
 /// An unrecorded write: it may have changed any one of the objects that the cover stands for, at a place
 /// above `low` and not above `high`. `low` may lie above `high`.
-#[derive(Debug, Drop, PartialEq, Eq)]
+#[derive(Drop, PartialEq, Eq)]
 pub struct OpaqueSpan {
     pub cover: Cover,
     pub low: u64,
@@ -12,7 +12,7 @@ pub struct OpaqueSpan {
 pub type OpaqueSpans = Listed<OpaqueSpan>;
 
 /// A recorded write: the object and the revision that shows it again.
-#[derive(Debug, Drop, PartialEq, Eq)]
+#[derive(Drop, PartialEq, Eq)]
 pub struct KeyRevision {
     pub key: ObjectKey,
     pub revision: Revision,

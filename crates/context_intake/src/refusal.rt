@@ -2,7 +2,7 @@ use audit_event::Malformed;
 use setup_file::SetupRule;
 
 /// What may be too much.
-#[derive(Clone, Copy, Debug, PartialEq, Eq)]
+#[derive(Clone, Copy, PartialEq, Eq)]
 pub enum Limit {
     /// A setup has at most 268,435,456 bytes.
     SetupSize,
@@ -17,7 +17,7 @@ pub enum Limit {
 }
 
 /// Why a setup and a log tell nothing.
-#[derive(Clone, Copy, Debug, PartialEq, Eq)]
+#[derive(Clone, Copy, PartialEq, Eq)]
 pub enum Refusal {
     /// The first rule that the setup breaks.
     BrokenSetup(SetupRule),

@@ -2,7 +2,7 @@ use base_types::OutOfMemory;
 use std::alloc::AllocFailed;
 
 /// Why there is no answer.
-#[derive(Clone, Copy, Debug, PartialEq, Eq)]
+#[derive(Clone, Copy, PartialEq, Eq)]
 pub enum Stop {
     /// A read failed.
     ReadFault,

@@ -8,7 +8,7 @@ use std::alloc::Global;
 use std::marker::Model;
 
 /// A file of a desk in memory.
-#[derive(Debug, Drop)]
+#[derive(Drop)]
 pub struct InputFile {
     pub name: Text,
     pub bytes: Bytes,

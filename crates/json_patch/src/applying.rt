@@ -22,7 +22,7 @@ const MAX_DEPTH: u64 = 127;
 const MAX_VALUES: u64 = 1_000_000;
 
 /// What an operation did to the size of a document. The numbers stop at 2^64 - 1.
-#[derive(Clone, Copy, Debug, PartialEq, Eq)]
+#[derive(Clone, Copy)]
 pub struct Change {
     /// How many values came.
     pub came: u64,

@@ -1,5 +1,8 @@
-ghost use Rattle.std.specs.Prelude.{◌≡◌, ◌+◌, ◌<◌, ℕ, Ok, IfOk, IfErr, length, [], ◌∷◌, Some};
+ghost use Rattle.std.specs.Prelude.{◌≡◌, ◌+◌, ◌<◌, ℕ, Ok, IfOk, IfErr, OnOk, length, [], ◌∷◌, Some};
+ghost use Rattle.json_tree.specs.Edits.{put};
 ghost use Rattle.json_tree.specs.Meaning.{items, members, kids_of, fields_of};
+ghost use Rattle.json_tree.specs.Names.{AreSorted};
+ghost use Rattle.json_tree.specs.Parts.{lookup};
 ghost use Rattle.json_tree.specs.Pointers.{child_of, pointed};
 ghost use Rattle.json_patch.specs.Edits.{edited_at, change_of, missing_of, edited, RefusedBy, IsTaken, IsEdited};
 ghost use Rattle.json_patch.specs.Effects.{place_of};
@@ -11,7 +14,7 @@ use std::alloc::{AllocFailed, Global};
 use std::mem;
 
 /// What changes under the last token of a target location.
-#[derive(Debug, Drop)]
+#[derive(Drop)]
 pub enum Edit {
     Add(Tree),
     Remove,
@@ -19,7 +22,7 @@ pub enum Edit {
 }
 
 /// Why an edit isn't made. The document may then be part of what it was, and is given up.
-#[derive(Clone, Copy, Debug, PartialEq, Eq)]
+#[derive(Clone, Copy)]
 pub enum Refusal {
     Cause(ApplyCause),
     OutOfMemory,
@@ -50,14 +53,16 @@ impl<T: Drop> From<AllocFailed<T>> for Refusal {
 impl Edit {
     ghost use Rattle.json_patch.specs.Edits.{missing_of};
 
-    // The cause where the parent of the target location isn't there.
-    fn missing(&self) -> ApplyCause
-        ensures { result ≡ missing_of self.now }
+    // The cause where the parent of the target location isn't there. It lets the edit go.
+    fn missing(self) -> ApplyCause
+        ensures { result ≡ missing_of self }
     {
-        match self {
+        let cause = match &self {
             Edit::Add(_) => ApplyCause::NoParent,
             Edit::Remove | Edit::Replace(_) => ApplyCause::NoValue,
-        }
+        };
+        drop(self);
+        cause
     }
 }
 
@@ -223,6 +228,24 @@ fn place_of(token: &str, count: usize) -> Option<usize>
     }
 }
 
+// Puts a value at a member, and answers the one that was there.
+fn put_member(
+    alloc: Global,
+    list: &mut MemberList,
+    token: &str,
+    value: Tree,
+) -> Result<Option<Tree>, OutOfMemory>
+    ensures put { OnOk result (fields_of list.new ≡ put token.now value (fields_of list.old)) }
+    ensures old { IfOk result (λ old. old ≡ lookup token.now (fields_of list.old)) }
+    ensures sorted { IfOk result (λ _. AreSorted list.old) }
+{
+    let Ok(name) = Text::from_str(alloc, token) else {
+        drop(value);
+        return Err(OutOfMemory);
+    };
+    list.put(name, value)
+}
+
 fn edit_member(
     alloc: Global,
     list: &mut MemberList,
@@ -235,13 +258,13 @@ fn edit_member(
     ensures refused { IfErr result (RefusedBy (change_of edit token.now (members (fields_of list.old)))) }
 {
     match edit {
-        Edit::Add(value) => Ok(list.put(Text::from_str(alloc, token)?, value)?),
+        Edit::Add(value) => Ok(put_member(alloc, list, token, value)?),
         Edit::Remove => match list.take(token) {
             Some(value) => Ok(Some(value)),
             None => Err(Refusal::Cause(ApplyCause::NoValue)),
         },
         Edit::Replace(value) => match list.get(token) {
-            Some(_) => Ok(list.put(Text::from_str(alloc, token)?, value)?),
+            Some(_) => Ok(put_member(alloc, list, token, value)?),
             None => Err(Refusal::Cause(ApplyCause::NoValue)),
         },
     }

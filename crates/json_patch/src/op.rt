@@ -4,7 +4,7 @@ use json_tree::{Pointer, Tree};
 use std::marker::Model;
 
 /// One operation of a JSON Patch (RFC 6902 section 4).
-#[derive(Debug, Drop)]
+#[derive(Drop)]
 pub enum Op {
     Add { path: Pointer, value: Tree },
     Remove { path: Pointer },
@@ -15,7 +15,7 @@ pub enum Op {
 }
 
 /// The operations of a patch in order, at most 10,000.
-#[derive(Debug, Drop)]
+#[derive(Drop)]
 pub struct Patch {
     ops: Vec<Op>,
 }

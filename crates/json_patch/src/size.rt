@@ -5,7 +5,7 @@ ghost use Rattle.json_patch.specs.Limits.{depth, kids_depth, fields_depth, value
 use json_tree::{MemberList, Node, Tree, Trees};
 
 /// How large a tree is. The numbers stop at 2^64 - 1.
-#[derive(Clone, Copy, Debug, PartialEq, Eq)]
+#[derive(Clone, Copy)]
 pub struct Size {
     /// How many values there are, the tree itself among them.
     pub values: u64,

@@ -1,12 +1,11 @@
 -- Worked examples of the definitions.
-use Rattle.std.proofs.Common.{◌≡◌, ℕ, ℤ, pos, negsuc, true, false, List, [], ◌∷◌, Option, Some, None, option_and_then, codes, refl}
-use Rattle.serde_json.specs.Data.{Data, boolean, number, string, array, object, Items, no_items, item, Members, no_members, member, unsigned, negative, null as json_null}
+use Rattle.std.proofs.Common.{◌≡◌, ℕ, pos, negsuc, true, false, List, [], ◌∷◌, Option, Some, None, option_and_then, codes, refl}
+use Rattle.serde_json.specs.Data.{number, array, object, no_items, item, no_members, member, unsigned, negative, null as json_null}
 use Rattle.json_tree.specs.Edits.{put}
 use Rattle.json_tree.specs.Meaning.{Meaning, null, flag, whole, words, items, members, no_kids, kid, no_fields, field}
-use Rattle.json_tree.specs.Parts.{member_of, text_of}
 use Rattle.json_tree.specs.Pointers.{index_of, pointed, pointer_of, pointer_text}
 use Rattle.json_tree.specs.Stored.{stored}
-use Rattle.json_tree.specs.Values.{of_data, data_of}
+use Rattle.json_tree.specs.Values.{of_data}
 
 abbrev number_at : ℕ → Meaning
 number_at n = whole (pos n)

@@ -6,14 +6,14 @@ use thiserror::Error;
 /// A JSON value (RFC 8259) whose numbers are whole. Contracts see it as a `Meaning`, so that `≡` of
 /// trees is equality of JSON values.
 #[cycle(tree)]
-#[derive(Debug, Drop)]
+#[derive(Drop)]
 pub struct Tree {
     pub node: Node,
 }
 
 /// One level of a tree.
 #[cycle(tree)]
-#[derive(Debug, Drop)]
+#[derive(Drop)]
 pub enum Node {
     Null,
     Flag(bool),
@@ -25,21 +25,21 @@ pub enum Node {
 
 /// The items of an array.
 #[cycle(tree)]
-#[derive(Debug, Drop)]
+#[derive(Drop)]
 pub struct Trees {
     pub all: Vec<Tree>,
 }
 
 /// The members of an object, in the order of the bytes of their names, which are distinct.
 #[cycle(tree)]
-#[derive(Debug, Drop)]
+#[derive(Drop)]
 pub struct MemberList {
     pub all: Vec<Member>,
 }
 
 /// One member of an object.
 #[cycle(tree)]
-#[derive(Debug, Drop)]
+#[derive(Drop)]
 pub struct Member {
     pub name: Text,
     pub value: Tree,

@@ -7,7 +7,7 @@ pub trait Gate: Sync {
 }
 
 /// The gate that lets all events pass.
-#[derive(Clone, Copy, Debug, Drop)]
+#[derive(Clone, Copy, Drop)]
 pub struct FreeGate;
 
 impl Gate for FreeGate {

@@ -61,6 +61,3 @@ pub fn claims_all<R: Threads + Sync, S: ClaimSource + Sync, G: Gate>(
 pub fn one_list_law<S: ClaimSource>()
     ensures { (source : S) (a b : List Claim) → AreClaims (S.events source) (S.is_claim source) a → AreClaims (S.events source) (S.is_claim source) b → a ≡ b }
 {}
-
-#[cfg(test)]
-mod tests;

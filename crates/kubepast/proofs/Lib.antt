@@ -6,8 +6,12 @@ pub mod OutcomeTrees
 pub mod OutcomeSharing
 pub mod FindingShown
 pub mod JudgingFacts
+pub mod AskedFacts
 pub mod OneAnswerFacts
+pub mod PrintedHoldsFacts
+pub mod StrictlyFacts
+pub mod VerifyingFacts
+pub mod ReportedFacts
 pub mod RunFacts
 pub mod MadeFacts
 pub mod ReportFacts
-pub mod WordsFacts

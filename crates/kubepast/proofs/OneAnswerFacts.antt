@@ -1,47 +1,38 @@
 -- The words and the bytes have one answer.
-use Rattle.std.proofs.Common.{◌≡◌, ℕ, ◌∷◌, [], ◌^◌, ◌<◌, ◌≤◌, ◌++◌, List, Option, Some, None, Ok, Err, length, map, slice_get, inl, inr, refl, sym, ◌∙◌, ap, subst, codes, decimal, arith}
-use Rattle.std.proofs.lemmas.Fmt.{decimal_injective}
+use Rattle.std.proofs.Common.{◌≡◌, ℕ, List, Option, Some, None, map, slice_get, refl, sym, ◌∙◌, ap, subst, arith}
 use Rattle.std.proofs.lemmas.Option.{same_Some}
 use Rattle.base_types.specs.declared.placed.Outcome.{Outcome}
+use Rattle.base_types.specs.declared.placed.PlacedLine.{PlacedLine}
 use Rattle.base_types.specs.declared.placed.Outcome.TheVariants as printed
 use Rattle.case_maker.specs.Case.{log_text, setup_text}
 use Rattle.history_model.specs.Histories.{History}
 use Rattle.history_model.specs.Outcomes as model
 use Rattle.history_model.specs.Readable.{IsReadable}
 use Rattle.history_model.proofs.OneOutcome.{one_outcome_is}
+use Rattle.log_moments.specs.Answers.{IsStrictAnswer}
+use Rattle.log_moments.proofs.OneAnswer.{one_strict_answer}
+use Rattle.serial_machine.specs.Checks.{IsChecked}
+use Rattle.serial_machine.specs.declared.checked.Checked.{Checked}
+use Rattle.verdict_text.proofs.BegunFacts.{explained_agree}
 use Rattle.context_intake.proofs.OneContextFacts.{one_context, one_refusal, one_way}
 use Rattle.version_store.specs.Answered.{names}
 use Rattle.version_store.specs.Histories.{history_of}
 use Rattle.version_store.specs.Known.{Known}
-use Rattle.kubepast.specs.Command.{Asked, IsAsked, Judge, Make}
+use Rattle.kubepast.specs.Command.{Asked, IsAsked, Judge, Make, Strict, Verify}
 use Rattle.kubepast.specs.Endings.{Answer}
 use Rattle.window_writes.specs.Lines.{write_line}
 use Rattle.kubepast.specs.Judging.{IsJudged, IsOutcomeOf, IsPrinted}
 use Rattle.kubepast.specs.OneAnswer.{OneAnswer}
-use Rattle.kubepast.specs.Program.{IsAnswerTo, judged_answer, made_answer}
+use Rattle.kubepast.specs.Program.{IsAnswerTo, judged_answer, made_answer, strictly_answer, verified_answer}
+use Rattle.kubepast.specs.Strictly.{IsExplained, IsStrictlyJudged}
+use Rattle.kubepast.specs.declared.strictly.StrictlyJudged.{StrictlyJudged}
+use Rattle.kubepast.specs.declared.strictly.StrictlyJudged.TheVariants.{Plain, Settled}
+use Rattle.kubepast.specs.Verifying.{IsVerified}
+use Rattle.kubepast.specs.declared.verified.Verified.{Verified}
+use Rattle.kubepast.specs.declared.verified.Verified.TheVariants as verified
 use Rattle.kubepast.specs.declared.judged.Judged.{Judged}
 use Rattle.kubepast.specs.declared.judged.Judged.TheVariants.{Refused, Verdict}
-use Rattle.kubepast.proofs.RunFacts.{judge_or_make, same_names}
-
-same_made : (words : List (List ℕ)) (number events number' events' : ℕ) → IsAsked words (Some (Make number events)) → IsAsked words (Some (Make number' events')) → (number ≡ number') × (events ≡ events')
-same_made words number events number' events' a b =
-    let same : codes "make" ∷ decimal number ∷ decimal events ∷ [] ≡ codes "make" ∷ decimal number' ∷ decimal events' ∷ [] = sym a.0 ∙ b.0 in
-    let few = a.2 in
-    let few' = b.2 in
-    (decimal_injective number number' a.1 b.1 cc, decimal_injective events events' (omega (arith, few)) (omega (arith, few')) cc)
-
-one_asked : (words : List (List ℕ)) (a b : Option Asked) → IsAsked words a → IsAsked words b → a ≡ b
-one_asked words None None x y = refl
-one_asked words None (Some b) x y = absurd (x b y)
-one_asked words (Some a) None x y = absurd (y a x)
-one_asked words (Some (Judge setup log)) (Some (Judge setup' log')) x y =
-    let same = same_names words setup log setup' log' x y in
-    λ i. Some (Judge (same.0 i) (same.1 i))
-one_asked words (Some (Judge setup log)) (Some (Make number events)) x y = absurd (judge_or_make words setup log number events x y)
-one_asked words (Some (Make number events)) (Some (Judge setup log)) x y = absurd (judge_or_make words setup log number events y x)
-one_asked words (Some (Make number events)) (Some (Make number' events')) x y =
-    let same = same_made words number events number' events' x y in
-    λ i. Some (Make (same.0 i) (same.1 i))
+use Rattle.kubepast.proofs.AskedFacts.{one_asked}
 
 -- an outcome has one text of its event
 one_text : (x y : Known) (found : model.Outcome) (a b : Outcome) → history_of x ≡ history_of y → names x.setup x.events ≡ names y.setup y.events → IsPrinted x found a → IsPrinted y found b → a ≡ b
@@ -67,13 +58,60 @@ judged_once setup log (Verdict a) (Verdict b) (known, context, outcome) (known',
     let same = one_context setup log known known' context context' in
     ap Verdict (one_verdict known known' a b same.0 same.1 same.2 context'.told.readable outcome outcome')
 
-answered_once : (asked : Option Asked) (files : List ℕ → List ℕ) (a b : Answer) → IsAnswerTo asked files a → IsAnswerTo asked files b → a ≡ b
-answered_once None files a b x y = x ∙ sym y
-answered_once (Some (Judge setup log)) files a b (judged, is, told) (judged', is', told') = told ∙ ap judged_answer (judged_once (files setup) (files log) judged judged' is is') ∙ sym told'
-answered_once (Some (Make number events)) files a b (judged, is, told) (judged', is', told') = told ∙ ap (made_answer number events) (judged_once setup_text (log_text number events) judged judged' is is') ∙ sym told'
+strictly_once : (setup log : List ℕ) (a b : StrictlyJudged) → IsStrictlyJudged setup log a → IsStrictlyJudged setup log b → a ≡ b
+strictly_once setup log (Plain a) (Plain b) x y = ap Plain (judged_once setup log a b x.0 y.0)
+strictly_once setup log (Plain (Refused a)) (Settled outcome answer) x (known, context, settled) = absurd (one_way setup log a known x.0 context)
+strictly_once setup log (Plain (Verdict a)) (Settled outcome answer) x (known, context, settled) =
+    let here = x.0 in
+    let same = one_context setup log here.0 known here.1 context in
+    absurd (x.1 (subst IsExplained (sym (one_verdict here.0 known a outcome same.0 same.1 same.2 context.told.readable here.2 settled.is)) settled.explained))
+strictly_once setup log (Settled outcome answer) (Plain (Refused b)) (known, context, settled) y = absurd (one_way setup log b known y.0 context)
+strictly_once setup log (Settled outcome answer) (Plain (Verdict b)) (known, context, settled) y =
+    let here = y.0 in
+    let same = one_context setup log known here.0 context here.1 in
+    absurd (y.1 (subst IsExplained (one_verdict known here.0 outcome b same.0 same.1 same.2 here.1.told.readable settled.is here.2) settled.explained))
+strictly_once setup log (Settled outcome answer) (Settled outcome' answer') (known, context, settled) (known', context', settled') =
+    let same = one_context setup log known known' context context' in
+    let outcomes = one_verdict known known' outcome outcome' same.0 same.1 same.2 context'.told.readable settled.is settled'.is in
+    let answers = one_strict_answer (history_of known') answer answer' (subst (λ h. IsStrictAnswer h answer) same.2 settled.strict) settled'.strict in
+    λ i. Settled (outcomes i) (answers i)
 
-pub one_answer : OneAnswer
-one_answer = λ words files a b (asked, spelled, x) (asked', spelled', y). once words files a b asked asked' spelled spelled' x y
+-- a placement comes to one answer
+abbrev pub OneCheck : Type 0
+OneCheck = (h : History) (lines : List PlacedLine) (answer other : Checked) → IsReadable h → IsChecked h lines answer → IsChecked h lines other → answer ≡ other
+
+verified_once : OneCheck → (setup log placement : List ℕ) (a b : Verified) → IsVerified setup log placement a → IsVerified setup log placement b → a ≡ b
+verified_once once setup log placement (verified.Refused a) (verified.Refused b) x y = ap verified.Refused (one_refusal setup log a b x y)
+verified_once once setup log placement (verified.Refused a) verified.TooLong x (known, context, of) = absurd (one_way setup log a known x context)
+verified_once once setup log placement (verified.Refused a) (verified.Misspelt line) x (known, context, of) = absurd (one_way setup log a known x context)
+verified_once once setup log placement (verified.Refused a) (verified.Judged checked) x (known, context, of) = absurd (one_way setup log a known x context)
+verified_once once setup log placement verified.TooLong (verified.Refused b) (known, context, of) y = absurd (one_way setup log b known y context)
+verified_once once setup log placement verified.TooLong verified.TooLong x y = refl
+verified_once once setup log placement verified.TooLong (verified.Misspelt line) (known, context, long) (known', context', short) = absurd (let few = short.0 in omega (arith, long, few))
+verified_once once setup log placement verified.TooLong (verified.Judged checked) (known, context, long) (known', context', short) = absurd (let few = short.0 in omega (arith, long, few))
+verified_once once setup log placement (verified.Misspelt line) (verified.Refused b) (known, context, of) y = absurd (one_way setup log b known y context)
+verified_once once setup log placement (verified.Misspelt line) verified.TooLong (known, context, short) (known', context', long) = absurd (let few = short.0 in omega (arith, long, few))
+verified_once once setup log placement (verified.Misspelt line) (verified.Misspelt line') (known, context, x) (known', context', y) = ap verified.Misspelt (y.1.alone line x.1.breaks)
+verified_once once setup log placement (verified.Misspelt line) (verified.Judged checked) (known, context, x) (known', context', y) = absurd (x.1.refused (y.1.0, y.1.1.lines_are, y.1.1.spelled))
+verified_once once setup log placement (verified.Judged checked) (verified.Refused b) (known, context, of) y = absurd (one_way setup log b known y context)
+verified_once once setup log placement (verified.Judged checked) verified.TooLong (known, context, short) (known', context', long) = absurd (let few = short.0 in omega (arith, long, few))
+verified_once once setup log placement (verified.Judged checked) (verified.Misspelt line) (known, context, x) (known', context', y) = absurd (y.1.refused (x.1.0, x.1.1.lines_are, x.1.1.spelled))
+verified_once once setup log placement (verified.Judged a) (verified.Judged b) (known, context, x) (known', context', y) =
+    let same = one_context setup log known known' context context' in
+    let lines : x.1.0 ≡ y.1.0 = explained_agree x.1.0 y.1.0 x.1.1.lines_are y.1.1.lines_are (x.1.1.spelled ∙ sym y.1.1.spelled) in
+    ap verified.Judged (once (history_of known') y.1.0 a b context'.told.readable (subst (λ l. IsChecked (history_of known') l a) lines (subst (λ h. IsChecked h x.1.0 a) same.2 x.1.2)) y.1.2)
+
+answered_once : OneCheck → (asked : Option Asked) (files : List ℕ → List ℕ) (a b : Answer) → IsAnswerTo asked files a → IsAnswerTo asked files b → a ≡ b
+answered_once once None files a b x y = x ∙ sym y
+answered_once once (Some (Judge setup log)) files a b (judged, is, told) (judged', is', told') = told ∙ ap judged_answer (judged_once (files setup) (files log) judged judged' is is') ∙ sym told'
+answered_once once (Some (Strict setup log)) files a b (found, is, told) (found', is', told') =
+    told ∙ ap strictly_answer (strictly_once (files setup) (files log) found found' is is') ∙ sym told'
+answered_once once (Some (Verify setup log placement)) files a b (found, is, told) (found', is', told') =
+    told ∙ ap verified_answer (verified_once once (files setup) (files log) (files placement) found found' is is') ∙ sym told'
+answered_once once (Some (Make number events)) files a b (judged, is, told) (judged', is', told') = told ∙ ap (made_answer number events) (judged_once setup_text (log_text number events) judged judged' is is') ∙ sym told'
+
+pub one_answer : OneCheck → OneAnswer
+one_answer check = λ words files a b (asked, spelled, x) (asked', spelled', y). once words files a b asked asked' spelled spelled' x y
   where
     once : (words : List (List ℕ)) (files : List ℕ → List ℕ) (a b : Answer) (asked asked' : Option Asked) → IsAsked words asked → IsAsked words asked' → IsAnswerTo asked files a → IsAnswerTo asked' files b → a ≡ b
-    once words files a b asked asked' spelled spelled' x y = answered_once asked files a b x (subst (λ o. IsAnswerTo o files b) (one_asked words asked' asked spelled' spelled) y)
+    once words files a b asked asked' spelled spelled' x y = answered_once check asked files a b x (subst (λ o. IsAnswerTo o files b) (one_asked words asked' asked spelled' spelled) y)

@@ -1,9 +1,19 @@
 -- Answers that are passed on.
-use Rattle.std.proofs.Common.{◌≡◌, ℕ, List, [], ◌∷◌, Option, Some, Result, Ok, Err, IfOk, inl, inr, refl, sym, ◌∙◌, ap, subst, codes, arith}
+use Rattle.std.proofs.Common.{◌≡◌, ℕ, List, Option, Some, Result, Ok, Err, IfOk, IsErrOf, inl, inr, refl, sym, ◌∙◌, subst, arith}
+use Rattle.context_intake.specs.Contexts.{IsRefused}
+use Rattle.context_intake.specs.declared.refusal.Refusal.{Refusal}
+use Rattle.context_intake.proofs.ReadingFacts.{log_as, setup_as}
 use Rattle.edge_io.specs.Faults.{Rose}
-use Rattle.kubepast.specs.Command.{Asked, IsAsked, Judge, Make}
-use Rattle.kubepast.specs.Endings.{Answer, IsAnswered}
+use Rattle.edge_io.specs.Whole.{TakesWhole}
+use Rattle.log_intake.specs.Setup.{TakesSetup}
+use Rattle.log_intake.specs.Taking.{TakesLog}
+use Rattle.kubepast.specs.Command.{Asked, AsksOf, IsAsked, IsOfNames, Judge, Make, Spells, Strict, Verify}
+use Rattle.kubepast.specs.Endings.{Answer, IsAnswered, Tells}
 use Rattle.kubepast.specs.Program.{Concludes, IsAnswer, IsAnswerTo, report_answer, status_number}
+use Rattle.kubepast.specs.Reported.{IsReported, Takes, TakesNames, TakesPlacement}
+use Rattle.kubepast.specs.Verifying.{most_placement}
+use Rattle.kubepast.proofs.AskedFacts.{one_command}
+use Rattle.kubepast.proofs.VerifyingFacts.{whole_from}
 use Rattle.kubepast.specs.declared.report.Report.{Report}
 use Rattle.kubepast.specs.declared.report.Status.{Status}
 use Rattle.kubepast.specs.declared.report.Status.TheVariants.{Explained, Unexplained, SetupRefused, LogRefused, LimitPassed}
@@ -31,37 +41,61 @@ module _ (faults_before faults_now : ℕ) (before now : Option (List ℕ)) (resu
   concluded_fault (Err ReadFault) ends is = refl
   concluded_fault (Err OutOfMemory) ends is = absurd (let memory = ends.0 in omega (arith, memory, is))
 
--- the answer to the words
-pub asked_answer : (words : List (List ℕ)) (asked : Asked) (files : List ℕ → List ℕ) (found : Result Report Stop) → IsAsked words (Some asked)
-    → IfOk found (λ report. IsAnswerTo (Some asked) files (report_answer report)) → IfOk found (λ report. IsAnswer words files (report_answer report))
-asked_answer words asked files (Ok report) spelled right = (Some asked, spelled, right)
-asked_answer words asked files (Err stop) spelled right = tt
+-- the names of a command that reads
+named : (asked : Asked) (setup log : List ℕ) (old now : List ℕ → Option (List ℕ)) (untouched : Type 0) (found : Result Report Stop) → IsOfNames asked setup log → Takes asked old now untouched found → TakesNames setup log old now found
+named (Judge s l) setup log old now untouched found same takes = subst (λ s. TakesNames s log old now found) same.0 (subst (λ l. TakesNames s l old now found) same.1 takes)
+named (Strict s l) setup log old now untouched found same takes = subst (λ s. TakesNames s log old now found) same.0 (subst (λ l. TakesNames s l old now found) same.1 takes)
+named (Verify s l p) setup log old now untouched found same takes = subst (λ s. TakesNames s log old now found) same.0 (subst (λ l. TakesNames s l old now found) same.1 takes.0)
+named (Make number events) setup log old now untouched found same takes = absurd same
 
-pub of_files : (found : Result Report Stop) (IsRight : (List ℕ → List ℕ) → Report → Type 0) (IsOf : (List ℕ → List ℕ) → Type 0) (files : List ℕ → List ℕ) → IsOf files
-    → IfOk found (λ report. (files : List ℕ → List ℕ) → IsOf files → IsRight files report) → IfOk found (IsRight files)
-of_files (Ok report) IsRight IsOf files tells right = right files tells
-of_files (Err stop) IsRight IsOf files tells right = tt
+nothing_named : (asked : Asked) (old now : List ℕ → Option (List ℕ)) (untouched : Type 0) (found : Result Report Stop) → ((setup log : List ℕ) → IsOfNames asked setup log → ⊥) → Takes asked old now untouched found → untouched
+nothing_named (Judge s l) old now untouched found none takes = absurd (none s l (refl, refl))
+nothing_named (Strict s l) old now untouched found none takes = absurd (none s l (refl, refl))
+nothing_named (Verify s l p) old now untouched found none takes = absurd (none s l (refl, refl))
+nothing_named (Make number events) old now untouched found none takes = takes
 
-pub of_any_files : (found : Result Report Stop) (IsRight : (List ℕ → List ℕ) → Report → Type 0) (files : List ℕ → List ℕ) → IfOk found (λ report. (files : List ℕ → List ℕ) → IsRight files report) → IfOk found (IsRight files)
-of_any_files (Ok report) IsRight files right = right files
-of_any_files (Err stop) IsRight files right = tt
+answer_to_words : (words : List (List ℕ)) (asked : Asked) (old : List ℕ → Option (List ℕ)) (files : List ℕ → List ℕ) (found : Result Report Stop) → Spells asked words → Tells old files
+    → IfOk found (λ report. (files : List ℕ → List ℕ) → Tells old files → IsAnswerTo (Some asked) files (report_answer report)) → IfOk found (λ report. IsAnswer words files (report_answer report))
+answer_to_words words asked old files (Ok report) spelled tells right = (Some asked, spelled, right files tells)
+answer_to_words words asked old files (Err stop) spelled tells right = tt
 
--- the words spell one command at most
-abbrev first_byte : List (List ℕ) → ℕ
-first_byte [] = 0
-first_byte ([] ∷ words) = 0
-first_byte ((byte ∷ bytes) ∷ words) = byte
+-- a call whose words are a command: the words, what was found, and how the call ended
+pub record HasRun (words : List (List ℕ)) (asked : Asked) (old now : List ℕ → Option (List ℕ)) (untouched : Type 0) (desk_before desk_now sink_before sink_now : ℕ) (before written : Option (List ℕ)) (result : ℕ) (found : Result Report Stop) : Type 0 where
+  pub spelled : Spells asked words
+  pub reported : IsReported asked old now untouched desk_before desk_now found
+  pub concluded : Concludes found sink_before sink_now before written result
 
-pub same_names : (words : List (List ℕ)) (setup log setup' log' : List ℕ) → IsAsked words (Some (Judge setup log)) → IsAsked words (Some (Judge setup' log')) → (setup ≡ setup') × (log ≡ log')
-same_names words setup log setup' log' a b =
-    let same : codes "judge" ∷ setup ∷ log ∷ [] ≡ codes "judge" ∷ setup' ∷ log' ∷ [] = sym a.0 ∙ b.0 in
-    (cc, cc)
+-- what such a call comes to
+module _ {words : List (List ℕ)} {asked : Asked} {old now : List ℕ → Option (List ℕ)} {untouched : Type 0} {desk_before desk_now sink_before sink_now : ℕ} {before written : Option (List ℕ)} {result : ℕ} {found : Result Report Stop}
+    (r : HasRun words asked old now untouched desk_before desk_now sink_before sink_now before written result found) where
+  failed : result ≡ 5 → IsErrOf found ReadFault
+  failed is = concluded_fault sink_before sink_now before written result found r.concluded is
 
-pub judge_or_make : (words : List (List ℕ)) (setup log : List ℕ) (number events : ℕ) → IsAsked words (Some (Judge setup log)) → IsAsked words (Some (Make number events)) → ⊥
-judge_or_make words setup log number events a b = let bytes : 106 ≡ 109 = ap first_byte (sym a.0 ∙ b.0) in omega (arith, bytes)
+  takes_names : (setup log : List ℕ) → AsksOf words setup log → TakesNames setup log old now found
+  takes_names setup log (other, spelled, of) = named asked setup log old now untouched found (subst (λ a. IsOfNames a setup log) (one_command words other asked spelled r.spelled) of) r.reported.taken
 
--- what holds of the names that were asked for
-pub of_names : (words : List (List ℕ)) (setup log setup' log' : List ℕ) (P : List ℕ → List ℕ → Type 0) → IsAsked words (Some (Judge setup log)) → IsAsked words (Some (Judge setup' log')) → P setup log → P setup' log'
-of_names words setup log setup' log' P a b holds =
-    let same = same_names words setup log setup' log' a b in
-    subst (λ s. P s log') same.0 (subst (λ l. P setup l) same.1 holds)
+  takes_placement : (setup log placement : List ℕ) → IsAsked words (Some (Verify setup log placement)) → TakesPlacement setup log placement old now found
+  takes_placement setup log placement asks =
+      let takes : Takes (Verify setup log placement) old now untouched found = subst (λ a. Takes a old now untouched found) (one_command words asked (Verify setup log placement) r.spelled asks) r.reported.taken in
+      takes.1
+
+  pub run_answer : (files : List ℕ → List ℕ) → Tells old files → IsAnswered (IsAnswer words files) desk_before desk_now sink_before sink_now before written result
+  run_answer files tells =
+      concluded_answer sink_before sink_now before written result found (IsAnswer words files) desk_before desk_now (answer_to_words words asked old files found r.spelled tells r.reported.answered) r.reported.fault r.concluded
+
+  pub run_desk_left : ((setup log : List ℕ) → AsksOf words setup log → ⊥) → untouched
+  run_desk_left none = nothing_named asked old now untouched found (λ setup log of. none setup log (asked, r.spelled, of)) r.reported.taken
+
+  pub run_setup_taken : (setup log : List ℕ) → AsksOf words setup log → TakesSetup (old setup) (now setup) (result ≡ 5)
+  run_setup_taken setup log asks = setup_as (old setup) (now setup) (now setup) (IsErrOf found ReadFault) (result ≡ 5) refl failed (takes_names setup log asks).setup_taken
+
+  pub run_log_taken : (setup log : List ℕ) → AsksOf words setup log → TakesLog (old log) (now log) (result ≡ 5)
+  run_log_taken setup log asks = log_as (old log) (old log) (now log) (IsErrOf found ReadFault) (result ≡ 5) refl failed (takes_names setup log asks).log_taken
+
+  pub run_placement_taken : (setup log placement : List ℕ) → IsAsked words (Some (Verify setup log placement)) → TakesWhole most_placement (old placement) (now placement) (result ≡ 5)
+  run_placement_taken setup log placement asks =
+      whole_from most_placement (old placement) (old placement) (now placement) (IsErrOf found ReadFault) (result ≡ 5) refl failed (takes_placement setup log placement asks).taken
+
+  pub run_placement_left : (setup log placement : List ℕ) (files : List ℕ → List ℕ) (refusal : Refusal) → IsAsked words (Some (Verify setup log placement))
+      → Tells old files → IsRefused (files setup) (files log) refusal → now placement ≡ old placement
+  run_placement_left setup log placement files refusal asks tells refused = (takes_placement setup log placement asks).left files refusal tells refused

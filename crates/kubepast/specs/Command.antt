@@ -7,6 +7,10 @@ use Rattle.kubepast.specs.declared.words.Command.TheVariants as word
 pub data Asked : Type 0 where
   -- judge a log by a setup, each by its name
   Judge : (setup log : List ℕ) → Asked
+  -- judge it, and give its things moments
+  Strict : (setup log : List ℕ) → Asked
+  -- check a placement of a log's events again
+  Verify : (setup log placement : List ℕ) → Asked
   -- make the case of a number with so many events, and judge it
   Make : (number events : ℕ) → Asked
 
@@ -15,6 +19,12 @@ pub record AreNames (setup log : List ℕ) : Type 0 where
   pub differ : setup ≢ log
   pub named : setup ≢ codes "-"
 
+-- the placement is a third name
+pub record IsThirdName (setup log placement : List ℕ) : Type 0 where
+  pub not_setup : placement ≢ setup
+  pub not_log : placement ≢ log
+  pub named : placement ≢ codes "-"
+
 -- a case has at most so many events
 abbrev pub most_made : ℕ
 most_made = 100000
@@ -22,6 +32,9 @@ most_made = 100000
 -- the words of a command
 abbrev pub Spells : Asked → List (List ℕ) → Type 0
 Spells (Judge setup log) words = (words ≡ codes "judge" ∷ setup ∷ log ∷ []) × AreNames setup log
+Spells (Strict setup log) words = (words ≡ codes "judge" ∷ codes "--strict" ∷ setup ∷ log ∷ []) × AreNames setup log
+Spells (Verify setup log placement) words =
+    (words ≡ codes "verify" ∷ setup ∷ log ∷ placement ∷ []) × AreNames setup log × IsThirdName setup log placement
 Spells (Make number events) words = (words ≡ codes "make" ∷ decimal number ∷ decimal events ∷ []) × IsNumber number × (events ≤ most_made)
 
 -- the words spell this command, or none
@@ -29,7 +42,24 @@ abbrev pub IsAsked : List (List ℕ) → Option Asked → Type 0
 IsAsked words None = (asked : Asked) → Spells asked words → ⊥
 IsAsked words (Some asked) = Spells asked words
 
-abbrev pub command_asked : Command → Option Asked
-command_asked word.Usage = None
-command_asked (word.Judge setup log) = Some (Judge setup.now log.now)
-command_asked (word.Make number events) = Some (Make number events)
+-- the command reads a setup and a log of these names
+abbrev pub IsOfNames : Asked → List ℕ → List ℕ → Type 0
+IsOfNames (Judge setup log) setup' log' = (setup ≡ setup') × (log ≡ log')
+IsOfNames (Strict setup log) setup' log' = (setup ≡ setup') × (log ≡ log')
+IsOfNames (Verify setup log placement) setup' log' = (setup ≡ setup') × (log ≡ log')
+IsOfNames (Make number events) setup' log' = ⊥
+
+-- the words ask for what a setup and a log of these names tell
+abbrev pub AsksOf : List (List ℕ) → List ℕ → List ℕ → Type 0
+AsksOf words setup log = (asked : Asked) × IsAsked words (Some asked) × IsOfNames asked setup log
+
+abbrev pub command_asked : Command → Asked
+command_asked (word.Judge setup log) = Judge setup.now log.now
+command_asked (word.Strict setup log) = Strict setup.now log.now
+command_asked (word.Verify setup log placement) = Verify setup.now log.now placement.now
+command_asked (word.Make number events) = Make number events
+
+-- what the words ask for is read of them, or they ask for nothing
+abbrev pub IsRead : List (List ℕ) → Option Command → Type 0
+IsRead words None = IsAsked words None
+IsRead words (Some command) = IsAsked words (Some (command_asked command))

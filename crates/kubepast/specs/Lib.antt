@@ -3,5 +3,9 @@ pub mod Endings
 pub mod Findings
 pub mod Judging
 pub mod OneAnswer
+pub mod PrintedHolds
 pub mod Program
+pub mod Reported
+pub mod Strictly
 pub mod Summary
+pub mod Verifying

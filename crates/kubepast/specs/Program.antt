@@ -6,7 +6,7 @@ use Rattle.base_types.specs.declared.placed.Outcome.TheVariants.{Explained, Unex
 use Rattle.case_maker.specs.Case.{log_text, setup_text}
 use Rattle.verdict_text.specs.Outcome.{outcome_text}
 use Rattle.verdict_text.specs.Words.{ended, spaced}
-use Rattle.kubepast.specs.Command.{Asked, Judge, Make, IsAsked}
+use Rattle.kubepast.specs.Command.{Asked, Judge, Make, Strict, Verify, IsAsked}
 use Rattle.kubepast.specs.Endings.{Answer, Ends, line_of}
 use Rattle.kubepast.specs.Judging.{IsJudged}
 use Rattle.context_intake.specs.Refusals.{event_rule_number, limit_word, setup_rule_number}
@@ -15,11 +15,23 @@ use Rattle.kubepast.specs.declared.judged.Judged.{Judged}
 use Rattle.kubepast.specs.declared.judged.Judged.TheVariants.{Refused, Verdict}
 use Rattle.context_intake.specs.declared.refusal.Refusal.{Refusal}
 use Rattle.context_intake.specs.declared.refusal.Refusal.TheVariants.{BrokenSetup, MalformedLog, PastLimit}
+use Rattle.kubepast.specs.Strictly.{IsStrictlyJudged}
+use Rattle.kubepast.specs.Verifying.{IsVerified}
+use Rattle.kubepast.specs.declared.strictly.StrictlyJudged.{StrictlyJudged}
+use Rattle.kubepast.specs.declared.strictly.StrictlyJudged.TheVariants.{Plain, Settled}
+use Rattle.log_moments.specs.Texts.{answer_text}
+use Rattle.log_moments.specs.declared.answer.StrictAnswer.{StrictAnswer}
+use Rattle.log_moments.specs.declared.answer.StrictAnswer.TheVariants as strict
 use Rattle.kubepast.specs.declared.report.Report.{Report}
 use Rattle.kubepast.specs.declared.report.Status.{Status}
 use Rattle.kubepast.specs.declared.report.Status.TheVariants as status
 use Rattle.context_intake.specs.declared.stop.Stop.{Stop}
 use Rattle.context_intake.specs.declared.stop.Stop.TheVariants.{OutOfMemory, ReadFault}
+use Rattle.kubepast.specs.declared.verified.Verified.{Verified}
+use Rattle.kubepast.specs.declared.verified.Verified.TheVariants as verified
+use Rattle.serial_machine.specs.Texts.{checked_text}
+use Rattle.serial_machine.specs.declared.checked.Checked.{Checked}
+use Rattle.serial_machine.specs.declared.checked.Checked.TheVariants.{Holds, Wrong}
 
 abbrev pub answer : ℕ → List ℕ → Answer
 answer status text = record { status = status; text = text }
@@ -48,9 +60,32 @@ abbrev pub made_answer : (number events : ℕ) → Judged → Answer
 made_answer number events (Refused refusal) = refusal_answer refusal
 made_answer number events (Verdict outcome) = answer (outcome_status outcome) (summary_text number events outcome)
 
+-- the outcome's text with the moments behind it, or the two lines that cross
+abbrev pub settled_answer : Outcome → StrictAnswer → Answer
+settled_answer outcome (strict.Strict lines) = answer 0 (outcome_text outcome ++ answer_text (strict.Strict lines))
+settled_answer outcome (strict.Crossed first second) = answer 1 (answer_text (strict.Crossed first second))
+
+abbrev pub strictly_answer : StrictlyJudged → Answer
+strictly_answer (Plain judged) = judged_answer judged
+strictly_answer (Settled outcome moments) = settled_answer outcome moments
+
+abbrev pub checked_status : Checked → ℕ
+checked_status Holds = 0
+checked_status (Wrong line code) = 1
+
+-- what a placement comes to, or why it isn't checked
+abbrev pub verified_answer : Verified → Answer
+verified_answer (verified.Refused refusal) = refusal_answer refusal
+verified_answer verified.TooLong = answer 7 (ended (spaced (codes "limit" ∷ codes "placement" ∷ [])))
+verified_answer (verified.Misspelt line) = answer 4 (ended (spaced (codes "placement" ∷ decimal line ∷ [])))
+verified_answer (verified.Judged checked) = answer (checked_status checked) (checked_text checked)
+
 abbrev pub IsAnswerTo : Option Asked → (List ℕ → List ℕ) → Answer → Type 0
 IsAnswerTo None files answered = answered ≡ usage_answer
 IsAnswerTo (Some (Judge setup log)) files answered = (judged : Judged) × IsJudged (files setup) (files log) judged × (answered ≡ judged_answer judged)
+IsAnswerTo (Some (Strict setup log)) files answered = (found : StrictlyJudged) × IsStrictlyJudged (files setup) (files log) found × (answered ≡ strictly_answer found)
+IsAnswerTo (Some (Verify setup log placement)) files answered =
+    (verified : Verified) × IsVerified (files setup) (files log) (files placement) verified × (answered ≡ verified_answer verified)
 IsAnswerTo (Some (Make number events)) files answered =
     (judged : Judged) × IsJudged setup_text (log_text number events) judged × (answered ≡ made_answer number events judged)
 

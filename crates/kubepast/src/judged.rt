@@ -2,7 +2,7 @@ use base_types::Outcome;
 use context_intake::Refusal;
 
 /// What a setup and a log come to.
-#[derive(Debug, Drop)]
+#[derive(Drop)]
 pub enum Judged {
     Refused(Refusal),
     Verdict(Outcome),

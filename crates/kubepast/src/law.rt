@@ -1,6 +1,16 @@
 ghost use Rattle.kubepast.specs.OneAnswer.{OneAnswer};
+ghost use Rattle.kubepast.specs.PrintedHolds.{PrintedHolds};
 
 /// The same words and the same bytes have no two answers.
 pub fn one_answer_law()
     ensures { OneAnswer }
-{}
+{
+    serial_machine::one_answer_law();
+}
+
+/// What `judge` prints of an explained log holds as its placement.
+pub fn printed_holds_law()
+    ensures { PrintedHolds }
+{
+    history_model::printed_law();
+}

@@ -9,9 +9,13 @@ mod law;
 mod made;
 mod outcome;
 mod report;
+mod reporting;
 mod run;
 mod source;
+mod strictly;
 mod summary;
+mod verified;
+mod verifying;
 mod words;
 
 use edge_io::{FileDesk, StdSink};

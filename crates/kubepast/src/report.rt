@@ -1,26 +1,30 @@
-ghost use Rattle.std.specs.Prelude.{◌≡◌, IfOk, string_bytes};
-ghost use Rattle.kubepast.specs.Program.{answer, judged_answer, made_answer, outcome_status, refusal_answer, report_answer, status_number};
+ghost use Rattle.std.specs.Prelude.{◌≡◌, ◌++◌, IfOk, string_bytes};
+ghost use Rattle.kubepast.specs.Program.{answer, checked_status, judged_answer, made_answer, outcome_status, refusal_answer, report_answer, settled_answer, status_number, strictly_answer, verified_answer};
 ghost use Rattle.context_intake.specs.Refusals.{event_rule_number, limit_word, setup_rule_number};
 
 use crate::judged::Judged;
+use crate::strictly::StrictlyJudged;
 use crate::summary::summary;
+use crate::verified::Verified;
 use audit_event::Malformed;
 use base_types::{Bytes, OutOfMemory, Outcome};
 use context_intake::{Limit, Refusal};
+use log_moments::{StrictAnswer, print_strict};
+use serial_machine::{Checked, print_checked};
 use setup_file::SetupRule;
 use std::alloc::Global;
 use verdict_text::print_outcome;
 
 /// How a setup and a log were answered.
-#[derive(Clone, Copy, Debug, PartialEq, Eq)]
+#[derive(Clone, Copy, PartialEq, Eq)]
 pub enum Status {
-    /// Some placement explains the log.
+    /// Some placement explains the log; a given one holds.
     Explained,
-    /// No placement does.
+    /// No placement does; a given one is wrong.
     Unexplained,
     /// The setup breaks a rule.
     SetupRefused,
-    /// An event of the log breaks a rule.
+    /// An event of the log breaks a rule; a placement can't be read.
     LogRefused,
     /// One of them is too large.
     LimitPassed,
@@ -76,6 +80,75 @@ pub fn made_report(
             status: status_of(outcome),
             text: summary(alloc, number, events, outcome)?,
         }),
+    }
+}
+
+/// The report of what a setup and a log come to where moments are asked for.
+pub fn strictly_report(alloc: Global, found: &StrictlyJudged) -> Result<Report, OutOfMemory>
+    ensures { IfOk result (λ report. report_answer report ≡ strictly_answer found.now) }
+{
+    match found {
+        StrictlyJudged::Plain(judged) => judged_report(alloc, judged),
+        StrictlyJudged::Settled { outcome, answer } => settled_report(alloc, outcome, answer),
+    }
+}
+
+fn settled_report(
+    alloc: Global,
+    outcome: &Outcome,
+    answer: &StrictAnswer,
+) -> Result<Report, OutOfMemory>
+    ensures { IfOk result (λ report. report_answer report ≡ settled_answer outcome.now answer.now) }
+{
+    let text = print_strict(alloc, answer)?;
+    match answer {
+        StrictAnswer::Strict(_) => Ok(Report {
+            status: Status::Explained,
+            text: put_behind(print_outcome(alloc, outcome)?, &text)?,
+        }),
+        StrictAnswer::Crossed { .. } => Ok(Report {
+            status: Status::Unexplained,
+            text,
+        }),
+    }
+}
+
+// One text behind another.
+fn put_behind(front: Bytes, text: &Bytes) -> Result<Bytes, OutOfMemory>
+    ensures { IfOk result (λ whole. whole ≡ front ++ text.now) }
+{
+    let mut bytes = front.into_vec();
+    bytes.extend_from_slice(text.as_slice())?;
+    Ok(Bytes::from_vec(bytes))
+}
+
+/// The report of what a placement comes to.
+pub fn verified_report(alloc: Global, verified: Verified) -> Result<Report, OutOfMemory>
+    ensures { IfOk result (λ report. report_answer report ≡ verified_answer verified) }
+{
+    match verified {
+        Verified::Refused(refusal) => refusal_report(alloc, refusal),
+        Verified::TooLong => {
+            let text = format!(in alloc; "limit placement\n")?;
+            Ok(reported(Status::LimitPassed, text))
+        }
+        Verified::Misspelt { line } => {
+            let text = format!(in alloc; "placement {line}\n")?;
+            Ok(reported(Status::LogRefused, text))
+        }
+        Verified::Judged(checked) => Ok(Report {
+            status: checked_status(checked),
+            text: print_checked(alloc, &checked)?,
+        }),
+    }
+}
+
+fn checked_status(checked: Checked) -> Status
+    ensures { status_number result ≡ checked_status checked }
+{
+    match checked {
+        Checked::Holds => Status::Explained,
+        Checked::Wrong { .. } => Status::Unexplained,
     }
 }
 

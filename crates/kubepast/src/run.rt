@@ -1,18 +1,21 @@
-ghost use Rattle.std.specs.Prelude.{◌≡◌, ◌≢◌, ◌≤◌, ◌⊎◌, ℕ, List, Some, None, IfOk, IsErrOf, map, string_bytes};
+ghost use Rattle.std.specs.Prelude.{◌≡◌, ◌⊎◌, ℕ, List, Some, None, map, string_bytes};
 ghost use Rattle.std.specs.Io.KnownBytes.{IsAtEnd, Keeps};
+ghost use Rattle.context_intake.specs.Contexts.{IsRefused};
 ghost use Rattle.edge_io.specs.Faults.{Rose};
+ghost use Rattle.edge_io.specs.Whole.{TakesWhole};
 ghost use Rattle.log_intake.specs.Setup.{TakesSetup};
 ghost use Rattle.log_intake.specs.Taking.{TakesLog};
-ghost use Rattle.kubepast.specs.Command.{IsAsked, Judge, Make, most_made};
+ghost use Rattle.kubepast.specs.Command.{AsksOf, IsAsked, Verify};
+ghost use Rattle.kubepast.specs.Verifying.{most_placement};
 ghost use Rattle.kubepast.specs.Endings.{IsAnswered, Tells, Ends};
-ghost use Rattle.kubepast.specs.Program.{Concludes, IsAnswer, IsAnswerTo, report_answer, status_number, usage_answer};
+ghost use Rattle.kubepast.specs.Program.{Concludes, IsAnswer, usage_answer};
 
 use crate::ending::end_with;
-use crate::judging::{Gates, judge};
-use crate::made::judge_made;
-use crate::report::{Report, judged_report, made_report};
-use crate::words::{Command, read_words};
-use context_intake::Stop;
+use crate::judging::Gates;
+use crate::report::Report;
+use crate::reporting::report_of;
+use crate::words::read_words;
+use context_intake::{Refusal, Stop};
 use edge_io::{Desk, Sink};
 use judge_pool::Gate;
 use std::alloc::Global;
@@ -43,29 +46,29 @@ pub fn run<R: Threads + Sync, D: Desk, K: Sink, G: Gate, H: Gate>(
     ensures read_fault { result ≡ 5 → Rose (D.faults desk.old) (D.faults desk.new) }
     ensures write_fault { result ≡ 6 → Rose (K.faults out.old) (K.faults out.new) }
     ensures memory { result ≡ 8 → Keeps (K.written out.old) (K.written out.new) }
-    ensures desk_left { ((setup log : List ℕ) → IsAsked (map string_bytes words.now) (Some (Judge setup log)) → ⊥) → desk.new ≡ desk.old }
-    ensures whole { (setup log : List ℕ) → IsAsked (map string_bytes words.now) (Some (Judge setup log)) → (result ≡ 0) ⊎ (result ≡ 1)
+    ensures desk_left { ((setup log : List ℕ) → AsksOf (map string_bytes words.now) setup log → ⊥) → desk.new ≡ desk.old }
+    ensures whole { (setup log : List ℕ) → AsksOf (map string_bytes words.now) setup log → (result ≡ 0) ⊎ (result ≡ 1)
         → IsAtEnd (D.left desk.new setup) × IsAtEnd (D.left desk.new log) }
-    ensures setup_taken { (setup log : List ℕ) → IsAsked (map string_bytes words.now) (Some (Judge setup log))
+    ensures setup_taken { (setup log : List ℕ) → AsksOf (map string_bytes words.now) setup log
         → TakesSetup (D.left desk.old setup) (D.left desk.new setup) (result ≡ 5) }
-    ensures log_taken { (setup log : List ℕ) → IsAsked (map string_bytes words.now) (Some (Judge setup log))
+    ensures log_taken { (setup log : List ℕ) → AsksOf (map string_bytes words.now) setup log
         → TakesLog (D.left desk.old log) (D.left desk.new log) (result ≡ 5) }
+    ensures placement_whole { (setup log placement : List ℕ) → IsAsked (map string_bytes words.now) (Some (Verify setup log placement))
+        → (result ≡ 0) ⊎ (result ≡ 1) → IsAtEnd (D.left desk.new placement) }
+    ensures placement_taken { (setup log placement : List ℕ) → IsAsked (map string_bytes words.now) (Some (Verify setup log placement))
+        → TakesWhole most_placement (D.left desk.old placement) (D.left desk.new placement) (result ≡ 5) }
+    ensures placement_left { (setup log placement : List ℕ) (files : List ℕ → List ℕ) (refusal : Refusal) → IsAsked (map string_bytes words.now) (Some (Verify setup log placement))
+        → Tells (D.left desk.old) files → IsRefused (files setup) (files log) refusal → D.left desk.new placement ≡ D.left desk.old placement }
 {
     let gates = Gates {
         events: gate,
         lines,
     };
-    match read_words(words) {
-        Command::Usage => end_with(out, 2, b"usage\n"),
-        Command::Judge { setup, log } => {
-            let found = judged(rt, alloc, desk, setup, log, gates);
-            conclude(out, found)
-        }
-        Command::Make { number, events } => {
-            let found = made(rt, alloc, number, events, gates);
-            conclude(out, found)
-        }
-    }
+    let Some(command) = read_words(words) else {
+        return end_with(out, 2, b"usage\n");
+    };
+    let found = report_of(rt, alloc, command, desk, gates);
+    conclude(out, found)
 }
 
 // Writes what was found, or why nothing was, and gives the exit status.
@@ -77,42 +80,4 @@ fn conclude<K: Sink>(out: &mut K, found: Result<Report, Stop>) -> u8
         Err(Stop::ReadFault) => end_with(out, 5, b"read fault\n"),
         Err(Stop::OutOfMemory) => 8,
     }
-}
-
-// Judges a log by a setup, each by its name.
-fn judged<R: Threads + Sync, D: Desk, G: Gate, H: Gate>(
-    rt: &R,
-    alloc: Global,
-    desk: &mut D,
-    setup: &str,
-    log: &str,
-    gates: Gates<'_, G, H>,
-) -> Result<Report, Stop>
-    requires { setup.now ≢ log.now }
-    ensures answered { IfOk result (λ report. (files : List ℕ → List ℕ) → Tells (D.left desk.old) files
-        → IsAnswerTo (Some (Judge setup.now log.now)) files (report_answer report)) }
-    ensures whole { IfOk result (λ report. (status_number report.status ≡ 0) ⊎ (status_number report.status ≡ 1)
-        → IsAtEnd (D.left desk.new setup.now) × IsAtEnd (D.left desk.new log.now)) }
-    ensures fault { IsErrOf result Stop.ReadFault → Rose (D.faults desk.old) (D.faults desk.new) }
-    ensures setup_taken { TakesSetup (D.left desk.old setup.now) (D.left desk.new setup.now) (IsErrOf result Stop.ReadFault) }
-    ensures log_taken { TakesLog (D.left desk.old log.now) (D.left desk.new log.now) (IsErrOf result Stop.ReadFault) }
-{
-    let judged = judge(rt, alloc, desk, setup, log, gates)?;
-    Ok(judged_report(alloc, &judged)?)
-}
-
-// Judges a made case.
-fn made<R: Threads + Sync, G: Gate, H: Gate>(
-    rt: &R,
-    alloc: Global,
-    number: u64,
-    events: u32,
-    gates: Gates<'_, G, H>,
-) -> Result<Report, Stop>
-    requires { events ≤ most_made }
-    ensures answered { IfOk result (λ report. (files : List ℕ → List ℕ) → IsAnswerTo (Some (Make number events)) files (report_answer report)) }
-    ensures no_fault { IsErrOf result Stop.ReadFault → ⊥ }
-{
-    let judged = judge_made(rt, alloc, number, events, gates)?;
-    Ok(made_report(alloc, number, events, &judged)?)
 }

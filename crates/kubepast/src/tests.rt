@@ -1,5 +1,6 @@
 mod reads;
 mod refusals;
+mod second;
 mod writes;
 
 use crate::run::run;
@@ -15,8 +16,8 @@ use std::thread::Threads;
 
 // A row is told in lines, each a word and its rest: `row` and a name; what the setup has (`rbac`, `tracks` a resource,
 // `holds` an object, `checks` a list, `sets` members that count in place of earlier ones); the log (`event`, `line`, and
-// `item`s that are `listed` on one line); the `words` of the command where they aren't `judge s l`; and what is wanted:
-// `tells` a line, and the `status`.
+// `item`s that are `listed` on one line); a placement that it `places` line by line; the `words` of the command where they
+// aren't `judge s l`; and what is wanted: `tells` a line, and the `status`.
 
 // The places of a form that fields are put into.
 const HOLES: [&str; 9] = ["$1", "$2", "$3", "$4", "$5", "$6", "$7", "$8", "$9"];
@@ -106,6 +107,7 @@ struct Row {
     members: String,
     items: String,
     log: String,
+    placement: String,
     text: String,
     status: u8,
 }
@@ -356,6 +358,7 @@ fn take_event(alloc: Global, row: &mut Row, word: &str, rest: &str) -> Result<()
             push_line(&mut row.log, line.as_str())?;
         }
         "line" => push_line(&mut row.log, rest)?,
+        "places" => push_line(&mut row.placement, rest)?,
         "item" => {
             let event = event(alloc, rest)?;
             let item = format!(in alloc; "{{{event}")?;
@@ -381,6 +384,7 @@ fn row_of(alloc: Global, lines: &str) -> Result<Row, Fail> {
         members: String::new(alloc),
         items: String::new(alloc),
         log: String::new(alloc),
+        placement: String::new(alloc),
         text: String::new(alloc),
         status: 0,
     };
@@ -430,6 +434,7 @@ fn files_of(alloc: Global, row: &Row) -> Result<InputFiles, Fail> {
     let mut files = InputFiles::new(alloc);
     files.push(file(alloc, "s", setup_of(alloc, row)?.as_str())?)?;
     files.push(file(alloc, "l", row.log.as_str())?)?;
+    files.push(file(alloc, "p", row.placement.as_str())?)?;
     Ok(files)
 }
 
@@ -488,6 +493,8 @@ fn rows(rt: HostRuntime) -> Result<(), Fail> {
         refusals::SETUPS,
         refusals::LOGS,
         refusals::POLICIES,
+        second::STRICT,
+        second::PLACEMENTS,
     ] {
         for lines in table.split("\n\n") {
             let row = row_of(alloc, lines)?;

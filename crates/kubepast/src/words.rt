@@ -1,5 +1,5 @@
-ghost use Rattle.std.specs.Prelude.{◌≡◌, ◌≢◌, ◌≤◌, ℕ, ◌∷◌, [], IfSome, IfNone, map, string_bytes, codes, decimal};
-ghost use Rattle.kubepast.specs.Command.{IsAsked, command_asked, most_made};
+ghost use Rattle.std.specs.Prelude.{◌≡◌, ◌≢◌, ◌≤◌, ℕ, ◌∷◌, [], IfSome, IfNone, IsTrue, ◌↔◌, map, string_bytes, codes, decimal};
+ghost use Rattle.kubepast.specs.Command.{AreNames, IsRead, IsThirdName, most_made};
 
 use verdict_text::read_number;
 
@@ -9,40 +9,119 @@ const MOST_MADE: u64 = 100_000;
 /// What the words of the command line ask for.
 #[derive(Clone, Copy)]
 pub enum Command<'a> {
-    /// Words that are no command.
-    Usage,
     /// `judge SETUP LOG`
-    Judge { setup: &'a str, log: &'a str },
+    Judge {
+        setup: &'a str,
+        log: &'a str,
+    },
+    /// `judge --strict SETUP LOG`
+    Strict {
+        setup: &'a str,
+        log: &'a str,
+    },
+    /// `verify SETUP LOG PLACEMENT`
+    Verify {
+        setup: &'a str,
+        log: &'a str,
+        placement: &'a str,
+    },
     /// `make NUMBER EVENTS`
-    Make { number: u64, events: u32 },
+    Make {
+        number: u64,
+        events: u32,
+    },
 }
 
-/// Reads the words behind the program's name. It takes no memory.
-pub fn read_words(words: &[String]) -> Command<'_>
-    ensures { IsAsked (map string_bytes words.now) (command_asked result) }
+/// Reads the words behind the program's name: none where they are no command. It takes no memory.
+pub fn read_words(words: &[String]) -> Option<Command<'_>>
+    ensures { IsRead (map string_bytes words.now) result }
 {
     match words {
-        [verb, setup, log] if verb.as_str() == "judge" => judge_words(setup, log),
-        [verb, number, events] if verb.as_str() == "make" => make_words(number, events),
-        _ => Command::Usage,
+        [verb, first, second] => read_three(verb, first, second),
+        [verb, first, second, third] => read_four(verb, first, second, third),
+        _ => None,
     }
 }
 
-fn judge_words<'a>(setup: &'a str, log: &'a str) -> Command<'a>
-    ensures { IsAsked (codes "judge" ∷ setup.entry.now ∷ log.entry.now ∷ []) (command_asked result) }
+fn read_three<'a>(verb: &str, first: &'a str, second: &'a str) -> Option<Command<'a>>
+    ensures { IsRead (verb.now ∷ first.entry.now ∷ second.entry.now ∷ []) result }
 {
-    if setup != log && setup != "-" {
-        return Command::Judge { setup, log };
+    if verb == "judge" {
+        return judge_words(first, second);
     }
-    Command::Usage
+    if verb == "make" {
+        return make_words(first, second);
+    }
+    None
 }
 
-fn make_words<'a>(number: &str, events: &str) -> Command<'a>
-    ensures { IsAsked (codes "make" ∷ number.now ∷ events.now ∷ []) (command_asked result) }
+fn read_four<'a>(verb: &str, first: &'a str, second: &'a str, third: &'a str) -> Option<Command<'a>>
+    ensures { IsRead (verb.now ∷ first.entry.now ∷ second.entry.now ∷ third.entry.now ∷ []) result }
+{
+    if verb == "verify" {
+        return verify_words(first, second, third);
+    }
+    if is_strict(verb, first) {
+        return strict_words(second, third);
+    }
+    None
+}
+
+fn is_strict(verb: &str, mode: &str) -> bool
+    ensures { IsTrue result ↔ ((verb.now ≡ codes "judge") × (mode.now ≡ codes "--strict")) }
+{
+    verb == "judge" && mode == "--strict"
+}
+
+fn judge_words<'a>(setup: &'a str, log: &'a str) -> Option<Command<'a>>
+    ensures { IsRead (codes "judge" ∷ setup.entry.now ∷ log.entry.now ∷ []) result }
+{
+    if are_names(setup, log) {
+        return Some(Command::Judge { setup, log });
+    }
+    None
+}
+
+fn strict_words<'a>(setup: &'a str, log: &'a str) -> Option<Command<'a>>
+    ensures { IsRead (codes "judge" ∷ codes "--strict" ∷ setup.entry.now ∷ log.entry.now ∷ []) result }
+{
+    if are_names(setup, log) {
+        return Some(Command::Strict { setup, log });
+    }
+    None
+}
+
+fn verify_words<'a>(setup: &'a str, log: &'a str, placement: &'a str) -> Option<Command<'a>>
+    ensures { IsRead (codes "verify" ∷ setup.entry.now ∷ log.entry.now ∷ placement.entry.now ∷ []) result }
+{
+    if are_names(setup, log) && is_third_name(setup, log, placement) {
+        return Some(Command::Verify {
+            setup,
+            log,
+            placement,
+        });
+    }
+    None
+}
+
+fn are_names(setup: &str, log: &str) -> bool
+    ensures { IsTrue result ↔ AreNames setup.now log.now }
+{
+    setup != log && setup != "-"
+}
+
+fn is_third_name(setup: &str, log: &str, placement: &str) -> bool
+    ensures { IsTrue result ↔ IsThirdName setup.now log.now placement.now }
+{
+    placement != setup && placement != log && placement != "-"
+}
+
+fn make_words<'a>(number: &str, events: &str) -> Option<Command<'a>>
+    ensures { IsRead (codes "make" ∷ number.now ∷ events.now ∷ []) result }
 {
     match (read_number(number), read_made(events)) {
-        (Some(number), Some(events)) => Command::Make { number, events },
-        _ => Command::Usage,
+        (Some(number), Some(events)) => Some(Command::Make { number, events }),
+        _ => None,
     }
 }
 

@@ -5,7 +5,7 @@ use thiserror::Error;
 pub type Selector = Listed<Requirement>;
 
 /// What a selector asks of one label (Kubernetes "Labels and Selectors", "Label selectors").
-#[derive(Debug, Drop, PartialEq, Eq)]
+#[derive(Drop, PartialEq, Eq)]
 pub struct Requirement {
     /// The name of the label.
     pub key: Text,
@@ -13,7 +13,7 @@ pub struct Requirement {
 }
 
 /// What is asked of a label of some name.
-#[derive(Debug, Drop, PartialEq, Eq)]
+#[derive(Drop, PartialEq, Eq)]
 pub enum Test {
     /// `KEY`: there is such a label.
     Exists,

@@ -2,7 +2,7 @@ use base_types::{Bytes, OutOfMemory};
 use thiserror::Error;
 
 /// A line of a log, without its newline.
-#[derive(Debug, Drop)]
+#[derive(Drop)]
 pub struct Line {
     /// The number of the line, from 1. Blank lines are counted.
     pub number: u64,

@@ -6,7 +6,7 @@ use base_types::{Bound, Bounds};
 use std::alloc::Global;
 
 /// What an answer asks of the removals' places.
-#[derive(Debug, Drop)]
+#[derive(Drop)]
 pub enum Asking {
     /// It is right whatever is chosen.
     Free,
@@ -17,7 +17,7 @@ pub enum Asking {
 }
 
 /// What is asked of the removals' places for one object.
-#[derive(Clone, Copy, Debug, PartialEq, Eq)]
+#[derive(Clone, Copy, PartialEq, Eq)]
 pub enum KeyAsking {
     /// It is so whatever is chosen.
     Free,

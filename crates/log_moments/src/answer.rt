@@ -10,7 +10,7 @@ use strict_order::{Moments, Thing, settle_moments};
 use version_store::Context;
 
 /// The line of a thing, and a moment of its event.
-#[derive(Clone, Copy, Debug, PartialEq, Eq)]
+#[derive(Clone, Copy, PartialEq, Eq)]
 pub struct LineMoment {
     pub line: u64,
     pub moment: Moment,
@@ -20,7 +20,7 @@ pub struct LineMoment {
 pub type LineMoments = Listed<LineMoment>;
 
 /// Whether all things of a log can stand in one list along which neither moments nor revisions fall.
-#[derive(Debug, Drop)]
+#[derive(Drop)]
 pub enum StrictAnswer {
     /// The things' moments in such a list, each the first that its thing can have.
     Strict(LineMoments),

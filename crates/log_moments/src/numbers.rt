@@ -18,7 +18,7 @@ use write_groups::{Item, Listing, LogEvent, Reading, Window, window_of};
 
 /// The least and the greatest number at which a thing may stand: the write of revision m is the number 2m, the gap between
 /// it and the next write 2m + 1.
-#[derive(Clone, Copy, Debug, PartialEq, Eq)]
+#[derive(Clone, Copy, PartialEq, Eq)]
 pub struct Numbers {
     pub least: u128,
     pub greatest: u128,

@@ -3,7 +3,7 @@ use std::hash::{Hash, Hasher};
 use std::marker::Model;
 
 /// One level of a tree: its children are numbers of the pool, and its names are numbers of the pool's names.
-#[derive(Debug, Drop)]
+#[derive(Drop)]
 pub enum Form {
     Null,
     Flag(bool),
@@ -15,7 +15,7 @@ pub enum Form {
 }
 
 /// A level as the pool's set holds it. Contracts see it as a `Flat`, so that capacities play no part.
-#[derive(Debug, Drop)]
+#[derive(Drop)]
 pub struct Level {
     pub form: Form,
 }

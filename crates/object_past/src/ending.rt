@@ -7,7 +7,7 @@ use base_types::OutOfMemory;
 use std::alloc::Global;
 
 /// A removal found by the version that it ended.
-#[derive(Clone, Copy, Debug, PartialEq, Eq)]
+#[derive(Clone, Copy, PartialEq, Eq)]
 pub struct Ending {
     /// The revision of the version.
     pub last: u64,

@@ -5,7 +5,7 @@ use crate::version::Version;
 use base_types::{OutOfMemory, Revision, Text};
 
 /// An object's versions with one uid, without another uid's between them.
-#[derive(Debug, Drop)]
+#[derive(Drop)]
 pub struct Incarnation {
     /// `metadata.uid`
     pub uid: Text,

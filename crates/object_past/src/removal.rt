@@ -2,7 +2,7 @@ use base_types::{Listed, ObjectKey, Range, Revision, Text};
 
 /// The removal of an incarnation, whose last version has the revision `last`. Its place isn't recorded: it is one of
 /// the range.
-#[derive(Debug, Drop)]
+#[derive(Drop)]
 pub struct Removal {
     pub key: ObjectKey,
     /// `metadata.uid`

@@ -13,7 +13,7 @@ pub enum Maker {
 }
 
 /// One object from one write of it to the next.
-#[derive(Debug, Drop)]
+#[derive(Drop)]
 pub struct Version {
     pub key: ObjectKey,
     pub revision: Revision,

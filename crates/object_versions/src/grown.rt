@@ -11,7 +11,6 @@ use std::collections::{BTreeMap, BTreeSet};
 use std::marker::Model;
 
 /// What is known of the keys and uids of versions.
-#[derive(Drop)]
 struct Index {
     // Of each version, whether its incarnation is the first of its key with its uid.
     firsts: Vec<bool>,
@@ -21,11 +20,32 @@ struct Index {
     uids: BTreeSet<Text>,
 }
 
+// Written out, so that a function that lets an index go has one call and not the steps of each field.
+impl Drop for Index {
+    fn drop(self) {
+        let Index {
+            firsts: _,
+            last: _,
+            owners: _,
+            uids: _,
+        } = self;
+    }
+}
+
 /// The versions up to some revision, with what is known of their keys and uids. Contracts see the versions.
-#[derive(Drop)]
 pub struct Grown {
     versions: Versions,
     index: Index,
+}
+
+// Written out for the same reason.
+impl Drop for Grown {
+    fn drop(self) {
+        let Grown {
+            versions: _,
+            index: _,
+        } = self;
+    }
 }
 
 impl Model for Grown {
@@ -95,6 +115,35 @@ impl Index {
         self.firsts.push(is_first)?;
         Ok(())
     }
+
+    fn into_firsts(self) -> Vec<bool>
+        ensures { result ≡ self.firsts }
+    {
+        let Index {
+            firsts,
+            last: _,
+            owners: _,
+            uids: _,
+        } = self;
+        firsts
+    }
+}
+
+// Puts the version behind these; `continued` is as for the index.
+fn add(
+    versions: &mut Versions,
+    index: &mut Index,
+    version: Version,
+    continued: Option<bool>,
+) -> Result<(), OutOfMemory>
+    requires kept { AreKept versions.old index.old.firsts.items index.old.last index.old.owners index.old.uids }
+    requires above { All (λ v. v.revision < version.revision) versions.old }
+    requires continued { IsContinued versions.old version continued }
+    ensures versions { OnOk result (versions.new ≡ versions.old ++ version ∷ []) }
+    ensures kept { OnOk result (AreKept versions.new index.new.firsts.items index.new.last index.new.owners index.new.uids) }
+{
+    index.add(versions.as_slice(), &version, continued)?;
+    versions.push(version)
 }
 
 impl Grown {
@@ -151,8 +200,7 @@ impl Grown {
             mut versions,
             mut index,
         } = self;
-        index.add(versions.as_slice(), &version, continued)?;
-        versions.push(version)?;
+        add(&mut versions, &mut index, version, continued)?;
         Ok(Grown { versions, index })
     }
 
@@ -162,6 +210,7 @@ impl Grown {
         ensures rising { AllPairs (λ a b. a.revision < b.revision) self }
         ensures firsts { AreFlagged self result.1.items }
     {
-        (self.versions, self.index.firsts)
+        let Grown { versions, index } = self;
+        (versions, index.into_firsts())
     }
 }

@@ -1,7 +1,18 @@
-ghost use Rattle.std.specs.Prelude.{◌≡◌, ◌<◌, ◌^◌, length, IfOk, AllPairs};
+ghost use Rattle.std.specs.Prelude.{◌≡◌, ◌<◌, ◌^◌, length, map, IfOk, All, AllPairs};
+ghost use Rattle.history_model.specs.Groups.{AreSpans};
 ghost use Rattle.history_model.specs.Histories.{History};
+ghost use Rattle.history_model.specs.Incarnations.{AreRemovals};
+ghost use Rattle.history_model.specs.Judging.{IsOrder};
+ghost use Rattle.history_model.specs.Makers.{AreVersions};
+ghost use Rattle.object_past.specs.Modelled.{recorded, version_of};
+ghost use Rattle.write_groups.specs.Grouped.{AreWrites};
+ghost use Rattle.write_groups.specs.Members.{AreGroupsOf};
+ghost use Rattle.write_groups.specs.Modelled.{HasEvents, HasTimes, item_of, span_of};
 ghost use Rattle.object_versions.specs.Found.{HasFound, IsPastOf};
-ghost use Rattle.object_versions.specs.Written.{IsSnapshot};
+ghost use Rattle.object_versions.specs.Hidden.{HasSlots, slots_of};
+ghost use Rattle.object_versions.specs.Modelled.{AreCloudsOf};
+ghost use Rattle.object_versions.specs.Surrounded.{IsJudgedBy};
+ghost use Rattle.object_versions.specs.Written.{AreAllJudged, AreSlots, IsSnapshot};
 
 use crate::bodies::Bodies;
 use crate::hiding::{clouds_of, slots_of};
@@ -14,7 +25,7 @@ use clouds::Clouds;
 use object_past::{Removals, Versions};
 use std::alloc::Global;
 use time_windows::Windows;
-use write_groups::{Groups, Item, LogEvent, groups_of, order_of, spans_of};
+use write_groups::{Group, Groups, Item, LogEvent, groups_of, order_of, spans_of};
 
 /// What is found of a log.
 #[derive(Drop)]
@@ -32,6 +43,141 @@ pub struct LogPast {
     pub removals: Removals,
 }
 
+// The order of judgement, the groups and the windows of a log.
+#[derive(Drop)]
+struct Timed {
+    order: Vec<u32>,
+    groups: Groups,
+    windows: Windows,
+}
+
+// The versions of a log, and the removals behind them.
+#[derive(Drop)]
+struct Ended {
+    written: Written,
+    removals: Removals,
+}
+
+// The windows that the groups' spans make.
+fn windows_of(
+    alloc: Global,
+    start: Revision,
+    events: &[LogEvent],
+    groups: &[Group],
+) -> Result<Windows, OutOfMemory>
+    requires rising { AllPairs (λ a b. a.revision < b.revision) groups.now }
+    requires above { All (λ group. start < group.revision) groups.now }
+    ensures start { IfOk result (λ windows. windows.start ≡ start) }
+    ensures spans { IfOk result (λ windows. (h : History) → HasEvents events.now h → IsOrder h → AreGroupsOf h groups.now
+        → h.spans ≡ map span_of windows.spans → AreSpans h) }
+{
+    let spans = spans_of(alloc, start, events, groups)?;
+    Windows::build(alloc, start, &spans)
+}
+
+fn timed_of(alloc: Global, start: Revision, events: &[LogEvent]) -> Result<Timed, OutOfMemory>
+    requires few { length events.now < 2 ^ 32 }
+    requires lines { AllPairs (λ a b. a.line < b.line) events.now }
+    ensures start { IfOk result (λ timed. timed.windows.start ≡ start) }
+    ensures rising { IfOk result (λ timed. AllPairs (λ a b. a.revision < b.revision) timed.groups) }
+    ensures above { IfOk result (λ timed. All (λ group. start < group.revision) timed.groups) }
+    ensures members { IfOk result (λ timed. All (λ group. AreWrites events.now group.members) timed.groups) }
+    ensures timed { IfOk result (λ timed. (h : History) → HasEvents events.now h → h.start ≡ start → h.order ≡ timed.order.items
+        → h.spans ≡ map span_of timed.windows.spans → IsOrder h × AreGroupsOf h timed.groups × AreSpans h) }
+{
+    let order = order_of(alloc, events)?;
+    let groups = groups_of(alloc, start, events, &order)?;
+    let windows = windows_of(alloc, start, events, groups.as_slice())?;
+    Ok(Timed {
+        order,
+        groups,
+        windows,
+    })
+}
+
+// What the unrecorded writes hide of the versions that the snapshot and the groups have.
+fn hidden_of(
+    alloc: Global,
+    start: Revision,
+    snapshot: &[Item],
+    events: &[LogEvent],
+    timed: &Timed,
+) -> Result<Clouds, OutOfMemory>
+    requires { start ≡ timed.now.windows.start }
+    ensures { IfOk result (λ clouds. (h : History) → HasTimes timed.now.windows h → HasEvents events.now h
+        → HasSlots (slots_of snapshot.now timed.now.groups) h → AreCloudsOf clouds h) }
+{
+    let slots = slots_of(alloc, snapshot, timed.groups.as_slice())?;
+    clouds_of(alloc, &timed.windows, start, events, &slots)
+}
+
+fn ended_of<B: Bodies>(
+    alloc: Global,
+    bodies: &B,
+    start: Revision,
+    snapshot: &[Item],
+    events: &[LogEvent],
+    timed: &Timed,
+    clouds: &Clouds,
+) -> Result<Ended, OutOfMemory>
+    requires snapshot { IsSnapshot start snapshot.now }
+    requires rising { AllPairs (λ a b. a.revision < b.revision) timed.now.groups }
+    requires above { All (λ group. start < group.revision) timed.now.groups }
+    requires members { All (λ group. AreWrites events.now group.members) timed.now.groups }
+    ensures slots { IfOk result (λ ended. AreSlots (slots_of snapshot.now timed.now.groups) ended.written.versions) }
+    ensures ended { IfOk result (λ ended. (h : History) → HasTimes timed.now.windows h → HasEvents events.now h → h.order ≡ timed.now.order.items → IsOrder h
+        → IsJudgedBy clouds.now (B.body bodies.now) h → AreGroupsOf h timed.now.groups → h.start ≡ start → h.snapshot ≡ map item_of snapshot.now
+        → h.versions ≡ map version_of ended.written.versions → h.removals ≡ map recorded ended.removals
+        → AreVersions h × AreAllJudged h events.now timed.now.groups ended.written.judged.items × AreRemovals h) }
+{
+    let removed = first_removals(alloc, events, &timed.order)?;
+    let log = Log {
+        windows: &timed.windows,
+        clouds,
+        events,
+        removed: &removed,
+    };
+    let groups = timed.groups.as_slice();
+    let written = write_versions(alloc, log, bodies, start, snapshot, groups)?;
+    let removals = removals_of(alloc, log, written.versions.as_slice(), &written.firsts)?;
+    Ok(Ended { written, removals })
+}
+
+fn joined(timed: Timed, clouds: Clouds, ended: Ended) -> LogPast
+    ensures { result ≡ record {
+      order = timed.order;
+      windows = timed.windows;
+      clouds = clouds;
+      groups = timed.groups;
+      versions = ended.written.versions;
+      firsts = ended.written.firsts;
+      judged = ended.written.judged;
+      removals = ended.removals;
+    } }
+{
+    let Timed {
+        order,
+        groups,
+        windows,
+    } = timed;
+    let Ended { written, removals } = ended;
+    let Written {
+        versions,
+        firsts,
+        judged,
+    } = written;
+    LogPast {
+        order,
+        windows,
+        clouds,
+        groups,
+        versions,
+        firsts,
+        judged,
+        removals,
+    }
+}
+
 /// The past that a log shows, its lines rising, behind a snapshot of the start.
 pub fn past_of<B: Bodies>(
     alloc: Global,
@@ -46,34 +192,8 @@ pub fn past_of<B: Bodies>(
     ensures start { IfOk result (λ past. past.windows.start ≡ start) }
     ensures past { IfOk result (λ past. (h : History) → HasFound start snapshot.now events.now (B.body bodies.now) past h → IsPastOf events.now past h) }
 {
-    let order = order_of(alloc, events)?;
-    let groups = groups_of(alloc, start, events, &order)?;
-    let spans = spans_of(alloc, start, events, groups.as_slice())?;
-    let windows = Windows::build(alloc, start, &spans)?;
-    let slots = slots_of(alloc, snapshot, groups.as_slice())?;
-    let clouds = clouds_of(alloc, &windows, start, events, &slots)?;
-    let removed = first_removals(alloc, events, &order)?;
-    let log = Log {
-        windows: &windows,
-        clouds: &clouds,
-        events,
-        removed: &removed,
-    };
-    let written = write_versions(alloc, log, bodies, start, snapshot, groups.as_slice())?;
-    let Written {
-        versions,
-        firsts,
-        judged,
-    } = written;
-    let removals = removals_of(alloc, log, versions.as_slice(), &firsts)?;
-    Ok(LogPast {
-        order,
-        windows,
-        clouds,
-        groups,
-        versions,
-        firsts,
-        judged,
-        removals,
-    })
+    let timed = timed_of(alloc, start, events)?;
+    let clouds = hidden_of(alloc, start, snapshot, events, &timed)?;
+    let ended = ended_of(alloc, bodies, start, snapshot, events, &timed, &clouds)?;
+    Ok(joined(timed, clouds, ended))
 }

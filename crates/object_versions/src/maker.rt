@@ -5,7 +5,7 @@ use base_types::Reason;
 use object_past::Maker;
 
 /// Why a write of a group could not have made its revision, and why it could not have found it.
-#[derive(Clone, Copy, Debug)]
+#[derive(Clone, Copy)]
 pub struct Judged {
     pub number: u32,
     pub making: Option<Reason>,

@@ -2,7 +2,7 @@ use base_types::{Listed, Moment, Revision, Text};
 use setup_file::Snapshot;
 
 /// A page of a list that was read in several.
-#[derive(Debug, Drop)]
+#[derive(Drop)]
 pub struct Page {
     /// The line of its event.
     pub line: u64,
@@ -22,7 +22,7 @@ pub struct Page {
 }
 
 /// Which page a request asks for, by the members `continue` of its query that aren't empty.
-#[derive(Debug, Drop, PartialEq, Eq)]
+#[derive(Drop, PartialEq, Eq)]
 pub enum Asked {
     First,
     Next(Text),
@@ -31,7 +31,7 @@ pub enum Asked {
 }
 
 /// What joins a page to the pages before it and behind it.
-#[derive(Debug, Drop)]
+#[derive(Drop)]
 pub struct Joint {
     /// The namespace of the request's path.
     pub namespace: Text,
@@ -43,7 +43,7 @@ pub struct Joint {
 pub type Pages = Listed<Page>;
 
 /// What a page has in common with the one before it, and the token that leads to it.
-#[derive(Debug, Drop, PartialEq, Eq, Hash)]
+#[derive(Drop, PartialEq, Eq, Hash)]
 pub struct PageKey {
     pub group: Text,
     pub resource: Text,

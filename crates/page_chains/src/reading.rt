@@ -78,20 +78,27 @@ fn page_in(event: &Event, joint: Joint, answer: Answer) -> Option<Page>
             revision,
             whole: _,
             items,
-            selector: _,
-        } => Some(Page {
-            line: event.line,
-            staged: event.staged,
-            group,
-            resource,
-            namespace: joint.namespace,
-            scope,
-            revision,
-            items,
-            token: joint.token,
-            asked: joint.asked,
-        }),
-        _ => None,
+            selector,
+        } => {
+            drop(selector);
+            Some(Page {
+                line: event.line,
+                staged: event.staged,
+                group,
+                resource,
+                namespace: joint.namespace,
+                scope,
+                revision,
+                items,
+                token: joint.token,
+                asked: joint.asked,
+            })
+        }
+        other => {
+            drop(other);
+            drop(joint);
+            None
+        }
     }
 }
 
@@ -107,7 +114,11 @@ fn part_of(alloc: Global, setup: &Setup, event: &Event) -> Result<Option<Page>, 
         return Ok(None);
     }
     let joint = joint_of(event, asked)?;
-    Ok(page_in(event, joint, class_of(alloc, setup, event)?))
+    let Ok(answer) = class_of(alloc, setup, event) else {
+        drop(joint);
+        return Err(OutOfMemory);
+    };
+    Ok(page_in(event, joint, answer))
 }
 
 /// The pages among the events that can be parts of a chain, in the order of the events.

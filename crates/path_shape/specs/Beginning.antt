@@ -31,6 +31,11 @@ started nothing (e ∷ es) live = started nothing es (laid e.path (read_as nothi
 abbrev pub metadata_before : List ℕ → FieldClass → List Going → List Going
 metadata_before name class live = (codes "metadata", (name ∷ [], class)) ∷ live
 
+-- the fields that the server keeps
+abbrev pub kept_before : List Going → List Going
+kept_before live =
+    metadata_before (codes "deletionGracePeriodSeconds") Kept (metadata_before (codes "deletionTimestamp") Kept (metadata_before (codes "creationTimestamp") Kept (metadata_before (codes "uid") Kept live)))
+
 abbrev pub built_in_before : Bool → List Going → List Going
 built_in_before nothing live =
     metadata_before (codes "deletionGracePeriodSeconds") Kept (metadata_before (codes "deletionTimestamp") Kept (metadata_before (codes "creationTimestamp") Kept (metadata_before (codes "uid") Kept

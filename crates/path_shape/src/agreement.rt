@@ -3,7 +3,7 @@ ghost use Rattle.path_shape.specs.Agreement.{Agrees, Keeps};
 ghost use Rattle.path_shape.specs.Patterns.{unasked};
 ghost use Rattle.path_shape.specs.Forms.{left_root};
 ghost use Rattle.path_shape.specs.Walk.{form, patterns_in, FitsSpot};
-ghost use Rattle.path_shape.specs.Beginning.{read_as, root_class, started, built_in_before};
+ghost use Rattle.path_shape.specs.Beginning.{read_as, root_class, started, kept_before, built_in_before};
 
 use crate::live::{Live, Tail};
 use crate::part::Part;
@@ -139,7 +139,14 @@ fn fits_built_in<'l>(live: &'l Live<'l>, class: FieldClass, unasked: bool, spot:
     let revision = Live::in_metadata("resourceVersion", FieldClass::Owned, &namespace);
     let generation = Live::in_metadata("generation", FieldClass::Owned, &revision);
     let link = Live::in_metadata("selfLink", FieldClass::Owned, &generation);
-    let uid = Live::in_metadata("uid", FieldClass::Kept, &link);
+    fits_kept(&link, class, spot)
+}
+
+// The same for those of what the server keeps.
+fn fits_kept<'l>(live: &'l Live<'l>, class: FieldClass, spot: Spot<'_>) -> bool
+    ensures { IsTrue result ↔ FitsSpot class (patterns_in false (kept_before live.now)) spot.entry }
+{
+    let uid = Live::in_metadata("uid", FieldClass::Kept, &*live);
     let creation = Live::in_metadata("creationTimestamp", FieldClass::Kept, &uid);
     let deletion = Live::in_metadata("deletionTimestamp", FieldClass::Kept, &creation);
     let period = Live::in_metadata("deletionGracePeriodSeconds", FieldClass::Kept, &deletion);

@@ -3,7 +3,7 @@ use json_tree::Pointer;
 use thiserror::Error;
 
 /// What the API server does with a field that a write asks for.
-#[derive(Clone, Copy, Debug, Drop, PartialEq, Eq)]
+#[derive(Clone, Copy, Drop, PartialEq, Eq)]
 pub enum FieldClass {
     /// The answer has what was asked.
     Asked,
@@ -16,7 +16,7 @@ pub enum FieldClass {
 }
 
 /// The fields of a resource's objects by their paths, in the order of the setup.
-#[derive(Debug, Drop, PartialEq, Eq)]
+#[derive(Drop, PartialEq, Eq)]
 pub struct Shape {
     /// The class of each field that no entry and no built-in pattern matches.
     pub root: FieldClass,
@@ -26,7 +26,7 @@ pub struct Shape {
 pub type ShapeEntries = Listed<ShapeEntry>;
 
 /// The class of the fields at and under a path, in which the token `*` stands for any one token.
-#[derive(Debug, Drop, PartialEq, Eq)]
+#[derive(Drop, PartialEq, Eq)]
 pub struct ShapeEntry {
     pub path: Pointer,
     pub class: FieldClass,

@@ -11,7 +11,7 @@ use std::alloc::Global;
 pub type Choice = Listed<u64>;
 
 /// Whether one choice of the removals' places explains all events.
-#[derive(Debug, Drop, PartialEq, Eq)]
+#[derive(Drop, PartialEq, Eq)]
 pub enum Settled {
     /// The least place in each range.
     Fits(Choice),
@@ -61,6 +61,3 @@ pub fn settle(
     }
     Ok(Settled::Fits(room::least_places(alloc, &left)?))
 }
-
-#[cfg(test)]
-mod tests;

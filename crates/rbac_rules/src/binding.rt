@@ -2,7 +2,7 @@ use base_types::{Listed, Text};
 
 /// A RoleBinding or a ClusterRoleBinding (Kubernetes "Using RBAC Authorization", "RoleBinding and
 /// ClusterRoleBinding").
-#[derive(Debug, Drop, PartialEq, Eq)]
+#[derive(Drop, PartialEq, Eq)]
 pub struct Binding {
     /// Whether the role is a ClusterRole; else it is a Role of the binding's namespace.
     pub role_is_cluster: bool,
@@ -14,7 +14,7 @@ pub struct Binding {
 pub type Subjects = Listed<Subject>;
 
 /// To whom a binding grants (Kubernetes "Using RBAC Authorization", "Referring to subjects").
-#[derive(Debug, Drop, PartialEq, Eq)]
+#[derive(Drop, PartialEq, Eq)]
 pub enum Subject {
     /// The user of this name.
     User(Text),

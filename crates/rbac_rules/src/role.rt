@@ -4,7 +4,7 @@ use base_types::{Listed, Texts};
 pub type PolicyRules = Listed<PolicyRule>;
 
 /// One rule of a Role or a ClusterRole (Kubernetes "Using RBAC Authorization", "Role and ClusterRole").
-#[derive(Debug, Drop, PartialEq, Eq)]
+#[derive(Drop, PartialEq, Eq)]
 pub struct PolicyRule {
     /// The empty text is the core group, `*` each group.
     pub api_groups: Texts,

@@ -40,7 +40,7 @@ pub struct Stored {
 }
 
 /// A removal of one key's object, whose last version has the revision `last`.
-#[derive(Clone, Copy, Debug, PartialEq, Eq)]
+#[derive(Clone, Copy)]
 pub struct Gap {
     pub last: u64,
     pub low: u64,
@@ -213,6 +213,28 @@ fn content_of(alloc: Global, key: &ObjectKey, content: RbacContent) -> Result<Co
     }
 }
 
+fn add_stored(
+    alloc: Global,
+    histories: &mut Histories,
+    key: ObjectKey,
+    stored: Stored,
+) -> Result<(), OutOfMemory>
+    ensures { OnOk result (AddsAt key_order histories.old histories.new key stored) }
+{
+    match histories.get_mut(&key) {
+        Some(history) => {
+            drop(key);
+            history.add(stored)?;
+            return Ok(());
+        }
+        None => {
+            let made = History::of(alloc, stored)?;
+            let _none = histories.insert(key, made)?;
+        }
+    }
+    Ok(())
+}
+
 fn add_version(
     alloc: Global,
     histories: &mut Histories,
@@ -229,16 +251,7 @@ fn add_version(
         revision: revision.get(),
         content: content_of(alloc, &key, content)?,
     };
-    match histories.get_mut(&key) {
-        Some(history) => {
-            history.add(stored)?;
-            return Ok(());
-        }
-        None => {
-            let _none = histories.insert(key, History::of(alloc, stored)?)?;
-        }
-    }
-    Ok(())
+    add_stored(alloc, histories, key, stored)
 }
 
 /// The versions of each key.
@@ -266,7 +279,8 @@ fn add_end(alloc: Global, removals: &mut Removals, end: &RbacEnd) -> Result<(), 
             return Ok(());
         }
         None => {
-            let _none = removals.insert(end.key.clone()?, Gaps::of(alloc, gap)?)?;
+            let made = Gaps::of(alloc, gap)?;
+            let _none = removals.insert(end.key.clone()?, made)?;
         }
     }
     Ok(())

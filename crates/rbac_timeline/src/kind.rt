@@ -6,7 +6,7 @@ use rbac_rules::Binding;
 use std::alloc::Global;
 
 /// The kinds of objects of `rbac.authorization.k8s.io` (Kubernetes "Using RBAC Authorization", "API objects").
-#[derive(Clone, Copy, Debug, PartialEq, Eq)]
+#[derive(Clone, Copy, PartialEq, Eq)]
 pub enum Kind {
     Role,
     ClusterRole,

@@ -13,6 +13,7 @@ mod lookups;
 mod named;
 mod nameless;
 mod pairs;
+mod parts;
 mod search;
 mod timeline;
 mod unsure;

@@ -3,16 +3,17 @@ ghost use Rattle.clouds.specs.FirstPlace.{IsFirstPlace};
 ghost use Rattle.rbac_timeline.specs.Kept.{MayGrantByRules, MustGrantByRules};
 ghost use Rattle.rbac_timeline.specs.Lasting.{IsLast};
 ghost use Rattle.rbac_rules.specs.Matching.{Matches};
-ghost use Rattle.rbac_timeline.specs.Known.{key_revision, known_of, writes_of};
+ghost use Rattle.rbac_timeline.specs.Known.{writes_of};
 ghost use Rattle.base_types.specs.declared.placed.Places.{Places};
 
 use crate::extent::Extent;
 use crate::first::last_before;
-use crate::history::{Content, Gap, Histories, Removals, Stored, histories_of, removals_of};
+use crate::history::{Content, Gap, Histories, Removals, Stored, histories_of};
 use crate::index::Index;
 use crate::kind::{Kind, is_kind, kind_of_key, reaches};
 use crate::lookups::Lookups;
 use crate::nameless::Nameless;
+use crate::parts::{Parts, parts_of};
 use crate::search::Asked;
 use crate::unsure::Unsure;
 use crate::version::{RbacEnds, RbacVersion, RbacVersions};
@@ -20,7 +21,7 @@ use crate::way::{Link, Way};
 use base_types::{
     Decision, ObjectKey, OutOfMemory, Places, Possible, RequestAttrs, Text, Texts, User, has_text,
 };
-use clouds::{Clouds, KeyRevision, OpaqueSpan, OpaqueSpans};
+use clouds::{Clouds, OpaqueSpans};
 use rbac_rules::{Binding, Subject, grants, subject_matches};
 use std::alloc::Global;
 use std::marker::Model;
@@ -53,32 +54,6 @@ impl Model for Timeline {
 
     ghost invariant = { λ t. AreKept (record { versions = t.versions.value; ends = t.ends.value; spans = t.spans.value; bypass = t.bypass })
         t.histories t.removals t.clouds t.index t.nameless t.unsure };
-}
-
-fn key_revisions(alloc: Global, versions: &[RbacVersion]) -> Result<Vec<KeyRevision>, OutOfMemory>
-    ensures { IfOk result (λ revisions. revisions.items ≡ map key_revision versions.now) }
-{
-    let mut revisions = Vec::new(alloc);
-    for version in versions {
-        revisions.push(KeyRevision {
-            key: version.key.clone()?,
-            revision: version.revision,
-        })?;
-    }
-    Ok(revisions)
-}
-
-// What the unrecorded writes hide, where each version shows its object again.
-fn clouds_of(
-    alloc: Global,
-    versions: &[RbacVersion],
-    spans: &[OpaqueSpan],
-) -> Result<Clouds, OutOfMemory>
-    ensures { IfOk result (λ clouds. clouds ≡ writes_of (known_of versions.now [] spans.now)) }
-{
-    let revisions = key_revisions(alloc, versions)?;
-    let clouds = Clouds::build(alloc, spans, revisions.as_slice())?;
-    Ok(clouds)
 }
 
 // Whether an object may be there at a place, and whether it is for certain, by the removal of its last version.
@@ -199,22 +174,34 @@ impl Timeline {
         ensures spans { IfOk result (λ timeline. timeline.spans ≡ spans) }
         ensures bypass { IfOk result (λ timeline. timeline.bypass ≡ bypass.now) }
     {
-        let clouds = clouds_of(alloc, versions.as_slice(), spans.as_slice())?;
-        let lookups = Lookups::of(alloc, versions.as_slice(), spans.as_slice(), &clouds)?;
+        let parts = parts_of(
+            alloc,
+            versions.as_slice(),
+            ends.as_slice(),
+            spans.as_slice(),
+            bypass,
+        )?;
+        let all_versions = Snapshot::of(&versions);
+        let histories = histories_of(alloc, versions)?;
+        let Parts {
+            bypass,
+            removals,
+            clouds,
+            lookups,
+        } = parts;
         let Lookups {
             index,
             nameless,
             unsure,
         } = lookups;
-        let all_versions = Snapshot::of(&versions);
         Ok(Timeline {
-            histories: histories_of(alloc, versions)?,
-            removals: removals_of(alloc, ends.as_slice())?,
+            histories,
+            removals,
             clouds,
             index,
             nameless,
             unsure,
-            bypass: bypass.clone()?,
+            bypass,
             versions: all_versions,
             ends: Snapshot::of(&ends),
             spans: Snapshot::of(&spans),

@@ -2,7 +2,7 @@ use base_types::{Listed, ObjectKey, Revision};
 use rbac_rules::{Binding, PolicyRules};
 
 /// What a version of a role or a binding holds.
-#[derive(Debug, Drop, PartialEq, Eq)]
+#[derive(Drop)]
 pub enum RbacContent {
     Role(PolicyRules),
     Bound(Binding),
@@ -11,7 +11,7 @@ pub enum RbacContent {
 }
 
 /// One version of a Role, ClusterRole, RoleBinding or ClusterRoleBinding.
-#[derive(Debug, Drop, PartialEq, Eq)]
+#[derive(Drop)]
 pub struct RbacVersion {
     pub key: ObjectKey,
     pub revision: Revision,
@@ -22,7 +22,7 @@ pub type RbacVersions = Listed<RbacVersion>;
 
 /// The removal of an object whose last version has the revision `last`: it took place at one of the places
 /// from `low` to `high`.
-#[derive(Debug, Drop, PartialEq, Eq)]
+#[derive(Drop)]
 pub struct RbacEnd {
     pub key: ObjectKey,
     pub last: Revision,

@@ -3,13 +3,13 @@ ghost use Rattle.request_attrs.specs.Attributes.{lists, name_of, named, attribut
 ghost use Rattle.request_attrs.specs.Paths.{path_of, raw_query, segments_of};
 ghost use Rattle.request_attrs.specs.Refusals.{BeginsWithSlash, IsReadable, IsCause};
 ghost use Rattle.request_attrs.specs.Requests.{resource_request};
-ghost use Rattle.request_attrs.specs.Shown.{shown_texts};
+ghost use Rattle.request_attrs.specs.Shown.{shown_request, shown_texts};
 
 use crate::escapes::{are_escapes_whole, decoded};
 use crate::fault::UriFault;
 use crate::path::{segments, split_at_question};
 use crate::query::{pairs, selected_name};
-use crate::request::resource_request;
+use crate::request::{ResourceRequest, resource_request};
 use base_types::{OutOfMemory, Pair, Pairs, RequestAttrs, Text};
 use std::alloc::Global;
 
@@ -43,6 +43,48 @@ struct ResourceTexts {
     subresource: Text,
 }
 
+// Where the resource of a request is.
+#[derive(Drop)]
+struct Place {
+    group: Text,
+    version: Text,
+    namespace: Text,
+}
+
+fn read_place(alloc: Global, request: &ResourceRequest) -> Result<Place, OutOfMemory>
+    ensures group { IfOk result (λ place. place.group ≡ request.now.group.now) }
+    ensures version { IfOk result (λ place. place.version ≡ request.now.version.now) }
+    ensures namespace { IfOk result (λ place. place.namespace ≡ request.now.namespace.now) }
+{
+    Ok(Place {
+        group: Text::from_str(alloc, request.group)?,
+        version: Text::from_str(alloc, request.version)?,
+        namespace: Text::from_str(alloc, request.namespace)?,
+    })
+}
+
+// The parts of a request, whose name is given.
+fn copied_texts(
+    alloc: Global,
+    request: &ResourceRequest,
+    name: &str,
+) -> Result<ResourceTexts, OutOfMemory>
+    ensures { IfOk result (λ texts. shown_texts texts ≡ record (shown_request request.now) { name = name.now }) }
+{
+    let resource = Text::from_str(alloc, request.resource)?;
+    let name = Text::from_str(alloc, name)?;
+    let subresource = Text::from_str(alloc, request.subresource)?;
+    let place = read_place(alloc, request)?;
+    Ok(ResourceTexts {
+        group: place.group,
+        version: place.version,
+        namespace: place.namespace,
+        resource,
+        name,
+        subresource,
+    })
+}
+
 // The parts of a request for this path; None for a non-resource request.
 fn resource_texts(
     alloc: Global,
@@ -58,14 +100,7 @@ fn resource_texts(
         return Ok(None);
     };
     let name = name_of(verb, request.name, query);
-    Ok(Some(ResourceTexts {
-        group: Text::from_str(alloc, request.group)?,
-        version: Text::from_str(alloc, request.version)?,
-        namespace: Text::from_str(alloc, request.namespace)?,
-        resource: Text::from_str(alloc, request.resource)?,
-        name: Text::from_str(alloc, name)?,
-        subresource: Text::from_str(alloc, request.subresource)?,
-    }))
+    Ok(Some(copied_texts(alloc, &request, name)?))
 }
 
 fn resource_attrs(verb: Text, path: Text, request: ResourceTexts, query: Pairs) -> RequestAttrs
@@ -102,6 +137,21 @@ fn path_attrs(alloc: Global, verb: Text, path: Text, query: Pairs) -> RequestAtt
     }
 }
 
+fn attrs_with(
+    alloc: Global,
+    verb: Text,
+    path: Text,
+    request: Option<ResourceTexts>,
+    query: Pairs,
+) -> RequestAttrs
+    ensures { result ≡ attributes_with verb path query (option_map shown_texts request) }
+{
+    match request {
+        Some(request) => resource_attrs(verb, path, request, query),
+        None => path_attrs(alloc, verb, path, query),
+    }
+}
+
 fn begins_with_slash(uri: &str) -> bool
     ensures { IsTrue result ↔ BeginsWithSlash uri.now }
 {
@@ -135,11 +185,8 @@ pub fn attrs_of(alloc: Global, verb: &Text, uri: &Text) -> Result<RequestAttrs, 
     ensures cause { IfErr result (IsCause uri.now) }
 {
     let (path, raw_query) = path_and_query(alloc, uri.as_str())?;
+    let verb = verb.clone()?;
     let query = pairs(alloc, raw_query)?;
     let request = resource_texts(alloc, verb.as_str(), path.as_str(), query.as_slice())?;
-    let verb = verb.clone()?;
-    Ok(match request {
-        Some(request) => resource_attrs(verb, path, request, query),
-        None => path_attrs(alloc, verb, path, query),
-    })
+    Ok(attrs_with(alloc, verb, path, request, query))
 }

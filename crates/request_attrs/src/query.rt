@@ -1,8 +1,18 @@
 ghost use Rattle.std.specs.Prelude.{◌≡◌, IfOk, option_map, option_and_then, find};
+ghost use Rattle.std.specs.Cow.{cow_str_bytes};
 ghost use Rattle.request_attrs.specs.Queries.{pairs_of, term_name, name_in, is_field_selector};
 
 use base_types::{OutOfMemory, Pair, Pairs, Text};
 use std::alloc::Global;
+use std::borrow::CowStr;
+
+fn owned_pair(alloc: Global, name: CowStr<'_>, value: CowStr<'_>) -> Result<Pair, OutOfMemory>
+    ensures { IfOk result (λ pair. pair ≡ record { name = cow_str_bytes name.entry; value = cow_str_bytes value.entry }) }
+{
+    let name = Text::from_string(name.into_owned(alloc)?);
+    let value = Text::from_string(value.into_owned(alloc)?);
+    Ok(Pair { name, value })
+}
 
 /// The pairs of a query, decoded (URL Standard, `application/x-www-form-urlencoded`).
 pub(crate) fn pairs(alloc: Global, query: &str) -> Result<Pairs, OutOfMemory>
@@ -11,10 +21,7 @@ pub(crate) fn pairs(alloc: Global, query: &str) -> Result<Pairs, OutOfMemory>
     let mut all = Pairs::new(alloc);
     for pair in form_urlencoded::parse(alloc, query.as_bytes()) {
         let (name, value) = pair?;
-        all.push(Pair {
-            name: Text::from_string(name.into_owned(alloc)?),
-            value: Text::from_string(value.into_owned(alloc)?),
-        })?;
+        all.push(owned_pair(alloc, name, value)?)?;
     }
     Ok(all)
 }

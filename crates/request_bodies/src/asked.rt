@@ -13,7 +13,7 @@ use setup_file::{Tracked, is_merge_patch};
 use std::alloc::Global;
 
 /// What a write asks its object to become.
-#[derive(Debug, Drop)]
+#[derive(Drop)]
 pub enum Asking {
     /// It can't be told: the body wasn't recorded, or isn't understood.
     NotJudged,

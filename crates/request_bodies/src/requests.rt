@@ -8,7 +8,7 @@ use path_shape::Shape;
 use setup_file::{Tracked, subresource_named};
 
 /// What the body of a request is (Kubernetes "Authorization", "Request verbs").
-#[derive(Clone, Copy, Debug, PartialEq, Eq)]
+#[derive(Clone, Copy, PartialEq, Eq)]
 pub enum Write {
     /// An object, of a create or an update.
     Put,

@@ -21,6 +21,7 @@ use Rattle.history_model.specs.Machine.{Step, Put, Remove, Reply, step_place, st
 use Rattle.history_model.specs.Placed.{placement_of}
 use Rattle.history_model.specs.Readable.{IsReadable}
 use Rattle.history_model.specs.Runs.{Placement, IsStep, AreSteps}
+use Rattle.write_groups.proofs.Judging.{nat_less, then_less, then_next}
 use Rattle.write_groups.proofs.Lists.{map_from, map_has, pairs_map, pairs_unmap}
 use Rattle.serial_machine.proofs.Placing.{placed_steps, steps_apart, steps_sound, steps_full}
 use Rattle.serial_machine.specs.Ordered.{is_answer, turn_of, turn_cmp, row_step, IsInTurn, AreRowsOf, AreRows}
@@ -28,17 +29,8 @@ use Rattle.serial_machine.specs.declared.rows.Row.{Row}
 use Rattle.serial_machine.specs.declared.rows.Turn.{Turn}
 
 -- an order says how two numbers, or tests, lie
-nat_less : (a b : ℕ) → a < b → nat_cmp a b ≡ Less
-nat_less a b l = grind (arith, nat_tests)
-
 nat_equal : (a b : ℕ) → a ≡ b → nat_cmp a b ≡ Equal
 nat_equal a b e = grind (arith, nat_tests)
-
-then_less : (o p : Ordering) → o ≡ Less → is_lt (ordering_then o p) ≡ true
-then_less o p e = rw e refl
-
-then_next : (o p : Ordering) → o ≡ Equal → is_lt p ≡ true → is_lt (ordering_then o p) ≡ true
-then_next o p e l = rw e l
 
 rank_less : (a b : Step) → step_rank a < step_rank b → bool_cmp (is_answer a) (is_answer b) ≡ Less
 rank_less (Put v) (Put w) l = absurd (omega (arith, l))

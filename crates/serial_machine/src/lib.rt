@@ -1,5 +1,5 @@
 //! A second check of a placement: the serial API machine runs through it step by step. It rests on what a context tells
-//! alone, and shares no code with what judges a log.
+//! alone, and shares no function of claims, bounds, places or settling with what judges a log.
 #![tactic(auto)]
 
 mod checked;

@@ -12,7 +12,7 @@ use rbac_rules::{RbacFault, read_binding, read_role};
 use std::alloc::Global;
 
 /// Whether recorded decisions are judged, the groups that pass RBAC, and those that aren't judged.
-#[derive(Debug, Drop)]
+#[derive(Drop)]
 pub struct Authorization {
     pub authorize: bool,
     pub bypass: Texts,

@@ -10,7 +10,7 @@ use json_tree::Tree;
 use std::alloc::Global;
 
 /// A list of objects as it was answered, whole or a page of it.
-#[derive(Debug, Drop)]
+#[derive(Drop)]
 pub struct ListRead {
     /// The revision at which the list was read, its `metadata.resourceVersion`.
     pub revision: Revision,

@@ -1,9 +1,10 @@
 ghost use Rattle.std.specs.Prelude.{◌≡◌, IfOk, option_map, bytes_eq, codes};
+ghost use Rattle.json_tree.specs.Stored.{stored};
 ghost use Rattle.setup_file.specs.Objects.{api_version_of, has_text_at, has_no, is_of_kind, namespace_in, is_under, is_in_namespace, object_of};
 
 use crate::form::{filled_at, revision_at};
 use crate::setup::{SnapshotObject, Tracked};
-use base_types::{ObjectKey, OutOfMemory, Text, is_combined};
+use base_types::{ObjectKey, OutOfMemory, Revision, Text, is_combined};
 use json_tree::{Tree, copy, stored_form};
 use std::alloc::Global;
 
@@ -90,6 +91,34 @@ pub fn key_of(
     })
 }
 
+/// The object with these parts, its tree in stored form.
+pub(crate) fn object_with(
+    alloc: Global,
+    tracked: &Tracked,
+    namespace: &str,
+    name: &Text,
+    uid: &Text,
+    revision: Revision,
+    tree: &Tree,
+) -> Result<SnapshotObject, OutOfMemory>
+    ensures { IfOk result (λ object. object ≡ record {
+      key = record { group = tracked.now.group; resource = tracked.now.resource; namespace = namespace.now; name = name.now };
+      revision = revision;
+      uid = uid.now;
+      tree = stored tree.now;
+    }) }
+{
+    let tree = stored_form(copy(alloc, tree)?);
+    let uid = uid.clone()?;
+    let key = key_of(alloc, tracked, namespace, name)?;
+    Ok(SnapshotObject {
+        key,
+        revision,
+        uid,
+        tree,
+    })
+}
+
 /// Reads the object of a resource that a tree is, under a path with this name and namespace, of which an
 /// empty text is none. `kind` and `apiVersion` are those of the resource, or both are absent.
 pub fn read_object(
@@ -122,10 +151,6 @@ pub fn read_object(
     {
         return Ok(None);
     }
-    Ok(Some(SnapshotObject {
-        key: key_of(alloc, tracked, own_namespace, own_name)?,
-        revision,
-        uid: uid.clone()?,
-        tree: stored_form(copy(alloc, tree)?),
-    }))
+    let object = object_with(alloc, tracked, own_namespace, own_name, uid, revision, tree)?;
+    Ok(Some(object))
 }

@@ -15,7 +15,6 @@ use path_shape::{FieldClass, Shape, ShapeEntries, ShapeFault};
 use std::alloc::Global;
 
 /// An entry of `resources`, its shapes and subresources aside.
-#[derive(Debug, Drop)]
 pub struct Entry {
     pub group: Text,
     pub version: Text,
@@ -24,6 +23,58 @@ pub struct Entry {
     pub list_kind: Text,
     pub namespaced: bool,
     pub merges: bool,
+}
+
+// Written out, so that a function which drops entries makes one call for each.
+impl Drop for Entry {
+    fn drop(self) {
+        let Entry {
+            group: _,
+            version: _,
+            resource: _,
+            kind: _,
+            list_kind: _,
+            namespaced: _,
+            merges: _,
+        } = self;
+    }
+}
+
+impl Entry {
+    fn into_tracked(self, shape: Shape, subresources: Subresources) -> Tracked
+        ensures { result ≡ record {
+          group = self.group;
+          version = self.version;
+          resource = self.resource;
+          kind = self.kind;
+          list_kind = self.list_kind;
+          namespaced = self.namespaced;
+          merges = self.merges;
+          shape = shape;
+          subresources = subresources;
+        } }
+    {
+        let Entry {
+            group,
+            version,
+            resource,
+            kind,
+            list_kind,
+            namespaced,
+            merges,
+        } = self;
+        Tracked {
+            group,
+            version,
+            resource,
+            kind,
+            list_kind,
+            namespaced,
+            merges,
+            shape,
+            subresources,
+        }
+    }
 }
 
 const ENTRY_MEMBERS: [&str; 9] = [
@@ -63,6 +114,36 @@ fn namespaced_of(tree: &Tree) -> Option<bool>
     tree.member("namespaced")?.as_flag()
 }
 
+fn entry_with(
+    group: &Text,
+    version: &Text,
+    resource: &Text,
+    kind: &Text,
+    list_kind: &Text,
+    namespaced: bool,
+    merges: bool,
+) -> Result<Entry, OutOfMemory>
+    ensures { IfOk result (λ entry. entry ≡ record {
+      group = group.now;
+      version = version.now;
+      resource = resource.now;
+      kind = kind.now;
+      list_kind = list_kind.now;
+      namespaced = namespaced;
+      merges = merges;
+    }) }
+{
+    Ok(Entry {
+        group: group.clone()?,
+        version: version.clone()?,
+        resource: resource.clone()?,
+        kind: kind.clone()?,
+        list_kind: list_kind.clone()?,
+        namespaced,
+        merges,
+    })
+}
+
 fn read_entry(tree: &Tree) -> Result<Option<Entry>, OutOfMemory>
     ensures { IfOk result (λ found. found ≡ entry_of tree.now) }
 {
@@ -90,15 +171,10 @@ fn read_entry(tree: &Tree) -> Result<Option<Entry>, OutOfMemory>
     let Some(merges) = merges_of(tree.member("objectPatch")) else {
         return Ok(None);
     };
-    Ok(Some(Entry {
-        group: group.clone()?,
-        version: version.clone()?,
-        resource: resource.clone()?,
-        kind: kind.clone()?,
-        list_kind: list_kind.clone()?,
-        namespaced,
-        merges,
-    }))
+    let entry = entry_with(
+        group, version, resource, kind, list_kind, namespaced, merges,
+    )?;
+    Ok(Some(entry))
 }
 
 fn read_entries(alloc: Global, trees: &[Tree]) -> Result<Option<Vec<Entry>>, OutOfMemory>
@@ -251,17 +327,7 @@ fn read_tracked(alloc: Global, tree: &Tree) -> Result<Option<Tracked>, OutOfMemo
     let Some(subresources) = subresources_or_none(alloc, tree.member("subresources"))? else {
         return Ok(None);
     };
-    Ok(Some(Tracked {
-        group: entry.group,
-        version: entry.version,
-        resource: entry.resource,
-        kind: entry.kind,
-        list_kind: entry.list_kind,
-        namespaced: entry.namespaced,
-        merges: entry.merges,
-        shape,
-        subresources,
-    }))
+    Ok(Some(entry.into_tracked(shape, subresources)))
 }
 
 fn read_all_tracked(alloc: Global, trees: &[Tree]) -> Result<Option<TrackedList>, OutOfMemory>

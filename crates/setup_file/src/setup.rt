@@ -5,7 +5,7 @@ use path_shape::Shape;
 
 /// What is known of a cluster apart from its log: where and when the log begins, how its clocks may be
 /// off, what it records, which resources are judged and how, and which objects were there at the start.
-#[derive(Debug, Drop)]
+#[derive(Drop)]
 pub struct Setup {
     /// The last revision before the log begins.
     pub start: Revision,
@@ -32,7 +32,7 @@ pub struct Setup {
 pub type TrackedList = Listed<Tracked>;
 
 /// A resource that is judged (Kubernetes API concepts, "Standard API terminology").
-#[derive(Debug, Drop)]
+#[derive(Drop)]
 pub struct Tracked {
     /// The API group, empty for the core group.
     pub group: Text,
@@ -53,7 +53,7 @@ pub struct Tracked {
 pub type Subresources = Listed<Subresource>;
 
 /// A subresource whose effect on its object is known.
-#[derive(Debug, Drop)]
+#[derive(Drop)]
 pub struct Subresource {
     pub name: Text,
     /// Whether its requests read and write the object; otherwise they leave it as it is.
@@ -64,7 +64,7 @@ pub struct Subresource {
 pub type Snapshot = Listed<SnapshotObject>;
 
 /// An object as it was read at some moment, its tree in stored form.
-#[derive(Debug, Drop)]
+#[derive(Drop)]
 pub struct SnapshotObject {
     pub key: ObjectKey,
     pub revision: Revision,
@@ -76,7 +76,7 @@ pub struct SnapshotObject {
 pub type Checkpoints = Listed<Checkpoint>;
 
 /// A whole list of a resource that must fit the log: that of a backup, or one gathered from pages.
-#[derive(Debug, Drop)]
+#[derive(Drop)]
 pub struct Checkpoint {
     /// `checkpoint:K`, with K from 1, for those of a setup.
     pub name: Text,

@@ -8,11 +8,11 @@ ghost use Rattle.setup_file.specs.Steps.{IsCause};
 use crate::distinct::{are_keys_distinct, are_revisions_distinct, are_texts_distinct};
 use crate::fault::{SetupFault, SetupRule};
 use crate::form::{filled_at, is_form, revision_at};
-use crate::objects::{has_no, has_text_at, key_of};
+use crate::objects::{has_no, has_text_at, object_with};
 use crate::resources::tracked_as;
 use crate::setup::{Snapshot, SnapshotObject, Tracked};
 use base_types::{OutOfMemory, Revision};
-use json_tree::{Tree, copy, stored_form};
+use json_tree::Tree;
 use std::alloc::Global;
 
 // The namespace of an object: one of a namespaced resource has one, and one of a cluster-wide resource none.
@@ -60,12 +60,8 @@ fn read_object(
     if !may_be_kind(tracked, tree) {
         return Ok(None);
     }
-    Ok(Some(SnapshotObject {
-        key: key_of(alloc, tracked, namespace, name)?,
-        revision,
-        uid: uid.clone()?,
-        tree: stored_form(copy(alloc, tree)?),
-    }))
+    let object = object_with(alloc, tracked, namespace, name, uid, revision, tree)?;
+    Ok(Some(object))
 }
 
 fn read_entry(

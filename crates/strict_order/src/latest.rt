@@ -5,7 +5,7 @@ use base_types::{Moment, OutOfMemory};
 use std::alloc::Global;
 
 /// The latest `lo` among the things up to one of them, in the order of their greatest numbers.
-#[derive(Clone, Copy, Debug, PartialEq, Eq, PartialOrd, Ord)]
+#[derive(Clone, Copy, PartialEq, Eq, PartialOrd, Ord)]
 pub struct Mark {
     pub number: u128,
     pub lo: Moment,

@@ -15,7 +15,7 @@ use std::alloc::Global;
 pub type MomentList = Listed<Moment>;
 
 /// Whether all things can stand in one list along which neither moments nor numbers fall.
-#[derive(Debug, Drop, PartialEq, Eq)]
+#[derive(Drop, PartialEq, Eq)]
 pub enum Moments {
     /// The moments of the things, each the first that it can have.
     Found(MomentList),
@@ -105,6 +105,3 @@ pub fn settle_moments(alloc: Global, things: &[Thing]) -> Result<Moments, OutOfM
         second: second.line,
     })
 }
-
-#[cfg(test)]
-mod tests;

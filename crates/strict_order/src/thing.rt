@@ -2,7 +2,7 @@ use base_types::Moment;
 
 /// A write or a read that stands at a moment of its event and at a number in the sequence of writes and
 /// the gaps between them: the write of revision m is the number 2m, the gap after it 2m + 1.
-#[derive(Clone, Copy, Debug, PartialEq, Eq)]
+#[derive(Clone, Copy, PartialEq, Eq)]
 pub struct Thing {
     /// The line of the event in the log.
     pub line: u64,

@@ -6,7 +6,7 @@ use std::alloc::Global;
 
 /// A moment at which a span begins or ends, and a revision. Marks are in order by their moments, and at
 /// one moment by their revisions.
-#[derive(Clone, Copy, Debug, PartialEq, Eq, PartialOrd, Ord)]
+#[derive(Clone, Copy, PartialEq, Eq, PartialOrd, Ord)]
 pub struct Mark {
     pub at: Moment,
     pub revision: u64,

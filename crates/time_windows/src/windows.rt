@@ -88,6 +88,3 @@ impl Windows {
         self.by_lo.as_slice()
     }
 }
-
-#[cfg(test)]
-mod tests;

@@ -71,6 +71,3 @@ fn append_write(text: &mut String, write: &WriteLine) -> Result<(), OutOfMemory>
     }
     Ok(())
 }
-
-#[cfg(test)]
-mod tests;

@@ -113,6 +113,3 @@ fn fault_behind(placement: &Placement) -> PlacementFault
         number: placement.as_slice().len() as u64 + 2,
     }
 }
-
-#[cfg(test)]
-mod tests;

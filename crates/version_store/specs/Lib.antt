@@ -1,5 +1,6 @@
 pub mod Answered
 pub mod Contexts
+pub mod Gathering
 pub mod Given
 pub mod Histories
 pub mod Judged

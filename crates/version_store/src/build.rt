@@ -1,11 +1,23 @@
-ghost use Rattle.std.specs.Prelude.{◌≡◌, ◌<◌, ◌≤◌, ◌+◌, ◌^◌, Err, length, All, AllPairs, IfOk};
+ghost use Rattle.std.specs.Prelude.{◌≡◌, ◌<◌, ◌≤◌, ◌+◌, ◌^◌, ℕ, Err, Option, length, All, AllPairs, IfOk};
+ghost use Rattle.std.specs.BTreeMap.{BTreeMap};
 ghost use Rattle.audit_event.specs.Events.{IsSound as IsSoundEvent};
-ghost use Rattle.object_past.specs.Past.{AreEnds};
+ghost use Rattle.history_model.specs.Histories.{History};
+ghost use Rattle.history_model.specs.Readable.{IsReadable};
+ghost use Rattle.object_past.specs.Faulted.{AreFaults};
+ghost use Rattle.object_past.specs.Past.{AreEnds, HasPast};
+ghost use Rattle.object_versions.specs.Hidden.{unrecorded_in};
+ghost use Rattle.rbac_timeline.specs.Sound.{AreSound};
 ghost use Rattle.setup_file.specs.Sound.{IsSound};
-ghost use Rattle.version_store.specs.Contexts.{IsContext};
+ghost use Rattle.write_groups.specs.Modelled.{HasEvents, HasTimes};
+ghost use Rattle.version_store.specs.Gathering.{IsFound, past_with};
+ghost use Rattle.version_store.specs.Histories.{body_test};
+ghost use Rattle.version_store.specs.Keyed.{AreKeys};
 ghost use Rattle.version_store.specs.Log.{AreLines, IsLogOf, RiseByLine};
 ghost use Rattle.version_store.specs.LogTrees.{pooled};
+ghost use Rattle.version_store.specs.Makings.{AreMakersCodes, AreMakingsOf};
+ghost use Rattle.version_store.specs.Roles.{AreRoles, role_ends};
 ghost use Rattle.version_store.specs.Told.{IsTold};
+ghost use Rattle.version_store.specs.Uses.{AreUses};
 
 use crate::bodies::RequestBodies;
 use crate::context::Context;
@@ -50,9 +62,9 @@ fn past_within(alloc: Global, versions: Versions, removals: Removals) -> Result<
     Ok(past)
 }
 
-// What is found of the writes of a log.
+/// What is found of the writes of a log.
 #[derive(Drop)]
-struct Parts {
+pub struct Parts {
     order: Vec<u32>,
     windows: Windows,
     clouds: Clouds,
@@ -61,14 +73,103 @@ struct Parts {
     past: Past,
 }
 
-// What is found of a log.
+/// What is told of the events and objects of a log.
 #[derive(Drop)]
-struct Found {
-    parts: Parts,
+pub struct Told {
     faults: Vec<Option<Reason>>,
     timeline: Timeline,
     keys: Vec<ObjectKey>,
     uses: Uses,
+}
+
+/// What is found of a log.
+#[derive(Drop)]
+pub struct Found {
+    parts: Parts,
+    told: Told,
+}
+
+// What a context holds beside its setup and events.
+#[derive(Drop)]
+struct Gathered {
+    pool: Pool,
+    log: Log,
+    found: Found,
+}
+
+fn parts_of(alloc: Global, found: LogPast) -> Result<Parts, OutOfMemory>
+    requires rising { AllPairs (λ a b. a.revision < b.revision) found.versions }
+    requires ends { AreEnds found.versions found.removals }
+    ensures same { IfOk result (λ parts. found ≡ past_with found.firsts parts) }
+    ensures few { IfOk result (λ parts. length parts.past.versions < 2 ^ 32) }
+{
+    let LogPast {
+        order,
+        windows,
+        clouds,
+        groups,
+        versions,
+        firsts: _,
+        judged,
+        removals,
+    } = found;
+    let past = past_within(alloc, versions, removals)?;
+    Ok(Parts {
+        order,
+        windows,
+        clouds,
+        groups,
+        judged,
+        past,
+    })
+}
+
+// Why writes could not have made what they were answered with.
+fn faults_in(
+    alloc: Global,
+    bodies: &RequestBodies<'_>,
+    parts: &Parts,
+) -> Result<Vec<Option<Reason>>, OutOfMemory>
+    requires { length bodies.now.log.now < 2 ^ 32 }
+    ensures { IfOk result (λ faults. (h : History) → IsReadable h → h.start ≡ bodies.now.setup.now.start
+        → h.body ≡ body_test bodies.now.setup.now bodies.now.events.now bodies.now.log.now bodies.now.pool.now.trees → HasPast parts.now.past h
+        → ((makings : BTreeMap ℕ (Option Reason)) → AreMakingsOf parts.now.judged.items makings → AreMakersCodes h makings)
+        → HasEvents bodies.now.log.now h → AreFaults h faults.items) }
+{
+    let makings = makings_of(alloc, &parts.judged)?;
+    let start = bodies.setup.start;
+    faults_of(alloc, bodies, start, bodies.log, &parts.past, &makings)
+}
+
+fn told_of(alloc: Global, bodies: &RequestBodies<'_>, parts: &Parts) -> Result<Told, OutOfMemory>
+    requires start { bodies.now.setup.now.start ≡ parts.now.windows.start }
+    requires few { length bodies.now.log.now < 2 ^ 32 }
+    requires numbered { length parts.now.past.versions < 2 ^ 32 }
+    requires nodes { All (λ v. v.node.0 < length bodies.now.pool.now.trees) parts.now.past.versions }
+    ensures faults { IfOk result (λ told. (h : History) → IsReadable h → h.start ≡ bodies.now.setup.now.start
+        → h.body ≡ body_test bodies.now.setup.now bodies.now.events.now bodies.now.log.now bodies.now.pool.now.trees → HasPast parts.now.past h
+        → ((makings : BTreeMap ℕ (Option Reason)) → AreMakingsOf parts.now.judged.items makings → AreMakersCodes h makings)
+        → HasEvents bodies.now.log.now h → AreFaults h told.faults.items) }
+    ensures roles { IfOk result (λ told. AreRoles bodies.now.pool.now.trees parts.now.past.versions told.timeline.versions) }
+    ensures ends { IfOk result (λ told. told.timeline.ends ≡ role_ends parts.now.past.removals) }
+    ensures spans { IfOk result (λ told. (h : History) → HasTimes parts.now.windows h → told.timeline.spans ≡ unrecorded_in h bodies.now.log.now) }
+    ensures bypass { IfOk result (λ told. told.timeline.bypass ≡ bodies.now.setup.now.bypass) }
+    ensures sound { IfOk result (λ told. AreSound told.timeline.versions told.timeline.ends) }
+    ensures keys { IfOk result (λ told. AreKeys parts.now.past.versions bodies.now.log.now told.keys.items) }
+    ensures uses { IfOk result (λ told. AreUses parts.now.past.versions told.uses) }
+{
+    let log = bodies.log;
+    let past = &parts.past;
+    let faults = faults_in(alloc, bodies, parts)?;
+    let keys = keys_of(alloc, past, log)?;
+    let uses = uses_of(alloc, past.versions())?;
+    let timeline = timeline_of(alloc, bodies.setup, &parts.windows, log, past, bodies.pool)?;
+    Ok(Told {
+        faults,
+        timeline,
+        keys,
+        uses,
+    })
 }
 
 // What a setup and its log say, once the log is in the terms of the model of history.
@@ -86,19 +187,7 @@ fn found_of(
     requires trees { pool.now.trees ≡ pooled setup.now events.now }
     requires log { IsLogOf setup.now events.now pool.now.trees log.now }
     requires rising { RiseByLine log.now.events }
-    ensures { IfOk result (λ found. IsContext (record {
-      setup = setup.now;
-      events = events.now;
-      trees = pool.now.trees;
-      snapshot = log.now.snapshot;
-      log = log.now.events;
-      order = found.parts.order.items;
-      groups = found.parts.groups;
-      spans = found.parts.windows.spans;
-      versions = found.parts.past.versions;
-      removals = found.parts.past.removals;
-      rbac = found.timeline;
-    }) log.now found.parts.windows found.parts.clouds found.faults.items found.keys.items found.uses) }
+    ensures { IfOk result (IsFound setup.now events.now pool.now.trees log.now) }
 {
     let snapshot = log.snapshot.as_slice();
     let recorded = events.as_slice();
@@ -110,66 +199,42 @@ fn found_of(
         pool,
     };
     let found = past_of(alloc, &bodies, setup.start, snapshot, logged)?;
-    let LogPast {
-        order,
-        windows,
-        clouds,
-        groups,
-        versions,
-        firsts: _,
-        judged,
-        removals,
-    } = found;
-    let past = past_within(alloc, versions, removals)?;
-    let parts = Parts {
-        order,
-        windows,
-        clouds,
-        groups,
-        judged,
-        past,
-    };
-    let past = &parts.past;
-    let makings = makings_of(alloc, &parts.judged)?;
-    let faults = faults_of(alloc, &bodies, setup.start, logged, past, &makings)?;
-    let timeline = timeline_of(alloc, setup, &parts.windows, logged, past, pool)?;
-    let keys = keys_of(alloc, past, logged)?;
-    let uses = uses_of(alloc, past.versions())?;
-    Ok(Found {
-        parts,
-        faults,
-        timeline,
-        keys,
-        uses,
-    })
+    let parts = parts_of(alloc, found)?;
+    let told = told_of(alloc, &bodies, &parts)?;
+    Ok(Found { parts, told })
+}
+
+// What a context holds beside its setup and events, where the objects may have `limit` distinct values.
+fn gather(alloc: Global, setup: &Setup, events: &Events, limit: u32) -> Result<Gathered, BuildFault>
+    requires setup { IsSound setup.now }
+    requires events { All IsSoundEvent events.now }
+    requires lines { AreLines events.now }
+    requires few { length events.now + length setup.now.checkpoints < 2 ^ 32 }
+    ensures found { IfOk result (λ gathered. IsFound setup.now events.now gathered.pool.trees gathered.log gathered.found) }
+    ensures full { result ≡ Err BuildFault.PoolFull → limit < length (pooled setup.now events.now) }
+    ensures fits { IfOk result (λ gathered. length (pooled setup.now events.now) ≤ limit) }
+{
+    let mut pool = Pool::new(alloc, limit)?;
+    let log = log_of(alloc, &mut pool, setup, events)?;
+    let found = found_of(alloc, setup, events, &pool, &log)?;
+    Ok(Gathered { pool, log, found })
 }
 
 // A context of its parts.
-fn joined(setup: Setup, events: Events, pool: Pool, log: Log, found: Found) -> Context
-    requires { IsContext (record {
-      setup = setup;
-      events = events;
-      trees = pool.trees;
-      snapshot = log.snapshot;
-      log = log.events;
-      order = found.parts.order.items;
-      groups = found.parts.groups;
-      spans = found.parts.windows.spans;
-      versions = found.parts.past.versions;
-      removals = found.parts.past.removals;
-      rbac = found.timeline;
-    }) log found.parts.windows found.parts.clouds found.faults.items found.keys.items found.uses }
+fn joined(setup: Setup, events: Events, gathered: Gathered) -> Context
+    requires { IsFound setup events gathered.pool.trees gathered.log gathered.found }
     ensures setup { result.setup ≡ setup }
     ensures events { result.events ≡ events }
     ensures told { IsTold result }
 {
-    let Found {
-        parts,
+    let Gathered { pool, log, found } = gathered;
+    let Found { parts, told } = found;
+    let Told {
         faults,
         timeline,
         keys,
         uses,
-    } = found;
+    } = told;
     let Parts {
         order,
         windows,
@@ -229,9 +294,7 @@ impl Context {
         ensures full { result ≡ Err BuildFault.PoolFull → limit < length (pooled setup events) }
         ensures fits { IfOk result (λ context. length (pooled setup events) ≤ limit) }
     {
-        let mut pool = Pool::new(alloc, limit)?;
-        let log = log_of(alloc, &mut pool, &setup, &events)?;
-        let found = found_of(alloc, &setup, &events, &pool, &log)?;
-        Ok(joined(setup, events, pool, log, found))
+        let gathered = gather(alloc, &setup, &events, limit)?;
+        Ok(joined(setup, events, gathered))
     }
 }

@@ -38,24 +38,32 @@ pub struct Context {
     pub(crate) uses: Uses,
 }
 
-// Written out, so that a function that lets a context go has one call and not the steps of each field.
+// Written out, so that a function that lets a context go has one call and not the steps of each field; so are those
+// fields that have many of their own.
 impl Drop for Context {
     fn drop(self) {
         let Context {
-            setup: _,
+            setup,
             events: _,
-            pool: _,
-            log: _,
+            pool,
+            log,
             order: _,
             groups: _,
-            windows: _,
-            clouds: _,
-            past: _,
-            timeline: _,
+            windows,
+            clouds,
+            past,
+            timeline,
             faults: _,
             keys: _,
             uses: _,
         } = self;
+        drop(setup);
+        drop(pool);
+        drop(log);
+        drop(windows);
+        drop(clouds);
+        drop(past);
+        drop(timeline);
     }
 }
 

@@ -2,7 +2,7 @@ use answer_class::{Answer, class_of, conditions_of, listable};
 use audit_event::{Event, read_item};
 use json_tree::from_value;
 use serde_json::Value;
-use setup_file::read_setup;
+use setup_file::{Setup, read_setup};
 use std::alloc::Global;
 use std::test::Fail;
 
@@ -201,13 +201,31 @@ static CLASSES: [((&str, &str, &str), (&str, &str), u16, &str, &str); 50] = [
     (("list", MAPS, NOTHING), WITHIN, 403, NOTHING, "free"),
 ];
 
+fn class_word(alloc: Global, setup: &Setup, event: &Event) -> Result<&'static str, Fail> {
+    let answer = class_of(alloc, setup, event)?;
+    let told = word(&answer);
+    drop(answer);
+    Ok(told)
+}
+
+fn told(
+    alloc: Global,
+    setup: &Setup,
+    request: (&str, &str, &str),
+    times: (&str, &str),
+    code: u16,
+    answer: &str,
+) -> Result<&'static str, Fail> {
+    let event = event(alloc, request, times, code, answer)?;
+    class_word(alloc, setup, &event)
+}
+
 #[test]
 fn each_class_is_told(rt: HostRuntime) -> Result<(), Fail> {
     let setup = read_setup(rt.alloc(), SETUP.as_bytes())?;
     for (request, times, code, answer, class) in &CLASSES {
-        let event = event(rt.alloc(), *request, *times, *code, answer)?;
-        let found = class_of(rt.alloc(), &setup, &event)?;
-        assert_eq!(rt; word(&found), *class, "of {answer}");
+        let found = told(rt.alloc(), &setup, *request, *times, *code, answer)?;
+        assert_eq!(rt; found, *class, "of {answer}");
     }
     Ok(())
 }
@@ -223,15 +241,30 @@ static CONDITIONS: [((&str, &str, &str), Option<u64>, bool); 7] = [
     (("update", MAP, OPTIONS), None, false),
 ];
 
+// The revision that an event's request asks for, and whether it asks for a uid.
+fn asked(alloc: Global, setup: &Setup, event: &Event) -> Result<(Option<u64>, bool), Fail> {
+    let found = conditions_of(alloc, setup, event)?;
+    let revision = found.revision.map(|revision| revision.get());
+    Ok((revision, found.uid.is_some()))
+}
+
+fn asked_by(
+    alloc: Global,
+    setup: &Setup,
+    request: (&str, &str, &str),
+) -> Result<(Option<u64>, bool), Fail> {
+    let event = event(alloc, request, WITHIN, 200, NOTHING)?;
+    asked(alloc, setup, &event)
+}
+
 /// The conditions of an update, of a merge patch and of a delete, and of no other request.
 #[test]
 fn conditions_are_read(rt: HostRuntime) -> Result<(), Fail> {
     let setup = read_setup(rt.alloc(), SETUP.as_bytes())?;
     for (request, revision, has_uid) in &CONDITIONS {
-        let event = event(rt.alloc(), *request, WITHIN, 200, NOTHING)?;
-        let found = conditions_of(rt.alloc(), &setup, &event)?;
-        assert_eq!(rt; found.revision.map(|revision| revision.get()), *revision);
-        assert_eq!(rt; found.uid.is_some(), *has_uid);
+        let (found, asks_uid) = asked_by(rt.alloc(), &setup, *request)?;
+        assert_eq!(rt; found, *revision);
+        assert_eq!(rt; asks_uid, *has_uid);
     }
     Ok(())
 }
@@ -245,8 +278,8 @@ static LABELLED: [(&str, bool); 3] = [
 
 // The answer to a list with the selector `app=w`.
 fn selected_list(alloc: Global) -> Result<Answer, Fail> {
-    let setup = read_setup(alloc, SETUP.as_bytes())?;
     let event = event(alloc, ("list", LABEL, NOTHING), WITHIN, 200, LIST)?;
+    let setup = read_setup(alloc, SETUP.as_bytes())?;
     Ok(class_of(alloc, &setup, &event)?)
 }
 

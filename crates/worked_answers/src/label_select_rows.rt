@@ -1,5 +1,5 @@
 use base_types::Texts;
-use json_tree::from_value;
+use json_tree::{Tree, from_value};
 use label_select::{Selector, SelectorFault, Test, matches, read_selector};
 use serde_json::Value;
 use std::alloc::Global;
@@ -174,15 +174,24 @@ static LABELS: [(&str, &str, bool); 30] = [
     ("a!=x", "null", true),
 ];
 
+// Whether a selector takes these labels, or none.
+fn takes(alloc: Global, text: &str, labels: Option<&Tree>) -> Result<bool, Fail> {
+    let selector = read_selector(alloc, text)?;
+    Ok(matches(&selector, labels))
+}
+
+fn takes_labels(alloc: Global, text: &str, json: &str) -> Result<bool, Fail> {
+    let value = Value::from_str(alloc, json)?;
+    let labels = from_value(alloc, &value)?;
+    takes(alloc, text, Some(&labels))
+}
+
 #[test]
 fn labels(rt: HostRuntime) -> Result<(), Fail> {
     for (text, json, taken) in &LABELS {
-        let value = Value::from_str(rt.alloc(), json)?;
-        let labels = from_value(rt.alloc(), &value)?;
-        let selector = read_selector(rt.alloc(), text)?;
-        assert_eq!(rt; matches(&selector, Some(&labels)), *taken);
+        assert_eq!(rt; takes_labels(rt.alloc(), text, json)?, *taken);
     }
-    assert!(rt; matches(&read_selector(rt.alloc(), "!a,b!=c")?, None));
-    assert!(rt; !matches(&read_selector(rt.alloc(), "!a,b")?, None));
+    assert!(rt; takes(rt.alloc(), "!a,b!=c", None)?);
+    assert!(rt; !takes(rt.alloc(), "!a,b", None)?);
     Ok(())
 }

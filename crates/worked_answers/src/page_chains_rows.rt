@@ -1,7 +1,7 @@
 use audit_event::{Event, Events, read_item};
 use page_chains::chains;
 use serde_json::Value;
-use setup_file::{Checkpoint, read_setup};
+use setup_file::{Checkpoint, Checkpoints, read_setup};
 use std::alloc::Global;
 use std::test::Fail;
 
@@ -150,39 +150,71 @@ fn write_chain(text: &mut String, chain: &Checkpoint) -> Result<(), Fail> {
     Ok(())
 }
 
+// The lists as the events of a log, of which the first has this line, with so many lines between two.
+fn log_of(
+    alloc: Global,
+    lists: &[(&str, &str, &str)],
+    first: u64,
+    apart: u64,
+) -> Result<Events, Fail> {
+    let mut events = Events::new(alloc);
+    let mut line = first;
+    for list in lists {
+        let event = event(alloc, line, *list)?;
+        events.push(event)?;
+        line = line.saturating_add(apart);
+    }
+    Ok(events)
+}
+
+// The chains that the lists make.
+fn chains_of(
+    alloc: Global,
+    lists: &[(&str, &str, &str)],
+    first: u64,
+    apart: u64,
+) -> Result<Checkpoints, Fail> {
+    let events = log_of(alloc, lists, first, apart)?;
+    let setup = read_setup(alloc, SETUP.as_bytes())?;
+    Ok(chains(alloc, &setup, &events)?)
+}
+
+fn told(alloc: Global, found: &Checkpoints) -> Result<String, Fail> {
+    let mut text = String::new(alloc);
+    for chain in found {
+        write_chain(&mut text, chain)?;
+    }
+    Ok(text)
+}
+
+fn told_of(alloc: Global, lists: &[(&str, &str, &str)]) -> Result<String, Fail> {
+    let found = chains_of(alloc, lists, 1, 1)?;
+    told(alloc, &found)
+}
+
 #[test]
 fn pages_make_chains(rt: HostRuntime) -> Result<(), Fail> {
-    let setup = read_setup(rt.alloc(), SETUP.as_bytes())?;
-    for (wanted, lists) in LOGS {
-        let mut events = Events::new(rt.alloc());
-        let mut line = 0u64;
-        for list in lists {
-            line = line.saturating_add(1);
-            events.push(event(rt.alloc(), line, *list)?)?;
-        }
-        let found = chains(rt.alloc(), &setup, &events)?;
-        let mut text = String::new(rt.alloc());
-        for chain in &found {
-            write_chain(&mut text, chain)?;
-        }
-        assert_eq!(rt; text.as_str(), wanted, "of {lists:?}");
+    for (wanted, lists) in &LOGS {
+        let text = told_of(rt.alloc(), *lists)?;
+        assert_eq!(rt; text.as_str(), *wanted, "of {lists:?}");
     }
     Ok(())
 }
 
 #[test]
 fn a_chain_is_a_list_of_its_scope(rt: HostRuntime) -> Result<(), Fail> {
-    let setup = read_setup(rt.alloc(), SETUP.as_bytes())?;
-    let mut events = Events::new(rt.alloc());
-    events.push(event(rt.alloc(), 3, (FIRST, "02", A_THEN_T1))?)?;
-    events.push(event(rt.alloc(), 5, (NEXT, "04", B))?)?;
-    let found = chains(rt.alloc(), &setup, &events)?;
-    let [chain] = found.as_slice() else {
-        return Err(Fail::from("not one chain"));
-    };
-    assert_eq!(rt; chain.name.as_str(), "pages:3");
-    assert_eq!(rt; chain.resource.as_str(), "configmaps");
-    assert_eq!(rt; chain.namespace.as_str(), "d");
-    assert_eq!(rt; chain.revision.get(), 10);
+    let found = chains_of(
+        rt.alloc(),
+        &[(FIRST, "02", A_THEN_T1), (NEXT, "04", B)],
+        3,
+        2,
+    )?;
+    assert_eq!(rt; found.len(), 1);
+    for chain in &found {
+        assert_eq!(rt; chain.name.as_str(), "pages:3");
+        assert_eq!(rt; chain.resource.as_str(), "configmaps");
+        assert_eq!(rt; chain.namespace.as_str(), "d");
+        assert_eq!(rt; chain.revision.get(), 10);
+    }
     Ok(())
 }

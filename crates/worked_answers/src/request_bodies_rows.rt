@@ -129,12 +129,24 @@ fn judged(
     is_right(alloc, setup, event, &before, &answered)
 }
 
+fn judged_request(
+    alloc: Global,
+    setup: &Setup,
+    asked: ((&str, &str, &str), u16),
+    before: &str,
+    answered: &str,
+) -> Result<bool, Fail> {
+    let (request, code) = asked;
+    let event = event(alloc, request, code)?;
+    judged(alloc, setup, &event, before, answered)
+}
+
 #[test]
 fn bodies_are_judged(rt: HostRuntime) -> Result<(), Fail> {
     let setup = read_setup(rt.alloc(), SETUP.as_bytes())?;
     for (request, code, before, answered, right) in &BODIES {
-        let event = event(rt.alloc(), *request, *code)?;
-        let found = judged(rt.alloc(), &setup, &event, before, answered)?;
+        let asked = (*request, *code);
+        let found = judged_request(rt.alloc(), &setup, asked, before, answered)?;
         assert_eq!(rt; found, *right, "of {before}");
     }
     Ok(())

@@ -313,22 +313,22 @@ fn event_with(alloc: Global, more: &str) -> Result<Event, Fail> {
 }
 
 // What else is read of an event, in one line.
-fn fields_text(alloc: Global, event: &Event) -> Result<String, AllocError> {
+fn fields_text(alloc: Global, event: &Event) -> Result<String, Fail> {
     let id = event.audit_id.as_str();
     let name = event.attrs.name.as_str();
-    format!(in alloc;
+    Ok(format!(in alloc;
         "{} {id} {name} {} {} {} {}",
         event.line,
         event.user.groups.len(),
         event.impersonated.is_some(),
         matches!(event.request, Body::Absent),
         matches!(event.response, Body::Kept(_))
-    )
+    )?)
 }
 
 fn fields_of(alloc: Global) -> Result<String, Fail> {
     let event = event_with(alloc, r#""impersonatedUser":{"username":"v"},"#)?;
-    Ok(fields_text(alloc, &event)?)
+    fields_text(alloc, &event)
 }
 
 #[test]
@@ -339,16 +339,16 @@ fn fields(rt: HostRuntime) -> Result<(), Fail> {
 }
 
 // A status in one line.
-fn status_text(alloc: Global, status: &Status) -> Result<String, AllocError> {
+fn status_text(alloc: Global, status: &Status) -> Result<String, Fail> {
     let reason = status.reason.as_str();
     let uid = status.uid.as_str();
     let name = status.name.as_str();
     let kind = status.kind.as_str();
-    format!(in alloc;
+    Ok(format!(in alloc;
         "{} {} {reason}/{uid}/{name}/{kind}",
         status.code.unwrap_or(0),
         status.success
-    )
+    )?)
 }
 
 // Members, and the status of the event.
@@ -384,7 +384,7 @@ static STATUSES: [(&str, &str); 9] = [
 
 fn status_of(alloc: Global, more: &str) -> Result<String, Fail> {
     let event = event_with(alloc, more)?;
-    Ok(status_text(alloc, &event.status)?)
+    status_text(alloc, &event.status)
 }
 
 #[test]

@@ -41,21 +41,35 @@ fn cover(alloc: Global, namespace: &str, pattern: &str) -> Result<Cover, Fail> {
     })
 }
 
+// One unrecorded write, as a list.
+fn span(
+    alloc: Global,
+    namespace: &str,
+    pattern: &str,
+    low: u64,
+    high: u64,
+) -> Result<Vec<OpaqueSpan>, Fail> {
+    let cover = cover(alloc, namespace, pattern)?;
+    let mut spans = Vec::new(alloc);
+    spans.push(OpaqueSpan { cover, low, high })?;
+    Ok(spans)
+}
+
+fn writes(alloc: Global, rows: &[(&str, u64)]) -> Result<Vec<KeyRevision>, Fail> {
+    let mut writes = Vec::new(alloc);
+    for (name, number) in rows {
+        writes.push(write(alloc, name, *number)?)?;
+    }
+    Ok(writes)
+}
+
 fn shared<T: Send + Sync>(_value: &T) {}
 
 /// A binding whose answer doesn't show its pod, between places 10 and 14; an update shows it at 15.
 fn binding(alloc: Global) -> Result<Clouds, Fail> {
-    let spans = [OpaqueSpan {
-        cover: cover(alloc, "d", "p")?,
-        low: 10,
-        high: 14,
-    }];
-    let revisions = [
-        write(alloc, "p", 15)?,
-        write(alloc, "q", 12)?,
-        write(alloc, "p", 9)?,
-    ];
-    Ok(Clouds::build(alloc, &spans, &revisions)?)
+    let spans = span(alloc, "d", "p", 10, 14)?;
+    let revisions = writes(alloc, &[("p", 15), ("q", 12), ("p", 9)])?;
+    Ok(Clouds::build(alloc, spans.as_slice(), revisions.as_slice())?)
 }
 
 #[test]
@@ -78,12 +92,8 @@ fn a_write_hidden_until_the_next(rt: HostRuntime) -> Result<(), Fail> {
 
 // Whether a span from place 3 to the last place hides the pod `web-1` of namespace `d`, and from where on.
 fn hidden_from(alloc: Global, namespace: &str, pattern: &str) -> Result<Option<u64>, Fail> {
-    let spans = [OpaqueSpan {
-        cover: cover(alloc, namespace, pattern)?,
-        low: 3,
-        high: MAX,
-    }];
-    let clouds = Clouds::build(alloc, &spans, &[])?;
+    let spans = span(alloc, namespace, pattern, 3, MAX)?;
+    let clouds = Clouds::build(alloc, spans.as_slice(), &[])?;
     Ok(clouds.meets(&key(alloc, "pods", "web-1")?, 0, MAX))
 }
 

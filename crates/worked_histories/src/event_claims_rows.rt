@@ -1,8 +1,9 @@
-ghost use Rattle.std.specs.Prelude.{◌≡◌};
+ghost use Rattle.std.specs.Prelude.{◌≡◌, ◌<◌, length, IfOk};
 
 use crate::parts::{key, revision};
 use base_types::{
-    Cover, CoverName, Decision, Moment, OutOfMemory, PlacedAnswer, PlacedLine, Places, Reason, Text,
+    Cover, CoverName, Decision, Moment, OutOfMemory, PlacedAnswer, PlacedLine, Places, Reason,
+    Revision, Text,
 };
 use clouds::Clouds;
 use event_claims::{Decisions, View, claim_of, placed_line};
@@ -163,30 +164,61 @@ fn event(alloc: Global, told: Told) -> Result<LogEvent, Fail> {
     })
 }
 
-// The claim's code, and the placed line, of a log of one event. A write of it could not have found its revision.
+/// What is known of the log besides its events: nothing was written, and nothing is hidden.
+#[derive(Drop)]
+struct World {
+    windows: Windows,
+    clouds: Clouds,
+    past: Past,
+}
+
+fn make_world(alloc: Global, start: Revision) -> Result<World, Fail>
+    ensures { IfOk result (λ world. world.windows.start ≡ start) }
+{
+    Ok(World {
+        windows: Windows::build(alloc, start, &[])?,
+        clouds: Clouds::build(alloc, &[], &[])?,
+        past: Past::build(alloc, Versions::new(alloc), Removals::new(alloc))?,
+    })
+}
+
+// The claim's code, and the placed line, of the first event.
+fn judged_in(
+    alloc: Global,
+    view: &View<'_, Unselected, Unmoved>,
+    fault: Option<Reason>,
+) -> Result<(Option<Reason>, Option<PlacedLine>), Fail>
+    requires { 0 < length view.now.log.now }
+{
+    let claim = claim_of(alloc, view, 0, fault)?;
+    let line = placed_line(alloc, view, 0, fault, &[])?;
+    Ok((claim.fails, line))
+}
+
+// A write could not have found its revision.
+fn finding_fault(told: Told) -> Option<Reason> {
+    match told {
+        Told::Written => Some(Reason::U8),
+        _ => None,
+    }
+}
+
+// The claim's code, and the placed line, of a log of one event.
 fn judged(alloc: Global, told: Told) -> Result<(Option<Reason>, Option<PlacedLine>), Fail> {
     let start = revision(10)?;
-    let windows = Windows::build(alloc, start, &[])?;
-    let clouds = Clouds::build(alloc, &[], &[])?;
-    let past = Past::build(alloc, Versions::new(alloc), Removals::new(alloc))?;
     let log = [event(alloc, told)?];
+    let world = make_world(alloc, start)?;
     let view = View {
         start,
         lag: 5,
         log: &log,
-        windows: &windows,
-        clouds: &clouds,
-        past: &past,
+        windows: &world.windows,
+        clouds: &world.clouds,
+        past: &world.past,
         lists: &Unselected,
         decisions: &Unmoved,
     };
-    let mut fault = None;
-    if matches!(told, Told::Written) {
-        fault = Some(Reason::U8);
-    }
-    let claim = claim_of(alloc, &view, 0, fault)?;
-    let line = placed_line(alloc, &view, 0, fault, &[])?;
-    Ok((claim.fails, line))
+    judged_in(alloc, &view, finding_fault(told))
 }
 
 #[test]

@@ -4,7 +4,7 @@ use audit_event::Events;
 use base_types::{Bytes, Text};
 use edge_io::{InputFile, InputFiles, MemoryDesk};
 use judge_pool::FreeGate;
-use log_intake::{read_log, read_setup_named};
+use log_intake::{LogStop, read_log, read_setup_named};
 use std::alloc::{AllocError, Global};
 use std::marker::Sync;
 use std::test::Fail;
@@ -92,6 +92,16 @@ fn last_line(events: &Events) -> u64 {
     }
 }
 
+fn text_of(alloc: Global, answer: &Result<Events, LogStop>) -> Result<String, Fail> {
+    match answer {
+        Ok(events) => {
+            let (count, line) = (events.len(), last_line(events));
+            Ok(format!(in alloc; "{count} {line}")?)
+        }
+        Err(stop) => Ok(format!(in alloc; "{stop:?}")?),
+    }
+}
+
 // What reading a log tells.
 fn told<R: Threads + Sync>(
     rt: &R,
@@ -104,13 +114,8 @@ fn told<R: Threads + Sync>(
 {
     let mut desk = desk_of(alloc, log, cut, failing)?;
     let mut buffer = buffer_of(alloc)?;
-    match read_log(rt, alloc, &mut desk, "f", &mut buffer, &FreeGate) {
-        Ok(events) => {
-            let (count, line) = (events.len(), last_line(&events));
-            Ok(format!(in alloc; "{count} {line}")?)
-        }
-        Err(stop) => Ok(format!(in alloc; "{stop:?}")?),
-    }
+    let answer = read_log(rt, alloc, &mut desk, "f", &mut buffer, &FreeGate);
+    text_of(alloc, &answer)
 }
 
 #[test]
@@ -153,9 +158,9 @@ fn stop_of(alloc: Global, setup: &str, cut: usize, failing: &[u64]) -> Result<St
 {
     let mut desk = desk_of(alloc, setup, cut, failing)?;
     let mut buffer = buffer_of(alloc)?;
-    match read_setup_named(alloc, &mut desk, "f", &mut buffer) {
-        Ok(_) => Ok(String::new(alloc)),
-        Err(stop) => Ok(format!(in alloc; "{stop:?}")?),
+    match read_setup_named(alloc, &mut desk, "f", &mut buffer).err() {
+        Some(stop) => Ok(format!(in alloc; "{stop:?}")?),
+        None => Ok(String::new(alloc)),
     }
 }
 

@@ -2,6 +2,10 @@
 #![tactic(auto)]
 
 #[cfg(test)]
+mod json_patch_limits;
+#[cfg(test)]
+mod json_patch_refusals;
+#[cfg(test)]
 mod json_patch_rows;
 #[cfg(test)]
 mod json_tree_rows;
@@ -9,6 +13,8 @@ mod json_tree_rows;
 mod merge_patch_rows;
 #[cfg(test)]
 mod node_pool_rows;
+#[cfg(test)]
+mod patching;
 #[cfg(test)]
 mod path_shape_rows;
 #[cfg(test)]

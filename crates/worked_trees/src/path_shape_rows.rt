@@ -1,4 +1,5 @@
 use crate::reading::read;
+use json_tree::Tree;
 use path_shape::{FieldClass, Shape, ShapeFault, agrees, keeps};
 use std::alloc::Global;
 use std::test::Fail;
@@ -7,16 +8,27 @@ fn shape_of(alloc: Global, text: &str) -> Result<Shape, Fail> {
     Ok(Shape::read(alloc, &read(alloc, text)?, FieldClass::Asked)?)
 }
 
-fn agree(alloc: Global, texts: [&str; 4]) -> Result<bool, Fail> {
-    let [shapes, old, asked, answered] = texts;
+// Whether what is answered is what was asked of the old object, if there was one.
+fn agree_on(
+    alloc: Global,
+    shape: &Shape,
+    old: &str,
+    asked: &Tree,
+    answered: &Tree,
+) -> Result<bool, Fail> {
+    if old == "none" {
+        return Ok(agrees(shape, None, asked, answered));
+    }
+    let old = read(alloc, old)?;
+    Ok(agrees(shape, Some(&old), asked, answered))
+}
+
+fn agree(alloc: Global, given: &[&str; 3], answered: &str) -> Result<bool, Fail> {
+    let [shapes, old, asked] = given;
     let shape = shape_of(alloc, shapes)?;
     let asked = read(alloc, asked)?;
     let answered = read(alloc, answered)?;
-    if old == "none" {
-        return Ok(agrees(&shape, None, &asked, &answered));
-    }
-    let old = read(alloc, old)?;
-    Ok(agrees(&shape, Some(&old), &asked, &answered))
+    agree_on(alloc, &shape, old, &asked, &answered)
 }
 
 // Lists of entries, and the first fault of each.
@@ -57,11 +69,15 @@ static LISTS: [(&str, Option<ShapeFault>); 13] = [
     ("[[]]", Some(ShapeFault::Entry { index: 0 })),
 ];
 
+fn first_fault(alloc: Global, text: &str) -> Result<Option<ShapeFault>, Fail> {
+    let list = read(alloc, text)?;
+    Ok(Shape::read(alloc, &list, FieldClass::Kept).err())
+}
+
 #[test]
 fn lists_of_entries(rt: HostRuntime) -> Result<(), Fail> {
-    for (text, fault) in LISTS {
-        let answer = Shape::read(rt.alloc(), &read(rt.alloc(), text)?, FieldClass::Kept);
-        assert!(rt; answer.err() == fault, "of {text}");
+    for (text, fault) in &LISTS {
+        assert!(rt; first_fault(rt.alloc(), text)? == *fault, "of {text}");
     }
     Ok(())
 }
@@ -193,12 +209,9 @@ static CASES: [([&str; 3], &str, &str); 14] = [
 
 #[test]
 fn answers_agree(rt: HostRuntime) -> Result<(), Fail> {
-    for (given, right, wrong) in CASES {
-        let [shapes, old, asked] = given;
-        let yes = agree(rt.alloc(), [shapes, old, asked, right])?;
-        assert!(rt; yes, "{shapes}, {asked} and {right}");
-        let other = agree(rt.alloc(), [shapes, old, asked, wrong])?;
-        assert!(rt; !other, "{shapes}, {asked} and {wrong}");
+    for (given, right, wrong) in &CASES {
+        assert!(rt; agree(rt.alloc(), given, right)?, "{given:?} and {right}");
+        assert!(rt; !agree(rt.alloc(), given, wrong)?, "{given:?} and {wrong}");
     }
     Ok(())
 }
@@ -237,15 +250,24 @@ static KEPT: [[&str; 4]; 5] = [
     ],
 ];
 
+fn is_kept(alloc: Global, shapes: &str, old: &str, answered: &str) -> Result<bool, Fail> {
+    let shape = shape_of(alloc, shapes)?;
+    let old = read(alloc, old)?;
+    let answered = read(alloc, answered)?;
+    Ok(keeps(&shape, &old, &answered))
+}
+
 #[test]
 fn deletes_keep(rt: HostRuntime) -> Result<(), Fail> {
-    for [shapes, old, right, wrong] in KEPT {
-        let shape = shape_of(rt.alloc(), shapes)?;
-        let old = read(rt.alloc(), old)?;
-        let yes = keeps(&shape, &old, &read(rt.alloc(), right)?);
-        assert!(rt; yes, "{shapes} and {right}");
-        let other = keeps(&shape, &old, &read(rt.alloc(), wrong)?);
-        assert!(rt; !other, "{shapes} and {wrong}");
+    for [shapes, old, right, wrong] in &KEPT {
+        assert!(rt;
+            is_kept(rt.alloc(), shapes, old, right)?,
+            "{shapes} and {right}"
+        );
+        assert!(rt;
+            !is_kept(rt.alloc(), shapes, old, wrong)?,
+            "{shapes} and {wrong}"
+        );
     }
     Ok(())
 }

@@ -4,7 +4,7 @@ use std::alloc::Global;
 use std::test::Fail;
 
 /// The tree of a JSON text.
-pub fn read(alloc: Global, text: &str) -> Result<Tree, Fail> {
+pub(crate) fn read(alloc: Global, text: &str) -> Result<Tree, Fail> {
     let value = Value::from_str(alloc, text)?;
     Ok(from_value(alloc, &value)?)
 }

@@ -5,7 +5,7 @@ use base_types::{Cover, Decision, Listed, Moment, ObjectKey, Revision, Text};
 use node_pool::NodeId;
 
 /// One object as an answer shows it.
-#[derive(Debug, Drop)]
+#[derive(Drop)]
 pub struct Item {
     pub key: ObjectKey,
     /// `metadata.resourceVersion`
@@ -20,7 +20,7 @@ pub type Items = Listed<Item>;
 
 /// What a request asks of the object before it (Kubernetes API, `metadata.resourceVersion` and `metadata.uid` of an
 /// update, `preconditions` of DeleteOptions).
-#[derive(Debug, Drop)]
+#[derive(Drop)]
 pub struct Preconditions {
     pub revision: Option<Revision>,
     pub uid: Option<Text>,
@@ -44,7 +44,7 @@ impl Preconditions {
 }
 
 /// A list of objects at one revision (Kubernetes API concepts, "Collections").
-#[derive(Debug, Drop)]
+#[derive(Drop)]
 pub struct Listing {
     pub group: Text,
     pub resource: Text,
@@ -57,7 +57,7 @@ pub struct Listing {
 }
 
 /// What an event's answer says of the cluster.
-#[derive(Debug, Drop)]
+#[derive(Drop)]
 pub enum Shown {
     /// A write, with the object that it left; `created` where the answer was `201 Created`.
     Made { item: Item, created: bool },
@@ -82,7 +82,7 @@ pub enum Shown {
 
 /// Where in the history a request lets its answer be (Kubernetes API concepts, "Resource versions", semantics for get
 /// and list).
-#[derive(Clone, Copy, Debug, Drop, PartialEq, Eq)]
+#[derive(Clone, Copy, Drop, PartialEq, Eq)]
 pub enum Reading {
     /// No `resourceVersion`, and every write.
     MostRecent,
@@ -96,7 +96,6 @@ pub enum Reading {
 }
 
 /// An audit event, or a checkpoint, in the terms of the model of history.
-#[derive(Debug)]
 pub struct LogEvent {
     /// The line of the log, from 1. Those of checkpoints are behind all lines of a log.
     pub line: u64,
@@ -123,12 +122,14 @@ impl Drop for LogEvent {
             lo: _,
             hi: _,
             reading: _,
-            preconditions: _,
-            answer: _,
+            preconditions,
+            answer,
             other_level: _,
             omitted_stage: _,
             decision: _,
         } = self;
+        drop(preconditions);
+        drop(answer);
     }
 }
 

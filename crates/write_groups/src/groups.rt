@@ -16,7 +16,7 @@ use std::collections::BTreeMap;
 pub type Numbers = Listed<u32>;
 
 /// The writes of one key that were answered with one revision above the start.
-#[derive(Debug, Drop)]
+#[derive(Drop)]
 pub struct Group {
     pub revision: Revision,
     /// The key of the first write in the order of judgement that was answered with the revision.

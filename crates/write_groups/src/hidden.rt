@@ -10,7 +10,7 @@ use std::marker::Model;
 
 /// An unrecorded write: it may have changed any one of the objects that the cover stands for, and didn't begin before
 /// the moment.
-#[derive(Debug, Drop)]
+#[derive(Drop)]
 pub struct Hiding {
     pub cover: Cover,
     pub since: Moment,

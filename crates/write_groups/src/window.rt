@@ -10,7 +10,7 @@ use time_windows::Windows;
 
 /// The places at which an event's answer may be right, both ends among them. The window is empty where `low` lies
 /// above `high`.
-#[derive(Clone, Copy, Debug, PartialEq, Eq)]
+#[derive(Clone, Copy, PartialEq, Eq)]
 pub struct Window {
     pub low: u64,
     pub high: u64,

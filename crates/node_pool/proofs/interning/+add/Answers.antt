@@ -1,9 +1,13 @@
-use Rattle.std.proofs.Common.{◌≡◌, ◌+◌, ◌∙◌, ◌<◌, ℕ, List, Some, length, fold, slice_get, sym, ap, subst, Result, Err}
+use Rattle.std.proofs.Common.{◌≡◌, ◌+◌, ◌∙◌, ◌<◌, ℕ, List, Some, length, fold, slice_get, take, sym, ap, subst, Result, Err, OnOk, IfOk}
 use Rattle.std.proofs.lemmas.Result.{err_from_is_err_and}
-use Rattle.json_tree.specs.Meaning.{Meaning, kids_of, fields_of}
+use Rattle.json_tree.specs.Meaning.{Meaning, items, members, kids_of, fields_of}
+use Rattle.json_tree.specs.Node.{meaning_of}
 use Rattle.node_pool.specs.declared.fault.PoolFault.TheVariants.{Full}
-use Rattle.node_pool.specs.Subtrees.{inside_kids, inside_fields, interned, with_tree}
-use Rattle.node_pool.proofs.Walks.{ItemsDone, MembersDone, items_step, items_full, members_named, members_step, members_full, labels-sorted}
+use Rattle.node_pool.specs.Subtrees.{inside, inside_kids, inside_fields, interned, with_tree}
+use Rattle.node_pool.specs.Within.{tree_of}
+use Rattle.node_pool.proofs.Answered.{not_full, Grows-placed, placed-interned, fits-at, full-at, full-longer}
+use Rattle.node_pool.proofs.Looks.{take-whole}
+use Rattle.node_pool.proofs.Walks.{Grows-refl, Grows-trans, ItemsDone, MembersDone, items_step, items_full, members_named, members_step, members_full, labels-sorted}
 use Rattle.node_pool.proofs.interning.+add.Goals as goal
 
 -- a refusal has one fault
@@ -63,3 +67,185 @@ level_of-returns-in_ok-add_members-in-Members-clause-within t c =
     let e = c.in_ok-add_members-in-Members.ensures in
     let s = c.add_members.new.store in
     (e.within, labels-sorted s.names s.trees c.in_ok-add_members-in-Members.field-0.items c.in-Members.list e.held e.sorted)
+
+pub add-returns-in_err-level-clause-full : goal.add-returns-in_err-level-clause-full
+add-returns-in_err-level-clause-full t c = λ refused.
+    let o = c.args.store.now in
+    let p = err_from_is_err_and c.from_residual.result c.from_residual.ensures.1 in
+    let fault : p.0 ≡ Full = one_fault c.from_residual.result p.0 Full p.1 refused in
+    let is : c.level_of.result ≡ Err Full = c.in_err-level.was ∙ ap Err (sym p.2 ∙ fault) in
+    full-longer o.limit o.trees c.args.tree.now (c.level_of.ensures.full is)
+
+pub add-returns-clause-grows : goal.add-returns-clause-grows
+add-returns-clause-grows t c =
+    let o = c.args.store.now in
+    let mid = c.level_of.new.store in
+    let new = c.place.new.self in
+    let e = c.place.ensures in
+    Grows-trans o mid new c.level_of.ensures.grows (Grows-placed c.place.result mid new (tree_of mid.names mid.trees c.in_ok-level.level) e.limit e.names e.placed e.refused)
+
+pub add-returns-clause-added : goal.add-returns-clause-added
+add-returns-clause-added t c =
+    let o = c.args.store.now in
+    let mid = c.level_of.new.store in
+    let new = c.place.new.self in
+    let l = c.in_ok-level.ensures in
+    let e = c.place.ensures in
+    let p = tree_of mid.names mid.trees c.in_ok-level.level in
+    let same : with_tree mid.trees p ≡ interned o.trees c.args.tree.now = placed-interned o.trees mid.trees c.args.tree.now p l.added l.stands in
+    subst (λ ts. OnOk c.place.result (new.trees ≡ ts)) same e.placed
+
+pub add-returns-clause-number : goal.add-returns-clause-number
+add-returns-clause-number t c =
+    let l = c.in_ok-level.ensures in
+    subst (λ t. IfOk c.place.result (λ n. slice_get c.place.new.self.trees n ≡ Some t)) l.stands c.place.ensures.number
+
+pub add-returns-clause-fits : goal.add-returns-clause-fits
+add-returns-clause-fits t c =
+    let o = c.args.store.now in
+    let mid = c.level_of.new.store in
+    let new = c.place.new.self in
+    let l = c.in_ok-level.ensures in
+    let e = c.place.ensures in
+    let p = tree_of mid.names mid.trees c.in_ok-level.level in
+    let same : with_tree mid.trees p ≡ interned o.trees c.args.tree.now = placed-interned o.trees mid.trees c.args.tree.now p l.added l.stands in
+    fits-at c.place.result (with_tree mid.trees p) (interned o.trees c.args.tree.now) mid.limit o.limit same l.grows.limit e.fits
+
+pub add-returns-clause-full : goal.add-returns-clause-full
+add-returns-clause-full t c =
+    let o = c.args.store.now in
+    let mid = c.level_of.new.store in
+    let new = c.place.new.self in
+    let l = c.in_ok-level.ensures in
+    let e = c.place.ensures in
+    let p = tree_of mid.names mid.trees c.in_ok-level.level in
+    let same : with_tree mid.trees p ≡ interned o.trees c.args.tree.now = placed-interned o.trees mid.trees c.args.tree.now p l.added l.stands in
+    λ refused. full-at (with_tree mid.trees p) (interned o.trees c.args.tree.now) mid.limit o.limit same l.grows.limit (e.full refused)
+
+pub add_items-returns-in_err-numbers-clause-grows : goal.add_items-returns-in_err-numbers-clause-grows
+add_items-returns-in_err-numbers-clause-grows t c = Grows-refl c.args.store.now
+
+pub add_items-returns-in_err-numbers-clause-full : goal.add_items-returns-in_err-numbers-clause-full
+add_items-returns-in_err-numbers-clause-full t c = λ refused. not_full c.from_residual.result c.from_residual.ensures.1 refused
+
+pub add_items-returns-in_err-push-clause-full : goal.add_items-returns-in_err-push-clause-full
+add_items-returns-in_err-push-clause-full t c = λ refused. not_full c.from_residual-in_err-push.result c.from_residual-in_err-push.ensures.1 refused
+
+pub add_members-returns-in_err-numbers-clause-grows : goal.add_members-returns-in_err-numbers-clause-grows
+add_members-returns-in_err-numbers-clause-grows t c = Grows-refl c.args.store.now
+
+pub add_members-returns-in_err-numbers-clause-full : goal.add_members-returns-in_err-numbers-clause-full
+add_members-returns-in_err-numbers-clause-full t c = λ refused. not_full c.from_residual.result c.from_residual.ensures.1 refused
+
+pub add_members-returns-in_err-push-clause-full : goal.add_members-returns-in_err-push-clause-full
+add_members-returns-in_err-push-clause-full t c = λ refused. not_full c.from_residual-in_err-push.result c.from_residual-in_err-push.ensures.1 refused
+
+pub add_items-returns-in_err-add-clause-grows : goal.add_items-returns-in_err-add-clause-grows
+add_items-returns-in_err-add-clause-grows t c = Grows-trans c.args.store.now c.loop-item.store c.add.new.store c.loop-item.invariant.grows c.add.ensures.grows
+
+pub add_items-returns-in_err-push-clause-grows : goal.add_items-returns-in_err-push-clause-grows
+add_items-returns-in_err-push-clause-grows t c = Grows-trans c.args.store.now c.loop-item.store c.add.new.store c.loop-item.invariant.grows c.add.ensures.grows
+
+pub add_members-returns-in_err-name-clause-full : goal.add_members-returns-in_err-name-clause-full
+add_members-returns-in_err-name-clause-full t c = λ refused. not_full c.from_residual-in_err-name.result c.from_residual-in_err-name.ensures.1 refused
+
+pub add_members-returns-in_err-name-clause-grows : goal.add_members-returns-in_err-name-clause-grows
+add_members-returns-in_err-name-clause-grows t c = Grows-trans c.args.store.now c.loop-member.store c.number_of.new.self c.loop-member.invariant.grows c.number_of.ensures.grows
+
+pub add_members-returns-in_err-value-clause-grows : goal.add_members-returns-in_err-value-clause-grows
+add_members-returns-in_err-value-clause-grows t c =
+    let o = c.args.store.now in
+    let l = c.loop-member in
+    let now = c.number_of.new.self in
+    Grows-trans o now c.add.new.store (Grows-trans o l.store now l.invariant.grows c.number_of.ensures.grows) c.add.ensures.grows
+
+pub add_members-returns-in_err-push-clause-grows : goal.add_members-returns-in_err-push-clause-grows
+add_members-returns-in_err-push-clause-grows t c =
+    let o = c.args.store.now in
+    let l = c.loop-member in
+    let now = c.number_of.new.self in
+    Grows-trans o now c.add.new.store (Grows-trans o l.store now l.invariant.grows c.number_of.ensures.grows) c.add.ensures.grows
+
+pub add_items-returns-clause-added : goal.add_items-returns-clause-added
+add_items-returns-clause-added t c =
+    let l = c.loop-item in
+    let xs = c.deref-item-items.result.now in
+    let whole : take l.item-index xs ≡ c.args.list.now = take-whole l.item-index xs c.loop-item-test.false ∙ c.deref-item-items.ensures.value ∙ c.list.view_is in
+    subst (λ ys. l.store.trees ≡ fold with_tree c.args.store.now.trees (inside_kids (kids_of ys))) whole l.invariant.added
+
+pub add_items-returns-clause-held : goal.add_items-returns-clause-held
+add_items-returns-clause-held t c =
+    let l = c.loop-item in
+    let xs = c.deref-item-items.result.now in
+    let whole : take l.item-index xs ≡ c.args.list.now = take-whole l.item-index xs c.loop-item-test.false ∙ c.deref-item-items.ensures.value ∙ c.list.view_is in
+    l.invariant.held ∙ whole
+
+pub add_members-returns-clause-added : goal.add_members-returns-clause-added
+add_members-returns-clause-added t c =
+    let l = c.loop-member in
+    let xs = c.deref-member-items.result.now in
+    let whole : take l.member-index xs ≡ c.args.list.now = take-whole l.member-index xs c.loop-member-test.false ∙ c.deref-member-items.ensures.value ∙ c.list.view_is in
+    subst (λ ys. l.store.trees ≡ fold with_tree c.args.store.now.trees (inside_fields (fields_of ys))) whole l.invariant.added
+
+pub add_members-returns-clause-held : goal.add_members-returns-clause-held
+add_members-returns-clause-held t c =
+    let l = c.loop-member in
+    let xs = c.deref-member-items.result.now in
+    let whole : take l.member-index xs ≡ c.args.list.now = take-whole l.member-index xs c.loop-member-test.false ∙ c.deref-member-items.ensures.value ∙ c.list.view_is in
+    l.invariant.held ∙ whole
+
+pub level_of-returns-in-Null-clause-grows : goal.level_of-returns-in-Null-clause-grows
+level_of-returns-in-Null-clause-grows t c = Grows-refl c.args.store.now
+
+pub level_of-returns-in-Flag-clause-grows : goal.level_of-returns-in-Flag-clause-grows
+level_of-returns-in-Flag-clause-grows t c = Grows-refl c.args.store.now
+
+pub level_of-returns-in-Whole-clause-grows : goal.level_of-returns-in-Whole-clause-grows
+level_of-returns-in-Whole-clause-grows t c = Grows-refl c.args.store.now
+
+pub level_of-returns-in_err-clone-in-Words-clause-grows : goal.level_of-returns-in_err-clone-in-Words-clause-grows
+level_of-returns-in_err-clone-in-Words-clause-grows t c = Grows-refl c.args.store.now
+
+pub level_of-returns-in_ok-clone-in-Words-clause-grows : goal.level_of-returns-in_ok-clone-in-Words-clause-grows
+level_of-returns-in_ok-clone-in-Words-clause-grows t c = Grows-refl c.args.store.now
+
+pub level_of-returns-in_err-clone-in-Words-clause-full : goal.level_of-returns-in_err-clone-in-Words-clause-full
+level_of-returns-in_err-clone-in-Words-clause-full t c = λ refused. not_full c.from_residual.result c.from_residual.ensures.1 refused
+
+pub level_of-returns-in_ok-add_items-in-Items-clause-added : goal.level_of-returns-in_ok-add_items-in-Items-clause-added
+level_of-returns-in_ok-add_items-in-Items-clause-added t c =
+    let whole : c.args.tree.now ≡ items (kids_of c.in-Items.list) = sym c.tree.view_is ∙ ap meaning_of c.in-Items.is in
+    subst (λ m. c.add_items.new.store.trees ≡ fold with_tree c.args.store.now.trees (inside m)) (sym whole) c.in_ok-add_items-in-Items.ensures.added
+
+pub level_of-returns-in_ok-add_items-in-Items-clause-stands : goal.level_of-returns-in_ok-add_items-in-Items-clause-stands
+level_of-returns-in_ok-add_items-in-Items-clause-stands t c =
+    let whole : c.args.tree.now ≡ items (kids_of c.in-Items.list) = sym c.tree.view_is ∙ ap meaning_of c.in-Items.is in
+    ap (λ xs. items (kids_of xs)) c.in_ok-add_items-in-Items.ensures.held ∙ sym whole
+
+pub level_of-returns-in_err-add_items-in-Items-clause-full : goal.level_of-returns-in_err-add_items-in-Items-clause-full
+level_of-returns-in_err-add_items-in-Items-clause-full t c = λ refused.
+    let r = c.from_residual-in_err-add_items-in-Items.result in
+    let p = err_from_is_err_and r c.from_residual-in_err-add_items-in-Items.ensures.1 in
+    let fault : p.0 ≡ Full = one_fault r p.0 Full p.1 refused in
+    let is : c.add_items.result ≡ Err Full = c.in_err-add_items-in-Items.was ∙ ap Err (sym p.2 ∙ fault) in
+    let whole : c.args.tree.now ≡ items (kids_of c.in-Items.list) = sym c.tree.view_is ∙ ap meaning_of c.in-Items.is in
+    subst (λ m. c.args.store.now.limit < length (fold with_tree c.args.store.now.trees (inside m))) (sym whole) (c.add_items.ensures.full is)
+
+pub level_of-returns-in_ok-add_members-in-Members-clause-added : goal.level_of-returns-in_ok-add_members-in-Members-clause-added
+level_of-returns-in_ok-add_members-in-Members-clause-added t c =
+    let whole : c.args.tree.now ≡ members (fields_of c.in-Members.list) = sym c.tree.view_is ∙ ap meaning_of c.in-Members.is in
+    subst (λ m. c.add_members.new.store.trees ≡ fold with_tree c.args.store.now.trees (inside m)) (sym whole) c.in_ok-add_members-in-Members.ensures.added
+
+pub level_of-returns-in_ok-add_members-in-Members-clause-stands : goal.level_of-returns-in_ok-add_members-in-Members-clause-stands
+level_of-returns-in_ok-add_members-in-Members-clause-stands t c =
+    let whole : c.args.tree.now ≡ members (fields_of c.in-Members.list) = sym c.tree.view_is ∙ ap meaning_of c.in-Members.is in
+    ap (λ xs. members (fields_of xs)) c.in_ok-add_members-in-Members.ensures.held ∙ sym whole
+
+pub level_of-returns-in_err-add_members-in-Members-clause-full : goal.level_of-returns-in_err-add_members-in-Members-clause-full
+level_of-returns-in_err-add_members-in-Members-clause-full t c = λ refused.
+    let r = c.from_residual-in_err-add_members-in-Members.result in
+    let p = err_from_is_err_and r c.from_residual-in_err-add_members-in-Members.ensures.1 in
+    let fault : p.0 ≡ Full = one_fault r p.0 Full p.1 refused in
+    let is : c.add_members.result ≡ Err Full = c.in_err-add_members-in-Members.was ∙ ap Err (sym p.2 ∙ fault) in
+    let whole : c.args.tree.now ≡ members (fields_of c.in-Members.list) = sym c.tree.view_is ∙ ap meaning_of c.in-Members.is in
+    subst (λ m. c.args.store.now.limit < length (fold with_tree c.args.store.now.trees (inside m))) (sym whole) (c.add_members.ensures.full is)

@@ -28,10 +28,9 @@ pub with-requires : goal.with-requires
 with-requires g c =
     let items = map (λ item. item.now) c.in_ok-order.order.items in
     record {
-      above = subst (λ l. All (λ (v : Version). v.revision < c.in_ok-version_in.field-0.revision) l) (sym c.grown.view_is)
-          (subst (λ n. All (λ (v : Version). v.revision < n) c.loop-group.grown) (sym c.in_ok-version_in.ensures.revision)
+      above = subst (λ n. All (λ (v : Version). v.revision < n) c.loop-group.grown) (sym c.in_ok-version_in.ensures.revision)
           (before_group c.args.start c.args.snapshot.now items c.args.groups.now c.loop-group.group-index c.group-item.result c.loop-group.grown c.requires.snapshot c.in_ok-order.ensures.same
-          c.requires.rising c.requires.above c.loop-group-test.true (sym c.group-item.is) c.loop-group.invariant.0));
+          c.requires.rising c.requires.above c.loop-group-test.true (sym c.group-item.is) c.loop-group.invariant.0);
     }
 
 pub loop-group-preserved : goal.loop-group-preserved
@@ -43,7 +42,7 @@ loop-group-preserved g c =
     let version = c.in_ok-version_in.field-0 in
     let events = c.args.log.events.now in
     let within : i < length c.args.groups.now = c.loop-group-test.true in
-    let pushed : c.in_ok-grown-2.grown ≡ c.loop-group.grown ++ version ∷ [] = c.in_ok-grown-2.ensures ∙ ap (λ l. l ++ version ∷ []) c.grown.view_is in (
+    let pushed : c.in_ok-grown-2.grown ≡ c.loop-group.grown ++ version ∷ [] = c.in_ok-grown-2.ensures in (
       subst (AreGrown begun (take (i + 1) c.args.groups.now)) (sym pushed)
           (grown_with begun c.args.groups.now i group c.loop-group.grown version within (sym c.group-item.is) c.loop-group.invariant.0 c.in_ok-version_in.ensures.key c.in_ok-version_in.ensures.revision),
       (λ h of grouped start on.

@@ -19,10 +19,10 @@ returns c =
     let parts = c.in_ok-clone-in-None.ensures.cases in
     let copy : c.in_ok-clone-in-None.field-0 ≡ c.args.end.now.key = same_key _ _ parts.0 parts.1.0 parts.1.1.0 parts.1.1.1 in
     let updates = rw c.get_mut.follows.holds-at-none at c.in_ok-_none-in-None.ensures.updates in
-    let here : Updates key_order c.args.removals.now c.insert.new.self c.args.end.now.key (Some c.in_ok-of-in-None.field-0) =
-    subst (λ k. Updates key_order c.args.removals.now c.insert.new.self k (Some c.in_ok-of-in-None.field-0)) copy updates in
-    let made : c.in_ok-of-in-None.field-0 ≡ gap_of c.args.end.now ∷ [] = rw c.get.ensures.value at c.in_ok-of-in-None.ensures in
-    let grows : Grows [] c.in_ok-of-in-None.field-0 (gap_of c.args.end.now) =
+    let here : Updates key_order c.args.removals.now c.insert.new.self c.args.end.now.key (Some c.in_ok-made-in-None.made) =
+    subst (λ k. Updates key_order c.args.removals.now c.insert.new.self k (Some c.in_ok-made-in-None.made)) copy updates in
+    let made : c.in_ok-made-in-None.made ≡ gap_of c.args.end.now ∷ [] = rw c.get.ensures.value at c.in_ok-made-in-None.ensures in
+    let grows : Grows [] c.in_ok-made-in-None.made (gap_of c.args.end.now) =
     subst (λ l. Grows [] l (gap_of c.args.end.now)) (sym made) (Grows-push [] (gap_of c.args.end.now)) in
-    AddsAt-updates key_order key_order_total _ _ _ c.in_ok-of-in-None.field-0 (gap_of c.args.end.now) here
-    (subst (λ l. Grows l c.in_ok-of-in-None.field-0 (gap_of c.args.end.now)) (sym none) grows)
+    AddsAt-updates key_order key_order_total _ _ _ c.in_ok-made-in-None.made (gap_of c.args.end.now) here
+    (subst (λ l. Grows l c.in_ok-made-in-None.made (gap_of c.args.end.now)) (sym none) grows)

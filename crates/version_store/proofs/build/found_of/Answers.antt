@@ -1,21 +1,21 @@
 use Rattle.std.proofs.Common.{◌≡◌, ◌<◌, ◌^◌, List, length, map, refl, sym, ap, ◌∙◌, subst}
 use Rattle.std.specs.Prelude.{AllPairs}
+use Rattle.history_model.specs.Histories.{History}
+use Rattle.object_versions.specs.Found.{HasFound, IsPastOf}
 use Rattle.object_versions.specs.Written.{IsSnapshot}
+use Rattle.object_versions.specs.declared.log_past.LogPast.{LogPast}
 use Rattle.write_groups.specs.Modelled.{event_of}
 use Rattle.write_groups.specs.declared.event.LogEvent.{LogEvent}
 use Rattle.object_versions.specs.Hidden.{unrecorded_in}
-use Rattle.object_versions.specs.declared.maker.Judged.{Judged}
 use Rattle.rbac_timeline.specs.Known.{known_of as roles_of}
 use Rattle.json_tree.specs.Meaning.{Meaning}
 use Rattle.json_tree.specs.Values.{InRange}
 use Rattle.std.specs.Prelude.{[], All}
 use Rattle.version_store.proofs.Built.{are_rising, few_logged, has_bodies, has_times, have_codes, have_ends, have_nodes, is_past, is_readable, is_snapshot, kept_of, known_of, moments_are}
 use Rattle.version_store.proofs.Ranging.{numbers_are}
-use Rattle.version_store.specs.Histories.{history_of}
+use Rattle.version_store.specs.Gathering.{past_with}
+use Rattle.version_store.specs.Histories.{body_test, history_of}
 use Rattle.version_store.specs.Keyed.{AreKeys}
-use Rattle.version_store.specs.Makings.{AreMakingsOf}
-use Rattle.version_store.specs.Uses.{AreUses}
-use Rattle.object_past.specs.declared.version.Version.{Version}
 use Rattle.version_store.proofs.build.found_of.Goals as goal
 
 pub past_of-requires-clause-few : goal.past_of-requires-clause-few
@@ -32,8 +32,8 @@ past_of-requires-clause-snapshot c =
     subst (IsSnapshot setup.start) (sym c.as_slice-snapshot.ensures)
     (is_snapshot setup.start c.args.pool.now.trees setup.snapshot c.args.log.now.snapshot c.requires.log.snapshot start.revisions start.begun)
 
-pub past_within-requires-clause-rising : goal.past_within-requires-clause-rising
-past_within-requires-clause-rising c =
+pub parts_of-requires-clause-rising : goal.parts_of-requires-clause-rising
+parts_of-requires-clause-rising c =
     let setup = c.args.setup.now in
     let events = c.args.events.now in
     let trees = c.args.pool.now.trees in
@@ -44,8 +44,8 @@ past_within-requires-clause-rising c =
     c.as_slice-snapshot.ensures c.as_slice-recorded.ensures c.as_slice-logged.ensures c.in_ok-found.ensures.past in
     are_rising setup events trees log found (kept_of found) roles refl refl right
 
-pub past_within-requires-clause-ends : goal.past_within-requires-clause-ends
-past_within-requires-clause-ends c =
+pub parts_of-requires-clause-ends : goal.parts_of-requires-clause-ends
+parts_of-requires-clause-ends c =
     let setup = c.args.setup.now in
     let events = c.args.events.now in
     let trees = c.args.pool.now.trees in
@@ -56,27 +56,29 @@ past_within-requires-clause-ends c =
     c.as_slice-snapshot.ensures c.as_slice-recorded.ensures c.as_slice-logged.ensures c.in_ok-found.ensures.past in
     have_ends setup events trees log found (kept_of found) roles refl refl right
 
-pub faults_of-requires : goal.faults_of-requires
-faults_of-requires c = subst (λ (l : List LogEvent). length l < 2 ^ 32) (sym c.as_slice-logged.ensures)
+pub told_of-requires-clause-start : goal.told_of-requires-clause-start
+told_of-requires-clause-start c = sym (ap (λ (past : LogPast). past.windows.start) (sym c.in_ok-parts.ensures.same) ∙ c.in_ok-found.ensures.start)
+
+pub told_of-requires-clause-few : goal.told_of-requires-clause-few
+told_of-requires-clause-few c = subst (λ (l : List LogEvent). length l < 2 ^ 32) (sym c.as_slice-logged.ensures)
     (few_logged c.args.setup.now c.args.events.now c.args.pool.now.trees c.args.log.now c.requires.log c.requires.few)
 
-pub timeline_of-requires-clause-start : goal.timeline_of-requires-clause-start
-timeline_of-requires-clause-start c = sym c.in_ok-found.ensures.start
-
-pub timeline_of-requires-clause-nodes : goal.timeline_of-requires-clause-nodes
-timeline_of-requires-clause-nodes c =
+pub told_of-requires-clause-nodes : goal.told_of-requires-clause-nodes
+told_of-requires-clause-nodes c =
     let setup = c.args.setup.now in
     let events = c.args.events.now in
     let trees = c.args.pool.now.trees in
     let log = c.args.log.now in
-    let found = c.in_ok-found.found in
-    let kept = c.in_ok-past.past in
+    let found = past_with c.in_ok-found.found.firsts c.in_ok-parts.parts in
+    let kept = c.in_ok-parts.parts.past in
     let roles = roles_of [] [] [] in
-    let versions = c.in_ok-past.ensures.versions in
-    let removals = c.in_ok-past.ensures.removals in
-    let right = is_past setup events trees log found kept roles versions removals c.as_slice-snapshot.result.now c.as_slice-recorded.result.now c.as_slice-logged.result.now
-    c.as_slice-snapshot.ensures c.as_slice-recorded.ensures c.as_slice-logged.ensures c.in_ok-found.ensures.past in
-    have_nodes setup events trees log found kept roles versions removals right c.requires.rising c.requires.log
+    let told = c.as_slice-recorded.ensures in
+    let logged = c.as_slice-logged.ensures in
+    let says = subst (λ (past : LogPast). (h : History) → HasFound setup.start c.as_slice-snapshot.result.now c.as_slice-logged.result.now
+    (body_test setup c.as_slice-recorded.result.now c.as_slice-logged.result.now trees) past h → IsPastOf c.as_slice-logged.result.now past h) c.in_ok-parts.ensures.same c.in_ok-found.ensures.past in
+    let right = is_past setup events trees log found kept roles refl refl c.as_slice-snapshot.result.now c.as_slice-recorded.result.now c.as_slice-logged.result.now
+    c.as_slice-snapshot.ensures told logged says in
+    have_nodes setup events trees log found kept roles refl refl right c.requires.rising c.requires.log
 
 pub returns : goal.returns
 returns c =
@@ -84,20 +86,20 @@ returns c =
     let events = c.args.events.now in
     let trees = c.args.pool.now.trees in
     let log = c.args.log.now in
-    let found = c.in_ok-found.found in
-    let kept = c.in_ok-past.past in
-    let roles = c.in_ok-timeline.timeline in
-    let versions = c.in_ok-past.ensures.versions in
-    let removals = c.in_ok-past.ensures.removals in
+    let found = past_with c.in_ok-found.found.firsts c.in_ok-parts.parts in
+    let kept = c.in_ok-parts.parts.past in
+    let roles = c.in_ok-told.told.timeline in
     let told = c.as_slice-recorded.ensures in
     let logged = c.as_slice-logged.ensures in
+    let says = subst (λ (past : LogPast). (h : History) → HasFound setup.start c.as_slice-snapshot.result.now c.as_slice-logged.result.now
+    (body_test setup c.as_slice-recorded.result.now c.as_slice-logged.result.now trees) past h → IsPastOf c.as_slice-logged.result.now past h) c.in_ok-parts.ensures.same c.in_ok-found.ensures.past in
+    let right = is_past setup events trees log found kept roles refl refl c.as_slice-snapshot.result.now c.as_slice-recorded.result.now c.as_slice-logged.result.now
+    c.as_slice-snapshot.ensures told logged says in
+    let start = ap (λ (past : LogPast). past.windows.start) (sym c.in_ok-parts.ensures.same) ∙ c.in_ok-found.ensures.start in
     let h = history_of (known_of setup events trees log found kept roles) in
-    let right = is_past setup events trees log found kept roles versions removals c.as_slice-snapshot.result.now c.as_slice-recorded.result.now c.as_slice-logged.result.now
-    c.as_slice-snapshot.ensures told logged c.in_ok-found.ensures.past in
-    let readable = is_readable setup events trees log found kept roles versions removals right c.requires.rising c.requires.log in
-    let times = has_times setup events trees log found kept roles versions removals c.in_ok-found.ensures.start in
-    let codes = have_codes setup events trees log found kept roles versions removals right c.requires.rising c.requires.log c.in_ok-makings.makings
-    (subst (λ (l : List Judged). AreMakingsOf l c.in_ok-makings.makings) c.deref.ensures.value c.in_ok-makings.ensures) in
+    let readable = is_readable setup events trees log found kept roles refl refl right c.requires.rising c.requires.log in
+    let times = has_times setup events trees log found kept roles refl refl start in
+    let found_of = c.in_ok-told.ensures in
     record {
       setup = c.requires.setup;
       events = c.requires.events;
@@ -110,17 +112,19 @@ returns c =
       moments = moments_are setup events trees log.events h c.requires.setup c.requires.events c.requires.log.logged refl;
       readable = readable;
       groups = right.groups;
-      start = c.in_ok-found.ensures.start;
+      start = start;
       clouds_of = right.clouds;
-      roles = c.in_ok-timeline.ensures.versions;
-      ends = c.in_ok-timeline.ensures.ends;
-      unrecorded = c.in_ok-timeline.ensures.spans h times ∙ ap (unrecorded_in h) logged;
-      bypass = c.in_ok-timeline.ensures.bypass;
-      sound_roles = c.in_ok-timeline.ensures.sound;
-      nodes = have_nodes setup events trees log found kept roles versions removals right c.requires.rising c.requires.log;
-      faults_of = c.in_ok-faults.ensures h readable refl
-          (has_bodies setup events trees log found kept roles versions removals c.as_slice-recorded.result.now c.as_slice-logged.result.now told logged)
-          (record { versions = refl; removals = refl }) codes (ap (map event_of) (sym logged));
-      keys_of = subst (λ (l : List LogEvent). AreKeys kept.versions l c.in_ok-keys.keys.items) logged c.in_ok-keys.ensures;
-      uses_of = subst (λ (vs : List Version). AreUses vs c.in_ok-uses.uses) c.versions.ensures.versions c.in_ok-uses.ensures;
+      roles = found_of.roles;
+      ends = found_of.ends;
+      unrecorded = found_of.spans h times ∙ ap (unrecorded_in h) logged;
+      bypass = found_of.bypass;
+      sound_roles = found_of.sound;
+      nodes = have_nodes setup events trees log found kept roles refl refl right c.requires.rising c.requires.log;
+      faults_of = found_of.faults h readable refl
+          (has_bodies setup events trees log found kept roles refl refl c.as_slice-recorded.result.now c.as_slice-logged.result.now told logged)
+          (record { versions = refl; removals = refl })
+          (have_codes setup events trees log found kept roles refl refl right c.requires.rising c.requires.log)
+          (ap (map event_of) (sym logged));
+      keys_of = subst (λ (l : List LogEvent). AreKeys kept.versions l c.in_ok-told.told.keys.items) logged found_of.keys;
+      uses_of = found_of.uses;
     }

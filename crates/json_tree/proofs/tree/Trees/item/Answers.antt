@@ -1,4 +1,4 @@
-use Rattle.std.proofs.Common.{◌≡◌, ◌<◌, length, get_or, subst, ap, sym}
+use Rattle.std.proofs.Common.{◌≡◌, get_or, subst}
 use Rattle.json_tree.specs.Pointers.{index_of}
 use Rattle.json_tree.proofs.Indices.{item_read}
 use Rattle.json_tree.proofs.tree.Trees.item.Goals as goal

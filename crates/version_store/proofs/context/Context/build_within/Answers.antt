@@ -1,13 +1,8 @@
-use Rattle.std.proofs.Common.{◌≡◌, ◌∙◌, ◌<◌, ◌≤◌, Err, ap, length, subst}
-use Rattle.version_store.specs.LogTrees.{pooled}
+use Rattle.std.proofs.Common.{◌≡◌, ◌∙◌, Err, ap}
 use Rattle.version_store.specs.declared.log.fault.BuildFault.TheVariants.{PoolFull}
 use Rattle.version_store.proofs.PoolLemmas.{passed_on}
 use Rattle.version_store.proofs.context.Context.build_within.Goals as goal
 
-pub returns-in_err-log-clause-full : goal.returns-in_err-log-clause-full
-returns-in_err-log-clause-full c = λ refused.
-    let is : c.log_of.result ≡ Err PoolFull = c.in_err-log.was ∙ ap Err (passed_on c.from_residual-in_err-log.result _ PoolFull c.from_residual-in_err-log.ensures.1 refused) in
-    subst (λ n. n < length (pooled c.args.setup c.args.events)) c.in_ok-pool.ensures.limit (c.log_of.ensures.full is)
-
-pub returns-clause-fits : goal.returns-clause-fits
-returns-clause-fits c = subst (λ n. length (pooled c.args.setup c.args.events) ≤ n) c.in_ok-pool.ensures.limit c.in_ok-log.ensures.fits
+pub returns-in_err-gathered-clause-full : goal.returns-in_err-gathered-clause-full
+returns-in_err-gathered-clause-full c = λ refused. c.gather.ensures.full
+    (c.in_err-gathered.was ∙ ap Err (passed_on c.from_residual.result _ PoolFull c.from_residual.ensures.1 refused))

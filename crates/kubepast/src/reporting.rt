@@ -1,0 +1,107 @@
+ghost use Rattle.std.specs.Prelude.{◌≡◌, ◌≢◌, ◌≤◌, ℕ, List, Some, IfOk, IsErrOf};
+ghost use Rattle.kubepast.specs.Command.{Judge, Make, Strict, Verify, command_asked, most_made};
+ghost use Rattle.kubepast.specs.Program.{IsAnswerTo, report_answer};
+ghost use Rattle.kubepast.specs.Reported.{IsReported, IsSpelled};
+
+use crate::judging::{Gates, judge};
+use crate::made::judge_made;
+use crate::report::{Report, judged_report, made_report, strictly_report, verified_report};
+use crate::strictly::judge_strictly;
+use crate::verifying::verify;
+use crate::words::Command;
+use context_intake::Stop;
+use edge_io::Desk;
+use judge_pool::Gate;
+use std::alloc::Global;
+use std::marker::Sync;
+use std::thread::Threads;
+
+/// What a command comes to, as a status and a text.
+pub fn report_of<R: Threads + Sync, D: Desk, G: Gate, H: Gate>(
+    rt: &R,
+    alloc: Global,
+    command: Command<'_>,
+    desk: &mut D,
+    gates: Gates<'_, G, H>,
+) -> Result<Report, Stop>
+    requires { IsSpelled (command_asked command) }
+    ensures { IsReported (command_asked command.entry) (D.left desk.old) (D.left desk.new) (desk.new ≡ desk.old) (D.faults desk.old) (D.faults desk.new) result }
+{
+    match command {
+        Command::Judge { setup, log } => judged(rt, alloc, desk, setup, log, gates),
+        Command::Strict { setup, log } => strictly(rt, alloc, desk, setup, log, gates),
+        Command::Verify {
+            setup,
+            log,
+            placement,
+        } => verified(rt, alloc, desk, setup, log, placement, gates.lines),
+        Command::Make { number, events } => made(rt, alloc, number, events, gates),
+    }
+}
+
+// Judges a log by a setup, each by its name.
+fn judged<R: Threads + Sync, D: Desk, G: Gate, H: Gate>(
+    rt: &R,
+    alloc: Global,
+    desk: &mut D,
+    setup: &str,
+    log: &str,
+    gates: Gates<'_, G, H>,
+) -> Result<Report, Stop>
+    requires { setup.now ≢ log.now }
+    ensures { IsReported (Judge setup.now log.now) (D.left desk.old) (D.left desk.new) (desk.new ≡ desk.old) (D.faults desk.old) (D.faults desk.new) result }
+{
+    let judged = judge(rt, alloc, desk, setup, log, gates)?;
+    Ok(judged_report(alloc, &judged)?)
+}
+
+// Judges a log by a setup, each by its name, and asks for moments.
+fn strictly<R: Threads + Sync, D: Desk, G: Gate, H: Gate>(
+    rt: &R,
+    alloc: Global,
+    desk: &mut D,
+    setup: &str,
+    log: &str,
+    gates: Gates<'_, G, H>,
+) -> Result<Report, Stop>
+    requires { setup.now ≢ log.now }
+    ensures { IsReported (Strict setup.now log.now) (D.left desk.old) (D.left desk.new) (desk.new ≡ desk.old) (D.faults desk.old) (D.faults desk.new) result }
+{
+    let found = judge_strictly(rt, alloc, desk, setup, log, gates)?;
+    Ok(strictly_report(alloc, &found)?)
+}
+
+// Checks a placement again, by a setup and a log, each by its name.
+fn verified<R: Threads + Sync, D: Desk, H: Gate>(
+    rt: &R,
+    alloc: Global,
+    desk: &mut D,
+    setup: &str,
+    log: &str,
+    placement: &str,
+    lines: &H,
+) -> Result<Report, Stop>
+    requires differ { setup.now ≢ log.now }
+    requires not_setup { placement.now ≢ setup.now }
+    requires not_log { placement.now ≢ log.now }
+    ensures { IsReported (Verify setup.now log.now placement.now) (D.left desk.old) (D.left desk.new) (desk.new ≡ desk.old) (D.faults desk.old) (D.faults desk.new) result }
+{
+    let verified = verify(rt, alloc, desk, setup, log, placement, lines)?;
+    Ok(verified_report(alloc, verified)?)
+}
+
+// Judges a made case.
+fn made<R: Threads + Sync, G: Gate, H: Gate>(
+    rt: &R,
+    alloc: Global,
+    number: u64,
+    events: u32,
+    gates: Gates<'_, G, H>,
+) -> Result<Report, Stop>
+    requires { events ≤ most_made }
+    ensures answered { IfOk result (λ report. (files : List ℕ → List ℕ) → IsAnswerTo (Some (Make number events)) files (report_answer report)) }
+    ensures no_fault { IsErrOf result Stop.ReadFault → ⊥ }
+{
+    let judged = judge_made(rt, alloc, number, events, gates)?;
+    Ok(made_report(alloc, number, events, &judged)?)
+}

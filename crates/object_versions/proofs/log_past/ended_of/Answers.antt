@@ -1,0 +1,30 @@
+use Rattle.std.proofs.Common.{◌<◌, AllPairs, map, sym, ap, ◌∙◌, subst}
+use Rattle.object_past.specs.Modelled.{version_of}
+use Rattle.object_past.specs.declared.version.Version.{Version}
+use Rattle.write_groups.specs.Members.{AreGroupsOf}
+use Rattle.write_groups.specs.declared.groups.Group.{Group}
+use Rattle.object_versions.specs.Hidden.{slots_of}
+use Rattle.object_versions.specs.Removals.{AreFirstRemovals}
+use Rattle.object_versions.specs.Surrounded.{HasLog}
+use Rattle.object_versions.specs.Written.{AreAllJudged, AreSlots}
+use Rattle.object_versions.proofs.log_past.ended_of.Goals as goal
+
+pub write_versions-requires-clause-rising : goal.write_versions-requires-clause-rising
+write_versions-requires-clause-rising g c = subst (AllPairs (λ (a b : Group). a.revision < b.revision)) (sym c.as_slice-groups.ensures) c.requires.rising
+
+pub removals_of-requires-clause-rising : goal.removals_of-requires-clause-rising
+removals_of-requires-clause-rising g c = subst (AllPairs (λ (a b : Version). a.revision < b.revision)) (sym c.as_slice.ensures) c.in_ok-written.ensures.rising
+
+pub returns-clause-slots : goal.returns-clause-slots
+returns-clause-slots g c = subst (λ l. AreSlots (slots_of c.args.snapshot.now l) c.in_ok-written.written.versions) c.as_slice-groups.ensures c.in_ok-written.ensures.slots
+
+pub returns-clause-ended : goal.returns-clause-ended
+returns-clause-ended g c = λ h times all order is_order judged groups begins listed versions removals.
+    let events = c.args.events.now in
+    let removed : AreFirstRemovals events h.order c.in_ok-removed.removed = subst (λ l. AreFirstRemovals events l c.in_ok-removed.removed) (c.deref.ensures.value ∙ sym order) c.in_ok-removed.ensures in
+    let surroundings : HasLog c.args.timed.now.windows events c.in_ok-removed.removed h = record { times = times; all = all; order = is_order; removals = removed } in
+    let grouped = subst (AreGroupsOf h) (sym c.as_slice-groups.ensures) groups in (
+      c.in_ok-written.ensures.versions h (record { surroundings = surroundings; judged = judged }) grouped begins listed versions,
+      subst (λ l. AreAllJudged h events l c.in_ok-written.written.judged.items) c.as_slice-groups.ensures (c.in_ok-written.ensures.judged h (record { surroundings = surroundings; judged = judged }) grouped begins versions),
+      c.in_ok-removals.ensures h surroundings (versions ∙ ap (map version_of) (sym c.as_slice.ensures)) removals,
+    )

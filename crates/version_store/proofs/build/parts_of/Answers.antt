@@ -1,0 +1,14 @@
+use Rattle.std.proofs.Common.{◌≡◌, sym}
+use Rattle.version_store.proofs.build.parts_of.Goals as goal
+
+pub returns-clause-same : goal.returns-clause-same
+returns-clause-same c = λ i. record {
+  order = c.args.found.order;
+  windows = c.args.found.windows;
+  clouds = c.args.found.clouds;
+  groups = c.args.found.groups;
+  versions = sym c.in_ok-past.ensures.versions i;
+  firsts = c.args.found.firsts;
+  judged = c.args.found.judged;
+  removals = sym c.in_ok-past.ensures.removals i;
+}

@@ -1,0 +1,225 @@
+use crate::patching::{fault_of, nulls};
+use crate::reading::read;
+use json_patch::{ApplyCause, ApplyFault, PatchFault, read_patch};
+use json_tree::Tree;
+use std::alloc::Global;
+use std::test::Fail;
+
+/// Document, patch, and the first operation that can't be done with its first cause.
+static REFUSED: [(&str, &str, u32, ApplyCause); 22] = [
+    (
+        "{}",
+        r#"[{"op": "add", "path": "/a", "value": 1}, {"op": "remove", "path": "/b"}]"#,
+        1,
+        ApplyCause::NoValue,
+    ),
+    (
+        r#"{"baz": "qux"}"#,
+        r#"[{"op": "test", "path": "/baz", "value": "bar"}]"#,
+        0,
+        ApplyCause::Differs,
+    ),
+    (
+        r#"{"foo": "bar"}"#,
+        r#"[{"op": "add", "path": "/baz/bat", "value": "qux"}]"#,
+        0,
+        ApplyCause::NoParent,
+    ),
+    (
+        r#"{"/": 9, "~1": 10}"#,
+        r#"[{"op": "test", "path": "/~01", "value": "10"}]"#,
+        0,
+        ApplyCause::Differs,
+    ),
+    (
+        r#"{"data": {"k": "x"}}"#,
+        r#"[{"op": "test", "path": "/data/k", "value": "z"}, {"op": "replace", "path": "/data/k", "value": "y"}]"#,
+        0,
+        ApplyCause::Differs,
+    ),
+    (
+        r#"{"a": {}}"#,
+        r#"[{"op": "move", "from": "/a", "path": "/a/b"}]"#,
+        0,
+        ApplyCause::IntoItself,
+    ),
+    (
+        "{}",
+        r#"[{"op": "move", "from": "/a", "path": "/a/b"}]"#,
+        0,
+        ApplyCause::IntoItself,
+    ),
+    (
+        "{}",
+        r#"[{"op": "move", "from": "", "path": "/b"}]"#,
+        0,
+        ApplyCause::IntoItself,
+    ),
+    (
+        "{}",
+        r#"[{"op": "remove", "path": ""}]"#,
+        0,
+        ApplyCause::NoParent,
+    ),
+    (
+        "{}",
+        r#"[{"op": "copy", "from": "/x", "path": "/y/z"}]"#,
+        0,
+        ApplyCause::NoValue,
+    ),
+    (
+        r#"{"x": 1}"#,
+        r#"[{"op": "copy", "from": "/x", "path": "/y/z"}]"#,
+        0,
+        ApplyCause::NoParent,
+    ),
+    (
+        "[1]",
+        r#"[{"op": "remove", "path": "/-"}]"#,
+        0,
+        ApplyCause::NoValue,
+    ),
+    (
+        "[1]",
+        r#"[{"op": "replace", "path": "/-", "value": 2}]"#,
+        0,
+        ApplyCause::NoValue,
+    ),
+    (
+        "[1]",
+        r#"[{"op": "test", "path": "/-", "value": 1}]"#,
+        0,
+        ApplyCause::NoValue,
+    ),
+    (
+        "[1]",
+        r#"[{"op": "remove", "path": "/00"}]"#,
+        0,
+        ApplyCause::NoValue,
+    ),
+    (
+        "[1]",
+        r#"[{"op": "add", "path": "/2", "value": 2}]"#,
+        0,
+        ApplyCause::BadIndex,
+    ),
+    (
+        "[1]",
+        r#"[{"op": "add", "path": "/01", "value": 2}]"#,
+        0,
+        ApplyCause::BadIndex,
+    ),
+    (
+        "[1]",
+        r#"[{"op": "add", "path": "/18446744073709551616", "value": 2}]"#,
+        0,
+        ApplyCause::BadIndex,
+    ),
+    (
+        "[1]",
+        r#"[{"op": "add", "path": "/", "value": 2}]"#,
+        0,
+        ApplyCause::BadIndex,
+    ),
+    (
+        "7",
+        r#"[{"op": "add", "path": "/a", "value": 2}]"#,
+        0,
+        ApplyCause::NoParent,
+    ),
+    (
+        "[[1], [2]]",
+        r#"[{"op": "move", "from": "/0", "path": "/1/0"}]"#,
+        0,
+        ApplyCause::NoParent,
+    ),
+    (
+        "[1, 2]",
+        r#"[{"op": "move", "from": "/0", "path": "/2"}]"#,
+        0,
+        ApplyCause::BadIndex,
+    ),
+];
+
+fn is_refused(
+    alloc: Global,
+    document: &str,
+    patch: &str,
+    index: u32,
+    cause: ApplyCause,
+) -> Result<bool, Fail> {
+    let document = read(alloc, document)?;
+    let fault = fault_of(alloc, &document, patch)?;
+    Ok(fault == Some(ApplyFault::Operation { index, cause }))
+}
+
+#[test]
+fn refused_operations(rt: HostRuntime) -> Result<(), Fail> {
+    for (document, patch, index, cause) in &REFUSED {
+        assert!(rt;
+            is_refused(rt.alloc(), document, patch, *index, *cause)?,
+            "of {patch}"
+        );
+    }
+    Ok(())
+}
+
+// Patches that can't be read, and why.
+static UNREAD: [(&str, PatchFault); 9] = [
+    ("{}", PatchFault::NotList),
+    ("[1]", PatchFault::BadOperation { index: 0 }),
+    (
+        r#"[{"op": "remove", "path": "/a"}, {"op": "add", "path": "/a"}]"#,
+        PatchFault::BadOperation { index: 1 },
+    ),
+    (
+        r#"[{"op": "remove", "path": "a"}]"#,
+        PatchFault::BadOperation { index: 0 },
+    ),
+    (
+        r#"[{"op": "remove", "path": 1}]"#,
+        PatchFault::BadOperation { index: 0 },
+    ),
+    (
+        r#"[{"op": "delete", "path": "/a"}]"#,
+        PatchFault::BadOperation { index: 0 },
+    ),
+    (
+        r#"[{"op": "copy", "path": "/a"}]"#,
+        PatchFault::BadOperation { index: 0 },
+    ),
+    (
+        r#"[{"op": "move", "from": "b", "path": "/a"}]"#,
+        PatchFault::BadOperation { index: 0 },
+    ),
+    (r#"[{"path": "/a"}]"#, PatchFault::BadOperation { index: 0 }),
+];
+
+fn unread(alloc: Global, tree: &Tree) -> Option<PatchFault> {
+    read_patch(alloc, tree).err()
+}
+
+fn why_unread(alloc: Global, patch: &str) -> Result<Option<PatchFault>, Fail> {
+    let tree = read(alloc, patch)?;
+    Ok(unread(alloc, &tree))
+}
+
+fn why_nulls_unread(alloc: Global, count: usize) -> Result<Option<PatchFault>, Fail> {
+    let tree = nulls(alloc, count)?;
+    Ok(unread(alloc, &tree))
+}
+
+#[test]
+fn refused_patches(rt: HostRuntime) -> Result<(), Fail> {
+    for (patch, fault) in &UNREAD {
+        assert!(rt;
+            why_unread(rt.alloc(), patch)? == Some(*fault),
+            "of {patch}"
+        );
+    }
+    let many = why_nulls_unread(rt.alloc(), 10_001)?;
+    assert!(rt; many == Some(PatchFault::TooMany));
+    let most = why_nulls_unread(rt.alloc(), 10_000)?;
+    assert!(rt; most == Some(PatchFault::BadOperation { index: 0 }));
+    Ok(())
+}
