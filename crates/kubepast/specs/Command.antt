@@ -1,6 +1,8 @@
 -- What the words of the command line ask for.
 use Rattle.std.specs.Prelude.{◌≡◌, ◌≢◌, ◌≤◌, ℕ, List, [], ◌∷◌, Option, Some, None, codes, decimal}
+use Rattle.history_query.specs.declared.question.Question.{Question}
 use Rattle.verdict_text.specs.Words.{IsNumber}
+use Rattle.kubepast.specs.Asking.{SpellsQuestion, verb_of}
 use Rattle.kubepast.specs.declared.words.Command.{Command}
 use Rattle.kubepast.specs.declared.words.Command.TheVariants as word
 
@@ -11,6 +13,8 @@ pub data Asked : Type 0 where
   Strict : (setup log : List ℕ) → Asked
   -- check a placement of a log's events again
   Verify : (setup log placement : List ℕ) → Asked
+  -- ask the history that they tell
+  Ask : (setup log : List ℕ) → Question → Asked
   -- make the case of a number with so many events, and judge it
   Make : (number events : ℕ) → Asked
 
@@ -35,6 +39,8 @@ Spells (Judge setup log) words = (words ≡ codes "judge" ∷ setup ∷ log ∷ 
 Spells (Strict setup log) words = (words ≡ codes "judge" ∷ codes "--strict" ∷ setup ∷ log ∷ []) × AreNames setup log
 Spells (Verify setup log placement) words =
     (words ≡ codes "verify" ∷ setup ∷ log ∷ placement ∷ []) × AreNames setup log × IsThirdName setup log placement
+Spells (Ask setup log question) words =
+    (rest : List (List ℕ)) × (words ≡ verb_of question ∷ setup ∷ log ∷ rest) × AreNames setup log × SpellsQuestion question rest
 Spells (Make number events) words = (words ≡ codes "make" ∷ decimal number ∷ decimal events ∷ []) × IsNumber number × (events ≤ most_made)
 
 -- the words spell this command, or none
@@ -47,6 +53,7 @@ abbrev pub IsOfNames : Asked → List ℕ → List ℕ → Type 0
 IsOfNames (Judge setup log) setup' log' = (setup ≡ setup') × (log ≡ log')
 IsOfNames (Strict setup log) setup' log' = (setup ≡ setup') × (log ≡ log')
 IsOfNames (Verify setup log placement) setup' log' = (setup ≡ setup') × (log ≡ log')
+IsOfNames (Ask setup log question) setup' log' = (setup ≡ setup') × (log ≡ log')
 IsOfNames (Make number events) setup' log' = ⊥
 
 -- the words ask for what a setup and a log of these names tell
@@ -57,9 +64,27 @@ abbrev pub command_asked : Command → Asked
 command_asked (word.Judge setup log) = Judge setup.now log.now
 command_asked (word.Strict setup log) = Strict setup.now log.now
 command_asked (word.Verify setup log placement) = Verify setup.now log.now placement.now
+command_asked (word.Ask setup log question) = Ask setup.now log.now question
 command_asked (word.Make number events) = Make number events
 
 -- what the words ask for is read of them, or they ask for nothing
 abbrev pub IsRead : List (List ℕ) → Option Command → Type 0
 IsRead words None = IsAsked words None
 IsRead words (Some command) = IsAsked words (Some (command_asked command))
+
+-- the command asks no question of a history
+abbrev pub IsPlain : Asked → Type 0
+IsPlain (Judge setup log) = Unit {0}
+IsPlain (Strict setup log) = Unit {0}
+IsPlain (Verify setup log placement) = Unit {0}
+IsPlain (Ask setup log question) = ⊥
+IsPlain (Make number events) = Unit {0}
+
+-- the same of these commands, and of the others
+abbrev pub IsPlainRead : List (List ℕ) → Option Command → Type 0
+IsPlainRead words None = (asked : Asked) → IsPlain asked → Spells asked words → ⊥
+IsPlainRead words (Some command) = Spells (command_asked command) words
+
+abbrev pub IsAskRead : List (List ℕ) → Option Command → Type 0
+IsAskRead words None = (setup log : List ℕ) (question : Question) → Spells (Ask setup log question) words → ⊥
+IsAskRead words (Some command) = Spells (command_asked command) words

@@ -1,3 +1,5 @@
+pub mod Answering
+pub mod Asking
 pub mod Command
 pub mod Endings
 pub mod Findings

@@ -6,11 +6,14 @@ use Rattle.base_types.specs.declared.placed.Outcome.TheVariants.{Explained, Unex
 use Rattle.case_maker.specs.Case.{log_text, setup_text}
 use Rattle.verdict_text.specs.Outcome.{outcome_text}
 use Rattle.verdict_text.specs.Words.{ended, spaced}
-use Rattle.kubepast.specs.Command.{Asked, Judge, Make, Strict, Verify, IsAsked}
+use Rattle.kubepast.specs.Answering.{IsHistory}
+use Rattle.kubepast.specs.Command.{Ask, Asked, Judge, Make, Strict, Verify, IsAsked}
 use Rattle.kubepast.specs.Endings.{Answer, Ends, line_of}
 use Rattle.kubepast.specs.Judging.{IsJudged}
 use Rattle.context_intake.specs.Refusals.{event_rule_number, limit_word, setup_rule_number}
 use Rattle.kubepast.specs.Summary.{summary_text}
+use Rattle.kubepast.specs.declared.asking.Answered.{Answered}
+use Rattle.kubepast.specs.declared.asking.Answered.TheVariants as answered
 use Rattle.kubepast.specs.declared.judged.Judged.{Judged}
 use Rattle.kubepast.specs.declared.judged.Judged.TheVariants.{Refused, Verdict}
 use Rattle.context_intake.specs.declared.refusal.Refusal.{Refusal}
@@ -80,12 +83,19 @@ verified_answer verified.TooLong = answer 7 (ended (spaced (codes "limit" ∷ co
 verified_answer (verified.Misspelt line) = answer 4 (ended (spaced (codes "placement" ∷ decimal line ∷ [])))
 verified_answer (verified.Judged checked) = answer (checked_status checked) (checked_text checked)
 
+-- the history's text, or why there is none
+abbrev pub history_answer : Answered → Answer
+history_answer (answered.Refused refusal) = refusal_answer refusal
+history_answer (answered.History text) = answer 0 text
+
 abbrev pub IsAnswerTo : Option Asked → (List ℕ → List ℕ) → Answer → Type 0
 IsAnswerTo None files answered = answered ≡ usage_answer
 IsAnswerTo (Some (Judge setup log)) files answered = (judged : Judged) × IsJudged (files setup) (files log) judged × (answered ≡ judged_answer judged)
 IsAnswerTo (Some (Strict setup log)) files answered = (found : StrictlyJudged) × IsStrictlyJudged (files setup) (files log) found × (answered ≡ strictly_answer found)
 IsAnswerTo (Some (Verify setup log placement)) files answered =
     (verified : Verified) × IsVerified (files setup) (files log) (files placement) verified × (answered ≡ verified_answer verified)
+IsAnswerTo (Some (Ask setup log question)) files answered =
+    (found : Answered) × IsHistory (files setup) (files log) question found × (answered ≡ history_answer found)
 IsAnswerTo (Some (Make number events)) files answered =
     (judged : Judged) × IsJudged setup_text (log_text number events) judged × (answered ≡ made_answer number events judged)
 

@@ -9,7 +9,7 @@ use Rattle.edge_io.specs.Faults.{Rose}
 use Rattle.edge_io.specs.Whole.{TakesWhole}
 use Rattle.log_intake.specs.Setup.{TakesSetup}
 use Rattle.log_intake.specs.Taking.{TakesLog}
-use Rattle.kubepast.specs.Command.{Asked, Judge, Make, Spells, Strict, Verify}
+use Rattle.kubepast.specs.Command.{Ask, Asked, Judge, Make, Spells, Strict, Verify}
 use Rattle.kubepast.specs.Endings.{Tells}
 use Rattle.kubepast.specs.Program.{IsAnswerTo, report_answer, status_number}
 use Rattle.kubepast.specs.Verifying.{most_placement}
@@ -19,7 +19,7 @@ use Rattle.kubepast.specs.declared.report.Report.{Report}
 abbrev pub IsSpelled : Asked → Type 0
 IsSpelled asked = (words : List (List ℕ)) × Spells asked words
 
--- the report tells that a log is explained or not, or that a placement holds or not
+-- the report tells that a log is explained or not, that a placement holds or not, or what a history says
 abbrev pub IsVerdict : Report → Type 0
 IsVerdict report = (status_number report.status ≡ 0) ⊎ (status_number report.status ≡ 1)
 
@@ -40,6 +40,7 @@ abbrev pub Takes : Asked → (old now : List ℕ → Option (List ℕ)) → (unt
 Takes (Judge setup log) old now untouched found = TakesNames setup log old now found
 Takes (Strict setup log) old now untouched found = TakesNames setup log old now found
 Takes (Verify setup log placement) old now untouched found = TakesNames setup log old now found × TakesPlacement setup log placement old now found
+Takes (Ask setup log question) old now untouched found = TakesNames setup log old now found
 Takes (Make number events) old now untouched found = untouched
 
 -- the report is that of the command; the faults are those of the desk

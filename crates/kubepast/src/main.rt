@@ -1,6 +1,7 @@
 //! kubepast judges whether a Kubernetes audit log can be true.
 #![tactic(auto)]
 
+mod asking;
 mod ending;
 mod finding;
 mod judged;
@@ -8,6 +9,7 @@ mod judging;
 mod law;
 mod made;
 mod outcome;
+mod questions;
 mod report;
 mod reporting;
 mod run;

@@ -1,7 +1,8 @@
 ghost use Rattle.std.specs.Prelude.{◌≡◌, ◌++◌, IfOk, string_bytes};
-ghost use Rattle.kubepast.specs.Program.{answer, checked_status, judged_answer, made_answer, outcome_status, refusal_answer, report_answer, settled_answer, status_number, strictly_answer, verified_answer};
+ghost use Rattle.kubepast.specs.Program.{answer, checked_status, history_answer, judged_answer, made_answer, outcome_status, refusal_answer, report_answer, settled_answer, status_number, strictly_answer, verified_answer};
 ghost use Rattle.context_intake.specs.Refusals.{event_rule_number, limit_word, setup_rule_number};
 
+use crate::asking::Answered;
 use crate::judged::Judged;
 use crate::strictly::StrictlyJudged;
 use crate::summary::summary;
@@ -18,7 +19,7 @@ use verdict_text::print_outcome;
 /// How a setup and a log were answered.
 #[derive(Clone, Copy, PartialEq, Eq)]
 pub enum Status {
-    /// Some placement explains the log; a given one holds.
+    /// Some placement explains the log; a given one holds; a question is answered.
     Explained,
     /// No placement does; a given one is wrong.
     Unexplained,
@@ -139,6 +140,19 @@ pub fn verified_report(alloc: Global, verified: Verified) -> Result<Report, OutO
         Verified::Judged(checked) => Ok(Report {
             status: checked_status(checked),
             text: print_checked(alloc, &checked)?,
+        }),
+    }
+}
+
+/// The report of what a question comes to.
+pub fn history_report(alloc: Global, found: Answered) -> Result<Report, OutOfMemory>
+    ensures { IfOk result (λ report. report_answer report ≡ history_answer found) }
+{
+    match found {
+        Answered::Refused(refusal) => refusal_report(alloc, refusal),
+        Answered::History(text) => Ok(Report {
+            status: Status::Explained,
+            text,
         }),
     }
 }

@@ -1,16 +1,20 @@
 ghost use Rattle.std.specs.Prelude.{◌≡◌, ◌≢◌, ◌≤◌, ℕ, List, Some, IfOk, IsErrOf};
-ghost use Rattle.kubepast.specs.Command.{Judge, Make, Strict, Verify, command_asked, most_made};
+ghost use Rattle.kubepast.specs.Command.{Ask, Judge, Make, Strict, Verify, command_asked, most_made};
 ghost use Rattle.kubepast.specs.Program.{IsAnswerTo, report_answer};
 ghost use Rattle.kubepast.specs.Reported.{IsReported, IsSpelled};
 
+use crate::asking::ask;
 use crate::judging::{Gates, judge};
 use crate::made::judge_made;
-use crate::report::{Report, judged_report, made_report, strictly_report, verified_report};
+use crate::report::{
+    Report, history_report, judged_report, made_report, strictly_report, verified_report,
+};
 use crate::strictly::judge_strictly;
 use crate::verifying::verify;
 use crate::words::Command;
 use context_intake::Stop;
 use edge_io::Desk;
+use history_query::Question;
 use judge_pool::Gate;
 use std::alloc::Global;
 use std::marker::Sync;
@@ -35,6 +39,11 @@ pub fn report_of<R: Threads + Sync, D: Desk, G: Gate, H: Gate>(
             log,
             placement,
         } => verified(rt, alloc, desk, setup, log, placement, gates.lines),
+        Command::Ask {
+            setup,
+            log,
+            question,
+        } => asked(rt, alloc, desk, setup, log, &question, gates.lines),
         Command::Make { number, events } => made(rt, alloc, number, events, gates),
     }
 }
@@ -88,6 +97,23 @@ fn verified<R: Threads + Sync, D: Desk, H: Gate>(
 {
     let verified = verify(rt, alloc, desk, setup, log, placement, lines)?;
     Ok(verified_report(alloc, verified)?)
+}
+
+// Answers a question of the history that a setup and a log tell, each by its name.
+fn asked<R: Threads + Sync, D: Desk, H: Gate>(
+    rt: &R,
+    alloc: Global,
+    desk: &mut D,
+    setup: &str,
+    log: &str,
+    question: &Question,
+    lines: &H,
+) -> Result<Report, Stop>
+    requires { setup.now ≢ log.now }
+    ensures { IsReported (Ask setup.now log.now question.now) (D.left desk.old) (D.left desk.new) (desk.new ≡ desk.old) (D.faults desk.old) (D.faults desk.new) result }
+{
+    let found = ask(rt, alloc, desk, setup, log, question, lines)?;
+    Ok(history_report(alloc, found)?)
 }
 
 // Judges a made case.

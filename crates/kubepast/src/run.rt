@@ -64,11 +64,11 @@ pub fn run<R: Threads + Sync, D: Desk, K: Sink, G: Gate, H: Gate>(
         events: gate,
         lines,
     };
-    let Some(command) = read_words(words) else {
-        return end_with(out, 2, b"usage\n");
-    };
-    let found = report_of(rt, alloc, command, desk, gates);
-    conclude(out, found)
+    match read_words(alloc, words) {
+        Ok(Some(command)) => conclude(out, report_of(rt, alloc, command, desk, gates)),
+        Ok(None) => end_with(out, 2, b"usage\n"),
+        Err(_) => 8,
+    }
 }
 
 // Writes what was found, or why nothing was, and gives the exit status.

@@ -1,13 +1,17 @@
-ghost use Rattle.std.specs.Prelude.{◌≡◌, ◌≢◌, ◌≤◌, ℕ, ◌∷◌, [], IfSome, IfNone, IsTrue, ◌↔◌, map, string_bytes, codes, decimal};
-ghost use Rattle.kubepast.specs.Command.{AreNames, IsRead, IsThirdName, most_made};
+ghost use Rattle.std.specs.Prelude.{◌≡◌, ◌≢◌, ◌≤◌, ℕ, ◌∷◌, [], IfOk, IfSome, IfNone, IsTrue, ◌↔◌, map, string_bytes, codes, decimal};
+ghost use Rattle.kubepast.specs.Command.{AreNames, IsPlainRead, IsRead, IsThirdName, most_made};
 
+use crate::questions::read_asked;
+use base_types::OutOfMemory;
+use history_query::Question;
+use std::alloc::Global;
 use verdict_text::read_number;
 
 /// A made case has at most so many events.
 const MOST_MADE: u64 = 100_000;
 
 /// What the words of the command line ask for.
-#[derive(Clone, Copy)]
+#[derive(Drop)]
 pub enum Command<'a> {
     /// `judge SETUP LOG`
     Judge {
@@ -25,6 +29,12 @@ pub enum Command<'a> {
         log: &'a str,
         placement: &'a str,
     },
+    /// `show`, `versions`, `state`, `blame` or `can`, SETUP LOG, and what is asked
+    Ask {
+        setup: &'a str,
+        log: &'a str,
+        question: Question,
+    },
     /// `make NUMBER EVENTS`
     Make {
         number: u64,
@@ -32,9 +42,19 @@ pub enum Command<'a> {
     },
 }
 
-/// Reads the words behind the program's name: none where they are no command. It takes no memory.
-pub fn read_words(words: &[String]) -> Option<Command<'_>>
-    ensures { IsRead (map string_bytes words.now) result }
+/// Reads the words behind the program's name: none where they are no command.
+pub fn read_words(alloc: Global, words: &[String]) -> Result<Option<Command<'_>>, OutOfMemory>
+    ensures { IfOk result (IsRead (map string_bytes words.now)) }
+{
+    match read_plain(words) {
+        Some(command) => Ok(Some(command)),
+        None => read_asked(alloc, words),
+    }
+}
+
+// Reads the words of a command that asks no question of a history.
+fn read_plain(words: &[String]) -> Option<Command<'_>>
+    ensures { IsPlainRead (map string_bytes words.now) result }
 {
     match words {
         [verb, first, second] => read_three(verb, first, second),
@@ -44,7 +64,7 @@ pub fn read_words(words: &[String]) -> Option<Command<'_>>
 }
 
 fn read_three<'a>(verb: &str, first: &'a str, second: &'a str) -> Option<Command<'a>>
-    ensures { IsRead (verb.now ∷ first.entry.now ∷ second.entry.now ∷ []) result }
+    ensures { IsPlainRead (verb.now ∷ first.entry.now ∷ second.entry.now ∷ []) result }
 {
     if verb == "judge" {
         return judge_words(first, second);
@@ -56,7 +76,7 @@ fn read_three<'a>(verb: &str, first: &'a str, second: &'a str) -> Option<Command
 }
 
 fn read_four<'a>(verb: &str, first: &'a str, second: &'a str, third: &'a str) -> Option<Command<'a>>
-    ensures { IsRead (verb.now ∷ first.entry.now ∷ second.entry.now ∷ third.entry.now ∷ []) result }
+    ensures { IsPlainRead (verb.now ∷ first.entry.now ∷ second.entry.now ∷ third.entry.now ∷ []) result }
 {
     if verb == "verify" {
         return verify_words(first, second, third);
@@ -74,7 +94,7 @@ fn is_strict(verb: &str, mode: &str) -> bool
 }
 
 fn judge_words<'a>(setup: &'a str, log: &'a str) -> Option<Command<'a>>
-    ensures { IsRead (codes "judge" ∷ setup.entry.now ∷ log.entry.now ∷ []) result }
+    ensures { IsPlainRead (codes "judge" ∷ setup.entry.now ∷ log.entry.now ∷ []) result }
 {
     if are_names(setup, log) {
         return Some(Command::Judge { setup, log });
@@ -83,7 +103,7 @@ fn judge_words<'a>(setup: &'a str, log: &'a str) -> Option<Command<'a>>
 }
 
 fn strict_words<'a>(setup: &'a str, log: &'a str) -> Option<Command<'a>>
-    ensures { IsRead (codes "judge" ∷ codes "--strict" ∷ setup.entry.now ∷ log.entry.now ∷ []) result }
+    ensures { IsPlainRead (codes "judge" ∷ codes "--strict" ∷ setup.entry.now ∷ log.entry.now ∷ []) result }
 {
     if are_names(setup, log) {
         return Some(Command::Strict { setup, log });
@@ -92,7 +112,7 @@ fn strict_words<'a>(setup: &'a str, log: &'a str) -> Option<Command<'a>>
 }
 
 fn verify_words<'a>(setup: &'a str, log: &'a str, placement: &'a str) -> Option<Command<'a>>
-    ensures { IsRead (codes "verify" ∷ setup.entry.now ∷ log.entry.now ∷ placement.entry.now ∷ []) result }
+    ensures { IsPlainRead (codes "verify" ∷ setup.entry.now ∷ log.entry.now ∷ placement.entry.now ∷ []) result }
 {
     if are_names(setup, log) && is_third_name(setup, log, placement) {
         return Some(Command::Verify {
@@ -104,7 +124,7 @@ fn verify_words<'a>(setup: &'a str, log: &'a str, placement: &'a str) -> Option<
     None
 }
 
-fn are_names(setup: &str, log: &str) -> bool
+pub(crate) fn are_names(setup: &str, log: &str) -> bool
     ensures { IsTrue result ↔ AreNames setup.now log.now }
 {
     setup != log && setup != "-"
@@ -117,7 +137,7 @@ fn is_third_name(setup: &str, log: &str, placement: &str) -> bool
 }
 
 fn make_words<'a>(number: &str, events: &str) -> Option<Command<'a>>
-    ensures { IsRead (codes "make" ∷ number.now ∷ events.now ∷ []) result }
+    ensures { IsPlainRead (codes "make" ∷ number.now ∷ events.now ∷ []) result }
 {
     match (read_number(number), read_made(events)) {
         (Some(number), Some(events)) => Some(Command::Make { number, events }),

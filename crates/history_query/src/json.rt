@@ -1,0 +1,37 @@
+ghost use Rattle.std.specs.Prelude.{◌≡◌, ◌≤◌, ◌<◌, ◌++◌, length, slice_get, Some, IfOk, OnOk, string_bytes};
+ghost use Rattle.json_tree.specs.Meaning.{Meaning};
+ghost use Rattle.json_tree.specs.Values.{InRange, data_of};
+ghost use Rattle.serde_json.specs.Data.{depth};
+ghost use Rattle.serde_json.specs.Read.{max_depth, read};
+ghost use Rattle.history_query.specs.Telling.{json_at, json_text};
+
+use base_types::OutOfMemory;
+use json_tree::{Tree, to_value};
+use node_pool::{NodeId, Pool};
+use std::alloc::Global;
+
+// The compact JSON text of a tree. Read again it is that tree, where it isn't deeper than JSON that is read.
+fn print(alloc: Global, tree: &Tree) -> Result<String, OutOfMemory>
+    requires { InRange tree.now }
+    ensures text { IfOk result (λ text. string_bytes text ≡ json_text tree.now) }
+    ensures reads_back { IfOk result (λ text. depth (data_of tree.now) ≤ max_depth → read (string_bytes text) ≡ Some (data_of tree.now)) }
+{
+    Ok(to_value(alloc, tree)?.to_string(alloc)?)
+}
+
+/// Appends the compact JSON text of the tree of a number.
+pub fn append_json(
+    alloc: Global,
+    text: &mut String,
+    pool: &Pool,
+    node: NodeId,
+) -> Result<(), OutOfMemory>
+    requires within { node.0 < length pool.now.trees }
+    requires numbers { (tree : Meaning) → slice_get pool.now.trees node.0 ≡ Some tree → InRange tree }
+    ensures { OnOk result (string_bytes text.new ≡ string_bytes text.old ++ json_at pool.now.trees node.0) }
+{
+    let tree = pool.tree(node)?;
+    let printed = print(alloc, &tree)?;
+    text.push_str(&printed)?;
+    Ok(())
+}

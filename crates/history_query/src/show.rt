@@ -1,0 +1,68 @@
+ghost use Rattle.std.specs.Prelude.{◌≡◌, ◌++◌, IfOk, OnOk, string_bytes};
+ghost use Rattle.history_query.specs.Showing.{IsShowText, absent_text, sight_text};
+ghost use Rattle.history_query.specs.Sights.{IsSight};
+
+use crate::json::append_json;
+use crate::sight::{Sight, sight_of};
+use crate::telling::is_untold;
+use base_types::{Bytes, ObjectKey, OutOfMemory};
+use object_past::Version;
+use std::alloc::Global;
+use version_store::Context;
+
+/// The object of a key as it may be at a place, with its revision, and whether it may be absent there.
+pub fn show(
+    alloc: Global,
+    context: &Context,
+    key: &ObjectKey,
+    place: u64,
+) -> Result<Bytes, OutOfMemory>
+    ensures { IfOk result (IsShowText context.now key.now place) }
+{
+    let mut text = String::new(alloc);
+    if is_untold(context, key, place) {
+        text.push_str("unknown\n")?;
+    } else {
+        append_sight(alloc, &mut text, context, sight_of(context, key, place))?;
+    }
+    Ok(Bytes::from_vec(text.into_bytes()))
+}
+
+fn append_sight(
+    alloc: Global,
+    text: &mut String,
+    context: &Context,
+    sight: Sight<'_>,
+) -> Result<(), OutOfMemory> {
+    match sight {
+        Sight::Clouded => text.push_str("clouded\n")?,
+        Sight::Told { present, absent } => {
+            append_present(alloc, text, context, present)?;
+            append_absent(text, absent)?;
+        }
+    }
+    Ok(())
+}
+
+fn append_present(
+    alloc: Global,
+    text: &mut String,
+    context: &Context,
+    present: Option<&Version>,
+) -> Result<(), OutOfMemory> {
+    if let Some(version) = present {
+        write!(text, "present {} ", version.revision.get())?;
+        append_json(alloc, text, context.pool(), version.node)?;
+        text.push_str("\n")?;
+    }
+    Ok(())
+}
+
+fn append_absent(text: &mut String, absent: bool) -> Result<(), OutOfMemory>
+    ensures { OnOk result (string_bytes text.new ≡ string_bytes text.old ++ absent_text absent) }
+{
+    if absent {
+        text.push_str("absent\n")?;
+    }
+    Ok(())
+}

@@ -1,0 +1,89 @@
+ghost use Rattle.std.specs.Prelude.{◌≡◌, ◌++◌, IfOk, OnOk, string_bytes, option_map};
+ghost use Rattle.history_query.specs.Versions.{IsVersionsText, lines_of, removal_behind, removal_text, version_text, versions_text};
+
+use crate::telling::{append_who, is_tracked, line_at};
+use base_types::{Bytes, ObjectKey, OutOfMemory, escape};
+use object_past::{Past, Removal, Version};
+use std::alloc::Global;
+use version_store::Context;
+
+/// All versions of a key by revision, each with its uid and who wrote it, and behind the last one of each object that was
+/// removed the range of its removal.
+pub fn versions(alloc: Global, context: &Context, key: &ObjectKey) -> Result<Bytes, OutOfMemory>
+    ensures { IfOk result (IsVersionsText context.now key.now) }
+{
+    let mut text = String::new(alloc);
+    if is_tracked(context.setup(), key) {
+        append_versions(alloc, &mut text, context, key)?;
+    } else {
+        text.push_str("unknown\n")?;
+    }
+    Ok(Bytes::from_vec(text.into_bytes()))
+}
+
+fn append_versions(
+    alloc: Global,
+    text: &mut String,
+    context: &Context,
+    key: &ObjectKey,
+) -> Result<(), OutOfMemory>
+    ensures { OnOk result (string_bytes text.new ≡ string_bytes text.old ++ versions_text context.now key.now) }
+{
+    for version in context.versions() {
+        if version.key == *key {
+            append_lines(alloc, text, context, version)?;
+        }
+    }
+    Ok(())
+}
+
+// A version, and behind it the removal of the object whose last version it is.
+fn append_lines(
+    alloc: Global,
+    text: &mut String,
+    context: &Context,
+    version: &Version,
+) -> Result<(), OutOfMemory>
+    ensures { OnOk result (string_bytes text.new ≡ string_bytes text.old ++ lines_of context.now version.now) }
+{
+    append_version(alloc, text, context, version)?;
+    if let Some(removal) = removal_behind(context.past(), version) {
+        append_removal(text, context, removal)?;
+    }
+    Ok(())
+}
+
+fn append_version(
+    alloc: Global,
+    text: &mut String,
+    context: &Context,
+    version: &Version,
+) -> Result<(), OutOfMemory>
+    ensures { OnOk result (string_bytes text.new ≡ string_bytes text.old ++ version_text context.now.log version.now) }
+{
+    let uid = escape(alloc, &version.uid)?;
+    let revision = version.revision.get();
+    write!(text, "{revision} {} ", uid.as_str())?;
+    append_who(text, context, version.maker)?;
+    text.push_str("\n")?;
+    Ok(())
+}
+
+fn append_removal(
+    text: &mut String,
+    context: &Context,
+    removal: &Removal,
+) -> Result<(), OutOfMemory> {
+    let range = removal.range;
+    let line = line_at(context, range.event);
+    writeln!(text, "removed {} {} {line}", range.low, range.high)?;
+    Ok(())
+}
+
+// The removal of the object whose last version this is.
+fn removal_behind<'a>(past: &'a Past, version: &Version) -> Option<&'a Removal>
+    ensures { option_map (λ removal. removal.now) result ≡ removal_behind past.now.removals version.now }
+{
+    let position = past.removal_of(version.revision.get())?;
+    past.removals().get(position as usize)
+}
