@@ -2,6 +2,7 @@ pub mod Blaming
 pub mod Deciding
 pub mod Questions
 pub mod Showing
+pub mod Shown
 pub mod Sights
 pub mod States
 pub mod Telling
