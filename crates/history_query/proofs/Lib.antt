@@ -1,1 +1,3 @@
 pub mod Floating
+pub mod SightFacts
+pub mod TellingFacts
