@@ -50,6 +50,11 @@ pub none_behind : (removals : List Removal) (v : Version) → All (λ removal. r
 none_behind removals v none = find_none (λ (other : Removal). other.last == v.revision) removals
     (λ other among passes. all_at (λ (x : Removal). x.last ≢ v.revision) removals other none among (eq_test other.last v.revision passes))
 
+-- what holds of the removal that is lent
+pub lent : (P : Removal → Type 0) (found : Option (Bor Removal)) (removal : Removal) → option_map (λ (r : Bor Removal). r.now) found ≡ Some removal → P removal → IfSome found (λ r. P r.now)
+lent P None removal is holds = absurd (cc is)
+lent P (Some r) removal is holds = subst P (sym (same_Some r.now removal is)) holds
+
 module _ (known : Known) (key : ObjectKey) (place : ℕ) where
   -- an end of the version is that of the removal behind it
   ended : (v : Version) (removal : Removal) (end : past.Removal) → All (λ other. other.last ≡ v.revision → other ≡ removal) known.removals

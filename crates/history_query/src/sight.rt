@@ -1,4 +1,4 @@
-ghost use Rattle.std.specs.Prelude.{◌≡◌, ◌<◌, ◌≤◌, ◌↔◌, All, IfNone, IfSome, IsSomeAnd, IsTrue, option_map};
+ghost use Rattle.std.specs.Prelude.{◌≡◌, ◌<◌, ◌≤◌, ◌↔◌, All, IfNone, IfSome, IsSomeAnd, IsTrue, option_map, slice_get};
 ghost use Rattle.history_query.specs.Sights.{IsSight};
 ghost use Rattle.history_query.specs.Versions.{removal_behind};
 
@@ -41,13 +41,19 @@ pub fn sight_of<'a>(context: &'a Context, key: &ObjectKey, place: u64) -> Sight<
     }
 }
 
+fn removal_at(removals: &[Removal], position: u32) -> Option<&Removal>
+    ensures { option_map (λ removal. removal.now) result ≡ slice_get removals.now position }
+{
+    removals.get(position as usize)
+}
+
 /// The removal of the object whose last version this is.
 pub fn removal_behind<'a>(past: &'a Past, version: &Version) -> Option<&'a Removal>
     ensures behind { option_map (λ removal. removal.now) result ≡ removal_behind past.now.removals version.now }
     ensures alone { IfSome result (λ removal. All (λ other. other.last ≡ version.now.revision → other ≡ removal.now) past.now.removals) }
 {
     let position = past.removal_of(version.revision.get())?;
-    past.removals().get(position as usize)
+    removal_at(past.removals(), position)
 }
 
 // The key's latest version, unless it is gone by the place wherever its removal took place.

@@ -6,7 +6,7 @@ use Rattle.history_query.proofs.TellingFacts.{any_tells}
 use Rattle.history_query.proofs.telling.is_tracked.Goals as goal
 
 -- the resource is the key's
-IsOf : ObjectKey → Tracked → Type 0
+abbrev IsOf : ObjectKey → Tracked → Type 0
 IsOf key tracked = (tracked.group ≡ key.group) × (tracked.resource ≡ key.resource)
 
 pub returns : goal.returns
