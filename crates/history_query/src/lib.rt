@@ -12,9 +12,4 @@ mod state;
 mod telling;
 mod versions;
 
-pub use blame::blame;
-pub use can::can;
 pub use question::{Question, answer};
-pub use show::show;
-pub use state::state;
-pub use versions::versions;

@@ -1,4 +1,4 @@
-use Rattle.std.proofs.Common.{◌≡◌, ◌≢◌, Bor, All, AllPairs, Some, option_map, slice_get, ap, sym, subst, ◌∙◌}
+use Rattle.std.proofs.Common.{◌≡◌, ◌≢◌, Bor, All, AllPairs, option_map, slice_get, ap, sym, subst, ◌∙◌}
 use Rattle.object_past.specs.declared.removal.Removal.{Removal}
 use Rattle.history_query.proofs.SightFacts.{alone_at, behind_at, lent, none_behind}
 use Rattle.history_query.proofs.sight.removal_behind.Goals as goal

@@ -24,7 +24,7 @@ returns-in-Some c =
 
 pub returns-in-None : goal.returns-in-None
 returns-in-None c = (
-      λ clouded. true≢false (sym (c.clouded.ensures.1 ((c.clouds.ensures.clouded c.args.key.now c.args.place).1 clouded)) ∙ c.if-clouded.false),
-      none_there c.args.context.now c.args.key.now c.args.place (sym c.in-None.ensures.latest),
-      none_absent c.args.context.now c.args.key.now c.args.place (sym c.in-None.ensures.latest),
-    )
+  λ clouded. true≢false (sym (c.clouded.ensures.1 ((c.clouds.ensures.clouded c.args.key.now c.args.place).1 clouded)) ∙ c.if-clouded.false),
+  none_there c.args.context.now c.args.key.now c.args.place (sym c.in-None.ensures.latest),
+  none_absent c.args.context.now c.args.key.now c.args.place (sym c.in-None.ensures.latest),
+)
