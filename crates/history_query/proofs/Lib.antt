@@ -1,1 +1,4 @@
 pub mod OneTextFacts
+pub mod Floating
+pub mod SightFacts
+pub mod TellingFacts

@@ -3,6 +3,7 @@ pub mod Deciding
 pub mod OneText
 pub mod Questions
 pub mod Showing
+pub mod Shown
 pub mod Sights
 pub mod States
 pub mod Telling

@@ -11,6 +11,7 @@ use node_pool::{NodeId, Pool};
 use std::alloc::Global;
 
 // The compact JSON text of a tree. Read again it is that tree, where it isn't deeper than JSON that is read.
+#[tactic(auto, using(crate::proofs::Floating::has_no_float))]
 fn print(alloc: Global, tree: &Tree) -> Result<String, OutOfMemory>
     requires { InRange tree.now }
     ensures text { IfOk result (λ text. string_bytes text ≡ json_text tree.now) }

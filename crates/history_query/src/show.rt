@@ -1,6 +1,6 @@
-ghost use Rattle.std.specs.Prelude.{◌≡◌, ◌++◌, IfOk, OnOk, string_bytes};
-ghost use Rattle.history_query.specs.Showing.{IsShowText, absent_text, sight_text};
-ghost use Rattle.history_query.specs.Sights.{IsSight};
+ghost use Rattle.std.specs.Prelude.{◌≡◌, ◌++◌, Contains, IfOk, IfSome, OnOk, Some, option_map, string_bytes};
+ghost use Rattle.history_query.specs.Showing.{IsShowText, absent_text, present_text, sight_text};
+ghost use Rattle.history_query.specs.Shown.{ShowsKnown};
 
 use crate::json::append_json;
 use crate::sight::{Sight, sight_of};
@@ -33,7 +33,10 @@ fn append_sight(
     text: &mut String,
     context: &Context,
     sight: Sight<'_>,
-) -> Result<(), OutOfMemory> {
+) -> Result<(), OutOfMemory>
+    requires { ShowsKnown context.now.versions sight }
+    ensures { OnOk result (string_bytes text.new ≡ string_bytes text.old ++ sight_text context.now.trees sight.entry) }
+{
     match sight {
         Sight::Clouded => text.push_str("clouded\n")?,
         Sight::Told { present, absent } => {
@@ -49,12 +52,30 @@ fn append_present(
     text: &mut String,
     context: &Context,
     present: Option<&Version>,
-) -> Result<(), OutOfMemory> {
+) -> Result<(), OutOfMemory>
+    requires { IfSome present (λ version. Contains context.now.versions version.now) }
+    ensures { OnOk result (string_bytes text.new ≡ string_bytes text.old ++ present_text context.now.trees (option_map (λ version. version.now) present.entry)) }
+{
     if let Some(version) = present {
-        write!(text, "present {} ", version.revision.get())?;
-        append_json(alloc, text, context.pool(), version.node)?;
-        text.push_str("\n")?;
+        append_version(alloc, text, context, version)?;
     }
+    Ok(())
+}
+
+fn append_version(
+    alloc: Global,
+    text: &mut String,
+    context: &Context,
+    version: &Version,
+) -> Result<(), OutOfMemory>
+    requires { Contains context.now.versions version.now }
+    ensures { OnOk result (string_bytes text.new ≡ string_bytes text.old ++ present_text context.now.trees (Some version.now)) }
+{
+    // For the proof alone: the pool has the tree of each version.
+    let _versions = context.versions();
+    write!(text, "present {} ", version.revision.get())?;
+    append_json(alloc, text, context.pool(), version.node)?;
+    text.push_str("\n")?;
     Ok(())
 }
 

@@ -1,8 +1,9 @@
-ghost use Rattle.std.specs.Prelude.{◌≡◌, option_and_then, slice_get, IfSome, IfNone, Contains, All, ◌≢◌};
+ghost use Rattle.std.specs.Prelude.{◌≡◌, ◌<◌, ◌≤◌, ◌↔◌, All, IfNone, IfSome, IsSomeAnd, IsTrue, option_map, slice_get};
 ghost use Rattle.history_query.specs.Sights.{IsSight};
+ghost use Rattle.history_query.specs.Versions.{removal_behind};
 
-use base_types::{ObjectKey, Range};
-use object_past::{Past, Version};
+use base_types::ObjectKey;
+use object_past::{Past, Removal, Version};
 use version_store::Context;
 
 /// What can be told of an object at a place.
@@ -26,7 +27,13 @@ pub fn sight_of<'a>(context: &'a Context, key: &ObjectKey, place: u64) -> Sight<
         return Sight::Clouded;
     }
     match context.latest(key, place) {
-        Some(version) => latest_sight(context.past(), version, place),
+        Some(version) => {
+            let removal = removal_behind(context.past(), version);
+            Sight::Told {
+                present: present_at(version, removal, place),
+                absent: may_be_gone(removal, place),
+            }
+        }
         None => Sight::Told {
             present: None,
             absent: true,
@@ -34,26 +41,48 @@ pub fn sight_of<'a>(context: &'a Context, key: &ObjectKey, place: u64) -> Sight<
     }
 }
 
-// The same of the key's latest version, which may have been removed.
-fn latest_sight<'a>(past: &Past, version: &'a Version, place: u64) -> Sight<'a> {
-    match range_behind(past, version) {
-        Some(range) => Sight::Told {
-            present: if place < range.high {
+fn removal_at(removals: &[Removal], position: u32) -> Option<&Removal>
+    ensures { option_map (λ removal. removal.now) result ≡ slice_get removals.now position }
+{
+    removals.get(position as usize)
+}
+
+/// The removal of the object whose last version this is.
+pub fn removal_behind<'a>(past: &'a Past, version: &Version) -> Option<&'a Removal>
+    ensures behind { option_map (λ removal. removal.now) result ≡ removal_behind past.now.removals version.now }
+    ensures alone { IfSome result (λ removal. All (λ other. other.last ≡ version.now.revision → other ≡ removal.now) past.now.removals) }
+{
+    let position = past.removal_of(version.revision.get())?;
+    removal_at(past.removals(), position)
+}
+
+// The key's latest version, unless it is gone by the place wherever its removal took place.
+fn present_at<'a>(
+    version: &'a Version,
+    removal: Option<&Removal>,
+    place: u64,
+) -> Option<&'a Version>
+    ensures some { IfSome result (λ present. (present.now ≡ version.now) × IfSome removal.entry (λ removal. place < removal.now.range.high)) }
+    ensures none { IfNone result (IsSomeAnd removal.entry (λ removal. removal.now.range.high ≤ place)) }
+{
+    match removal {
+        Some(removal) => {
+            if place < removal.range.high {
                 Some(version)
             } else {
                 None
-            },
-            absent: range.low <= place,
-        },
-        None => Sight::Told {
-            present: Some(version),
-            absent: false,
-        },
+            }
+        }
+        None => Some(version),
     }
 }
 
-// The places that the removal of the object may have whose last version this is.
-fn range_behind(past: &Past, version: &Version) -> Option<Range> {
-    let position = past.removal_of(version.revision.get())?;
-    Some(past.removals()[position as usize].range)
+// Whether the removal may have taken place by then.
+fn may_be_gone(removal: Option<&Removal>, place: u64) -> bool
+    ensures { IsTrue result ↔ IsSomeAnd removal.entry (λ removal. removal.now.range.low ≤ place) }
+{
+    match removal {
+        Some(removal) => removal.range.low <= place,
+        None => false,
+    }
 }

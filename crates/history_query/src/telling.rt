@@ -1,5 +1,5 @@
-ghost use Rattle.std.specs.Prelude.{◌≡◌, ◌<◌, ◌↔◌, ◌++◌, IsTrue, OnOk, string_bytes};
-ghost use Rattle.history_query.specs.Telling.{IsBelowStart, IsTracked, IsUntold, line_at, user_text, who_text};
+ghost use Rattle.std.specs.Prelude.{◌≡◌, ◌<◌, ◌↔◌, ◌++◌, IsTrue, OnOk, slice_get, string_bytes};
+ghost use Rattle.history_query.specs.Telling.{IsBelowStart, IsTracked, IsUntold, line_at, user_or_none, user_text, who_text};
 
 use base_types::{ObjectKey, OutOfMemory, escape};
 use object_past::Maker;
@@ -79,7 +79,9 @@ fn append_author(
     text: &mut String,
     context: &Context,
     number: u32,
-) -> Result<(), OutOfMemory> {
+) -> Result<(), OutOfMemory>
+    ensures { OnOk result (string_bytes text.new ≡ string_bytes text.old ++ user_or_none (slice_get context.now.events number)) }
+{
     match context.events().get(number as usize) {
         Some(event) => text.push_str(escape(alloc, &event.user.name)?.as_str())?,
         None => text.push_str("-")?,

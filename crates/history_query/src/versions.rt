@@ -1,9 +1,10 @@
-ghost use Rattle.std.specs.Prelude.{◌≡◌, ◌++◌, IfOk, OnOk, string_bytes, option_map};
-ghost use Rattle.history_query.specs.Versions.{IsVersionsText, lines_of, removal_behind, removal_text, version_text, versions_text};
+ghost use Rattle.std.specs.Prelude.{◌≡◌, ◌++◌, IfOk, OnOk, Some, string_bytes};
+ghost use Rattle.history_query.specs.Versions.{IsVersionsText, lines_of, removal_text, version_text, versions_text};
 
+use crate::sight::removal_behind;
 use crate::telling::{append_who, is_tracked, line_at};
 use base_types::{Bytes, ObjectKey, OutOfMemory, escape};
-use object_past::{Past, Removal, Version};
+use object_past::{Removal, Version};
 use std::alloc::Global;
 use version_store::Context;
 
@@ -73,17 +74,11 @@ fn append_removal(
     text: &mut String,
     context: &Context,
     removal: &Removal,
-) -> Result<(), OutOfMemory> {
+) -> Result<(), OutOfMemory>
+    ensures { OnOk result (string_bytes text.new ≡ string_bytes text.old ++ removal_text context.now.log (Some removal.now)) }
+{
     let range = removal.range;
     let line = line_at(context, range.event);
     writeln!(text, "removed {} {} {line}", range.low, range.high)?;
     Ok(())
-}
-
-// The removal of the object whose last version this is.
-fn removal_behind<'a>(past: &'a Past, version: &Version) -> Option<&'a Removal>
-    ensures { option_map (λ removal. removal.now) result ≡ removal_behind past.now.removals version.now }
-{
-    let position = past.removal_of(version.revision.get())?;
-    past.removals().get(position as usize)
 }
