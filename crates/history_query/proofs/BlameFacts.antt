@@ -1,0 +1,52 @@
+-- The version since which a value stays.
+use Rattle.std.proofs.Common.{◌≡◌, ℕ, ◌+◌, ◌<◌, ◌≤◌, Option, Some, None, List, [], ◌∷◌, ◌++◌, length, AllPairs, Contains, slice_get, unwrap_or, option_map, All, codes, refl, sym, ap, ◌∙◌, subst, arith}
+use Rattle.std.specs.Option.{option_or}
+use Rattle.std.proofs.lemmas.Option.{slice_get_within}
+use Rattle.history_model.proofs.Members.{apart, at_in, in_at}
+use Rattle.json_tree.specs.Meaning.{Meaning}
+use Rattle.object_past.specs.declared.version.Version.{Version}
+use Rattle.version_store.specs.Known.{Known}
+use Rattle.history_query.proofs.Alike.{AreAlikeFrom, IsAlikeSince, IsAmong, IsFirstAlike, alike_begun, alike_more, alike_none, alike_past, alike_whole}
+use Rattle.history_query.specs.Blaming.{IsSameAt, IsSince, StaysFrom, value_at, value_text}
+use Rattle.history_query.specs.Telling.{json_at}
+
+-- another version of the version's key, at or below its revision
+abbrev pub IsBefore : Version → Version → Type 0
+IsBefore v other = (other.key ≡ v.key) × (other.revision ≤ v.revision)
+
+-- what the first `n` versions tell
+abbrev pub IsSinceAmong : List Meaning → List (List ℕ) → Version → List Version → ℕ → Option Version → Type 0
+IsSinceAmong trees pointer v versions n since = IsAlikeSince (λ (w : Version). w.revision) (IsBefore v) (IsSameAt trees pointer v) versions n since
+
+-- what a reference to a version points to; one more version is put behind
+pub pointed_or : {R : Type 0} (at : R → Version) (since : Option R) (other : R) → option_map at (option_or since (Some other)) ≡ option_or (option_map at since) (Some (at other))
+pointed_or at None other = refl
+pointed_or at (Some x) other = refl
+
+pub pointed_unwrapped : {R : Type 0} (at : R → Version) (since : Option R) (other : R) → at (unwrap_or since other) ≡ unwrap_or (option_map at since) (at other)
+pointed_unwrapped at None other = refl
+pointed_unwrapped at (Some x) other = refl
+
+-- all versions tell since when the value stays
+pub since_whole : (known : Known) (pointer : List (List ℕ)) (v : Version) (since : Option Version) → AllPairs (λ a b. a.revision < b.revision) known.versions → Contains known.versions v
+    → IsSinceAmong known.trees pointer v known.versions (length known.versions) since → IsSince known pointer v (unwrap_or since v)
+since_whole known pointer v since rising known_is so_far = record {
+  known_is = at_in known.versions first.among.position _ first.among.stands;
+  of_key = first.counts.0;
+  upto = first.counts.1;
+  stays = λ other c key from upto. first.alike other (among other c) (key, upto) from;
+  least = λ other c key upto stays. first.least other (among other c) (key, upto) (λ w a counts from. stays w (at_in known.versions a.position w a.stands) counts.0 from counts.1);
+}
+  where
+    among : (w : Version) → Contains known.versions w → IsAmong known.versions (length known.versions) w
+    among w c = let found = in_at known.versions w c in record { position = found.0; below = slice_get_within known.versions found.0 w found.1; stands = found.1 }
+
+    alone : AreAlikeFrom (λ (w : Version). w.revision) (IsBefore v) (IsSameAt known.trees pointer v) known.versions (length known.versions) v.revision
+    alone = λ w a counts from.
+        let least : v.revision ≤ w.revision = from in
+        let most : w.revision ≤ v.revision = counts.1 in
+        let same : v ≡ w = apart (λ (x : Version). x.revision) known.versions v w rising known_is (at_in known.versions a.position w a.stands) (omega arith) in
+        subst (IsSameAt known.trees pointer v) same (record { uid = refl; value = refl })
+
+    first : IsFirstAlike (λ (w : Version). w.revision) (IsBefore v) (IsSameAt known.trees pointer v) known.versions (length known.versions) (unwrap_or since v)
+    first = alike_whole (λ (w : Version). w.revision) (IsBefore v) (IsSameAt known.trees pointer v) known.versions (length known.versions) v since (among v known_is) (refl, omega arith) alone so_far
