@@ -1,6 +1,7 @@
 pub mod Appending
 pub mod Blaming
 pub mod Deciding
+pub mod OneText
 pub mod Questions
 pub mod Showing
 pub mod Sights
