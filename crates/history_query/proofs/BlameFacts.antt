@@ -18,6 +18,33 @@ IsBefore v other = (other.key ≡ v.key) × (other.revision ≤ v.revision)
 abbrev pub IsSinceAmong : List Meaning → List (List ℕ) → Version → List Version → ℕ → Option Version → Type 0
 IsSinceAmong trees pointer v versions n since = IsAlikeSince (λ (w : Version). w.revision) (IsBefore v) (IsSameAt trees pointer v) versions n since
 
+-- another version of the same object with the same value, by its parts
+abbrev pub IsAlike : List Meaning → List (List ℕ) → Version → Version → Type 0
+IsAlike trees pointer v other = (other.uid ≡ v.uid) × (value_at trees pointer other ≡ value_at trees pointer v)
+
+same_at : (trees : List Meaning) (pointer : List (List ℕ)) (v other : Version) → IsAlike trees pointer v other → IsSameAt trees pointer v other
+same_at trees pointer v other is = record { uid = is.0; value = is.1 }
+
+at_same : (trees : List Meaning) (pointer : List (List ℕ)) (v other : Version) → IsSameAt trees pointer v other → IsAlike trees pointer v other
+at_same trees pointer v other is = (is.uid, is.value)
+
+-- one version more
+pub since_past : (trees : List Meaning) (pointer : List (List ℕ)) (v : Version) (versions : List Version) (n : ℕ) (other : Version) (since : Option Version)
+    → slice_get versions n ≡ Some other → (IsBefore v other → ⊥) → IsSinceAmong trees pointer v versions n since → IsSinceAmong trees pointer v versions (n + 1) since
+since_past trees pointer v versions n other since stands not h = alike_past (λ (w : Version). w.revision) (IsBefore v) (IsSameAt trees pointer v) versions n other since stands not h
+
+pub since_none : (trees : List Meaning) (pointer : List (List ℕ)) (v : Version) (versions : List Version) (n : ℕ) (other : Version)
+    → AllPairs (λ a b. a.revision < b.revision) versions → slice_get versions n ≡ Some other → IsBefore v other → (IsAlike trees pointer v other → ⊥)
+    → IsSinceAmong trees pointer v versions (n + 1) None
+since_none trees pointer v versions n other rising stands before not =
+    alike_none (λ (w : Version). w.revision) (IsBefore v) (IsSameAt trees pointer v) versions n other rising stands before (λ is. not (at_same trees pointer v other is))
+
+pub since_more : (trees : List Meaning) (pointer : List (List ℕ)) (v : Version) (versions : List Version) (n : ℕ) (other : Version) (since : Option Version)
+    → AllPairs (λ a b. a.revision < b.revision) versions → slice_get versions n ≡ Some other → IsBefore v other → IsAlike trees pointer v other
+    → IsSinceAmong trees pointer v versions n since → IsSinceAmong trees pointer v versions (n + 1) (option_or since (Some other))
+since_more trees pointer v versions n other since rising stands before is h =
+    alike_more (λ (w : Version). w.revision) (IsBefore v) (IsSameAt trees pointer v) versions n other since rising stands before (same_at trees pointer v other is) h
+
 -- what a reference to a version points to; one more version is put behind
 pub pointed_or : {R : Type 0} (at : R → Version) (since : Option R) (other : R) → option_map at (option_or since (Some other)) ≡ option_or (option_map at since) (Some (at other))
 pointed_or at None other = refl

@@ -1,5 +1,5 @@
 -- What can be told of an object at a place.
-use Rattle.std.specs.Prelude.{◌≡◌, ◌<◌, ◌≤◌, ◌↔◌, ⊥, ℕ, true, Option, Some, None, option_map, Contains}
+use Rattle.std.specs.Prelude.{◌≡◌, ◌<◌, ◌≤◌, ◌↔◌, ℕ, true, Option, Some, None, option_map, Contains}
 use Rattle.base_types.specs.declared.key.ObjectKey.{ObjectKey}
 use Rattle.history_model.specs.Clouds.{IsClouded}
 use Rattle.history_model.specs.Histories as past

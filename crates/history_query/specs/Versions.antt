@@ -1,6 +1,6 @@
 -- What `versions` prints: all versions of a key by revision, and behind the last one of each object that was removed the
 -- range of its removal.
-use Rattle.std.specs.Prelude.{◌≡◌, ⊥, ◌==◌, ℕ, List, [], ◌∷◌, ◌++◌, Option, Some, None, codes, decimal, filter, find}
+use Rattle.std.specs.Prelude.{◌≡◌, ◌==◌, ℕ, List, [], ◌∷◌, ◌++◌, Option, Some, None, codes, decimal, filter, find}
 use Rattle.std.specs.List.{flat_map}
 use Rattle.base_types.specs.Escapes.{escaped}
 use Rattle.base_types.specs.Keys.{same_key}

@@ -13,10 +13,5 @@ mod state;
 mod telling;
 mod versions;
 
-pub use blame::blame;
-pub use can::can;
 pub use law::one_text_law;
 pub use question::{Question, answer};
-pub use show::show;
-pub use state::state;
-pub use versions::versions;
