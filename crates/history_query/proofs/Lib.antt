@@ -1,3 +1,6 @@
 pub mod Alike
 pub mod BlameFacts
+pub mod CanFacts
 pub mod OneTextFacts
+pub mod StateFacts
+pub mod ToldFacts
