@@ -1,4 +1,9 @@
+pub mod Alike
+pub mod BlameFacts
+pub mod CanFacts
 pub mod OneTextFacts
 pub mod Floating
 pub mod SightFacts
 pub mod TellingFacts
+pub mod StateFacts
+pub mod ToldFacts

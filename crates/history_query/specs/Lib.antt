@@ -1,3 +1,4 @@
+pub mod Appending
 pub mod Blaming
 pub mod Deciding
 pub mod OneText

@@ -1,12 +1,13 @@
-ghost use Rattle.std.specs.Prelude.{◌≡◌, ◌++◌, IfOk, OnOk, string_bytes, option_and_then, slice_get, Contains};
-ghost use Rattle.history_query.specs.Blaming.{IsBlame, IsBlameText, IsSince, since_text, value_at, value_text};
+ghost use Rattle.std.specs.Prelude.{◌≡◌, ◌<◌, ◌≤◌, ◌++◌, ◌↔◌, IfOk, IfSome, IsTrue, OnOk, length, string_bytes, option_and_then, slice_get, Contains};
+ghost use Rattle.history_query.specs.Appending.{Appends};
+ghost use Rattle.history_query.specs.Blaming.{IsBlame, IsBlameText, IsPresentBlame, IsSince, since_text, value_at, value_text};
 
 use crate::json::append_json;
 use crate::sight::{Sight, sight_of};
 use crate::telling::{append_user, append_who, is_untold};
 use base_types::{Bytes, ObjectKey, OutOfMemory};
 use json_tree::Pointer;
-use node_pool::NodeId;
+use node_pool::{NodeId, Pool};
 use object_past::Version;
 use std::alloc::Global;
 use version_store::Context;
@@ -26,13 +27,7 @@ pub fn blame(
     if is_untold(context, key, place) {
         text.push_str("unknown\n")?;
     } else {
-        append_blame(
-            alloc,
-            &mut text,
-            context,
-            pointer,
-            sight_of(context, key, place),
-        )?;
+        append_blame(alloc, &mut text, context, key, pointer, place)?;
     }
     Ok(Bytes::from_vec(text.into_bytes()))
 }
@@ -41,10 +36,13 @@ fn append_blame(
     alloc: Global,
     text: &mut String,
     context: &Context,
+    key: &ObjectKey,
     pointer: &Pointer,
-    sight: Sight<'_>,
-) -> Result<(), OutOfMemory> {
-    match sight {
+    place: u64,
+) -> Result<(), OutOfMemory>
+    ensures { OnOk result (Appends (IsBlame context.now key.now pointer.now place) (string_bytes text.old) (string_bytes text.new)) }
+{
+    match sight_of(context, key, place) {
         Sight::Clouded => text.push_str("clouded\n")?,
         Sight::Told { present: None, .. } => text.push_str("absent\n")?,
         Sight::Told {
@@ -62,9 +60,11 @@ fn append_origin(
     context: &Context,
     pointer: &Pointer,
     version: &Version,
-) -> Result<(), OutOfMemory> {
-    let value = context.pool().at(version.node, pointer);
-    append_value(alloc, text, context, value)?;
+) -> Result<(), OutOfMemory>
+    requires { Contains context.now.versions version.now }
+    ensures { OnOk result (Appends (IsPresentBlame context.now pointer.now (Some version.now)) (string_bytes text.old) (string_bytes text.new)) }
+{
+    append_value(alloc, text, context, value_in(context, pointer, version))?;
     append_since(alloc, text, context, since_of(context, pointer, version))?;
     Ok(())
 }
@@ -74,15 +74,29 @@ fn append_value(
     text: &mut String,
     context: &Context,
     value: Option<NodeId>,
-) -> Result<(), OutOfMemory> {
+) -> Result<(), OutOfMemory>
+    requires { IfSome value (λ node. node.0 < length context.now.trees) }
+    ensures { OnOk result (string_bytes text.new ≡ string_bytes text.old ++ value_text (option_and_then (λ node. slice_get context.now.trees node.0) value)) }
+{
     match value {
-        Some(node) => {
-            text.push_str("value ")?;
-            append_json(alloc, text, context.pool(), node)?;
-            text.push_str("\n")?;
-        }
+        Some(node) => append_tree(alloc, text, context, node)?,
         None => text.push_str("no value\n")?,
     }
+    Ok(())
+}
+
+fn append_tree(
+    alloc: Global,
+    text: &mut String,
+    context: &Context,
+    node: NodeId,
+) -> Result<(), OutOfMemory>
+    requires { node.0 < length context.now.trees }
+    ensures { OnOk result (string_bytes text.new ≡ string_bytes text.old ++ value_text (slice_get context.now.trees node.0)) }
+{
+    text.push_str("value ")?;
+    append_json(alloc, text, context.pool(), node)?;
+    text.push_str("\n")?;
     Ok(())
 }
 
@@ -103,9 +117,13 @@ fn append_since(
 }
 
 // The first version from which on, up to this one, each is one of the same object with the same value.
-fn since_of<'a>(context: &'a Context, pointer: &Pointer, version: &'a Version) -> &'a Version {
+fn since_of<'a>(context: &'a Context, pointer: &Pointer, version: &'a Version) -> &'a Version
+    requires { Contains context.now.versions version.now }
+    ensures { IsSince context.now pointer.now version.now result.now }
+{
+    let versions = context.past().versions();
     let mut since = None;
-    for other in context.versions() {
+    for other in versions {
         if is_before(other, version) {
             since = if is_same_at(context, pointer, version, other) {
                 since.or(Some(other))
@@ -118,12 +136,58 @@ fn since_of<'a>(context: &'a Context, pointer: &Pointer, version: &'a Version) -
 }
 
 // Another version of the version's key, at or below its revision.
-fn is_before(other: &Version, version: &Version) -> bool {
-    other.key == version.key && other.revision <= version.revision
+fn is_before(other: &Version, version: &Version) -> bool
+    ensures { IsTrue result ↔ ((other.now.key ≡ version.now.key) × (other.now.revision ≤ version.now.revision)) }
+{
+    other.key == version.key && other.revision.get() <= version.revision.get()
 }
 
 // Another version of the same object with the same value at the pointer.
-fn is_same_at(context: &Context, pointer: &Pointer, version: &Version, other: &Version) -> bool {
-    let pool = context.pool();
-    other.uid == version.uid && pool.at(other.node, pointer) == pool.at(version.node, pointer)
+fn is_same_at(context: &Context, pointer: &Pointer, version: &Version, other: &Version) -> bool
+    requires version { Contains context.now.versions version.now }
+    requires other { Contains context.now.versions other.now }
+    ensures { IsTrue result ↔ ((other.now.uid ≡ version.now.uid) × (value_at context.now.trees pointer.now other.now ≡ value_at context.now.trees pointer.now version.now)) }
+{
+    other.uid == version.uid && has_same_value(context, pointer, version, other)
+}
+
+fn has_same_value(
+    context: &Context,
+    pointer: &Pointer,
+    version: &Version,
+    other: &Version,
+) -> bool
+    requires version { Contains context.now.versions version.now }
+    requires other { Contains context.now.versions other.now }
+    ensures { IsTrue result ↔ (value_at context.now.trees pointer.now other.now ≡ value_at context.now.trees pointer.now version.now) }
+{
+    are_same(
+        context.pool(),
+        value_in(context, pointer, other),
+        value_in(context, pointer, version),
+    )
+}
+
+// What the pointer identifies in a version.
+fn value_in(context: &Context, pointer: &Pointer, version: &Version) -> Option<NodeId>
+    requires { Contains context.now.versions version.now }
+    ensures value { option_and_then (λ node. slice_get context.now.trees node.0) result ≡ value_at context.now.trees pointer.now version.now }
+    ensures within { IfSome result (λ node. node.0 < length context.now.trees) }
+{
+    let _versions = context.versions();
+    context.pool().at(version.node, pointer)
+}
+
+// Whether two trees are the same, or both are absent.
+fn are_same(pool: &Pool, first: Option<NodeId>, second: Option<NodeId>) -> bool
+    requires first { IfSome first (λ node. node.0 < length pool.now.trees) }
+    requires second { IfSome second (λ node. node.0 < length pool.now.trees) }
+    ensures { IsTrue result ↔ (option_and_then (λ node. slice_get pool.now.trees node.0) first ≡ option_and_then (λ node. slice_get pool.now.trees node.0) second) }
+{
+    match (first, second) {
+        (Some(first), Some(second)) => pool.same(first, second),
+        (Some(_), None) => false,
+        (None, Some(_)) => false,
+        (None, None) => true,
+    }
 }

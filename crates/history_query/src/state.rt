@@ -1,6 +1,8 @@
-ghost use Rattle.std.specs.Prelude.{◌≡◌, ◌++◌, IfOk, OnOk, string_bytes, List, ℕ};
-ghost use Rattle.std.specs.List.{AllZip, flat_map};
-ghost use Rattle.history_query.specs.States.{IsKeyText, IsStateOf, IsStateText, presence_word};
+ghost use Rattle.std.specs.Prelude.{◌≡◌, ◌++◌, ◌∷◌, [], codes, IfOk, OnOk, string_bytes};
+ghost use Rattle.base_types.specs.Keys.{key_spelling};
+ghost use Rattle.history_query.specs.Appending.{Appends};
+ghost use Rattle.history_query.specs.States.{IsKeyText, IsStateOf, IsStateText, presence_text, presence_word};
+ghost use Rattle.verdict_text.specs.Words.{ended, spaced};
 
 use crate::sight::{Sight, sight_of};
 use crate::telling::is_below_start;
@@ -27,9 +29,12 @@ fn append_keys(
     text: &mut String,
     context: &Context,
     place: u64,
-) -> Result<(), OutOfMemory> {
-    for key in context.keys() {
-        append_key(alloc, text, key, sight_of(context, key, place))?;
+) -> Result<(), OutOfMemory>
+    ensures { OnOk result (Appends (IsStateOf context.now place) (string_bytes text.old) (string_bytes text.new)) }
+{
+    let keys = context.keys();
+    for key in keys {
+        append_key(alloc, text, context, key, place)?;
     }
     Ok(())
 }
@@ -38,14 +43,14 @@ fn append_keys(
 fn append_key(
     alloc: Global,
     text: &mut String,
+    context: &Context,
     key: &ObjectKey,
-    sight: Sight<'_>,
-) -> Result<(), OutOfMemory> {
-    match sight {
-        Sight::Clouded => {
-            let spelled = key_text(alloc, key)?;
-            writeln!(text, "clouded {}", spelled.as_str())?;
-        }
+    place: u64,
+) -> Result<(), OutOfMemory>
+    ensures { OnOk result (Appends (IsKeyText context.now place key.now) (string_bytes text.old) (string_bytes text.new)) }
+{
+    match sight_of(context, key, place) {
+        Sight::Clouded => append_clouded(alloc, text, key)?,
         Sight::Told {
             present: Some(version),
             absent,
@@ -55,13 +60,23 @@ fn append_key(
     Ok(())
 }
 
+fn append_clouded(alloc: Global, text: &mut String, key: &ObjectKey) -> Result<(), OutOfMemory>
+    ensures { OnOk result (string_bytes text.new ≡ string_bytes text.old ++ ended (spaced (codes "clouded" ∷ key_spelling key.now ∷ []))) }
+{
+    let spelled = key_text(alloc, key)?;
+    writeln!(text, "clouded {}", spelled.as_str())?;
+    Ok(())
+}
+
 fn append_presence(
     alloc: Global,
     text: &mut String,
     key: &ObjectKey,
     version: &Version,
     absent: bool,
-) -> Result<(), OutOfMemory> {
+) -> Result<(), OutOfMemory>
+    ensures { OnOk result (string_bytes text.new ≡ string_bytes text.old ++ presence_text key.now (Some version.now) absent) }
+{
     let word = presence_word(absent);
     let spelled = key_text(alloc, key)?;
     let revision = version.revision.get();
