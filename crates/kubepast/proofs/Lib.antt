@@ -6,6 +6,7 @@ pub mod OutcomeTrees
 pub mod OutcomeSharing
 pub mod FindingShown
 pub mod JudgingFacts
+pub mod QuestionFacts
 pub mod AskedFacts
 pub mod OneAnswerFacts
 pub mod PrintedHoldsFacts
