@@ -1,5 +1,6 @@
 pub mod Blaming
 pub mod Deciding
+pub mod OneText
 pub mod Questions
 pub mod Showing
 pub mod Sights

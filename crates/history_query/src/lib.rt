@@ -5,6 +5,7 @@
 mod blame;
 mod can;
 mod json;
+mod law;
 mod question;
 mod show;
 mod sight;
@@ -14,6 +15,7 @@ mod versions;
 
 pub use blame::blame;
 pub use can::can;
+pub use law::one_text_law;
 pub use question::{Question, answer};
 pub use show::show;
 pub use state::state;

@@ -1,3 +1,4 @@
+mod histories;
 mod reads;
 mod refusals;
 mod second;
@@ -495,6 +496,9 @@ fn rows(rt: HostRuntime) -> Result<(), Fail> {
         refusals::POLICIES,
         second::STRICT,
         second::PLACEMENTS,
+        histories::OBJECTS,
+        histories::VALUES,
+        histories::RIGHTS,
     ] {
         for lines in table.split("\n\n") {
             let row = row_of(alloc, lines)?;

@@ -39,7 +39,8 @@ use Rattle.rbac_timeline.specs.declared.version.RbacVersion.{RbacVersion}
 use Rattle.setup_file.specs.declared.setup.Checkpoint.{Checkpoint}
 use Rattle.setup_file.specs.declared.setup.Setup.{Setup}
 use Rattle.setup_file.specs.declared.setup.SnapshotObject.{SnapshotObject}
-use Rattle.write_groups.specs.Modelled.{event_of, item_of}
+use Rattle.time_windows.specs.declared.span.Span.{Span}
+use Rattle.write_groups.specs.Modelled.{event_of, item_of, span_of}
 use Rattle.write_groups.specs.declared.event.Item.{Item}
 use Rattle.write_groups.specs.declared.event.Listing.{Listing}
 use Rattle.write_groups.specs.declared.event.LogEvent.{LogEvent}
@@ -269,7 +270,7 @@ same_maker maker.Unknown maker.Snapshot e = absurd (cc e)
 same_maker maker.Unknown (maker.Event number) e = absurd (cc e)
 same_maker maker.Unknown maker.Unknown e = refl
 
-same_version : (a b : Version) → version_of a ≡ version_of b → a ≡ b
+pub same_version : (a b : Version) → version_of a ≡ version_of b → a ≡ b
 same_version a b e = λ i. record { key = keys i; revision = revisions i; uid = uids i; node = record { 0 = trees i }; maker = makers i }
   where
     keys : a.key ≡ b.key
@@ -302,8 +303,20 @@ same_removal a b e = λ i. record { key = keys i; uid = uids i; last = lasts i; 
     ranges : a.range ≡ b.range
     ranges = ap (λ (r : past.Removal). r.range) e
 
+same_span : (a b : Span) → span_of a ≡ span_of b → a ≡ b
+same_span a b e = λ i. record { revision = revisions i; lo = record { 0 = los i }; hi = record { 0 = his i } }
+  where
+    revisions : a.revision ≡ b.revision
+    revisions = ap (λ (s : past.Span). s.revision) e
+
+    los : a.lo.0 ≡ b.lo.0
+    los = ap (λ (s : past.Span). s.lo) e
+
+    his : a.hi.0 ≡ b.hi.0
+    his = ap (λ (s : past.Span). s.hi) e
+
 -- roles and bindings rise strictly
-not_both_less : (a b : ObjectKey) → key_order a b ≡ Less → key_order b a ≡ Less → ⊥
+pub not_both_less : (a b : ObjectKey) → key_order a b ≡ Less → key_order b a ≡ Less → ⊥
 not_both_less a b less back = let turned : Less ≡ Greater = sym back ∙ key_order_total.antisymm b a ∙ ap ordering_reverse less in cc turned
 
 not_less : (a b : ObjectKey) → a ≡ b → key_order a b ≡ Less → ⊥
@@ -422,6 +435,31 @@ module _ (a b : Known) (x : IsTold a) (y : IsTold (told_by a.setup a.events b)) 
     listable = listable_test a.setup a.events (trees i);
     decides = decides_test a.events (log i) (rights i);
   }
+
+  spans : a.spans ≡ b.spans
+  spans = same_mapped span_of same_span a.spans b.spans lists.1
+
+  alike : a ≡ record (told_by a.setup a.events b) { groups = a.groups }
+  alike = λ i. record {
+    setup = a.setup;
+    events = a.events;
+    trees = trees i;
+    snapshot = snapshot i;
+    log = log i;
+    order = lists.0 i;
+    groups = a.groups;
+    spans = spans i;
+    versions = versions i;
+    removals = removals i;
+    rbac = rights i;
+  }
+
+-- all that a context holds but its groups is told once
+pub one_told : (a b : Known) → IsTold a → IsTold b → a.setup ≡ b.setup → a.events ≡ b.events → a ≡ record b { groups = a.groups }
+one_told a b x y setups events = alike a b x (subst IsTold (sym moved) y) ∙ ap (λ known. record known { groups = a.groups }) moved
+  where
+    moved : told_by a.setup a.events b ≡ b
+    moved = λ i. told_by (setups i) (events i) b
 
 pub one_history : (a b : Known) → IsTold a → IsTold b → a.setup ≡ b.setup → a.events ≡ b.events → history_of a ≡ history_of b
 one_history a b x y setups events = same_history a b x (subst IsTold (sym moved) y) ∙ ap history_of moved
