@@ -11,6 +11,7 @@ pub mod AskedFacts
 pub mod OneAnswerFacts
 pub mod PrintedHoldsFacts
 pub mod StrictlyFacts
+pub mod AskingFacts
 pub mod VerifyingFacts
 pub mod ReportedFacts
 pub mod RunFacts

@@ -12,15 +12,19 @@ use Rattle.edge_io.specs.Faults.{Rose}
 use Rattle.edge_io.specs.Whole.{TakesWhole}
 use Rattle.log_intake.specs.Setup.{TakesSetup}
 use Rattle.log_intake.specs.Taking.{TakesLog}
+use Rattle.history_query.specs.declared.question.Question.{Question}
 use Rattle.serial_machine.specs.declared.checked.Checked.{Checked}
-use Rattle.kubepast.specs.Command.{Judge, Make, Strict, Verify}
+use Rattle.kubepast.specs.Answering.{IsHistory}
+use Rattle.kubepast.specs.Command.{Ask, Judge, Make, Strict, Verify}
 use Rattle.kubepast.specs.Endings.{Answer, Tells}
 use Rattle.kubepast.specs.Judging.{IsJudged}
-use Rattle.kubepast.specs.Program.{IsAnswerTo, judged_answer, refusal_answer, report_answer, strictly_answer, verified_answer}
+use Rattle.kubepast.specs.Program.{IsAnswerTo, history_answer, judged_answer, refusal_answer, report_answer, strictly_answer, verified_answer}
 use Rattle.kubepast.specs.Reported.{IsReported, IsVerdict}
 use Rattle.kubepast.specs.Strictly as strict
 use Rattle.kubepast.specs.Strictly.{IsStrictlyJudged}
 use Rattle.kubepast.specs.Verifying.{IsVerified, most_placement}
+use Rattle.kubepast.specs.declared.asking.Answered.{Answered}
+use Rattle.kubepast.specs.declared.asking.Answered.TheVariants as answered
 use Rattle.kubepast.specs.declared.judged.Judged.{Judged}
 use Rattle.kubepast.specs.declared.judged.Judged.TheVariants.{Refused, Verdict}
 use Rattle.kubepast.specs.declared.report.Report.{Report}
@@ -103,6 +107,10 @@ verified_end Q (verified.Misspelt line) report told ends verdict = absurd (other
     other status (inr is) no_status = omega (arith, is, no_status)
 verified_end Q (verified.Judged checked) report told ends verdict = ends checked refl
 
+history_end : (Q : Type 0) (found : Answered) (report : Report) → report_answer report ≡ history_answer found → ((text : List ℕ) → found ≡ answered.History text → Q) → IsVerdict report → Q
+history_end Q (answered.Refused refusal) report told ends verdict = absurd (no_verdict refusal report told verdict)
+history_end Q (answered.History text) report told ends verdict = ends text refl
+
 module _ (old now : List ℕ → Option (List ℕ)) (untouched : Type 0) (before after : ℕ) (setup log : List ℕ) (result : Result Report Stop) where
   pub judge_reported : (inner : Result Judged Stop) → IsPassed judged_answer inner result
       → IfOk inner (λ judged. (s l : List ℕ) → old setup ≡ Some s → old log ≡ Some l → IsJudged s l judged)
@@ -163,6 +171,23 @@ module _ (old now : List ℕ → Option (List ℕ)) (untouched : Type 0) (before
         left = λ files refusal tells refused. left (files setup) (files log) refusal (tells setup) (tells log) refused;
       },
     );
+  }
+
+  pub ask_reported : (question : Question) (inner : Result Answered Stop) → IsPassed history_answer inner result
+      → IfOk inner (λ found. (s l : List ℕ) → old setup ≡ Some s → old log ≡ Some l → IsHistory s l question found)
+      → IfOk inner (λ found. (text : List ℕ) → found ≡ answered.History text → IsAtEnd (now setup) × IsAtEnd (now log))
+      → (IsErrOf inner ReadFault → Rose before after) → TakesSetup (old setup) (now setup) (IsErrOf inner ReadFault) → TakesLog (old log) (now log) (IsErrOf inner ReadFault)
+      → IsReported (Ask setup log question) old now untouched before after result
+  ask_reported question inner passed is ends fault setup_taken log_taken = record {
+    answered = of_report history_answer inner result _ (λ report. (files : List ℕ → List ℕ) → Tells old files → IsAnswerTo (Some (Ask setup log question)) files (report_answer report)) passed is
+        (λ found report told answers files tells. (found, answers (files setup) (files log) (tells setup) (tells log), told));
+    fault = λ failed. fault (failed_read history_answer inner result passed failed);
+    taken = record {
+      whole = of_report history_answer inner result _ (λ report. IsVerdict report → IsAtEnd (now setup) × IsAtEnd (now log)) passed ends
+          (λ found report told ended. history_end (IsAtEnd (now setup) × IsAtEnd (now log)) found report told ended);
+      setup_taken = setup_as (old setup) (now setup) (now setup) (IsErrOf inner ReadFault) (IsErrOf result ReadFault) refl (failed_read history_answer inner result passed) setup_taken;
+      log_taken = log_as (old log) (old log) (now log) (IsErrOf inner ReadFault) (IsErrOf result ReadFault) refl (failed_read history_answer inner result passed) log_taken;
+    };
   }
 
 pub make_reported : (old now : List ℕ → Option (List ℕ)) (untouched : Type 0) (before after number events : ℕ) (result : Result Report Stop) → untouched

@@ -7,7 +7,7 @@ use Rattle.edge_io.specs.Faults.{Rose}
 use Rattle.edge_io.specs.Whole.{TakesWhole}
 use Rattle.log_intake.specs.Setup.{TakesSetup}
 use Rattle.log_intake.specs.Taking.{TakesLog}
-use Rattle.kubepast.specs.Command.{Asked, AsksOf, IsAsked, IsOfNames, Judge, Make, Spells, Strict, Verify}
+use Rattle.kubepast.specs.Command.{Ask, Asked, AsksOf, IsAsked, IsOfNames, Judge, Make, Spells, Strict, Verify}
 use Rattle.kubepast.specs.Endings.{Answer, IsAnswered, Tells}
 use Rattle.kubepast.specs.Program.{Concludes, IsAnswer, IsAnswerTo, report_answer, status_number}
 use Rattle.kubepast.specs.Reported.{IsReported, Takes, TakesNames, TakesPlacement}
@@ -46,12 +46,14 @@ named : (asked : Asked) (setup log : List ℕ) (old now : List ℕ → Option (L
 named (Judge s l) setup log old now untouched found same takes = subst (λ s. TakesNames s log old now found) same.0 (subst (λ l. TakesNames s l old now found) same.1 takes)
 named (Strict s l) setup log old now untouched found same takes = subst (λ s. TakesNames s log old now found) same.0 (subst (λ l. TakesNames s l old now found) same.1 takes)
 named (Verify s l p) setup log old now untouched found same takes = subst (λ s. TakesNames s log old now found) same.0 (subst (λ l. TakesNames s l old now found) same.1 takes.0)
+named (Ask s l q) setup log old now untouched found same takes = subst (λ s. TakesNames s log old now found) same.0 (subst (λ l. TakesNames s l old now found) same.1 takes)
 named (Make number events) setup log old now untouched found same takes = absurd same
 
 nothing_named : (asked : Asked) (old now : List ℕ → Option (List ℕ)) (untouched : Type 0) (found : Result Report Stop) → ((setup log : List ℕ) → IsOfNames asked setup log → ⊥) → Takes asked old now untouched found → untouched
 nothing_named (Judge s l) old now untouched found none takes = absurd (none s l (refl, refl))
 nothing_named (Strict s l) old now untouched found none takes = absurd (none s l (refl, refl))
 nothing_named (Verify s l p) old now untouched found none takes = absurd (none s l (refl, refl))
+nothing_named (Ask s l q) old now untouched found none takes = absurd (none s l (refl, refl))
 nothing_named (Make number events) old now untouched found none takes = takes
 
 answer_to_words : (words : List (List ℕ)) (asked : Asked) (old : List ℕ → Option (List ℕ)) (files : List ℕ → List ℕ) (found : Result Report Stop) → Spells asked words → Tells old files
