@@ -150,10 +150,10 @@ pub fn history_report(alloc: Global, found: Answered) -> Result<Report, OutOfMem
 {
     match found {
         Answered::Refused(refusal) => refusal_report(alloc, refusal),
-        Answered::History(text) => Ok(Report {
-            status: Status::Explained,
-            text,
-        }),
+        Answered::History(text) => {
+            let status = Status::Explained;
+            Ok(Report { status, text })
+        }
     }
 }
 
