@@ -1,5 +1,6 @@
 -- Answers that are passed on.
-use Rattle.std.proofs.Common.{◌≡◌, ℕ, List, Option, Some, Result, Ok, Err, IfOk, IsErrOf, inl, inr, refl, sym, ◌∙◌, subst, arith}
+use Rattle.std.proofs.Common.{◌≡◌, ℕ, List, Option, Some, None, Result, Ok, Err, IfOk, IsErrOf, inl, inr, refl, sym, ◌∙◌, subst, arith}
+use Rattle.std.specs.Io.KnownBytes.{Keeps}
 use Rattle.context_intake.specs.Contexts.{IsRefused}
 use Rattle.context_intake.specs.declared.refusal.Refusal.{Refusal}
 use Rattle.context_intake.proofs.ReadingFacts.{log_as, setup_as}
@@ -27,6 +28,10 @@ no_fault Unexplained is = omega (arith, is)
 no_fault SetupRefused is = omega (arith, is)
 no_fault LogRefused is = omega (arith, is)
 no_fault LimitPassed is = omega (arith, is)
+
+pub keeps_same : (known : Option (List ℕ)) → Keeps known known
+keeps_same None = tt
+keeps_same (Some bytes) = refl
 
 module _ (faults_before faults_now : ℕ) (before now : Option (List ℕ)) (result : ℕ) where
   pub concluded_answer : (found : Result Report Stop) (IsRight : Answer → Type 0) (desk_before desk_now : ℕ) → IfOk found (λ report. IsRight (report_answer report)) → (found ≡ Err ReadFault → Rose desk_before desk_now)
