@@ -44,7 +44,7 @@ same_log_refusal bytes a b (stop, read, of) (stop', read', of') =
     let same : stop ≡ stop' = cc in
     one_log_refusal stop a b of (subst (λ s. IsStopOf s b) (sym same) of')
 
-setup_one_way : (bytes : List ℕ) (setup : Setup) (refusal : Refusal) → IsSetupRead bytes (Ok setup) → IsSetupRefused bytes refusal → ⊥
+pub setup_one_way : (bytes : List ℕ) (setup : Setup) (refusal : Refusal) → IsSetupRead bytes (Ok setup) → IsSetupRefused bytes refusal → ⊥
 setup_one_way bytes setup refusal read (stop, refused, of) = let both = one_setup bytes (Ok setup) (Err stop) read refused in cc
 
 log_one_way : (bytes : List ℕ) (events : List Event) (refusal : Refusal) → IsLogRead bytes (Ok events) → IsLogRefused bytes refusal → ⊥

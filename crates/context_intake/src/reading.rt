@@ -1,7 +1,7 @@
 ghost use Rattle.std.specs.Prelude.{◌≡◌, ◌≢◌, ◌≤◌, ℕ, List, Some, IfOk, IsErrOf, length};
 ghost use Rattle.std.specs.Io.KnownBytes.{IsAtEnd};
 ghost use Rattle.context_intake.specs.Contexts.{IsFoundIn, IsToldBy, RefusesNothing, with_chains};
-ghost use Rattle.context_intake.specs.Refusals.{IsSetupStopOf, IsStopOf};
+ghost use Rattle.context_intake.specs.Refusals.{IsSetupRefused, IsSetupStopOf, IsStopOf};
 ghost use Rattle.edge_io.specs.Faults.{Rose};
 ghost use Rattle.log_intake.specs.Kept.{AreLogEvents};
 ghost use Rattle.log_intake.specs.Setup.{TakesSetup, most_checkpoints};
@@ -44,6 +44,8 @@ pub fn read_context<R: Threads + Sync, D: Desk, H: Gate>(
     ensures counted { D.faults desk.old ≤ D.faults desk.new }
     ensures setup_taken { TakesSetup (D.left desk.old setup.now) (D.left desk.new setup.now) (RefusesNothing result) }
     ensures log_taken { TakesLog (D.left desk.old log.now) (D.left desk.new log.now) (RefusesNothing result) }
+    ensures log_left { (of_setup : List ℕ) (refusal : Refusal) → D.left desk.old setup.now ≡ Some of_setup → IsSetupRefused of_setup refusal
+        → D.left desk.new log.now ≡ D.left desk.old log.now }
     ensures others { (other : List ℕ) → other ≢ setup.now → other ≢ log.now → D.left desk.new other ≡ D.left desk.old other }
 {
     let Ok(mut buffer) = piece_buffer(alloc) else {

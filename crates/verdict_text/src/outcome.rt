@@ -1,14 +1,19 @@
-ghost use Rattle.std.specs.Prelude.{◌≡◌, ◌++◌, OnOk, IfOk, string_bytes};
-ghost use Rattle.verdict_text.specs.Words.{ended};
+ghost use Rattle.std.specs.Prelude.{◌≡◌, ◌++◌, List, All, OnOk, IfOk, length, string_bytes};
+ghost use Rattle.base_types.specs.declared.placed.PlacedLine.{PlacedLine};
+ghost use Rattle.verdict_text.specs.Placed.{FitsPlaced};
+ghost use Rattle.verdict_text.specs.Reading.{IsPlacement};
+ghost use Rattle.verdict_text.specs.Words.{IsNumber, ended};
 ghost use Rattle.verdict_text.specs.Outcome.{explained_text, outcome_text, write_text, writes_text};
 
 use crate::placed::append_placed;
 use base_types::{Bytes, OutOfMemory, Outcome, PlacedLine, WriteLine, escape};
 use std::alloc::Global;
 
-/// The text of an outcome, as `judge` prints it. Each of its lines ends with a newline.
+/// The text of an outcome, as `judge` prints it. Each of its lines ends with a newline. That of an explained log is one that
+/// `read_placement` takes.
 pub fn print_outcome(alloc: Global, outcome: &Outcome) -> Result<Bytes, OutOfMemory>
-    ensures { IfOk result (λ text. text ≡ outcome_text outcome.now) }
+    ensures text { IfOk result (λ text. text ≡ outcome_text outcome.now) }
+    ensures placement { OnOk result ((lines : List PlacedLine) → outcome.now ≡ Outcome.Explained lines → IsPlacement lines) }
 {
     let mut text = String::new(alloc);
     match outcome {
@@ -35,9 +40,12 @@ pub fn print_outcome(alloc: Global, outcome: &Outcome) -> Result<Bytes, OutOfMem
 }
 
 fn append_explained(text: &mut String, lines: &[PlacedLine]) -> Result<(), OutOfMemory>
-    ensures { OnOk result (string_bytes text.new ≡ string_bytes text.old ++ explained_text lines.now) }
+    ensures text { OnOk result (string_bytes text.new ≡ string_bytes text.old ++ explained_text lines.now) }
+    ensures fits { OnOk result (All FitsPlaced lines.now) }
+    ensures counted { IsNumber (length lines.now) }
 {
-    writeln!(text, "explained {}", lines.len())?;
+    let count = lines.len();
+    writeln!(text, "explained {count}")?;
     for placed in lines {
         append_placed(text, placed)?;
     }

@@ -12,9 +12,11 @@ use base_types::{Decision, OutOfMemory, PlacedAnswer, PlacedDecision, PlacedLine
 
 /// Appends the line of one event.
 pub fn append_placed(text: &mut String, placed: &PlacedLine) -> Result<(), OutOfMemory>
-    ensures { OnOk result (string_bytes text.new ≡ string_bytes text.old ++ ended (placed_text placed.now)) }
+    ensures text { OnOk result (string_bytes text.new ≡ string_bytes text.old ++ ended (placed_text placed.now)) }
+    ensures fits { OnOk result (FitsPlaced placed.now) }
 {
-    write!(text, "{} ", placed.line)?;
+    let line = placed.line;
+    write!(text, "{line} ")?;
     append_answer(text, &placed.answer)?;
     text.push(' ')?;
     append_decision(text, &placed.decision)?;
@@ -23,9 +25,10 @@ pub fn append_placed(text: &mut String, placed: &PlacedLine) -> Result<(), OutOf
 }
 
 fn append_answer(text: &mut String, answer: &PlacedAnswer) -> Result<(), OutOfMemory>
-    ensures { OnOk result (string_bytes text.new ≡ string_bytes text.old ++ answer_text answer.now) }
+    ensures text { OnOk result (string_bytes text.new ≡ string_bytes text.old ++ answer_text answer.now) }
+    ensures fits { OnOk result (FitsAnswer answer.now) }
 {
-    match answer {
+    match *answer {
         PlacedAnswer::Made(revision) => write!(text, "made {revision}")?,
         PlacedAnswer::Removed(place) => write!(text, "removed {place}")?,
         PlacedAnswer::At(place) => write!(text, "at {place}")?,
@@ -35,7 +38,8 @@ fn append_answer(text: &mut String, answer: &PlacedAnswer) -> Result<(), OutOfMe
 }
 
 fn append_decision(text: &mut String, decision: &Option<PlacedDecision>) -> Result<(), OutOfMemory>
-    ensures { OnOk result (string_bytes text.new ≡ string_bytes text.old ++ decision_text decision.now) }
+    ensures text { OnOk result (string_bytes text.new ≡ string_bytes text.old ++ decision_text decision.now) }
+    ensures fits { OnOk result (FitsDecision decision.now) }
 {
     let Some(judged) = decision else {
         text.push_str("none")?;
@@ -45,11 +49,15 @@ fn append_decision(text: &mut String, decision: &Option<PlacedDecision>) -> Resu
         Decision::Allow => "allow",
         Decision::Forbid => "forbid",
     };
-    let places = &judged.places;
+    let Places {
+        roles,
+        cluster_roles,
+        bindings,
+        cluster_bindings,
+    } = judged.places;
     write!(
         text,
-        "{word} {} {} {} {}",
-        places.roles, places.cluster_roles, places.bindings, places.cluster_bindings
+        "{word} {roles} {cluster_roles} {bindings} {cluster_bindings}"
     )?;
     Ok(())
 }

@@ -1,4 +1,5 @@
 use Rattle.std.proofs.Common.{sym, refl, ◌∙◌}
+use Rattle.context_intake.proofs.OneContextFacts.{setup_one_way}
 use Rattle.context_intake.proofs.ReadingFacts.{failed_log, failed_setup, log_as, log_untouched, setup_as, told_events, told_log, told_setup}
 use Rattle.context_intake.proofs.reading.read_context.Goals as goal
 
@@ -13,6 +14,17 @@ returns-in-Err-clause-setup_taken g c = setup_as _ _ _ _ _ refl (failed_setup c.
 
 pub returns-in-Err-clause-log_taken : goal.returns-in-Err-clause-log_taken
 returns-in-Err-clause-log_taken g c = log_untouched _ _ _ (c.in-Err.ensures.others c.args.log.now (λ e. c.requires (sym e)))
+
+pub returns-in-Err-clause-log_left : goal.returns-in-Err-clause-log_left
+returns-in-Err-clause-log_left g c = λ s refusal ts refused. c.in-Err.ensures.others c.args.log.now (λ e. c.requires (sym e))
+
+pub returns-in-Ok-read_log-clause-log_left : goal.returns-in-Ok-read_log-clause-log_left
+returns-in-Ok-read_log-clause-log_left g c = λ s refusal ts refused.
+    absurd (setup_one_way s c.in-Ok-read_setup_named.setup refusal (c.in-Ok-read_setup_named.ensures.reads.answers s ts) refused)
+
+pub returns-clause-log_left : goal.returns-clause-log_left
+returns-clause-log_left g c = λ s refusal ts refused.
+    absurd (setup_one_way s c.in-Ok-read_setup_named.setup refusal (c.in-Ok-read_setup_named.ensures.reads.answers s ts) refused)
 
 pub returns-in-Ok-read_log-clause-told : goal.returns-in-Ok-read_log-clause-told
 returns-in-Ok-read_log-clause-told g c =
