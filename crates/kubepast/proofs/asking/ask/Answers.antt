@@ -21,7 +21,7 @@ returns-clause-answered g c = λ s l ts tl.
 pub returns-clause-whole : goal.returns-clause-whole
 returns-clause-whole g c = λ text is.
     let told = history_context c.args.question.now c.in_ok-found.found c.in_ok-answered.answered text
-        (subst (λ t. IsHistoryFrom t c.args.question.now c.in_ok-answered.answered) (c.deref.ensures ∙ c.new-told.ensures) c.in_ok-answered.ensures) is in
+    (subst (λ t. IsHistoryFrom t c.args.question.now c.in_ok-answered.answered) (c.deref.ensures ∙ c.new-told.ensures) c.in_ok-answered.ensures) is in
     c.in_ok-found.ensures.whole told.0 told.1
 
 pub returns-clause-setup_taken : goal.returns-clause-setup_taken

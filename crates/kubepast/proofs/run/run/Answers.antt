@@ -1,10 +1,10 @@
-use Rattle.std.proofs.Common.{◌≡◌, None, map, string_bytes, Global, inl, inr, refl}
+use Rattle.std.proofs.Common.{arith, ◌≡◌, None, map, string_bytes, Global, inl, inr, refl}
 use Rattle.context_intake.proofs.ReadingFacts.{log_untouched}
 use Rattle.log_intake.specs.Setup.{most_setup}
-use Rattle.kubepast.specs.Command.{Verify, command_asked}
+use Rattle.kubepast.specs.Command.{Judge, Verify, command_asked}
 use Rattle.kubepast.specs.Program.{usage_answer}
 use Rattle.kubepast.specs.Verifying.{most_placement}
-use Rattle.kubepast.proofs.RunFacts.{HasRun, keeps_same, run_answer, run_desk_left, run_log_taken, run_placement_left, run_placement_taken, run_setup_taken}
+use Rattle.kubepast.proofs.RunFacts.{HasRun, keeps_same, run_answer, run_desk_left, run_log_left, run_log_taken, run_others_left, run_placement_left, run_placement_taken, run_printed, run_setup_taken}
 use Rattle.kubepast.proofs.VerifyingFacts.{whole_untouched}
 use Rattle.kubepast.proofs.run.run.Given.{Over}
 use Rattle.kubepast.proofs.run.run.Goals as goal
@@ -15,6 +15,9 @@ returns-in-Ok-None-clause-answer g c = λ files tells. inl (usage_answer, (None,
 
 pub returns-in-Ok-None-clause-placement_taken : goal.returns-in-Ok-None-clause-placement_taken
 returns-in-Ok-None-clause-placement_taken g c = λ setup log placement asks. absurd (c.in-Ok-None.ensures (Verify setup log placement) asks)
+
+pub returns-in-Ok-None-clause-printed : goal.returns-in-Ok-None-clause-printed
+returns-in-Ok-None-clause-printed g c = λ setup log asks is. absurd (c.in-Ok-None.ensures (Judge setup log) asks)
 
 -- no memory for the words
 pub returns-in-Err-clause-answer : goal.returns-in-Err-clause-answer
@@ -60,3 +63,12 @@ returns-in-Ok-Some-clause-placement_taken g c = run_placement_taken (ran g c)
 
 pub returns-in-Ok-Some-clause-placement_left : goal.returns-in-Ok-Some-clause-placement_left
 returns-in-Ok-Some-clause-placement_left g c = run_placement_left (ran g c)
+
+pub returns-in-Ok-Some-clause-log_left : goal.returns-in-Ok-Some-clause-log_left
+returns-in-Ok-Some-clause-log_left g c = run_log_left (ran g c)
+
+pub returns-in-Ok-Some-clause-others_left : goal.returns-in-Ok-Some-clause-others_left
+returns-in-Ok-Some-clause-others_left g c = run_others_left (ran g c)
+
+pub returns-in-Ok-Some-clause-printed : goal.returns-in-Ok-Some-clause-printed
+returns-in-Ok-Some-clause-printed g c = run_printed (ran g c)
