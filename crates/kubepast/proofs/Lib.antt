@@ -6,10 +6,12 @@ pub mod OutcomeTrees
 pub mod OutcomeSharing
 pub mod FindingShown
 pub mod JudgingFacts
+pub mod QuestionFacts
 pub mod AskedFacts
 pub mod OneAnswerFacts
 pub mod PrintedHoldsFacts
 pub mod StrictlyFacts
+pub mod AskingFacts
 pub mod VerifyingFacts
 pub mod ReportedFacts
 pub mod RunFacts

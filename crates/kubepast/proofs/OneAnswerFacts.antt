@@ -9,6 +9,8 @@ use Rattle.history_model.specs.Histories.{History}
 use Rattle.history_model.specs.Outcomes as model
 use Rattle.history_model.specs.Readable.{IsReadable}
 use Rattle.history_model.proofs.OneOutcome.{one_outcome_is}
+use Rattle.history_query.specs.OneText.{OneText}
+use Rattle.history_query.specs.declared.question.Question.{Question}
 use Rattle.log_moments.specs.Answers.{IsStrictAnswer}
 use Rattle.log_moments.proofs.OneAnswer.{one_strict_answer}
 use Rattle.serial_machine.specs.Checks.{IsChecked}
@@ -18,13 +20,16 @@ use Rattle.context_intake.proofs.OneContextFacts.{one_context, one_refusal, one_
 use Rattle.version_store.specs.Answered.{names}
 use Rattle.version_store.specs.Histories.{history_of}
 use Rattle.version_store.specs.Known.{Known}
-use Rattle.kubepast.specs.Command.{Asked, IsAsked, Judge, Make, Strict, Verify}
+use Rattle.kubepast.specs.Answering.{IsHistory}
+use Rattle.kubepast.specs.Command.{Ask, Asked, IsAsked, Judge, Make, Strict, Verify}
 use Rattle.kubepast.specs.Endings.{Answer}
 use Rattle.window_writes.specs.Lines.{write_line}
 use Rattle.kubepast.specs.Judging.{IsJudged, IsOutcomeOf, IsPrinted}
 use Rattle.kubepast.specs.OneAnswer.{OneAnswer}
-use Rattle.kubepast.specs.Program.{IsAnswerTo, judged_answer, made_answer, strictly_answer, verified_answer}
+use Rattle.kubepast.specs.Program.{IsAnswerTo, history_answer, judged_answer, made_answer, strictly_answer, verified_answer}
 use Rattle.kubepast.specs.Strictly.{IsExplained, IsStrictlyJudged}
+use Rattle.kubepast.specs.declared.asking.Answered.{Answered}
+use Rattle.kubepast.specs.declared.asking.Answered.TheVariants as answered
 use Rattle.kubepast.specs.declared.strictly.StrictlyJudged.{StrictlyJudged}
 use Rattle.kubepast.specs.declared.strictly.StrictlyJudged.TheVariants.{Plain, Settled}
 use Rattle.kubepast.specs.Verifying.{IsVerified}
@@ -101,17 +106,27 @@ verified_once once setup log placement (verified.Judged a) (verified.Judged b) (
     let lines : x.1.0 ≡ y.1.0 = explained_agree x.1.0 y.1.0 x.1.1.lines_are y.1.1.lines_are (x.1.1.spelled ∙ sym y.1.1.spelled) in
     ap verified.Judged (once (history_of known') y.1.0 a b context'.told.readable (subst (λ l. IsChecked (history_of known') l a) lines (subst (λ h. IsChecked h x.1.0 a) same.2 x.1.2)) y.1.2)
 
-answered_once : OneCheck → (asked : Option Asked) (files : List ℕ → List ℕ) (a b : Answer) → IsAnswerTo asked files a → IsAnswerTo asked files b → a ≡ b
-answered_once once None files a b x y = x ∙ sym y
-answered_once once (Some (Judge setup log)) files a b (judged, is, told) (judged', is', told') = told ∙ ap judged_answer (judged_once (files setup) (files log) judged judged' is is') ∙ sym told'
-answered_once once (Some (Strict setup log)) files a b (found, is, told) (found', is', told') =
-    told ∙ ap strictly_answer (strictly_once (files setup) (files log) found found' is is') ∙ sym told'
-answered_once once (Some (Verify setup log placement)) files a b (found, is, told) (found', is', told') =
-    told ∙ ap verified_answer (verified_once once (files setup) (files log) (files placement) found found' is is') ∙ sym told'
-answered_once once (Some (Make number events)) files a b (judged, is, told) (judged', is', told') = told ∙ ap (made_answer number events) (judged_once setup_text (log_text number events) judged judged' is is') ∙ sym told'
+history_once : OneText → (setup log : List ℕ) (question : Question) (a b : Answered) → IsHistory setup log question a → IsHistory setup log question b → a ≡ b
+history_once once setup log question (answered.Refused a) (answered.Refused b) x y = ap answered.Refused (one_refusal setup log a b x y)
+history_once once setup log question (answered.Refused a) (answered.History text) x (known, context, of) = absurd (one_way setup log a known x context)
+history_once once setup log question (answered.History text) (answered.Refused b) (known, context, of) y = absurd (one_way setup log b known y context)
+history_once once setup log question (answered.History a) (answered.History b) (known, context, of) (known', context', of') =
+    let same = one_context setup log known known' context context' in
+    ap answered.History (once known known' question a b context.told context'.told same.0 same.1 of of')
 
-pub one_answer : OneCheck → OneAnswer
-one_answer check = λ words files a b (asked, spelled, x) (asked', spelled', y). once words files a b asked asked' spelled spelled' x y
+answered_once : OneCheck → OneText → (asked : Option Asked) (files : List ℕ → List ℕ) (a b : Answer) → IsAnswerTo asked files a → IsAnswerTo asked files b → a ≡ b
+answered_once once text None files a b x y = x ∙ sym y
+answered_once once text (Some (Judge setup log)) files a b (judged, is, told) (judged', is', told') = told ∙ ap judged_answer (judged_once (files setup) (files log) judged judged' is is') ∙ sym told'
+answered_once once text (Some (Strict setup log)) files a b (found, is, told) (found', is', told') =
+    told ∙ ap strictly_answer (strictly_once (files setup) (files log) found found' is is') ∙ sym told'
+answered_once once text (Some (Verify setup log placement)) files a b (found, is, told) (found', is', told') =
+    told ∙ ap verified_answer (verified_once once (files setup) (files log) (files placement) found found' is is') ∙ sym told'
+answered_once once text (Some (Ask setup log question)) files a b (found, is, told) (found', is', told') =
+    told ∙ ap history_answer (history_once text (files setup) (files log) question found found' is is') ∙ sym told'
+answered_once once text (Some (Make number events)) files a b (judged, is, told) (judged', is', told') = told ∙ ap (made_answer number events) (judged_once setup_text (log_text number events) judged judged' is is') ∙ sym told'
+
+pub one_answer : OneCheck → OneText → OneAnswer
+one_answer check text = λ words files a b (asked, spelled, x) (asked', spelled', y). once words files a b asked asked' spelled spelled' x y
   where
     once : (words : List (List ℕ)) (files : List ℕ → List ℕ) (a b : Answer) (asked asked' : Option Asked) → IsAsked words asked → IsAsked words asked' → IsAnswerTo asked files a → IsAnswerTo asked' files b → a ≡ b
-    once words files a b asked asked' spelled spelled' x y = answered_once check asked files a b x (subst (λ o. IsAnswerTo o files b) (one_asked words asked' asked spelled' spelled) y)
+    once words files a b asked asked' spelled spelled' x y = answered_once check text asked files a b x (subst (λ o. IsAnswerTo o files b) (one_asked words asked' asked spelled' spelled) y)

@@ -1,5 +1,5 @@
 -- A command's report, of what was judged or checked.
-use Rattle.std.proofs.Common.{◌≡◌, ◌⊎◌, ℕ, List, Option, Some, Result, Ok, Err, IfOk, IsErrOf, inl, inr, refl, sym, ◌∙◌, ap, subst, arith}
+use Rattle.std.proofs.Common.{◌≡◌, ◌≢◌, ◌⊎◌, ℕ, List, Option, Some, Result, Ok, Err, IfOk, IsErrOf, inl, inr, refl, sym, ◌∙◌, ap, subst, arith}
 use Rattle.std.specs.Io.KnownBytes.{IsAtEnd}
 use Rattle.base_types.specs.declared.placed.Outcome.{Outcome}
 use Rattle.context_intake.specs.Contexts.{IsRefused}
@@ -12,15 +12,20 @@ use Rattle.edge_io.specs.Faults.{Rose}
 use Rattle.edge_io.specs.Whole.{TakesWhole}
 use Rattle.log_intake.specs.Setup.{TakesSetup}
 use Rattle.log_intake.specs.Taking.{TakesLog}
+use Rattle.history_query.specs.declared.question.Question.{Question}
 use Rattle.serial_machine.specs.declared.checked.Checked.{Checked}
-use Rattle.kubepast.specs.Command.{Judge, Make, Strict, Verify}
-use Rattle.kubepast.specs.Endings.{Answer, Tells}
+use Rattle.kubepast.specs.Answering.{IsHistory}
+use Rattle.kubepast.specs.Command.{Ask, Judge, Make, Reads, Strict, Tells, Verify}
+use Rattle.kubepast.specs.Endings.{Answer}
 use Rattle.kubepast.specs.Judging.{IsJudged}
-use Rattle.kubepast.specs.Program.{IsAnswerTo, judged_answer, refusal_answer, report_answer, strictly_answer, verified_answer}
-use Rattle.kubepast.specs.Reported.{IsReported, IsVerdict}
+use Rattle.kubepast.specs.Program.{IsAnswerTo, history_answer, judged_answer, refusal_answer, report_answer, strictly_answer, verified_answer}
+use Rattle.context_intake.specs.Refusals.{IsSetupRefused}
+use Rattle.kubepast.specs.Reported.{IsPrinted, IsReported, IsVerdict}
 use Rattle.kubepast.specs.Strictly as strict
 use Rattle.kubepast.specs.Strictly.{IsStrictlyJudged}
 use Rattle.kubepast.specs.Verifying.{IsVerified, most_placement}
+use Rattle.kubepast.specs.declared.asking.Answered.{Answered}
+use Rattle.kubepast.specs.declared.asking.Answered.TheVariants as answered
 use Rattle.kubepast.specs.declared.judged.Judged.{Judged}
 use Rattle.kubepast.specs.declared.judged.Judged.TheVariants.{Refused, Verdict}
 use Rattle.kubepast.specs.declared.report.Report.{Report}
@@ -103,39 +108,56 @@ verified_end Q (verified.Misspelt line) report told ends verdict = absurd (other
     other status (inr is) no_status = omega (arith, is, no_status)
 verified_end Q (verified.Judged checked) report told ends verdict = ends checked refl
 
+history_end : (Q : Type 0) (found : Answered) (report : Report) → report_answer report ≡ history_answer found → ((text : List ℕ) → found ≡ answered.History text → Q) → IsVerdict report → Q
+history_end Q (answered.Refused refusal) report told ends verdict = absurd (no_verdict refusal report told verdict)
+history_end Q (answered.History text) report told ends verdict = ends text refl
+
+-- of another command nothing is said here
+unprinted : (result : Result Report Stop) → IfOk result (λ report. Unit {0})
+unprinted (Ok report) = tt
+unprinted (Err stop) = tt
+
 module _ (old now : List ℕ → Option (List ℕ)) (untouched : Type 0) (before after : ℕ) (setup log : List ℕ) (result : Result Report Stop) where
   pub judge_reported : (inner : Result Judged Stop) → IsPassed judged_answer inner result
       → IfOk inner (λ judged. (s l : List ℕ) → old setup ≡ Some s → old log ≡ Some l → IsJudged s l judged)
       → IfOk inner (λ judged. (outcome : Outcome) → judged ≡ Verdict outcome → IsAtEnd (now setup) × IsAtEnd (now log))
       → (IsErrOf inner ReadFault → Rose before after) → TakesSetup (old setup) (now setup) (IsErrOf inner ReadFault) → TakesLog (old log) (now log) (IsErrOf inner ReadFault)
+      → ((s : List ℕ) (refusal : Refusal) → old setup ≡ Some s → IsSetupRefused s refusal → now log ≡ old log) → ((name : List ℕ) → name ≢ setup → name ≢ log → now name ≡ old name) → IfOk result (IsPrinted (Judge setup log))
       → IsReported (Judge setup log) old now untouched before after result
-  judge_reported inner passed is ends fault setup_taken log_taken = record {
-    answered = of_report judged_answer inner result _ (λ report. (files : List ℕ → List ℕ) → Tells old files → IsAnswerTo (Some (Judge setup log)) files (report_answer report)) passed is
-        (λ judged report told judges files tells. (judged, judges (files setup) (files log) (tells setup) (tells log), told));
+  judge_reported inner passed is ends fault setup_taken log_taken log_left others printed = record {
+    answered = of_report judged_answer inner result _ (λ report. (files : List ℕ → List ℕ) → Tells (Judge setup log) old files → IsAnswerTo (Some (Judge setup log)) files (report_answer report)) passed is
+        (λ judged report told judges files tells. (judged, judges (files setup) (files log) (tells setup (inl refl)) (tells log (inr refl)), told));
     fault = λ failed. fault (failed_read judged_answer inner result passed failed);
     taken = record {
       whole = of_report judged_answer inner result _ (λ report. IsVerdict report → IsAtEnd (now setup) × IsAtEnd (now log)) passed ends
           (λ judged report told ended. judged_end (IsAtEnd (now setup) × IsAtEnd (now log)) judged report told ended);
       setup_taken = setup_as (old setup) (now setup) (now setup) (IsErrOf inner ReadFault) (IsErrOf result ReadFault) refl (failed_read judged_answer inner result passed) setup_taken;
       log_taken = log_as (old log) (old log) (now log) (IsErrOf inner ReadFault) (IsErrOf result ReadFault) refl (failed_read judged_answer inner result passed) log_taken;
+      log_left = log_left;
     };
+    others = λ name unread. others name (λ e. unread (inl e)) (λ e. unread (inr e));
+    printed = printed;
   }
 
   pub strictly_reported : (inner : Result StrictlyJudged Stop) → IsPassed strictly_answer inner result
       → IfOk inner (λ found. (s l : List ℕ) → old setup ≡ Some s → old log ≡ Some l → IsStrictlyJudged s l found)
       → IfOk inner (λ found. strict.IsVerdict found → IsAtEnd (now setup) × IsAtEnd (now log))
       → (IsErrOf inner ReadFault → Rose before after) → TakesSetup (old setup) (now setup) (IsErrOf inner ReadFault) → TakesLog (old log) (now log) (IsErrOf inner ReadFault)
+      → ((s : List ℕ) (refusal : Refusal) → old setup ≡ Some s → IsSetupRefused s refusal → now log ≡ old log) → ((name : List ℕ) → name ≢ setup → name ≢ log → now name ≡ old name)
       → IsReported (Strict setup log) old now untouched before after result
-  strictly_reported inner passed is ends fault setup_taken log_taken = record {
-    answered = of_report strictly_answer inner result _ (λ report. (files : List ℕ → List ℕ) → Tells old files → IsAnswerTo (Some (Strict setup log)) files (report_answer report)) passed is
-        (λ found report told judges files tells. (found, judges (files setup) (files log) (tells setup) (tells log), told));
+  strictly_reported inner passed is ends fault setup_taken log_taken log_left others = record {
+    answered = of_report strictly_answer inner result _ (λ report. (files : List ℕ → List ℕ) → Tells (Strict setup log) old files → IsAnswerTo (Some (Strict setup log)) files (report_answer report)) passed is
+        (λ found report told judges files tells. (found, judges (files setup) (files log) (tells setup (inl refl)) (tells log (inr refl)), told));
     fault = λ failed. fault (failed_read strictly_answer inner result passed failed);
     taken = record {
       whole = of_report strictly_answer inner result _ (λ report. IsVerdict report → IsAtEnd (now setup) × IsAtEnd (now log)) passed ends
           (λ found report told ended. strictly_end (IsAtEnd (now setup) × IsAtEnd (now log)) found report told ended);
       setup_taken = setup_as (old setup) (now setup) (now setup) (IsErrOf inner ReadFault) (IsErrOf result ReadFault) refl (failed_read strictly_answer inner result passed) setup_taken;
       log_taken = log_as (old log) (old log) (now log) (IsErrOf inner ReadFault) (IsErrOf result ReadFault) refl (failed_read strictly_answer inner result passed) log_taken;
+      log_left = log_left;
     };
+    others = λ name unread. others name (λ e. unread (inl e)) (λ e. unread (inr e));
+    printed = unprinted result;
   }
 
   pub verify_reported : (placement : List ℕ) (inner : Result Verified Stop) → IsPassed verified_answer inner result
@@ -144,10 +166,11 @@ module _ (old now : List ℕ → Option (List ℕ)) (untouched : Type 0) (before
       → (IsErrOf inner ReadFault → Rose before after) → TakesSetup (old setup) (now setup) (IsErrOf inner ReadFault) → TakesLog (old log) (now log) (IsErrOf inner ReadFault)
       → TakesWhole most_placement (old placement) (now placement) (IsErrOf inner ReadFault)
       → ((s l : List ℕ) (refusal : Refusal) → old setup ≡ Some s → old log ≡ Some l → IsRefused s l refusal → now placement ≡ old placement)
+      → ((s : List ℕ) (refusal : Refusal) → old setup ≡ Some s → IsSetupRefused s refusal → now log ≡ old log) → ((name : List ℕ) → name ≢ setup → name ≢ log → name ≢ placement → now name ≡ old name)
       → IsReported (Verify setup log placement) old now untouched before after result
-  verify_reported placement inner passed is ends fault setup_taken log_taken placement_taken left = record {
-    answered = of_report verified_answer inner result _ (λ report. (files : List ℕ → List ℕ) → Tells old files → IsAnswerTo (Some (Verify setup log placement)) files (report_answer report)) passed is
-        (λ found report told judges files tells. (found, judges (files setup) (files log) (files placement) (tells setup) (tells log) (tells placement), told));
+  verify_reported placement inner passed is ends fault setup_taken log_taken placement_taken left log_left others = record {
+    answered = of_report verified_answer inner result _ (λ report. (files : List ℕ → List ℕ) → Tells (Verify setup log placement) old files → IsAnswerTo (Some (Verify setup log placement)) files (report_answer report)) passed is
+        (λ found report told judges files tells. (found, judges (files setup) (files log) (files placement) (tells setup (inl refl)) (tells log (inr (inl refl))) (tells placement (inr (inr refl))), told));
     fault = λ failed. fault (failed_read verified_answer inner result passed failed);
     taken = (
       record {
@@ -155,26 +178,54 @@ module _ (old now : List ℕ → Option (List ℕ)) (untouched : Type 0) (before
             (λ found report told ended. verified_end (IsAtEnd (now setup) × IsAtEnd (now log)) found report told (λ checked same. let all = ended checked same in (all.0, all.1)));
         setup_taken = setup_as (old setup) (now setup) (now setup) (IsErrOf inner ReadFault) (IsErrOf result ReadFault) refl (failed_read verified_answer inner result passed) setup_taken;
         log_taken = log_as (old log) (old log) (now log) (IsErrOf inner ReadFault) (IsErrOf result ReadFault) refl (failed_read verified_answer inner result passed) log_taken;
+        log_left = log_left;
       },
       record {
         whole = of_report verified_answer inner result _ (λ report. IsVerdict report → IsAtEnd (now placement)) passed ends
             (λ found report told ended. verified_end (IsAtEnd (now placement)) found report told (λ checked same. let all = ended checked same in all.2));
         taken = whole_from most_placement (old placement) (old placement) (now placement) (IsErrOf inner ReadFault) (IsErrOf result ReadFault) refl (failed_read verified_answer inner result passed) placement_taken;
-        left = λ files refusal tells refused. left (files setup) (files log) refusal (tells setup) (tells log) refused;
+        left = left;
       },
     );
+    others = λ name unread. others name (λ e. unread (inl e)) (λ e. unread (inr (inl e))) (λ e. unread (inr (inr e)));
+    printed = unprinted result;
   }
 
-pub make_reported : (old now : List ℕ → Option (List ℕ)) (untouched : Type 0) (before after number events : ℕ) (result : Result Report Stop) → untouched
+  pub ask_reported : (question : Question) (inner : Result Answered Stop) → IsPassed history_answer inner result
+      → IfOk inner (λ found. (s l : List ℕ) → old setup ≡ Some s → old log ≡ Some l → IsHistory s l question found)
+      → IfOk inner (λ found. (text : List ℕ) → found ≡ answered.History text → IsAtEnd (now setup) × IsAtEnd (now log))
+      → (IsErrOf inner ReadFault → Rose before after) → TakesSetup (old setup) (now setup) (IsErrOf inner ReadFault) → TakesLog (old log) (now log) (IsErrOf inner ReadFault)
+      → ((s : List ℕ) (refusal : Refusal) → old setup ≡ Some s → IsSetupRefused s refusal → now log ≡ old log) → ((name : List ℕ) → name ≢ setup → name ≢ log → now name ≡ old name)
+      → IsReported (Ask setup log question) old now untouched before after result
+  ask_reported question inner passed is ends fault setup_taken log_taken log_left others = record {
+    answered = of_report history_answer inner result _ (λ report. (files : List ℕ → List ℕ) → Tells (Ask setup log question) old files → IsAnswerTo (Some (Ask setup log question)) files (report_answer report)) passed is
+        (λ found report told answers files tells. (found, answers (files setup) (files log) (tells setup (inl refl)) (tells log (inr refl)), told));
+    fault = λ failed. fault (failed_read history_answer inner result passed failed);
+    taken = record {
+      whole = of_report history_answer inner result _ (λ report. IsVerdict report → IsAtEnd (now setup) × IsAtEnd (now log)) passed ends
+          (λ found report told ended. history_end (IsAtEnd (now setup) × IsAtEnd (now log)) found report told ended);
+      setup_taken = setup_as (old setup) (now setup) (now setup) (IsErrOf inner ReadFault) (IsErrOf result ReadFault) refl (failed_read history_answer inner result passed) setup_taken;
+      log_taken = log_as (old log) (old log) (now log) (IsErrOf inner ReadFault) (IsErrOf result ReadFault) refl (failed_read history_answer inner result passed) log_taken;
+      log_left = log_left;
+    };
+    others = λ name unread. others name (λ e. unread (inl e)) (λ e. unread (inr e));
+    printed = unprinted result;
+  }
+
+pub make_reported : (old now : List ℕ → Option (List ℕ)) (untouched : Type 0) (before after number events : ℕ) (result : Result Report Stop) → untouched → ((name : List ℕ) → now name ≡ old name)
     → IfOk result (λ report. (files : List ℕ → List ℕ) → IsAnswerTo (Some (Make number events)) files (report_answer report)) → (IsErrOf result ReadFault → ⊥)
     → IsReported (Make number events) old now untouched before after result
-make_reported old now untouched before after number events (Ok report) same answered no_fault = record {
+make_reported old now untouched before after number events (Ok report) same left answered no_fault = record {
   answered = λ files tells. answered files;
   fault = λ is. absurd (no_fault is);
   taken = same;
+  others = λ name unread. left name;
+  printed = tt;
 }
-make_reported old now untouched before after number events (Err stop) same answered no_fault = record {
+make_reported old now untouched before after number events (Err stop) same left answered no_fault = record {
   answered = tt;
   fault = λ is. absurd (no_fault is);
   taken = same;
+  others = λ name unread. left name;
+  printed = tt;
 }

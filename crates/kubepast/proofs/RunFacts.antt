@@ -1,5 +1,6 @@
 -- Answers that are passed on.
-use Rattle.std.proofs.Common.{◌≡◌, ℕ, List, Option, Some, Result, Ok, Err, IfOk, IsErrOf, inl, inr, refl, sym, ◌∙◌, subst, arith}
+use Rattle.std.proofs.Common.{◌≡◌, ℕ, List, Option, Some, None, Result, Ok, Err, IfOk, IsErrOf, inl, inr, refl, sym, ◌∙◌, subst, arith}
+use Rattle.std.specs.Io.KnownBytes.{Keeps}
 use Rattle.context_intake.specs.Contexts.{IsRefused}
 use Rattle.context_intake.specs.declared.refusal.Refusal.{Refusal}
 use Rattle.context_intake.proofs.ReadingFacts.{log_as, setup_as}
@@ -7,10 +8,12 @@ use Rattle.edge_io.specs.Faults.{Rose}
 use Rattle.edge_io.specs.Whole.{TakesWhole}
 use Rattle.log_intake.specs.Setup.{TakesSetup}
 use Rattle.log_intake.specs.Taking.{TakesLog}
-use Rattle.kubepast.specs.Command.{Asked, AsksOf, IsAsked, IsOfNames, Judge, Make, Spells, Strict, Verify}
-use Rattle.kubepast.specs.Endings.{Answer, IsAnswered, Tells}
+use Rattle.kubepast.specs.Command.{Ask, Asked, AsksOf, IsAsked, IsOfNames, Judge, Make, Reads, Spells, Strict, Tells, TellsWords, Verify}
+use Rattle.kubepast.specs.Endings.{Answer, IsAnswered}
 use Rattle.kubepast.specs.Program.{Concludes, IsAnswer, IsAnswerTo, report_answer, status_number}
-use Rattle.kubepast.specs.Reported.{IsReported, Takes, TakesNames, TakesPlacement}
+use Rattle.context_intake.specs.Refusals.{IsSetupRefused}
+use Rattle.std.specs.Io.KnownBytes.{Appends}
+use Rattle.kubepast.specs.Reported.{IsPlacementText, IsPrinted, IsReported, Takes, TakesNames, TakesPlacement}
 use Rattle.kubepast.specs.Verifying.{most_placement}
 use Rattle.kubepast.proofs.AskedFacts.{one_command}
 use Rattle.kubepast.proofs.VerifyingFacts.{whole_from}
@@ -28,6 +31,10 @@ no_fault SetupRefused is = omega (arith, is)
 no_fault LogRefused is = omega (arith, is)
 no_fault LimitPassed is = omega (arith, is)
 
+pub keeps_same : (known : Option (List ℕ)) → Keeps known known
+keeps_same None = tt
+keeps_same (Some bytes) = refl
+
 module _ (faults_before faults_now : ℕ) (before now : Option (List ℕ)) (result : ℕ) where
   pub concluded_answer : (found : Result Report Stop) (IsRight : Answer → Type 0) (desk_before desk_now : ℕ) → IfOk found (λ report. IsRight (report_answer report)) → (found ≡ Err ReadFault → Rose desk_before desk_now)
       → Concludes found faults_before faults_now before now result → IsAnswered IsRight desk_before desk_now faults_before faults_now before now result
@@ -41,22 +48,32 @@ module _ (faults_before faults_now : ℕ) (before now : Option (List ℕ)) (resu
   concluded_fault (Err ReadFault) ends is = refl
   concluded_fault (Err OutOfMemory) ends is = absurd (let memory = ends.0 in omega (arith, memory, is))
 
+  pub concluded_printed : (found : Result Report Stop) → IfOk found (λ report. status_number report.status ≡ 0 → IsPlacementText report.text)
+      → Concludes found faults_before faults_now before now result → result ≡ 0 → (text : List ℕ) × IsPlacementText text × Appends before now text
+  concluded_printed (Ok report) printed (inl (whole, appends)) is = (report.text, printed (sym whole ∙ is), appends)
+  concluded_printed (Ok report) printed (inr (part, rest)) is = absurd (omega (arith, part, is))
+  concluded_printed (Err ReadFault) printed (inl (whole, appends)) is = absurd (omega (arith, whole, is))
+  concluded_printed (Err ReadFault) printed (inr (part, rest)) is = absurd (omega (arith, part, is))
+  concluded_printed (Err OutOfMemory) printed ends is = absurd (let memory = ends.0 in omega (arith, memory, is))
+
 -- the names of a command that reads
 named : (asked : Asked) (setup log : List ℕ) (old now : List ℕ → Option (List ℕ)) (untouched : Type 0) (found : Result Report Stop) → IsOfNames asked setup log → Takes asked old now untouched found → TakesNames setup log old now found
 named (Judge s l) setup log old now untouched found same takes = subst (λ s. TakesNames s log old now found) same.0 (subst (λ l. TakesNames s l old now found) same.1 takes)
 named (Strict s l) setup log old now untouched found same takes = subst (λ s. TakesNames s log old now found) same.0 (subst (λ l. TakesNames s l old now found) same.1 takes)
 named (Verify s l p) setup log old now untouched found same takes = subst (λ s. TakesNames s log old now found) same.0 (subst (λ l. TakesNames s l old now found) same.1 takes.0)
+named (Ask s l q) setup log old now untouched found same takes = subst (λ s. TakesNames s log old now found) same.0 (subst (λ l. TakesNames s l old now found) same.1 takes)
 named (Make number events) setup log old now untouched found same takes = absurd same
 
 nothing_named : (asked : Asked) (old now : List ℕ → Option (List ℕ)) (untouched : Type 0) (found : Result Report Stop) → ((setup log : List ℕ) → IsOfNames asked setup log → ⊥) → Takes asked old now untouched found → untouched
 nothing_named (Judge s l) old now untouched found none takes = absurd (none s l (refl, refl))
 nothing_named (Strict s l) old now untouched found none takes = absurd (none s l (refl, refl))
 nothing_named (Verify s l p) old now untouched found none takes = absurd (none s l (refl, refl))
+nothing_named (Ask s l q) old now untouched found none takes = absurd (none s l (refl, refl))
 nothing_named (Make number events) old now untouched found none takes = takes
 
-answer_to_words : (words : List (List ℕ)) (asked : Asked) (old : List ℕ → Option (List ℕ)) (files : List ℕ → List ℕ) (found : Result Report Stop) → Spells asked words → Tells old files
-    → IfOk found (λ report. (files : List ℕ → List ℕ) → Tells old files → IsAnswerTo (Some asked) files (report_answer report)) → IfOk found (λ report. IsAnswer words files (report_answer report))
-answer_to_words words asked old files (Ok report) spelled tells right = (Some asked, spelled, right files tells)
+answer_to_words : (words : List (List ℕ)) (asked : Asked) (old : List ℕ → Option (List ℕ)) (files : List ℕ → List ℕ) (found : Result Report Stop) → Spells asked words → TellsWords words old files
+    → IfOk found (λ report. (files : List ℕ → List ℕ) → Tells asked old files → IsAnswerTo (Some asked) files (report_answer report)) → IfOk found (λ report. IsAnswer words files (report_answer report))
+answer_to_words words asked old files (Ok report) spelled tells right = (Some asked, spelled, right files (tells asked spelled))
 answer_to_words words asked old files (Err stop) spelled tells right = tt
 
 -- a call whose words are a command: the words, what was found, and how the call ended
@@ -79,7 +96,7 @@ module _ {words : List (List ℕ)} {asked : Asked} {old now : List ℕ → Optio
       let takes : Takes (Verify setup log placement) old now untouched found = subst (λ a. Takes a old now untouched found) (one_command words asked (Verify setup log placement) r.spelled asks) r.reported.taken in
       takes.1
 
-  pub run_answer : (files : List ℕ → List ℕ) → Tells old files → IsAnswered (IsAnswer words files) desk_before desk_now sink_before sink_now before written result
+  pub run_answer : (files : List ℕ → List ℕ) → TellsWords words old files → IsAnswered (IsAnswer words files) desk_before desk_now sink_before sink_now before written result
   run_answer files tells =
       concluded_answer sink_before sink_now before written result found (IsAnswer words files) desk_before desk_now (answer_to_words words asked old files found r.spelled tells r.reported.answered) r.reported.fault r.concluded
 
@@ -96,6 +113,17 @@ module _ {words : List (List ℕ)} {asked : Asked} {old now : List ℕ → Optio
   run_placement_taken setup log placement asks =
       whole_from most_placement (old placement) (old placement) (now placement) (IsErrOf found ReadFault) (result ≡ 5) refl failed (takes_placement setup log placement asks).taken
 
-  pub run_placement_left : (setup log placement : List ℕ) (files : List ℕ → List ℕ) (refusal : Refusal) → IsAsked words (Some (Verify setup log placement))
-      → Tells old files → IsRefused (files setup) (files log) refusal → now placement ≡ old placement
-  run_placement_left setup log placement files refusal asks tells refused = (takes_placement setup log placement asks).left files refusal tells refused
+  pub run_placement_left : (setup log placement of_setup of_log : List ℕ) (refusal : Refusal) → IsAsked words (Some (Verify setup log placement))
+      → old setup ≡ Some of_setup → old log ≡ Some of_log → IsRefused of_setup of_log refusal → now placement ≡ old placement
+  run_placement_left setup log placement of_setup of_log refusal asks = (takes_placement setup log placement asks).left of_setup of_log refusal
+
+  pub run_log_left : (setup log of_setup : List ℕ) (refusal : Refusal) → AsksOf words setup log → old setup ≡ Some of_setup → IsSetupRefused of_setup refusal → now log ≡ old log
+  run_log_left setup log of_setup refusal asks = (takes_names setup log asks).log_left of_setup refusal
+
+  pub run_others_left : (other : Asked) (name : List ℕ) → IsAsked words (Some other) → (Reads other name → ⊥) → now name ≡ old name
+  run_others_left other name asks unread = r.reported.others name (subst (λ a. Reads a name → ⊥) (one_command words other asked asks r.spelled) unread)
+
+  pub run_printed : (setup log : List ℕ) → IsAsked words (Some (Judge setup log)) → result ≡ 0 → (text : List ℕ) × IsPlacementText text × Appends before written text
+  run_printed setup log asks =
+      let printed : IfOk found (IsPrinted (Judge setup log)) = subst (λ a. IfOk found (IsPrinted a)) (one_command words asked (Judge setup log) r.spelled asks) r.reported.printed in
+      concluded_printed sink_before sink_now before written result found printed r.concluded

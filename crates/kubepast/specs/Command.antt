@@ -1,5 +1,5 @@
 -- What the words of the command line ask for.
-use Rattle.std.specs.Prelude.{◌≡◌, ◌≢◌, ◌≤◌, ℕ, List, [], ◌∷◌, Option, Some, None, codes, decimal}
+use Rattle.std.specs.Prelude.{◌≡◌, ◌≢◌, ◌≤◌, ◌⊎◌, ℕ, List, [], ◌∷◌, Option, Some, None, codes, decimal}
 use Rattle.history_query.specs.declared.question.Question.{Question}
 use Rattle.verdict_text.specs.Words.{IsNumber}
 use Rattle.kubepast.specs.Asking.{SpellsQuestion, verb_of}
@@ -55,6 +55,22 @@ IsOfNames (Strict setup log) setup' log' = (setup ≡ setup') × (log ≡ log')
 IsOfNames (Verify setup log placement) setup' log' = (setup ≡ setup') × (log ≡ log')
 IsOfNames (Ask setup log question) setup' log' = (setup ≡ setup') × (log ≡ log')
 IsOfNames (Make number events) setup' log' = ⊥
+
+-- the command reads what has this name
+abbrev pub Reads : Asked → List ℕ → Type 0
+Reads (Judge setup log) name = (name ≡ setup) ⊎ (name ≡ log)
+Reads (Strict setup log) name = (name ≡ setup) ⊎ (name ≡ log)
+Reads (Verify setup log placement) name = (name ≡ setup) ⊎ (name ≡ log) ⊎ (name ≡ placement)
+Reads (Ask setup log question) name = (name ≡ setup) ⊎ (name ≡ log)
+Reads (Make number events) name = ⊥
+
+-- a desk tells the bytes of each name that the command reads
+abbrev pub Tells : Asked → (List ℕ → Option (List ℕ)) → (List ℕ → List ℕ) → Type 0
+Tells asked left files = (name : List ℕ) → Reads asked name → left name ≡ Some (files name)
+
+-- the same of the command that the words spell
+abbrev pub TellsWords : List (List ℕ) → (List ℕ → Option (List ℕ)) → (List ℕ → List ℕ) → Type 0
+TellsWords words left files = (asked : Asked) → IsAsked words (Some asked) → Tells asked left files
 
 -- the words ask for what a setup and a log of these names tell
 abbrev pub AsksOf : List (List ℕ) → List ℕ → List ℕ → Type 0

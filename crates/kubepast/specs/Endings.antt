@@ -13,10 +13,6 @@ pub record Answer : Type 0 where
 abbrev pub line_of : List ℕ → List ℕ
 line_of words = words ++ newline ∷ []
 
--- a desk tells the bytes of every name
-abbrev pub Tells : (List ℕ → Option (List ℕ)) → (List ℕ → List ℕ) → Type 0
-Tells left files = (name : List ℕ) → left name ≡ Some (files name)
-
 -- a proper prefix of a text was written
 abbrev pub AppendsPart : Option (List ℕ) → Option (List ℕ) → List ℕ → Type 0
 AppendsPart before now text = (n : ℕ) × (n < length text) × Appends before now (take n text)

@@ -1,7 +1,9 @@
 -- What a command comes to before it is written: its report, and what was taken of the names.
 use Rattle.std.specs.Prelude.{◌≡◌, ◌⊎◌, ℕ, List, Option, Some, Result, IfOk, IsErrOf}
 use Rattle.std.specs.Io.KnownBytes.{IsAtEnd}
+use Rattle.base_types.specs.declared.placed.PlacedLine.{PlacedLine}
 use Rattle.context_intake.specs.Contexts.{IsRefused}
+use Rattle.context_intake.specs.Refusals.{IsSetupRefused}
 use Rattle.context_intake.specs.declared.refusal.Refusal.{Refusal}
 use Rattle.context_intake.specs.declared.stop.Stop.{Stop}
 use Rattle.context_intake.specs.declared.stop.Stop.TheVariants.{ReadFault}
@@ -9,11 +11,12 @@ use Rattle.edge_io.specs.Faults.{Rose}
 use Rattle.edge_io.specs.Whole.{TakesWhole}
 use Rattle.log_intake.specs.Setup.{TakesSetup}
 use Rattle.log_intake.specs.Taking.{TakesLog}
-use Rattle.kubepast.specs.Command.{Ask, Asked, Judge, Make, Spells, Strict, Verify}
-use Rattle.kubepast.specs.Endings.{Tells}
+use Rattle.kubepast.specs.Command.{Ask, Asked, Judge, Make, Reads, Spells, Strict, Tells, Verify}
 use Rattle.kubepast.specs.Program.{IsAnswerTo, report_answer, status_number}
 use Rattle.kubepast.specs.Verifying.{most_placement}
 use Rattle.kubepast.specs.declared.report.Report.{Report}
+use Rattle.verdict_text.specs.Outcome.{explained_text}
+use Rattle.verdict_text.specs.Reading.{IsPlacement}
 
 -- some words ask for the command
 abbrev pub IsSpelled : Asked → Type 0
@@ -23,17 +26,18 @@ IsSpelled asked = (words : List (List ℕ)) × Spells asked words
 abbrev pub IsVerdict : Report → Type 0
 IsVerdict report = (status_number report.status ≡ 0) ⊎ (status_number report.status ≡ 1)
 
--- what was taken of a setup and a log
+-- what was taken of a setup and a log: nothing of the log where the setup is refused
 pub record TakesNames (setup log : List ℕ) (old now : List ℕ → Option (List ℕ)) (found : Result Report Stop) : Type 0 where
   pub whole : IfOk found (λ report. IsVerdict report → IsAtEnd (now setup) × IsAtEnd (now log))
   pub setup_taken : TakesSetup (old setup) (now setup) (IsErrOf found ReadFault)
   pub log_taken : TakesLog (old log) (now log) (IsErrOf found ReadFault)
+  pub log_left : (of_setup : List ℕ) (refusal : Refusal) → old setup ≡ Some of_setup → IsSetupRefused of_setup refusal → now log ≡ old log
 
 -- what was taken of a placement: nothing where the setup or the log is refused
 pub record TakesPlacement (setup log placement : List ℕ) (old now : List ℕ → Option (List ℕ)) (found : Result Report Stop) : Type 0 where
   pub whole : IfOk found (λ report. IsVerdict report → IsAtEnd (now placement))
   pub taken : TakesWhole most_placement (old placement) (now placement) (IsErrOf found ReadFault)
-  pub left : (files : List ℕ → List ℕ) (refusal : Refusal) → Tells old files → IsRefused (files setup) (files log) refusal → now placement ≡ old placement
+  pub left : (of_setup of_log : List ℕ) (refusal : Refusal) → old setup ≡ Some of_setup → old log ≡ Some of_log → IsRefused of_setup of_log refusal → now placement ≡ old placement
 
 -- a command that reads nothing leaves the desk untouched
 abbrev pub Takes : Asked → (old now : List ℕ → Option (List ℕ)) → (untouched : Type 0) → Result Report Stop → Type 0
@@ -43,8 +47,23 @@ Takes (Verify setup log placement) old now untouched found = TakesNames setup lo
 Takes (Ask setup log question) old now untouched found = TakesNames setup log old now found
 Takes (Make number events) old now untouched found = untouched
 
+-- the report of an explained log is a placement's text, which can be read
+pub record IsPlacementText (text : List ℕ) : Type 0 where
+  pub lines : List PlacedLine
+  pub placement : IsPlacement lines
+  pub spelled : text ≡ explained_text lines
+
+abbrev pub IsPrinted : Asked → Report → Type 0
+IsPrinted (Judge setup log) report = status_number report.status ≡ 0 → IsPlacementText report.text
+IsPrinted (Strict setup log) report = Unit {0}
+IsPrinted (Verify setup log placement) report = Unit {0}
+IsPrinted (Ask setup log question) report = Unit {0}
+IsPrinted (Make number events) report = Unit {0}
+
 -- the report is that of the command; the faults are those of the desk
 pub record IsReported (asked : Asked) (old now : List ℕ → Option (List ℕ)) (untouched : Type 0) (faults_before faults_now : ℕ) (found : Result Report Stop) : Type 0 where
-  pub answered : IfOk found (λ report. (files : List ℕ → List ℕ) → Tells old files → IsAnswerTo (Some asked) files (report_answer report))
+  pub answered : IfOk found (λ report. (files : List ℕ → List ℕ) → Tells asked old files → IsAnswerTo (Some asked) files (report_answer report))
   pub fault : IsErrOf found ReadFault → Rose faults_before faults_now
   pub taken : Takes asked old now untouched found
+  pub others : (name : List ℕ) → (Reads asked name → ⊥) → now name ≡ old name
+  pub printed : IfOk found (IsPrinted asked)

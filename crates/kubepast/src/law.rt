@@ -6,6 +6,7 @@ pub fn one_answer_law()
     ensures { OneAnswer }
 {
     serial_machine::one_answer_law();
+    history_query::one_text_law();
 }
 
 /// What `judge` prints of an explained log holds as its placement.

@@ -1,4 +1,4 @@
-ghost use Rattle.std.specs.Prelude.{◌≡◌, ◌≢◌, ◌∷◌, [], ℕ, IfOk, IfSome, IfNone, IsErrOf, map, string_bytes, codes};
+ghost use Rattle.std.specs.Prelude.{◌≡◌, ◌≢◌, ◌∷◌, [], ℕ, None, IfOk, IfSome, IfNone, IsErrOf, map, string_bytes, codes};
 ghost use Rattle.base_types.specs.Keys.{IsNamed};
 ghost use Rattle.kubepast.specs.Asking.{IsPlaceWord, IsQuestionRead, groups_of};
 ghost use Rattle.kubepast.specs.Command.{IsAskRead};
@@ -145,8 +145,17 @@ fn read_can(
     let uri = Text::from_str(alloc, uri)?;
     match attrs_of(alloc, &request, &uri) {
         Ok(attrs) => Ok(Some(Question::Can { place, who, attrs })),
-        Err(UriFault::OutOfMemory) => Err(OutOfMemory),
-        Err(_) => Ok(None),
+        Err(fault) => without_attrs(fault),
+    }
+}
+
+// A URI without attributes asks nothing.
+fn without_attrs(fault: UriFault) -> Result<Option<Question>, OutOfMemory>
+    ensures { IfOk result (λ found. (found ≡ None) × (fault ≢ UriFault.OutOfMemory)) }
+{
+    match fault {
+        UriFault::NoSlash | UriFault::BadEscape | UriFault::NotText => Ok(None),
+        UriFault::OutOfMemory => Err(OutOfMemory),
     }
 }
 

@@ -1,5 +1,6 @@
 ghost use Rattle.std.specs.Prelude.{◌≡◌, ◌++◌, IfOk, string_bytes};
 ghost use Rattle.kubepast.specs.Program.{answer, checked_status, history_answer, judged_answer, made_answer, outcome_status, refusal_answer, report_answer, settled_answer, status_number, strictly_answer, verified_answer};
+ghost use Rattle.kubepast.specs.Reported.{IsPlacementText};
 ghost use Rattle.context_intake.specs.Refusals.{event_rule_number, limit_word, setup_rule_number};
 
 use crate::asking::Answered;
@@ -55,7 +56,8 @@ pub struct Report {
 
 /// The report of what a setup and a log come to.
 pub fn judged_report(alloc: Global, judged: &Judged) -> Result<Report, OutOfMemory>
-    ensures { IfOk result (λ report. report_answer report ≡ judged_answer judged.now) }
+    ensures report { IfOk result (λ report. report_answer report ≡ judged_answer judged.now) }
+    ensures printed { IfOk result (λ report. status_number report.status ≡ 0 → IsPlacementText report.text) }
 {
     match judged {
         Judged::Refused(refusal) => refusal_report(alloc, *refusal),
@@ -150,10 +152,10 @@ pub fn history_report(alloc: Global, found: Answered) -> Result<Report, OutOfMem
 {
     match found {
         Answered::Refused(refusal) => refusal_report(alloc, refusal),
-        Answered::History(text) => Ok(Report {
-            status: Status::Explained,
-            text,
-        }),
+        Answered::History(text) => {
+            let status = Status::Explained;
+            Ok(Report { status, text })
+        }
     }
 }
 

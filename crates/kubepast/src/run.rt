@@ -1,13 +1,15 @@
 ghost use Rattle.std.specs.Prelude.{◌≡◌, ◌⊎◌, ℕ, List, Some, None, map, string_bytes};
-ghost use Rattle.std.specs.Io.KnownBytes.{IsAtEnd, Keeps};
+ghost use Rattle.std.specs.Io.KnownBytes.{Appends, IsAtEnd, Keeps};
 ghost use Rattle.context_intake.specs.Contexts.{IsRefused};
+ghost use Rattle.context_intake.specs.Refusals.{IsSetupRefused};
 ghost use Rattle.edge_io.specs.Faults.{Rose};
 ghost use Rattle.edge_io.specs.Whole.{TakesWhole};
 ghost use Rattle.log_intake.specs.Setup.{TakesSetup};
 ghost use Rattle.log_intake.specs.Taking.{TakesLog};
-ghost use Rattle.kubepast.specs.Command.{AsksOf, IsAsked, Verify};
+ghost use Rattle.kubepast.specs.Command.{Asked, AsksOf, IsAsked, Judge, Reads, TellsWords, Verify};
 ghost use Rattle.kubepast.specs.Verifying.{most_placement};
-ghost use Rattle.kubepast.specs.Endings.{IsAnswered, Tells, Ends};
+ghost use Rattle.kubepast.specs.Endings.{IsAnswered, Ends};
+ghost use Rattle.kubepast.specs.Reported.{IsPlacementText};
 ghost use Rattle.kubepast.specs.Program.{Concludes, IsAnswer, usage_answer};
 
 use crate::ending::end_with;
@@ -34,14 +36,14 @@ pub fn run<R: Threads + Sync, D: Desk, K: Sink, G: Gate, H: Gate>(
     gate: &G,
     lines: &H,
 ) -> u8
-    ensures answer { (files : List ℕ → List ℕ) → Tells (D.left desk.old) files
+    ensures answer { (files : List ℕ → List ℕ) → TellsWords (map string_bytes words.now) (D.left desk.old) files
         → IsAnswered (IsAnswer (map string_bytes words.now) files)
         (D.faults desk.old) (D.faults desk.new) (K.faults out.old) (K.faults out.new)
         (K.written out.old) (K.written out.new) result }
 
     // Whether the desk tells its bytes or not.
     ensures usage { IsAsked (map string_bytes words.now) None
-        → Ends 2 usage_answer.text (K.faults out.old) (K.faults out.new) (K.written out.old) (K.written out.new) result }
+        → Ends 2 usage_answer.text (K.faults out.old) (K.faults out.new) (K.written out.old) (K.written out.new) result ⊎ (result ≡ 8) }
     ensures usage_only { result ≡ 2 → IsAsked (map string_bytes words.now) None }
     ensures read_fault { result ≡ 5 → Rose (D.faults desk.old) (D.faults desk.new) }
     ensures write_fault { result ≡ 6 → Rose (K.faults out.old) (K.faults out.new) }
@@ -57,8 +59,14 @@ pub fn run<R: Threads + Sync, D: Desk, K: Sink, G: Gate, H: Gate>(
         → (result ≡ 0) ⊎ (result ≡ 1) → IsAtEnd (D.left desk.new placement) }
     ensures placement_taken { (setup log placement : List ℕ) → IsAsked (map string_bytes words.now) (Some (Verify setup log placement))
         → TakesWhole most_placement (D.left desk.old placement) (D.left desk.new placement) (result ≡ 5) }
-    ensures placement_left { (setup log placement : List ℕ) (files : List ℕ → List ℕ) (refusal : Refusal) → IsAsked (map string_bytes words.now) (Some (Verify setup log placement))
-        → Tells (D.left desk.old) files → IsRefused (files setup) (files log) refusal → D.left desk.new placement ≡ D.left desk.old placement }
+    ensures placement_left { (setup log placement of_setup of_log : List ℕ) (refusal : Refusal) → IsAsked (map string_bytes words.now) (Some (Verify setup log placement))
+        → D.left desk.old setup ≡ Some of_setup → D.left desk.old log ≡ Some of_log → IsRefused of_setup of_log refusal → D.left desk.new placement ≡ D.left desk.old placement }
+    ensures log_left { (setup log of_setup : List ℕ) (refusal : Refusal) → AsksOf (map string_bytes words.now) setup log
+        → D.left desk.old setup ≡ Some of_setup → IsSetupRefused of_setup refusal → D.left desk.new log ≡ D.left desk.old log }
+    ensures others_left { (asked : Asked) (name : List ℕ) → IsAsked (map string_bytes words.now) (Some asked) → (Reads asked name → ⊥)
+        → D.left desk.new name ≡ D.left desk.old name }
+    ensures printed { (setup log : List ℕ) → IsAsked (map string_bytes words.now) (Some (Judge setup log)) → result ≡ 0
+        → (text : List ℕ) × IsPlacementText text × Appends (K.written out.old) (K.written out.new) text }
 {
     let gates = Gates {
         events: gate,

@@ -1,43 +1,74 @@
-use Rattle.std.proofs.Common.{◌≡◌, None, map, string_bytes, Global, inl, refl, subst}
-use Rattle.kubepast.specs.Command.{IsRead, Verify, command_asked}
+use Rattle.std.proofs.Common.{arith, ◌≡◌, None, map, string_bytes, Global, inl, inr, refl}
+use Rattle.context_intake.proofs.ReadingFacts.{log_untouched}
+use Rattle.log_intake.specs.Setup.{most_setup}
+use Rattle.kubepast.specs.Command.{Judge, Verify, command_asked}
 use Rattle.kubepast.specs.Program.{usage_answer}
-use Rattle.kubepast.proofs.RunFacts.{HasRun, run_answer, run_desk_left, run_log_taken, run_placement_left, run_placement_taken, run_setup_taken}
+use Rattle.kubepast.specs.Verifying.{most_placement}
+use Rattle.kubepast.proofs.RunFacts.{HasRun, keeps_same, run_answer, run_desk_left, run_log_left, run_log_taken, run_others_left, run_placement_left, run_placement_taken, run_printed, run_setup_taken}
+use Rattle.kubepast.proofs.VerifyingFacts.{whole_untouched}
 use Rattle.kubepast.proofs.run.run.Given.{Over}
 use Rattle.kubepast.proofs.run.run.Goals as goal
 
 -- words that are no command
-pub returns-in_default-clause-answer : goal.returns-in_default-clause-answer
-returns-in_default-clause-answer g c = λ files tells. inl (usage_answer, (None, subst (IsRead (map (string_bytes {Z = Global}) c.args.words.now)) c.in_default.is c.read_words.ensures, refl), c.end_with.ensures.ends)
+pub returns-in-Ok-None-clause-answer : goal.returns-in-Ok-None-clause-answer
+returns-in-Ok-None-clause-answer g c = λ files tells. inl (usage_answer, (None, c.in-Ok-None.ensures, refl), c.end_with.ensures.ends)
 
-pub returns-in_default-clause-placement_taken : goal.returns-in_default-clause-placement_taken
-returns-in_default-clause-placement_taken g c = λ setup log placement asks.
-    absurd (subst (IsRead (map (string_bytes {Z = Global}) c.args.words.now)) c.in_default.is c.read_words.ensures (Verify setup log placement) asks)
+pub returns-in-Ok-None-clause-placement_taken : goal.returns-in-Ok-None-clause-placement_taken
+returns-in-Ok-None-clause-placement_taken g c = λ setup log placement asks. absurd (c.in-Ok-None.ensures (Verify setup log placement) asks)
+
+pub returns-in-Ok-None-clause-printed : goal.returns-in-Ok-None-clause-printed
+returns-in-Ok-None-clause-printed g c = λ setup log asks is. absurd (c.in-Ok-None.ensures (Judge setup log) asks)
+
+-- no memory for the words
+pub returns-in-Err-clause-answer : goal.returns-in-Err-clause-answer
+returns-in-Err-clause-answer g c = λ files tells. inr (inr (refl, keeps_same (g.K.Sink.written c.args.out.now)))
+
+pub returns-in-Err-clause-memory : goal.returns-in-Err-clause-memory
+returns-in-Err-clause-memory g c = λ is. keeps_same (g.K.Sink.written c.args.out.now)
+
+pub returns-in-Err-clause-setup_taken : goal.returns-in-Err-clause-setup_taken
+returns-in-Err-clause-setup_taken g c = λ setup log asks. whole_untouched most_setup (g.D.Desk.left c.args.desk.now setup) (g.D.Desk.left c.args.desk.now setup) _ refl
+
+pub returns-in-Err-clause-log_taken : goal.returns-in-Err-clause-log_taken
+returns-in-Err-clause-log_taken g c = λ setup log asks. log_untouched (g.D.Desk.left c.args.desk.now log) (g.D.Desk.left c.args.desk.now log) _ refl
+
+pub returns-in-Err-clause-placement_taken : goal.returns-in-Err-clause-placement_taken
+returns-in-Err-clause-placement_taken g c = λ setup log placement asks. whole_untouched most_placement (g.D.Desk.left c.args.desk.now placement) (g.D.Desk.left c.args.desk.now placement) _ refl
 
 -- words that are one
 ran : (g : Over) (c : goal.After-conclude g)
-    → HasRun (map (string_bytes {Z = Global}) c.args.words.now) (command_asked c.in-Some.command) (g.D.Desk.left c.args.desk.now) (g.D.Desk.left c.report_of-found.new.desk) (c.report_of-found.new.desk ≡ c.args.desk.now)
-    (g.D.Desk.faults c.args.desk.now) (g.D.Desk.faults c.report_of-found.new.desk) (g.K.Sink.faults c.args.out.now) (g.K.Sink.faults c.conclude.new.out)
-    (g.K.Sink.written c.args.out.now) (g.K.Sink.written c.conclude.new.out) c.conclude.result c.report_of-found.result
+    → HasRun (map (string_bytes {Z = Global}) c.args.words.now) (command_asked c.in-Ok-Some.command) (g.D.Desk.left c.args.desk.now) (g.D.Desk.left c.report_of.new.desk) (c.report_of.new.desk ≡ c.args.desk.now)
+    (g.D.Desk.faults c.args.desk.now) (g.D.Desk.faults c.report_of.new.desk) (g.K.Sink.faults c.args.out.now) (g.K.Sink.faults c.conclude.new.out)
+    (g.K.Sink.written c.args.out.now) (g.K.Sink.written c.conclude.new.out) c.conclude.result c.report_of.result
 ran g c = record {
-  spelled = subst (IsRead (map (string_bytes {Z = Global}) c.args.words.now)) c.in-Some.is c.read_words.ensures;
-  reported = c.report_of-found.ensures;
+  spelled = c.in-Ok-Some.ensures;
+  reported = c.report_of.ensures;
   concluded = c.conclude.ensures;
 }
 
-pub returns-clause-answer : goal.returns-clause-answer
-returns-clause-answer g c = run_answer (ran g c)
+pub returns-in-Ok-Some-clause-answer : goal.returns-in-Ok-Some-clause-answer
+returns-in-Ok-Some-clause-answer g c = run_answer (ran g c)
 
-pub returns-clause-desk_left : goal.returns-clause-desk_left
-returns-clause-desk_left g c = run_desk_left (ran g c)
+pub returns-in-Ok-Some-clause-desk_left : goal.returns-in-Ok-Some-clause-desk_left
+returns-in-Ok-Some-clause-desk_left g c = run_desk_left (ran g c)
 
-pub returns-clause-setup_taken : goal.returns-clause-setup_taken
-returns-clause-setup_taken g c = run_setup_taken (ran g c)
+pub returns-in-Ok-Some-clause-setup_taken : goal.returns-in-Ok-Some-clause-setup_taken
+returns-in-Ok-Some-clause-setup_taken g c = run_setup_taken (ran g c)
 
-pub returns-clause-log_taken : goal.returns-clause-log_taken
-returns-clause-log_taken g c = run_log_taken (ran g c)
+pub returns-in-Ok-Some-clause-log_taken : goal.returns-in-Ok-Some-clause-log_taken
+returns-in-Ok-Some-clause-log_taken g c = run_log_taken (ran g c)
 
-pub returns-clause-placement_taken : goal.returns-clause-placement_taken
-returns-clause-placement_taken g c = run_placement_taken (ran g c)
+pub returns-in-Ok-Some-clause-placement_taken : goal.returns-in-Ok-Some-clause-placement_taken
+returns-in-Ok-Some-clause-placement_taken g c = run_placement_taken (ran g c)
 
-pub returns-clause-placement_left : goal.returns-clause-placement_left
-returns-clause-placement_left g c = run_placement_left (ran g c)
+pub returns-in-Ok-Some-clause-placement_left : goal.returns-in-Ok-Some-clause-placement_left
+returns-in-Ok-Some-clause-placement_left g c = run_placement_left (ran g c)
+
+pub returns-in-Ok-Some-clause-log_left : goal.returns-in-Ok-Some-clause-log_left
+returns-in-Ok-Some-clause-log_left g c = run_log_left (ran g c)
+
+pub returns-in-Ok-Some-clause-others_left : goal.returns-in-Ok-Some-clause-others_left
+returns-in-Ok-Some-clause-others_left g c = run_others_left (ran g c)
+
+pub returns-in-Ok-Some-clause-printed : goal.returns-in-Ok-Some-clause-printed
+returns-in-Ok-Some-clause-printed g c = run_printed (ran g c)

@@ -55,3 +55,10 @@ pub returns-clause-placement_left : goal.returns-clause-placement_left
 returns-clause-placement_left g c = λ s l refusal ts tl refused.
     c.verified_of.ensures.left (λ context. refused_told s l refusal c.in_ok-found.found refused (c.in_ok-found.ensures.told s l ts tl) (subst IsOfContext (c.deref.ensures ∙ c.new-told.ensures) context))
     ∙ c.in_ok-found.ensures.others c.args.placement.now c.requires.not_setup c.requires.not_log
+
+pub returns-clause-log_left : goal.returns-clause-log_left
+returns-clause-log_left g c = λ s refusal ts refused.
+    c.verified_of.ensures.others c.args.log.now (λ e. c.requires.not_log (sym e)) ∙ c.in_ok-found.ensures.log_left s refusal ts refused
+
+pub returns-clause-others : goal.returns-clause-others
+returns-clause-others g c = λ other not_setup not_log not_placement. c.verified_of.ensures.others other not_placement ∙ c.in_ok-found.ensures.others other not_setup not_log
