@@ -19,6 +19,7 @@ use crate::bodies::Bodies;
 use crate::grown::{Grown, Latest};
 use crate::maker::{Judged, maker_among, shown_by};
 use crate::making::{Making, finding_fault, making_at, making_fault};
+use crate::owner::{Owner, owned};
 use crate::removal::range_behind;
 use crate::removed::Removed;
 use base_types::{OutOfMemory, Revision};
@@ -145,10 +146,12 @@ fn version_in(log: Log<'_>, group: &Group, judged: &[Judged]) -> Result<Version,
     let may_be_unrecorded = log.clouds.may_make(&group.key, group.revision);
     let maker = maker_among(judged, first, may_be_unrecorded);
     let making = write_at(log.events, shown_by(maker, first));
+    let owner = owned(&group.key, &making.item.uid)?;
+    let Owner { key, uid } = owner;
     Ok(Version {
-        key: group.key.clone()?,
+        key,
         revision: group.revision,
-        uid: making.item.uid.clone()?,
+        uid,
         node: making.item.node,
         maker,
     })
@@ -157,10 +160,12 @@ fn version_in(log: Log<'_>, group: &Group, judged: &[Judged]) -> Result<Version,
 fn snapshot_version(item: &Item) -> Result<Version, OutOfMemory>
     ensures { IfOk result (λ version. version ≡ snapshot_version item.now) }
 {
+    let owner = owned(&item.key, &item.uid)?;
+    let Owner { key, uid } = owner;
     Ok(Version {
-        key: item.key.clone()?,
+        key,
         revision: item.revision,
-        uid: item.uid.clone()?,
+        uid,
         node: item.node,
         maker: Maker::Snapshot,
     })
