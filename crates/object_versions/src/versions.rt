@@ -202,6 +202,34 @@ pub struct Written {
     pub judged: Vec<Judged>,
 }
 
+// The version that a group's writes left, and what was judged of each of them.
+#[derive(Drop)]
+struct Left {
+    version: Version,
+    members: Vec<Judged>,
+}
+
+// What a group's writes left behind these versions.
+fn left_of<B: Bodies>(
+    alloc: Global,
+    log: Log<'_>,
+    bodies: &B,
+    grown: &Grown,
+    group: &Group,
+) -> Result<Left, OutOfMemory>
+    requires writes { AreWrites log.events.now group.now.members }
+    ensures key { IfOk result (λ left. left.version.key ≡ group.now.key) }
+    ensures revision { IfOk result (λ left. left.version.revision ≡ group.now.revision) }
+    ensures made { IfOk result (λ left. (h : History) → IsOfGroup log.entry group.now left.members.items h → IsMadeVersion h (version_of left.version)) }
+    ensures numbers { IfOk result (λ left. map (λ one. one.number) left.members.items ≡ group.now.members) }
+    ensures judged { IfOk result (λ left. (h : History) → IsOfLog log.entry (B.body bodies.now) h → Extends h grown.now group.now.revision
+        → All (IsAnsweredAt log.entry.events.now group.now.revision) group.now.members → AreJudged h log.entry.events.now group.now.members left.members.items) }
+{
+    let members = judge_each(alloc, log, bodies, grown, group.members.as_slice())?;
+    let version = version_in(log, group, &members)?;
+    Ok(Left { version, members })
+}
+
 /// The versions of all objects by revision: those of the snapshot, and one for each group.
 pub fn write_versions<B: Bodies>(
     alloc: Global,
@@ -227,8 +255,12 @@ pub fn write_versions<B: Bodies>(
     let mut grown = begin(alloc, &order)?;
     let mut judged = Vec::new(alloc);
     for group in groups {
-        let mut members = judge_each(alloc, log, bodies, &grown, group.members.as_slice())?;
-        grown = grown.with(version_in(log, group, &members)?)?;
+        let left = left_of(alloc, log, bodies, &grown, group)?;
+        let Left {
+            version,
+            mut members,
+        } = left;
+        grown = grown.with(version)?;
         judged.append(&mut members)?;
     }
     let (versions, firsts) = grown.into_parts();
