@@ -1,4 +1,4 @@
-ghost use Rattle.std.specs.Prelude.{◌≡◌, ◌≢◌, ◌<◌, ℕ, List, IfOk, IsSome, All, AllPairs, Some, length, map, option_map};
+ghost use Rattle.std.specs.Prelude.{◌≡◌, ◌≢◌, ◌<◌, ◌++◌, ◌∷◌, [], ℕ, List, IfOk, IsSome, All, AllPairs, Some, length, map, option_map};
 ghost use Rattle.std.specs.List.Sorted.{IsPermutation};
 ghost use Rattle.history_model.specs.Histories.{History};
 ghost use Rattle.history_model.specs.Makers.{AreVersions, IsMadeVersion};
@@ -10,6 +10,7 @@ ghost use Rattle.object_past.specs.Modelled.{version_of};
 ghost use Rattle.object_past.specs.declared.version.Version.{Version};
 ghost use Rattle.object_versions.specs.Chosen.{first_write, shown_by};
 ghost use Rattle.object_versions.specs.Growing.{AreFlagged, IsLatestIn};
+ghost use Rattle.object_versions.specs.declared.maker.Judged.{Judged as Writing};
 ghost use Rattle.object_versions.specs.Hidden.{slots_of};
 ghost use Rattle.object_versions.specs.Modelled.{making_of};
 ghost use Rattle.object_versions.specs.Surrounded.{HasLog};
@@ -202,32 +203,29 @@ pub struct Written {
     pub judged: Vec<Judged>,
 }
 
-// The version that a group's writes left, and what was judged of each of them.
-#[derive(Drop)]
-struct Left {
-    version: Version,
-    members: Vec<Judged>,
-}
-
-// What a group's writes left behind these versions.
-fn left_of<B: Bodies>(
+// Takes the version that a group's writes left behind these, and puts what was judged of them behind the others.
+fn add_group<B: Bodies>(
     alloc: Global,
     log: Log<'_>,
     bodies: &B,
-    grown: &Grown,
+    grown: Grown,
+    judged: &mut Vec<Judged>,
     group: &Group,
-) -> Result<Left, OutOfMemory>
+) -> Result<Grown, OutOfMemory>
     requires writes { AreWrites log.events.now group.now.members }
-    ensures key { IfOk result (λ left. left.version.key ≡ group.now.key) }
-    ensures revision { IfOk result (λ left. left.version.revision ≡ group.now.revision) }
-    ensures made { IfOk result (λ left. (h : History) → IsOfGroup log.entry group.now left.members.items h → IsMadeVersion h (version_of left.version)) }
-    ensures numbers { IfOk result (λ left. map (λ one. one.number) left.members.items ≡ group.now.members) }
-    ensures judged { IfOk result (λ left. (h : History) → IsOfLog log.entry (B.body bodies.now) h → Extends h grown.now group.now.revision
-        → All (IsAnsweredAt log.entry.events.now group.now.revision) group.now.members → AreJudged h log.entry.events.now group.now.members left.members.items) }
+    requires above { All (λ v. v.revision < group.now.revision) grown }
+    ensures { IfOk result (λ after. (version : Version) × (more : List Writing)
+        × (after ≡ grown ++ version ∷ []) × (judged.new.items ≡ judged.old.items ++ more)
+        × (version.key ≡ group.now.key) × (version.revision ≡ group.now.revision) × (map (λ one. one.number) more ≡ group.now.members)
+        × ((h : History) → IsOfLog log.entry (B.body bodies.now) h → Extends h grown group.now.revision
+        → All (IsAnsweredAt log.entry.events.now group.now.revision) group.now.members → AreJudged h log.entry.events.now group.now.members more)
+        × ((h : History) → IsOfGroup log.entry group.now more h → IsMadeVersion h (version_of version))) }
 {
-    let members = judge_each(alloc, log, bodies, grown, group.members.as_slice())?;
+    let mut members = judge_each(alloc, log, bodies, &grown, group.members.as_slice())?;
     let version = version_in(log, group, &members)?;
-    Ok(Left { version, members })
+    let grown = grown.with(version)?;
+    judged.append(&mut members)?;
+    Ok(grown)
 }
 
 /// The versions of all objects by revision: those of the snapshot, and one for each group.
@@ -255,13 +253,7 @@ pub fn write_versions<B: Bodies>(
     let mut grown = begin(alloc, &order)?;
     let mut judged = Vec::new(alloc);
     for group in groups {
-        let left = left_of(alloc, log, bodies, &grown, group)?;
-        let Left {
-            version,
-            mut members,
-        } = left;
-        grown = grown.with(version)?;
-        judged.append(&mut members)?;
+        grown = add_group(alloc, log, bodies, grown, &mut judged, group)?;
     }
     let (versions, firsts) = grown.into_parts();
     Ok(Written {
