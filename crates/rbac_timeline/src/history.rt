@@ -1,5 +1,6 @@
-ghost use Rattle.std.specs.Prelude.{◌≡◌, ◌≢◌, ◌<◌, ◌≤◌, [], ◌∷◌, IfOk, IfSome, IfNone, OnOk, List, Contains};
+ghost use Rattle.std.specs.Prelude.{◌≡◌, ◌≢◌, ◌<◌, ◌≤◌, [], ◌∷◌, Some, IfOk, IfSome, IfNone, OnOk, List, Contains};
 ghost use Rattle.std.specs.List.Sorted.{IsNonDecreasingBy, IsPermutation};
+ghost use Rattle.std.specs.BTreeMap.{Updates};
 ghost use Rattle.clouds.specs.Kept.{AddsAt, key_order};
 
 use crate::first::last_before;
@@ -47,6 +48,7 @@ pub struct Gap {
     pub high: u64,
 }
 
+ghost use Rattle.rbac_timeline.specs.Kinds.{role_key};
 ghost use Rattle.rbac_timeline.specs.Kept.{AreGaps, AreStored, content_of, gap_of, stored_of};
 ghost use Rattle.rbac_timeline.specs.Lasting.{IsLast};
 ghost use Rattle.rbac_timeline.specs.Pairs.{AreStoredBetween};
@@ -197,6 +199,17 @@ pub type Histories = BTreeMap<ObjectKey, History>;
 
 pub type Removals = BTreeMap<ObjectKey, Gaps>;
 
+// A binding with the key of its role.
+fn bound_of(alloc: Global, key: &ObjectKey, binding: Binding) -> Result<Content, OutOfMemory>
+    ensures { IfOk result (λ made. made ≡ Content.Bound binding (role_key key.now binding)) }
+{
+    let Ok(role) = role_key(alloc, key, &binding) else {
+        drop(binding);
+        return Err(OutOfMemory);
+    };
+    Ok(Content::Bound(binding, role))
+}
+
 fn content_of(alloc: Global, key: &ObjectKey, content: RbacContent) -> Result<Content, OutOfMemory>
     ensures { IfOk result (λ made. made ≡ content_of key.now content) }
 {
@@ -204,13 +217,30 @@ fn content_of(alloc: Global, key: &ObjectKey, content: RbacContent) -> Result<Co
         RbacContent::Role(rules) => Ok(Content::Rules(rules)),
         RbacContent::Bound(binding) => {
             if is_cluster_binding(kind_of_key(key)) && !binding.role_is_cluster {
+                drop(binding);
                 return Ok(Content::Unreadable);
             }
-            let role = role_key(alloc, key, &binding)?;
-            Ok(Content::Bound(binding, role))
+            bound_of(alloc, key, binding)
         }
         RbacContent::Unreadable => Ok(Content::Unreadable),
     }
+}
+
+// The first version of a key.
+fn begin_stored(
+    alloc: Global,
+    histories: &mut Histories,
+    key: ObjectKey,
+    stored: Stored,
+) -> Result<(), OutOfMemory>
+    ensures { OnOk result (Updates key_order histories.old histories.new key (Some (stored ∷ []))) }
+{
+    let Ok(made) = History::of(alloc, stored) else {
+        drop(key);
+        return Err(OutOfMemory);
+    };
+    drop(histories.insert(key, made)?);
+    Ok(())
 }
 
 fn add_stored(
@@ -227,10 +257,7 @@ fn add_stored(
             history.add(stored)?;
             return Ok(());
         }
-        None => {
-            let made = History::of(alloc, stored)?;
-            let _none = histories.insert(key, made)?;
-        }
+        None => begin_stored(alloc, histories, key, stored)?,
     }
     Ok(())
 }
@@ -247,9 +274,13 @@ fn add_version(
         revision,
         content,
     } = version;
+    let Ok(content) = content_of(alloc, &key, content) else {
+        drop(key);
+        return Err(OutOfMemory);
+    };
     let stored = Stored {
         revision: revision.get(),
-        content: content_of(alloc, &key, content)?,
+        content,
     };
     add_stored(alloc, histories, key, stored)
 }
@@ -265,6 +296,24 @@ pub fn histories_of(alloc: Global, versions: RbacVersions) -> Result<Histories, 
     Ok(histories)
 }
 
+// The first removal of a key's object.
+fn begin_gaps(
+    alloc: Global,
+    removals: &mut Removals,
+    key: &ObjectKey,
+    gap: Gap,
+) -> Result<(), OutOfMemory>
+    ensures { OnOk result (Updates key_order removals.old removals.new key.now (Some (gap ∷ []))) }
+{
+    let made = Gaps::of(alloc, gap)?;
+    let Ok(copy) = key.clone() else {
+        drop(made);
+        return Err(OutOfMemory);
+    };
+    drop(removals.insert(copy, made)?);
+    Ok(())
+}
+
 fn add_end(alloc: Global, removals: &mut Removals, end: &RbacEnd) -> Result<(), OutOfMemory>
     ensures { OnOk result (AddsAt key_order removals.old removals.new end.now.key (gap_of end.now)) }
 {
@@ -278,10 +327,7 @@ fn add_end(alloc: Global, removals: &mut Removals, end: &RbacEnd) -> Result<(), 
             gaps.add(gap)?;
             return Ok(());
         }
-        None => {
-            let made = Gaps::of(alloc, gap)?;
-            let _none = removals.insert(end.key.clone()?, made)?;
-        }
+        None => begin_gaps(alloc, removals, &end.key, gap)?,
     }
     Ok(())
 }

@@ -8,12 +8,12 @@ ghost use Rattle.base_types.specs.declared.placed.Places.{Places};
 
 use crate::extent::Extent;
 use crate::first::last_before;
-use crate::history::{Content, Gap, Histories, Removals, Stored, histories_of};
+use crate::history::{Content, Gap, Histories, Removals, Stored};
 use crate::index::Index;
 use crate::kind::{Kind, is_kind, kind_of_key, reaches};
 use crate::lookups::Lookups;
 use crate::nameless::Nameless;
-use crate::parts::{Parts, parts_of};
+use crate::parts::{Parts, all_parts};
 use crate::search::Asked;
 use crate::unsure::Unsure;
 use crate::version::{RbacEnds, RbacVersion, RbacVersions};
@@ -174,15 +174,10 @@ impl Timeline {
         ensures spans { IfOk result (λ timeline. timeline.spans ≡ spans) }
         ensures bypass { IfOk result (λ timeline. timeline.bypass ≡ bypass.now) }
     {
-        let parts = parts_of(
-            alloc,
-            versions.as_slice(),
-            ends.as_slice(),
-            spans.as_slice(),
-            bypass,
-        )?;
         let all_versions = Snapshot::of(&versions);
-        let histories = histories_of(alloc, versions)?;
+        let all_ends = Snapshot::of(&ends);
+        let all_spans = Snapshot::of(&spans);
+        let (histories, parts) = all_parts(alloc, versions, ends, spans, bypass)?;
         let Parts {
             bypass,
             removals,
@@ -203,8 +198,8 @@ impl Timeline {
             unsure,
             bypass,
             versions: all_versions,
-            ends: Snapshot::of(&ends),
-            spans: Snapshot::of(&spans),
+            ends: all_ends,
+            spans: all_spans,
         })
     }
 
