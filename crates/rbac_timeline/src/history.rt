@@ -1,5 +1,5 @@
-ghost use Rattle.std.specs.Prelude.{◌≡◌, ◌≢◌, ◌<◌, ◌≤◌, [], ◌∷◌, Some, IfOk, IfSome, IfNone, OnOk, List, Contains};
-ghost use Rattle.std.specs.List.Sorted.{IsNonDecreasingBy, IsPermutation};
+ghost use Rattle.std.specs.Prelude.{◌≡◌, ◌≢◌, ◌<◌, ◌≤◌, [], ◌∷◌, Some, IfOk, IfSome, IfNone, OnOk, List, Contains, true, false, length, nat_le};
+ghost use Rattle.std.specs.List.Sorted.{IsNonDecreasingBy, IsPartitionPoint, IsPermutation};
 ghost use Rattle.std.specs.BTreeMap.{Updates};
 ghost use Rattle.clouds.specs.Kept.{AddsAt, key_order};
 
@@ -53,14 +53,23 @@ ghost use Rattle.rbac_timeline.specs.Kept.{AreGaps, AreStored, content_of, gap_o
 ghost use Rattle.rbac_timeline.specs.Lasting.{IsLast};
 ghost use Rattle.rbac_timeline.specs.Pairs.{AreStoredBetween};
 
+// How many of them are at or below a place.
+fn count_upto(all: &[Stored], place: u64) -> usize
+    requires { IsNonDecreasingBy (λ s. s.revision) all.now }
+    ensures bound { result ≤ length all.now }
+    ensures parts { IsPartitionPoint (λ s. nat_le s.revision place ≡ true) (λ s. nat_le s.revision place ≡ false) all.now result }
+{
+    all.partition_point(|stored| stored.revision <= place)
+}
+
 // Those above `low` and not above `high`.
 fn between(all: &[Stored], low: u64, high: u64) -> &[Stored]
     requires { IsNonDecreasingBy (λ s. s.revision) all.now }
     ensures { AreStoredBetween all.now low high result.now }
 {
-    let upto = all.partition_point(|stored| stored.revision <= high);
+    let upto = count_upto(all, high);
     let (front, _) = all.split_at(upto);
-    let begun = front.partition_point(|stored| stored.revision <= low);
+    let begun = count_upto(front, low);
     let (_, between) = front.split_at(begun);
     between
 }
@@ -99,9 +108,7 @@ impl History {
         ensures { OnOk result (IsPermutation (stored ∷ self.old) self.new) }
     {
         let revision = stored.revision;
-        let place = self
-            .stored
-            .partition_point(|other| other.revision <= revision);
+        let place = count_upto(self.stored.as_slice(), revision);
         self.stored.insert(place, stored)?;
         Ok(())
     }
@@ -111,7 +118,7 @@ impl History {
         ensures some { IfSome result (λ stored. IsLatestStored self.now place stored.now) }
         ensures none { IfNone result ((stored : Stored) → Contains self.now stored → place < stored.revision) }
     {
-        let upto = self.stored.partition_point(|other| other.revision <= place);
+        let upto = count_upto(self.stored.as_slice(), place);
         if upto == 0 {
             return None;
         }
@@ -123,9 +130,7 @@ impl History {
         requires { place ≤ high }
         ensures { IsLast (λ n. (stored : Stored) → Contains self.now stored → place < stored.revision → n < stored.revision) place high result }
     {
-        let upto = self
-            .stored
-            .partition_point(|stored| stored.revision <= place);
+        let upto = count_upto(self.stored.as_slice(), place);
         if upto == self.stored.len() {
             return high;
         }
@@ -138,6 +143,15 @@ impl History {
     {
         between(self.stored.as_slice(), low, high)
     }
+}
+
+// How many of them are of versions up to this one.
+fn gaps_upto(all: &[Gap], last: u64) -> usize
+    requires { IsNonDecreasingBy (λ gap. gap.last) all.now }
+    ensures bound { result ≤ length all.now }
+    ensures parts { IsPartitionPoint (λ gap. nat_le gap.last last ≡ true) (λ gap. nat_le gap.last last ≡ false) all.now result }
+{
+    all.partition_point(|gap| gap.last <= last)
 }
 
 /// The removals of one key's object, by their last versions.
@@ -172,7 +186,7 @@ impl Gaps {
     fn add(&mut self, gap: Gap) -> Result<(), OutOfMemory>
         ensures { OnOk result (IsPermutation (gap ∷ self.old) self.new) }
     {
-        let place = self.gaps.partition_point(|other| other.last <= gap.last);
+        let place = gaps_upto(self.gaps.as_slice(), gap.last);
         self.gaps.insert(place, gap)?;
         Ok(())
     }
@@ -183,7 +197,7 @@ impl Gaps {
         ensures last { IfSome result (λ gap. gap.last ≡ last) }
         ensures none { IfNone result ((gap : Gap) → Contains self.now gap → gap.last ≢ last) }
     {
-        let upto = self.gaps.partition_point(|other| other.last <= last);
+        let upto = gaps_upto(self.gaps.as_slice(), last);
         if upto == 0 {
             return None;
         }
