@@ -314,22 +314,6 @@ impl Timeline {
         extent
     }
 
-    // What the bindings grant that name the user.
-    fn user_extent(&self, link: Link, who: &User, attrs: &RequestAttrs) -> Extent
-        ensures may { IsTrue result.may ↔ MayGrantOf self.now (NamesUser self.now.versions who.now.name) link.way link.role_place link.binding_place who.now attrs.now }
-        ensures must { IsTrue result.must ↔ MustGrantOf self.now (NamesUser self.now.versions who.now.name) link.way link.role_place link.binding_place who.now attrs.now }
-    {
-        self.keys_extent(self.index.by_user(&who.name), link, who, attrs)
-    }
-
-    // What the bindings grant that name the account that the user is.
-    fn account_extent(&self, link: Link, who: &User, attrs: &RequestAttrs) -> Extent
-        ensures may { IsTrue result.may ↔ MayGrantOf self.now (NamesAccount self.now.versions who.now.name) link.way link.role_place link.binding_place who.now attrs.now }
-        ensures must { IsTrue result.must ↔ MustGrantOf self.now (NamesAccount self.now.versions who.now.name) link.way link.role_place link.binding_place who.now attrs.now }
-    {
-        self.keys_extent(self.index.by_account_user(&who.name), link, who, attrs)
-    }
-
     // What the bindings grant that name a group.
     fn group_extent(&self, group: &Text, link: Link, who: &User, attrs: &RequestAttrs) -> Extent
         ensures may { IsTrue result.may ↔ MayGrantOf self.now (NamesGroup self.now.versions group.now) link.way link.role_place link.binding_place who.now attrs.now }
@@ -355,8 +339,8 @@ impl Timeline {
         ensures may { IsTrue result.may ↔ MayGrantOf self.now (NamesWho self.now.versions who.now) link.way link.role_place link.binding_place who.now attrs.now }
         ensures must { IsTrue result.must ↔ MustGrantOf self.now (NamesWho self.now.versions who.now) link.way link.role_place link.binding_place who.now attrs.now }
     {
-        let user = self.user_extent(link, who, attrs);
-        let account = self.account_extent(link, who, attrs);
+        let user = self.keys_extent(self.index.by_user(&who.name), link, who, attrs);
+        let account = self.keys_extent(self.index.by_account_user(&who.name), link, who, attrs);
         let groups = self.groups_extent(who.groups.as_slice(), link, who, attrs);
         user.or(account).or(groups)
     }
