@@ -3,4 +3,3 @@ pub mod BlameFacts
 pub mod CanFacts
 pub mod OneTextFacts
 pub mod StateFacts
-pub mod ToldFacts

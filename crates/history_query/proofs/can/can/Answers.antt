@@ -1,11 +1,10 @@
-use Rattle.std.proofs.Common.{◌≡◌, ◌∙◌, true, codes, ap, sym, rules}
+use Rattle.std.proofs.Common.{◌≡◌, ◌∙◌, codes, ap, sym, rules}
 use Rattle.setup_file.specs.declared.setup.Setup.{Setup}
 use Rattle.verdict_text.specs.Words.{ended}
 use Rattle.history_query.proofs.CanFacts.{decision_told, judged_told, unjudged_told}
-use Rattle.history_query.proofs.ToldFacts.{told_nothing}
-use Rattle.history_query.specs.Deciding.{IsDecision, possible_word}
-use Rattle.history_query.specs.Telling.{IsBelowStart, unknown_text}
-use Rattle.history_query.specs.Telling.IsTold.{something}
+use Rattle.history_query.specs.Deciding.{possible_word}
+use Rattle.history_query.specs.Telling.{unknown_text}
+use Rattle.history_query.specs.Telling.IsTold.{nothing, something}
 use Rattle.history_query.proofs.can.can.Goals as goal
 use Rattle.history_query.proofs.can.can.Goals.{then-not-setup+in_ok-push_str, else-not-setup+then-is_below_start+in_ok-push_str-2, else-not-setup+else-is_below_start+in_ok-writeln}
 
@@ -24,7 +23,7 @@ returns c =
       | else-not-setup+then-is_below_start+in_ok-push_str-2 w ↦
           let is : text ≡ unknown_text = search rules in
           judged_told known place who attrs text (setup ∙ w.if-not-setup.false)
-          (told_nothing (IsBelowStart known place) (IsDecision known place who attrs) text (w.is_below_start.ensures.0 w.if-is_below_start.true) is)
+          (nothing (w.is_below_start.ensures.0 w.if-is_below_start.true) is)
       | else-not-setup+else-is_below_start+in_ok-writeln w ↦
           let possible = w.decide-possible.result in
           let is : text ≡ ended (possible_word possible.allow possible.forbid) = search rules in
