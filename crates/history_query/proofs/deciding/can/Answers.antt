@@ -5,8 +5,8 @@ use Rattle.history_query.proofs.CanFacts.{decision_told, judged_told, unjudged_t
 use Rattle.history_query.specs.Deciding.{possible_word}
 use Rattle.history_query.specs.Telling.{unknown_text}
 use Rattle.history_query.specs.Telling.IsTold.{nothing, something}
-use Rattle.history_query.proofs.can.can.Goals as goal
-use Rattle.history_query.proofs.can.can.Goals.{then-not-setup+in_ok-push_str, else-not-setup+then-is_below_start+in_ok-push_str-2, else-not-setup+else-is_below_start+in_ok-writeln}
+use Rattle.history_query.proofs.deciding.can.Goals as goal
+use Rattle.history_query.proofs.deciding.can.Goals.{then-not-setup+in_ok-push_str, else-not-setup+then-is_below_start+in_ok-push_str-2, else-not-setup+else-is_below_start+in_ok-writeln}
 
 pub returns : goal.returns
 returns c =
