@@ -1,5 +1,5 @@
 -- What the log tells nothing of, and the words that its texts have in common.
-use Rattle.std.specs.Prelude.{◌≡◌, ◌<◌, ◌⊎◌, ℕ, List, [], ◌∷◌, Option, Some, None, Any, codes, decimal, option_and_then, slice_get}
+use Rattle.std.specs.Prelude.{◌≡◌, ◌<◌, ◌⊎◌, ℕ, List, [], Option, Some, None, Any, codes, decimal, slice_get}
 use Rattle.audit_event.specs.declared.event.Event.{Event}
 use Rattle.base_types.specs.Escapes.{escaped}
 use Rattle.base_types.specs.declared.key.ObjectKey.{ObjectKey}
