@@ -6,7 +6,7 @@ use Rattle.history_model.proofs.Members.{apart, at_in, in_at}
 use Rattle.json_tree.specs.Meaning.{Meaning}
 use Rattle.object_past.specs.declared.version.Version.{Version}
 use Rattle.version_store.specs.Known.{Known}
-use Rattle.history_query.proofs.Alike.{AreAlikeFrom, IsAlikeSince, IsAmong, IsFirstAlike, alike_begun, alike_more, alike_none, alike_past, alike_whole}
+use Rattle.history_query.proofs.Alike.{AreAlikeFrom, IsAlikeSince, IsAmong, IsFirstAlike, alike_more, alike_none, alike_past, alike_whole}
 use Rattle.history_query.specs.Blaming.{IsSameAt, IsSince, value_at}
 
 -- another version of the version's key, at or below its revision
