@@ -456,7 +456,7 @@ module _ (a b : Known) (x : IsTold a) (y : IsTold (told_by a.setup a.events b)) 
 
 -- all that a context holds but its groups is told once
 pub one_told : (a b : Known) → IsTold a → IsTold b → a.setup ≡ b.setup → a.events ≡ b.events → a ≡ record b { groups = a.groups }
-one_told a b x y setups events = alike a b x (subst IsTold (sym moved) y) ∙ ap (λ known. record known { groups = a.groups }) moved
+one_told a b x y setups events = alike a b x (subst IsTold (sym moved) y) ∙ ap (λ (known : Known). record known { groups = a.groups }) moved
   where
     moved : told_by a.setup a.events b ≡ b
     moved = λ i. told_by (setups i) (events i) b
