@@ -1,5 +1,5 @@
 -- In a list that rises by a number: the first item from which on all are alike that count, of those that come first.
-use Rattle.std.proofs.Common.{◌≡◌, ℕ, ◌+◌, ◌<◌, ◌≤◌, ◌⊎◌, inl, inr, ⊎_elim, Option, Some, None, List, length, get_or, AllPairs, slice_get, unwrap_or, sym, ap, ◌∙◌, subst, arith}
+use Rattle.std.proofs.Common.{◌≡◌, ℕ, ◌+◌, ◌<◌, ◌≤◌, ◌⊎◌, inl, inr, ⊎_elim, Option, Some, None, List, AllPairs, slice_get, unwrap_or, sym, ap, ◌∙◌, subst, arith}
 use Rattle.std.specs.Option.{option_or}
 use Rattle.std.proofs.lemmas.Option.{get_or_from_slice_get, same_Some, slice_get_within}
 
@@ -108,10 +108,6 @@ module _ {X : Type 0} (number : X → ℕ) (Counts Alike : X → Type 0) (xs : L
         (λ (q : x ≡ y). let l = among_below n x first rising e h.among in let m = ap number q in omega (arith, l, m))
         (among_split xs n x y e a);
   }
-
-  -- none of no items
-  pub alike_begun : IsAlikeSince number Counts Alike xs 0 None
-  alike_begun = λ y a counts alike. let l = a.below in absurd (omega (arith, l))
 
   -- where the last one that counts is alike there is such an item
   pub alike_whole : (n : ℕ) (last : X) (since : Option X) → IsAmong xs n last → Counts last → AreAlikeFrom number Counts Alike xs n (number last)

@@ -1,19 +1,13 @@
 -- The version since which a value stays.
-use Rattle.std.proofs.Common.{◌≡◌, ℕ, ◌+◌, ◌<◌, ◌≤◌, Bool, Bor, Option, Some, None, List, [], ◌∷◌, ◌++◌, length, AllPairs, Contains, slice_get, unwrap_or, option_map, All, codes, append_assoc, refl, sym, ap, ◌∙◌, subst, arith}
+use Rattle.std.proofs.Common.{◌≡◌, ℕ, ◌+◌, ◌<◌, ◌≤◌, Option, Some, None, List, length, AllPairs, Contains, slice_get, unwrap_or, option_map, refl, subst, arith}
 use Rattle.std.specs.Option.{option_or}
 use Rattle.std.proofs.lemmas.Option.{slice_get_within}
 use Rattle.history_model.proofs.Members.{apart, at_in, in_at}
 use Rattle.json_tree.specs.Meaning.{Meaning}
 use Rattle.object_past.specs.declared.version.Version.{Version}
 use Rattle.version_store.specs.Known.{Known}
-use Rattle.history_query.proofs.Alike.{AreAlikeFrom, IsAlikeSince, IsAmong, IsFirstAlike, alike_begun, alike_more, alike_none, alike_past, alike_whole}
-use Rattle.base_types.specs.declared.key.ObjectKey.{ObjectKey}
-use Rattle.verdict_text.specs.Words.{ended}
-use Rattle.history_query.specs.Appending.{Appends}
-use Rattle.history_query.specs.Blaming.{IsBlame, IsPresentBlame, IsSameAt, IsSince, since_text, value_at, value_text}
-use Rattle.history_query.specs.Showing.{clouded_text}
-use Rattle.history_query.specs.Sights.{IsSight}
-use Rattle.history_query.specs.declared.sight.Sight.TheVariants.{Clouded, Told}
+use Rattle.history_query.proofs.Alike.{AreAlikeFrom, IsAlikeSince, IsAmong, IsFirstAlike, alike_more, alike_none, alike_past, alike_whole}
+use Rattle.history_query.specs.Blaming.{IsSameAt, IsSince, value_at}
 
 -- another version of the version's key, at or below its revision
 abbrev pub IsBefore : Version → Version → Type 0
@@ -82,27 +76,3 @@ since_whole known pointer v since rising known_is so_far = record {
 
     first : IsFirstAlike (λ (w : Version). w.revision) (IsBefore v) (IsSameAt known.trees pointer v) known.versions (length known.versions) (unwrap_or since v)
     first = alike_whole (λ (w : Version). w.revision) (IsBefore v) (IsSameAt known.trees pointer v) known.versions (length known.versions) v since (among v known_is) (refl, omega arith) alone so_far
-
--- what is told of a sight
-pub clouded_told : (known : Known) (key : ObjectKey) (pointer : List (List ℕ)) (place : ℕ) (old new : List ℕ) → IsSight known key place Clouded → new ≡ old ++ clouded_text
-    → Appends (IsBlame known key pointer place) old new
-clouded_told known key pointer place old new sight is = record { told = clouded_text; is = (Clouded, sight, refl); behind = is }
-
-pub absent_told : (known : Known) (key : ObjectKey) (pointer : List (List ℕ)) (place : ℕ) (absent : Bool) (old new : List ℕ) → IsSight known key place (Told None absent)
-    → new ≡ old ++ ended (codes "absent") → Appends (IsBlame known key pointer place) old new
-absent_told known key pointer place absent old new sight is = record { told = ended (codes "absent"); is = (Told None absent, sight, refl); behind = is }
-
-pub present_told : (known : Known) (key : ObjectKey) (pointer : List (List ℕ)) (place : ℕ) (version : Bor Version) (absent : Bool) (old new : List ℕ)
-    → IsSight known key place (Told (Some version) absent) → Appends (IsPresentBlame known pointer (Some version.now)) old new → Appends (IsBlame known key pointer place) old new
-present_told known key pointer place version absent old new sight a = record { told = a.told; is = (Told (Some version) absent, sight, a.is); behind = a.behind }
-
--- a value and since when it stays, one behind the other
-pub origin_told : (known : Known) (pointer : List (List ℕ)) (v since : Version) (value : Option Meaning) (old now new : List ℕ) → IsSince known pointer v since
-    → value ≡ value_at known.trees pointer v → now ≡ old ++ value_text value → new ≡ now ++ since_text known.events known.log since
-    → Appends (IsPresentBlame known pointer (Some v)) old new
-origin_told known pointer v since value old now new is at valued dated = record {
-  told = value_text (value_at known.trees pointer v) ++ since_text known.events known.log since;
-  is = (since, is, refl);
-  behind = dated ∙ ap (λ l. l ++ since_text known.events known.log since) (valued ∙ ap (λ w. old ++ value_text w) at)
-      ∙ append_assoc old (value_text (value_at known.trees pointer v)) (since_text known.events known.log since);
-}

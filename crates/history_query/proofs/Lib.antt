@@ -6,4 +6,3 @@ pub mod Floating
 pub mod SightFacts
 pub mod TellingFacts
 pub mod StateFacts
-pub mod ToldFacts

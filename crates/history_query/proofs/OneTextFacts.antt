@@ -37,10 +37,10 @@ use Rattle.history_query.specs.declared.sight.Sight.TheVariants.{Clouded, Told}
 
 -- a text that is told once, or `unknown`
 told_once : (untold : Type 0) (Is : List ℕ → Type 0) → ((a b : List ℕ) → Is a → Is b → a ≡ b) → (a b : List ℕ) → IsTold untold Is a → IsTold untold Is b → a ≡ b
-told_once untold Is once a b (IsTold.nothing no x) (IsTold.nothing other y) = x ∙ sym y
-told_once untold Is once a b (IsTold.nothing no x) (IsTold.something yes y) = absurd (yes no)
-told_once untold Is once a b (IsTold.something yes x) (IsTold.nothing no y) = absurd (yes no)
-told_once untold Is once a b (IsTold.something yes x) (IsTold.something other y) = once a b x y
+told_once untold Is once a b (IsTold.nothing hid x) (IsTold.nothing other y) = x ∙ sym y
+told_once untold Is once a b (IsTold.nothing hid x) (IsTold.something seen y) = absurd (seen hid)
+told_once untold Is once a b (IsTold.something seen x) (IsTold.nothing hid y) = absurd (seen hid)
+told_once untold Is once a b (IsTold.something seen x) (IsTold.something other y) = once a b x y
 
 -- two tests of one fact
 same_test : (P : Type 0) (a b : Bool) → (a ≡ true) ↔ P → (b ≡ true) ↔ P → a ≡ b

@@ -2,16 +2,21 @@
 //! and what a user could do. The answers are texts, whatever the verdict on the log is.
 #![tactic(auto)]
 
-mod blame;
-mod can;
+mod blaming;
+mod deciding;
 mod json;
 mod law;
+mod listing;
 mod question;
-mod show;
+mod showing;
 mod sight;
-mod state;
+mod standing;
 mod telling;
-mod versions;
 
+pub use blaming::blame;
+pub use deciding::can;
 pub use law::one_text_law;
+pub use listing::versions;
 pub use question::{Question, answer};
+pub use showing::show;
+pub use standing::state;

@@ -1,11 +1,11 @@
-ghost use Rattle.std.specs.Prelude.{◌≡◌, IfOk};
+ghost use Rattle.std.specs.Prelude.{IfOk};
 ghost use Rattle.history_query.specs.Questions.{IsHistoryText};
 
-use crate::blame::blame;
-use crate::can::can;
-use crate::show::show;
-use crate::state::state;
-use crate::versions::versions;
+use crate::blaming::blame;
+use crate::deciding::can;
+use crate::listing::versions;
+use crate::showing::show;
+use crate::standing::state;
 use base_types::{Bytes, ObjectKey, OutOfMemory, RequestAttrs, User};
 use json_tree::Pointer;
 use std::alloc::Global;

@@ -51,9 +51,9 @@ module _ (faults_before faults_now : ℕ) (before now : Option (List ℕ)) (resu
   pub concluded_printed : (found : Result Report Stop) → IfOk found (λ report. status_number report.status ≡ 0 → IsPlacementText report.text)
       → Concludes found faults_before faults_now before now result → result ≡ 0 → (text : List ℕ) × IsPlacementText text × Appends before now text
   concluded_printed (Ok report) printed (inl (whole, appends)) is = (report.text, printed (sym whole ∙ is), appends)
-  concluded_printed (Ok report) printed (inr (part, rest)) is = absurd (omega (arith, part, is))
+  concluded_printed (Ok report) printed (inr (part, rose, rest)) is = absurd (omega (arith, part, is))
   concluded_printed (Err ReadFault) printed (inl (whole, appends)) is = absurd (omega (arith, whole, is))
-  concluded_printed (Err ReadFault) printed (inr (part, rest)) is = absurd (omega (arith, part, is))
+  concluded_printed (Err ReadFault) printed (inr (part, rose, rest)) is = absurd (omega (arith, part, is))
   concluded_printed (Err OutOfMemory) printed ends is = absurd (let memory = ends.0 in omega (arith, memory, is))
 
 -- the names of a command that reads

@@ -3,7 +3,7 @@ ghost use Rattle.std.specs.BTreeSet.{contains, Updates};
 ghost use Rattle.object_versions.specs.Growing.{AreFlagged, AreKept, IsContinued, IsLatestIn};
 ghost use Rattle.object_versions.specs.Owners.{owner_order, owner_of};
 
-use crate::owner::Owner;
+use crate::owner::{Owner, owned};
 use base_types::{ObjectKey, OutOfMemory, Text};
 use object_past::{Version, Versions};
 use std::alloc::Global;
@@ -85,10 +85,7 @@ fn add_owner(owners: &mut BTreeSet<Owner>, version: &Version) -> Result<bool, Ou
     ensures added { IfOk result (λ added. added ≡ not (contains owner_order owners.old (owner_of version.now))) }
     ensures updates { OnOk result (Updates owner_order owners.old owners.new (owner_of version.now) true) }
 {
-    let owner = Owner {
-        key: version.key.clone()?,
-        uid: version.uid.clone()?,
-    };
+    let owner = owned(&version.key, &version.uid)?;
     Ok(owners.insert(owner)?)
 }
 

@@ -44,11 +44,23 @@ pub struct LogPast {
 }
 
 // The order of judgement, the groups and the windows of a log.
-#[derive(Drop)]
 struct Timed {
     order: Vec<u32>,
     groups: Groups,
     windows: Windows,
+}
+
+// Written out, so that a function that lets it go has one call and not the steps of each field.
+impl Drop for Timed {
+    fn drop(self) {
+        let Timed {
+            order: _,
+            groups,
+            windows,
+        } = self;
+        drop(groups);
+        drop(windows);
+    }
 }
 
 // The versions of a log, and the removals behind them.
@@ -143,38 +155,40 @@ fn ended_of<B: Bodies>(
     Ok(Ended { written, removals })
 }
 
-fn joined(timed: Timed, clouds: Clouds, ended: Ended) -> LogPast
-    ensures { result ≡ record {
-      order = timed.order;
-      windows = timed.windows;
-      clouds = clouds;
-      groups = timed.groups;
-      versions = ended.written.versions;
-      firsts = ended.written.firsts;
-      judged = ended.written.judged;
-      removals = ended.removals;
-    } }
-{
-    let Timed {
-        order,
-        groups,
-        windows,
-    } = timed;
-    let Ended { written, removals } = ended;
-    let Written {
-        versions,
-        firsts,
-        judged,
-    } = written;
-    LogPast {
-        order,
-        windows,
-        clouds,
-        groups,
-        versions,
-        firsts,
-        judged,
-        removals,
+impl Timed {
+    fn joined(self, clouds: Clouds, ended: Ended) -> LogPast
+        ensures { result ≡ record {
+          order = self.order;
+          windows = self.windows;
+          clouds = clouds;
+          groups = self.groups;
+          versions = ended.written.versions;
+          firsts = ended.written.firsts;
+          judged = ended.written.judged;
+          removals = ended.removals;
+        } }
+    {
+        let Timed {
+            order,
+            groups,
+            windows,
+        } = self;
+        let Ended { written, removals } = ended;
+        let Written {
+            versions,
+            firsts,
+            judged,
+        } = written;
+        LogPast {
+            order,
+            windows,
+            clouds,
+            groups,
+            versions,
+            firsts,
+            judged,
+            removals,
+        }
     }
 }
 
@@ -195,5 +209,5 @@ pub fn past_of<B: Bodies>(
     let timed = timed_of(alloc, start, events)?;
     let clouds = hidden_of(alloc, start, snapshot, events, &timed)?;
     let ended = ended_of(alloc, bodies, start, snapshot, events, &timed, &clouds)?;
-    Ok(joined(timed, clouds, ended))
+    Ok(timed.joined(clouds, ended))
 }

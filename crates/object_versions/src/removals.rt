@@ -8,6 +8,7 @@ ghost use Rattle.object_versions.specs.Growing.{AreFlagged};
 ghost use Rattle.object_past.specs.Modelled.{version_of};
 ghost use Rattle.object_versions.specs.Surrounded.{HasLog};
 
+use crate::owner::{Owner, owned};
 use crate::removal::range_behind;
 use crate::versions::Log;
 use base_types::{ObjectKey, OutOfMemory};
@@ -44,9 +45,11 @@ fn removal_after(
     let Some(range) = found else {
         return Ok(None);
     };
+    let owner = owned(&version.key, &version.uid)?;
+    let Owner { key, uid } = owner;
     Ok(Some(Removal {
-        key: version.key.clone()?,
-        uid: version.uid.clone()?,
+        key,
+        uid,
         last: version.revision,
         range,
     }))

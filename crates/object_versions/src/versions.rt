@@ -1,4 +1,4 @@
-ghost use Rattle.std.specs.Prelude.{◌≡◌, ◌≢◌, ◌<◌, ℕ, List, IfOk, IsSome, All, AllPairs, Some, length, map, option_map};
+ghost use Rattle.std.specs.Prelude.{◌≡◌, ◌≢◌, ◌<◌, ◌++◌, ◌∷◌, [], ℕ, List, IfOk, IsSome, All, AllPairs, Some, length, map, option_map};
 ghost use Rattle.std.specs.List.Sorted.{IsPermutation};
 ghost use Rattle.history_model.specs.Histories.{History};
 ghost use Rattle.history_model.specs.Makers.{AreVersions, IsMadeVersion};
@@ -10,6 +10,7 @@ ghost use Rattle.object_past.specs.Modelled.{version_of};
 ghost use Rattle.object_past.specs.declared.version.Version.{Version};
 ghost use Rattle.object_versions.specs.Chosen.{first_write, shown_by};
 ghost use Rattle.object_versions.specs.Growing.{AreFlagged, IsLatestIn};
+ghost use Rattle.object_versions.specs.declared.maker.Judged.{Judged as Writing};
 ghost use Rattle.object_versions.specs.Hidden.{slots_of};
 ghost use Rattle.object_versions.specs.Modelled.{making_of};
 ghost use Rattle.object_versions.specs.Surrounded.{HasLog};
@@ -19,6 +20,7 @@ use crate::bodies::Bodies;
 use crate::grown::{Grown, Latest};
 use crate::maker::{Judged, maker_among, shown_by};
 use crate::making::{Making, finding_fault, making_at, making_fault};
+use crate::owner::{Owner, owned};
 use crate::removal::range_behind;
 use crate::removed::Removed;
 use base_types::{OutOfMemory, Revision};
@@ -145,10 +147,12 @@ fn version_in(log: Log<'_>, group: &Group, judged: &[Judged]) -> Result<Version,
     let may_be_unrecorded = log.clouds.may_make(&group.key, group.revision);
     let maker = maker_among(judged, first, may_be_unrecorded);
     let making = write_at(log.events, shown_by(maker, first));
+    let owner = owned(&group.key, &making.item.uid)?;
+    let Owner { key, uid } = owner;
     Ok(Version {
-        key: group.key.clone()?,
+        key,
         revision: group.revision,
-        uid: making.item.uid.clone()?,
+        uid,
         node: making.item.node,
         maker,
     })
@@ -157,10 +161,12 @@ fn version_in(log: Log<'_>, group: &Group, judged: &[Judged]) -> Result<Version,
 fn snapshot_version(item: &Item) -> Result<Version, OutOfMemory>
     ensures { IfOk result (λ version. version ≡ snapshot_version item.now) }
 {
+    let owner = owned(&item.key, &item.uid)?;
+    let Owner { key, uid } = owner;
     Ok(Version {
-        key: item.key.clone()?,
+        key,
         revision: item.revision,
-        uid: item.uid.clone()?,
+        uid,
         node: item.node,
         maker: Maker::Snapshot,
     })
@@ -197,6 +203,31 @@ pub struct Written {
     pub judged: Vec<Judged>,
 }
 
+// Takes the version that a group's writes left behind these, and puts what was judged of them behind the others.
+fn add_group<B: Bodies>(
+    alloc: Global,
+    log: Log<'_>,
+    bodies: &B,
+    grown: Grown,
+    judged: &mut Vec<Judged>,
+    group: &Group,
+) -> Result<Grown, OutOfMemory>
+    requires writes { AreWrites log.events.now group.now.members }
+    requires above { All (λ v. v.revision < group.now.revision) grown }
+    ensures { IfOk result (λ after. (version : Version) × (more : List Writing)
+        × (after ≡ grown ++ version ∷ []) × (judged.new.items ≡ judged.old.items ++ more)
+        × (version.key ≡ group.now.key) × (version.revision ≡ group.now.revision) × (map (λ one. one.number) more ≡ group.now.members)
+        × ((h : History) → IsOfLog log.entry (B.body bodies.now) h → Extends h grown group.now.revision
+        → All (IsAnsweredAt log.entry.events.now group.now.revision) group.now.members → AreJudged h log.entry.events.now group.now.members more)
+        × ((h : History) → IsOfGroup log.entry group.now more h → IsMadeVersion h (version_of version))) }
+{
+    let mut members = judge_each(alloc, log, bodies, &grown, group.members.as_slice())?;
+    let version = version_in(log, group, &members)?;
+    let grown = grown.with(version)?;
+    judged.append(&mut members)?;
+    Ok(grown)
+}
+
 /// The versions of all objects by revision: those of the snapshot, and one for each group.
 pub fn write_versions<B: Bodies>(
     alloc: Global,
@@ -222,9 +253,7 @@ pub fn write_versions<B: Bodies>(
     let mut grown = begin(alloc, &order)?;
     let mut judged = Vec::new(alloc);
     for group in groups {
-        let mut members = judge_each(alloc, log, bodies, &grown, group.members.as_slice())?;
-        grown = grown.with(version_in(log, group, &members)?)?;
-        judged.append(&mut members)?;
+        grown = add_group(alloc, log, bodies, grown, &mut judged, group)?;
     }
     let (versions, firsts) = grown.into_parts();
     Ok(Written {

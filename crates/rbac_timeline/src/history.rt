@@ -1,5 +1,6 @@
-ghost use Rattle.std.specs.Prelude.{◌≡◌, ◌≢◌, ◌<◌, ◌≤◌, [], ◌∷◌, IfOk, IfSome, IfNone, OnOk, List, Contains};
-ghost use Rattle.std.specs.List.Sorted.{IsNonDecreasingBy, IsPermutation};
+ghost use Rattle.std.specs.Prelude.{◌≡◌, ◌≢◌, ◌<◌, ◌≤◌, [], ◌∷◌, Some, IfOk, IfSome, IfNone, OnOk, List, Contains, true, false, length, nat_le};
+ghost use Rattle.std.specs.List.Sorted.{IsNonDecreasingBy, IsPartitionPoint, IsPermutation};
+ghost use Rattle.std.specs.BTreeMap.{Updates};
 ghost use Rattle.clouds.specs.Kept.{AddsAt, key_order};
 
 use crate::first::last_before;
@@ -47,18 +48,28 @@ pub struct Gap {
     pub high: u64,
 }
 
+ghost use Rattle.rbac_timeline.specs.Kinds.{role_key};
 ghost use Rattle.rbac_timeline.specs.Kept.{AreGaps, AreStored, content_of, gap_of, stored_of};
 ghost use Rattle.rbac_timeline.specs.Lasting.{IsLast};
 ghost use Rattle.rbac_timeline.specs.Pairs.{AreStoredBetween};
+
+// How many of them are at or below a place.
+fn count_upto(all: &[Stored], place: u64) -> usize
+    requires { IsNonDecreasingBy (λ s. s.revision) all.now }
+    ensures bound { result ≤ length all.now }
+    ensures parts { IsPartitionPoint (λ s. nat_le s.revision place ≡ true) (λ s. nat_le s.revision place ≡ false) all.now result }
+{
+    all.partition_point(|stored| stored.revision <= place)
+}
 
 // Those above `low` and not above `high`.
 fn between(all: &[Stored], low: u64, high: u64) -> &[Stored]
     requires { IsNonDecreasingBy (λ s. s.revision) all.now }
     ensures { AreStoredBetween all.now low high result.now }
 {
-    let upto = all.partition_point(|stored| stored.revision <= high);
+    let upto = count_upto(all, high);
     let (front, _) = all.split_at(upto);
-    let begun = front.partition_point(|stored| stored.revision <= low);
+    let begun = count_upto(front, low);
     let (_, between) = front.split_at(begun);
     between
 }
@@ -97,9 +108,7 @@ impl History {
         ensures { OnOk result (IsPermutation (stored ∷ self.old) self.new) }
     {
         let revision = stored.revision;
-        let place = self
-            .stored
-            .partition_point(|other| other.revision <= revision);
+        let place = count_upto(self.stored.as_slice(), revision);
         self.stored.insert(place, stored)?;
         Ok(())
     }
@@ -109,7 +118,7 @@ impl History {
         ensures some { IfSome result (λ stored. IsLatestStored self.now place stored.now) }
         ensures none { IfNone result ((stored : Stored) → Contains self.now stored → place < stored.revision) }
     {
-        let upto = self.stored.partition_point(|other| other.revision <= place);
+        let upto = count_upto(self.stored.as_slice(), place);
         if upto == 0 {
             return None;
         }
@@ -121,9 +130,7 @@ impl History {
         requires { place ≤ high }
         ensures { IsLast (λ n. (stored : Stored) → Contains self.now stored → place < stored.revision → n < stored.revision) place high result }
     {
-        let upto = self
-            .stored
-            .partition_point(|stored| stored.revision <= place);
+        let upto = count_upto(self.stored.as_slice(), place);
         if upto == self.stored.len() {
             return high;
         }
@@ -136,6 +143,15 @@ impl History {
     {
         between(self.stored.as_slice(), low, high)
     }
+}
+
+// How many of them are of versions up to this one.
+fn gaps_upto(all: &[Gap], last: u64) -> usize
+    requires { IsNonDecreasingBy (λ gap. gap.last) all.now }
+    ensures bound { result ≤ length all.now }
+    ensures parts { IsPartitionPoint (λ gap. nat_le gap.last last ≡ true) (λ gap. nat_le gap.last last ≡ false) all.now result }
+{
+    all.partition_point(|gap| gap.last <= last)
 }
 
 /// The removals of one key's object, by their last versions.
@@ -170,7 +186,7 @@ impl Gaps {
     fn add(&mut self, gap: Gap) -> Result<(), OutOfMemory>
         ensures { OnOk result (IsPermutation (gap ∷ self.old) self.new) }
     {
-        let place = self.gaps.partition_point(|other| other.last <= gap.last);
+        let place = gaps_upto(self.gaps.as_slice(), gap.last);
         self.gaps.insert(place, gap)?;
         Ok(())
     }
@@ -181,7 +197,7 @@ impl Gaps {
         ensures last { IfSome result (λ gap. gap.last ≡ last) }
         ensures none { IfNone result ((gap : Gap) → Contains self.now gap → gap.last ≢ last) }
     {
-        let upto = self.gaps.partition_point(|other| other.last <= last);
+        let upto = gaps_upto(self.gaps.as_slice(), last);
         if upto == 0 {
             return None;
         }
@@ -197,6 +213,17 @@ pub type Histories = BTreeMap<ObjectKey, History>;
 
 pub type Removals = BTreeMap<ObjectKey, Gaps>;
 
+// A binding with the key of its role.
+fn bound_of(alloc: Global, key: &ObjectKey, binding: Binding) -> Result<Content, OutOfMemory>
+    ensures { IfOk result (λ made. made ≡ Content.Bound binding (role_key key.now binding)) }
+{
+    let Ok(role) = role_key(alloc, key, &binding) else {
+        drop(binding);
+        return Err(OutOfMemory);
+    };
+    Ok(Content::Bound(binding, role))
+}
+
 fn content_of(alloc: Global, key: &ObjectKey, content: RbacContent) -> Result<Content, OutOfMemory>
     ensures { IfOk result (λ made. made ≡ content_of key.now content) }
 {
@@ -204,13 +231,30 @@ fn content_of(alloc: Global, key: &ObjectKey, content: RbacContent) -> Result<Co
         RbacContent::Role(rules) => Ok(Content::Rules(rules)),
         RbacContent::Bound(binding) => {
             if is_cluster_binding(kind_of_key(key)) && !binding.role_is_cluster {
+                drop(binding);
                 return Ok(Content::Unreadable);
             }
-            let role = role_key(alloc, key, &binding)?;
-            Ok(Content::Bound(binding, role))
+            bound_of(alloc, key, binding)
         }
         RbacContent::Unreadable => Ok(Content::Unreadable),
     }
+}
+
+// The first version of a key.
+fn begin_stored(
+    alloc: Global,
+    histories: &mut Histories,
+    key: ObjectKey,
+    stored: Stored,
+) -> Result<(), OutOfMemory>
+    ensures { OnOk result (Updates key_order histories.old histories.new key (Some (stored ∷ []))) }
+{
+    let Ok(made) = History::of(alloc, stored) else {
+        drop(key);
+        return Err(OutOfMemory);
+    };
+    drop(histories.insert(key, made)?);
+    Ok(())
 }
 
 fn add_stored(
@@ -227,10 +271,7 @@ fn add_stored(
             history.add(stored)?;
             return Ok(());
         }
-        None => {
-            let made = History::of(alloc, stored)?;
-            let _none = histories.insert(key, made)?;
-        }
+        None => begin_stored(alloc, histories, key, stored)?,
     }
     Ok(())
 }
@@ -247,9 +288,13 @@ fn add_version(
         revision,
         content,
     } = version;
+    let Ok(content) = content_of(alloc, &key, content) else {
+        drop(key);
+        return Err(OutOfMemory);
+    };
     let stored = Stored {
         revision: revision.get(),
-        content: content_of(alloc, &key, content)?,
+        content,
     };
     add_stored(alloc, histories, key, stored)
 }
@@ -265,6 +310,24 @@ pub fn histories_of(alloc: Global, versions: RbacVersions) -> Result<Histories, 
     Ok(histories)
 }
 
+// The first removal of a key's object.
+fn begin_gaps(
+    alloc: Global,
+    removals: &mut Removals,
+    key: &ObjectKey,
+    gap: Gap,
+) -> Result<(), OutOfMemory>
+    ensures { OnOk result (Updates key_order removals.old removals.new key.now (Some (gap ∷ []))) }
+{
+    let made = Gaps::of(alloc, gap)?;
+    let Ok(copy) = key.clone() else {
+        drop(made);
+        return Err(OutOfMemory);
+    };
+    drop(removals.insert(copy, made)?);
+    Ok(())
+}
+
 fn add_end(alloc: Global, removals: &mut Removals, end: &RbacEnd) -> Result<(), OutOfMemory>
     ensures { OnOk result (AddsAt key_order removals.old removals.new end.now.key (gap_of end.now)) }
 {
@@ -278,10 +341,7 @@ fn add_end(alloc: Global, removals: &mut Removals, end: &RbacEnd) -> Result<(), 
             gaps.add(gap)?;
             return Ok(());
         }
-        None => {
-            let made = Gaps::of(alloc, gap)?;
-            let _none = removals.insert(end.key.clone()?, made)?;
-        }
+        None => begin_gaps(alloc, removals, &end.key, gap)?,
     }
     Ok(())
 }

@@ -1,7 +1,9 @@
-ghost use Rattle.std.specs.Prelude.{◌≡◌, ◌∷◌, ◌++◌, [], List, IfOk, OnOk, map};
+ghost use Rattle.std.specs.Prelude.{◌≡◌, ℕ, ◌∷◌, ◌++◌, [], List, Some, None, IfOk, OnOk, map};
+ghost use Rattle.std.specs.BTreeMap.{Updates, get};
+ghost use Rattle.base_types.specs.declared.key.ObjectKey.{ObjectKey};
 ghost use Rattle.clouds.specs.Kept.{AddsAt, items_at, text_order};
 ghost use Rattle.rbac_timeline.specs.Index.{AreRising};
-ghost use Rattle.rbac_timeline.specs.Indexed.{AddsAccount, HasOneMore, IsIndexed, Mention, account_keys, account_user, keys_of, mention_of, mentions_of};
+ghost use Rattle.rbac_timeline.specs.Indexed.{AddsAccount, ByText as Names, HasOneMore, IsIndexed, Mention, account_keys, account_user, keys_of, mention_of, mentions_of};
 
 use crate::named::named_subjects;
 use crate::version::RbacVersion;
@@ -65,6 +67,33 @@ impl Keys {
 /// Keys under texts.
 pub type ByText = BTreeMap<Text, Keys>;
 
+// The first key.
+fn one_key(alloc: Global, key: &ObjectKey) -> Result<Keys, OutOfMemory>
+    ensures { IfOk result (λ keys. HasOneMore [] keys key.now) }
+{
+    let mut keys = Keys::new(alloc);
+    keys.add(key)?;
+    Ok(keys)
+}
+
+// The first key under a text.
+fn begin_under(
+    alloc: Global,
+    index: &mut ByText,
+    text: &Text,
+    key: &ObjectKey,
+) -> Result<(), OutOfMemory>
+    ensures { OnOk result ((keys : List ObjectKey) × Updates text_order index.old index.new text.now (Some keys) × HasOneMore [] keys key.now) }
+{
+    let keys = one_key(alloc, key)?;
+    let Ok(copy) = text.clone() else {
+        drop(keys);
+        return Err(OutOfMemory);
+    };
+    drop(index.insert(copy, keys)?);
+    Ok(())
+}
+
 /// Puts a key under a text, unless it is there.
 pub fn add_under(
     alloc: Global,
@@ -79,12 +108,7 @@ pub fn add_under(
             keys.add(key)?;
             return Ok(());
         }
-        None => {
-            let mut keys = Keys::new(alloc);
-            keys.add(key)?;
-            let copy = text.clone()?;
-            let _none = index.insert(copy, keys)?;
-        }
+        None => begin_under(alloc, index, text, key)?,
     }
     Ok(())
 }
@@ -102,6 +126,34 @@ pub fn found<'a>(index: &'a ByText, text: &Text) -> &'a [ObjectKey]
 
 type Accounts = BTreeMap<Text, ByText>;
 
+// The first name of a namespace.
+fn one_name(alloc: Global, name: &Text, key: &ObjectKey) -> Result<ByText, OutOfMemory>
+    ensures { IfOk result (λ names. (empty : Names) × ((n : List ℕ) → items_at text_order empty n ≡ []) × AddsAt text_order empty names name.now key.now) }
+{
+    let mut names = BTreeMap::new(alloc);
+    add_under(alloc, &mut names, name, key)?;
+    Ok(names)
+}
+
+// The first account of a namespace.
+fn begin_account(
+    alloc: Global,
+    accounts: &mut Accounts,
+    namespace: &Text,
+    name: &Text,
+    key: &ObjectKey,
+) -> Result<(), OutOfMemory>
+    ensures { OnOk result (get text_order accounts.old namespace.now ≡ None → AddsAccount accounts.old accounts.new namespace.now name.now key.now) }
+{
+    let names = one_name(alloc, name, key)?;
+    let Ok(copy) = namespace.clone() else {
+        drop(names);
+        return Err(OutOfMemory);
+    };
+    drop(accounts.insert(copy, names)?);
+    Ok(())
+}
+
 fn add_account(
     alloc: Global,
     accounts: &mut Accounts,
@@ -116,12 +168,7 @@ fn add_account(
             add_under(alloc, names, name, key)?;
             return Ok(());
         }
-        None => {
-            let mut names = BTreeMap::new(alloc);
-            add_under(alloc, &mut names, name, key)?;
-            let copy = namespace.clone()?;
-            let _none = accounts.insert(copy, names)?;
-        }
+        None => begin_account(alloc, accounts, namespace, name, key)?,
     }
     Ok(())
 }
@@ -140,21 +187,47 @@ fn account_found<'a>(accounts: &'a Accounts, namespace: &Text, name: &Text) -> &
 fn account_user(alloc: Global, namespace: &Text, name: &Text) -> Result<Text, OutOfMemory>
     ensures { IfOk result (λ user. user ≡ account_user namespace.now name.now) }
 {
-    let mut user = String::from_str(alloc, "system:serviceaccount:")?;
-    user.push_str(namespace.as_str())?;
-    user.push(':')?;
-    user.push_str(name.as_str())?;
+    let user = format!(in alloc;
+        "system:serviceaccount:{}:{}",
+        namespace.as_str(),
+        name.as_str()
+    )?;
     Ok(Text::from_string(user))
 }
 
+// Puts a key under the user that a service account is.
+fn add_account_user(
+    alloc: Global,
+    index: &mut ByText,
+    namespace: &Text,
+    name: &Text,
+    key: &ObjectKey,
+) -> Result<(), OutOfMemory>
+    ensures { OnOk result (AddsAt text_order index.old index.new (account_user namespace.now name.now) key.now) }
+{
+    let user = account_user(alloc, namespace, name)?;
+    add_under(alloc, index, &user, key)
+}
+
 /// The bindings by the subjects that their versions name.
-#[derive(Drop)]
 pub struct Index {
     users: ByText,
     groups: ByText,
     accounts: Accounts,
     // By the users that service accounts are.
     account_users: ByText,
+}
+
+// Written out, so that a function that lets an index go makes one call for it.
+impl Drop for Index {
+    fn drop(self) {
+        let Index {
+            users: _,
+            groups: _,
+            accounts: _,
+            account_users: _,
+        } = self;
+    }
 }
 
 impl Index {
@@ -183,8 +256,7 @@ impl Index {
             }
             Subject::ServiceAccount { namespace, name } => {
                 add_account(alloc, &mut self.accounts, namespace, name, key)?;
-                let user = account_user(alloc, namespace, name)?;
-                add_under(alloc, &mut self.account_users, &user, key)?;
+                add_account_user(alloc, &mut self.account_users, namespace, name, key)?;
             }
         }
         Ok(())

@@ -1,5 +1,5 @@
 ghost use Rattle.std.specs.Prelude.{◌≡◌, ◌↔◌, IsTrue, IfOk};
-ghost use Rattle.rbac_timeline.specs.Kinds.{IsReached, is_cluster_binding, kind_of, kind_of_key, role_key};
+ghost use Rattle.rbac_timeline.specs.Kinds.{IsReached, is_cluster_binding, kind_of, kind_of_key, rbac_group, role_key};
 
 use base_types::{ObjectKey, OutOfMemory, RequestAttrs, Text};
 use rbac_rules::Binding;
@@ -52,26 +52,47 @@ pub fn kind_of_key(key: &ObjectKey) -> Option<Kind>
     kind_of(&key.group, &key.resource)
 }
 
+// A text of the group and one of the resource.
+fn resource_texts(alloc: Global, resource: &str) -> Result<(Text, Text), OutOfMemory>
+    ensures group { IfOk result (λ texts. texts.0 ≡ rbac_group) }
+    ensures resource { IfOk result (λ texts. texts.1 ≡ resource.now) }
+{
+    let group = Text::from_str(alloc, RBAC_GROUP)?;
+    let resource = Text::from_str(alloc, resource)?;
+    Ok((group, resource))
+}
+
+// The key of this kind of role. The texts are let go where there is no memory.
+fn key_with(
+    alloc: Global,
+    resource: &str,
+    namespace: Text,
+    name: Text,
+) -> Result<ObjectKey, OutOfMemory>
+    ensures { IfOk result (λ role. role ≡ record { group = rbac_group; resource = resource.now; namespace = namespace; name = name }) }
+{
+    let (group, resource) = resource_texts(alloc, resource)?;
+    Ok(ObjectKey {
+        group,
+        resource,
+        namespace,
+        name,
+    })
+}
+
 /// The key of the role that a binding of this key names.
 pub fn role_key(alloc: Global, key: &ObjectKey, binding: &Binding) -> Result<ObjectKey, OutOfMemory>
     ensures { IfOk result (λ role. role ≡ role_key key.now binding.now) }
 {
-    let group = Text::from_str(alloc, RBAC_GROUP)?;
     let name = binding.role.clone()?;
     if binding.role_is_cluster {
-        return Ok(ObjectKey {
-            group,
-            resource: Text::from_str(alloc, "clusterroles")?,
-            namespace: Text::new(alloc),
-            name,
-        });
+        return key_with(alloc, "clusterroles", Text::new(alloc), name);
     }
-    Ok(ObjectKey {
-        group,
-        resource: Text::from_str(alloc, "roles")?,
-        namespace: key.namespace.clone()?,
-        name,
-    })
+    let Ok(namespace) = key.namespace.clone() else {
+        drop(name);
+        return Err(OutOfMemory);
+    };
+    key_with(alloc, "roles", namespace, name)
 }
 
 /// Whether a binding of this key can grant the request at all.

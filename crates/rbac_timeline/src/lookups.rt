@@ -19,6 +19,21 @@ pub struct Lookups {
     pub unsure: Unsure,
 }
 
+// What bindings are looked up in.
+fn bindings_of(
+    alloc: Global,
+    versions: &[RbacVersion],
+    spans: &[OpaqueSpan],
+    clouds: &Clouds,
+) -> Result<(Index, Unsure), OutOfMemory>
+    ensures index { IfOk result (λ made. IsIndexed made.0 (mentions_of versions.now)) }
+    ensures unsure { IfOk result (λ made. AreUnsure clouds.now versions.now spans.now made.1) }
+{
+    let index = Index::of(alloc, versions)?;
+    let unsure = Unsure::of(alloc, versions, spans, clouds)?;
+    Ok((index, unsure))
+}
+
 impl Lookups {
     /// Of the versions and the unrecorded writes.
     pub fn of(
@@ -31,10 +46,12 @@ impl Lookups {
         ensures nameless { IfOk result (λ made. AreLows made.nameless spans.now) }
         ensures unsure { IfOk result (λ made. AreUnsure clouds.now versions.now spans.now made.unsure) }
     {
+        let nameless = Nameless::of(alloc, spans)?;
+        let (index, unsure) = bindings_of(alloc, versions, spans, clouds)?;
         Ok(Lookups {
-            index: Index::of(alloc, versions)?,
-            nameless: Nameless::of(alloc, spans)?,
-            unsure: Unsure::of(alloc, versions, spans, clouds)?,
+            index,
+            nameless,
+            unsure,
         })
     }
 }

@@ -80,36 +80,19 @@ impl<'a> Asked<'a> {
         }
     }
 
-    fn first_by_roles(&self) -> Option<Places>
-        requires { self.now.low ≤ self.now.high }
-        ensures { AreFirstOf (MayGrantBy self.now.timeline.now self.now.who.now self.now.attrs.now Roles) self.now.low self.now.high result }
-    {
-        with_roles(self.first_pair(Way::Roles), self.lowest())
-    }
-
-    fn first_by_cluster_roles(&self) -> Option<Places>
-        requires { self.now.low ≤ self.now.high }
-        ensures { AreFirstOf (MayGrantBy self.now.timeline.now self.now.who.now self.now.attrs.now ClusterRoles) self.now.low self.now.high result }
-    {
-        with_cluster_roles(self.first_pair(Way::ClusterRoles), self.lowest())
-    }
-
-    fn first_by_cluster_bindings(&self) -> Option<Places>
-        requires { self.now.low ≤ self.now.high }
-        ensures { AreFirstOf (MayGrantBy self.now.timeline.now self.now.who.now self.now.attrs.now ClusterBindings) self.now.low self.now.high result }
-    {
-        with_cluster_bindings(self.first_pair(Way::ClusterBindings), self.lowest())
-    }
-
     /// The least places at which the request may be allowed. The ways to be allowed don't ask for each
     /// other, so each has its own least places.
     pub fn first_allowed(&self) -> Option<Places>
         requires { self.now.low ≤ self.now.high }
         ensures { AreFirstOf (MayGrantAt self.now.timeline.now self.now.who.now self.now.attrs.now) self.now.low self.now.high result }
     {
-        let by_roles = self.first_by_roles();
-        let by_cluster_roles = self.first_by_cluster_roles();
-        let by_cluster_bindings = self.first_by_cluster_bindings();
+        let lowest = self.lowest();
+        let by_roles = with_roles(self.first_pair(Way::Roles), lowest);
+        let by_cluster_roles = with_cluster_roles(self.first_pair(Way::ClusterRoles), lowest);
+        let by_cluster_bindings = with_cluster_bindings(
+            self.first_pair(Way::ClusterBindings),
+            lowest,
+        );
         earlier(by_roles, earlier(by_cluster_roles, by_cluster_bindings))
     }
 
@@ -123,7 +106,11 @@ impl<'a> Asked<'a> {
     {
         let mut place = self.low;
         let mut last = self.high;
-        'places: while let Some(until) = self.cluster_block(cluster_roles, place) {
+        'places: while let Some(until) = self.granted_until(Link {
+            way: Way::ClusterBindings,
+            role_place: cluster_roles,
+            binding_place: place,
+        }) {
             last = last.min(until.first);
             if until.second >= self.high {
                 return Err(last);
@@ -131,45 +118,6 @@ impl<'a> Asked<'a> {
             place = until.second + 1;
         }
         Ok(place)
-    }
-
-    // Until where the cluster role bindings grant for certain.
-    fn cluster_block(&self, cluster_roles: u64, bindings: u64) -> Option<Until>
-        requires roles { cluster_roles ≤ self.now.high }
-        requires bindings { bindings ≤ self.now.high }
-        ensures { LastsUntil (λ c b. MustGrantInWay self.now.timeline.now ClusterBindings c b self.now.who.now self.now.attrs.now) cluster_roles bindings self.now.high result }
-    {
-        self.granted_until(Link {
-            way: Way::ClusterBindings,
-            role_place: cluster_roles,
-            binding_place: bindings,
-        })
-    }
-
-    // Until where the role bindings that name roles grant for certain.
-    fn role_block(&self, roles: u64, bindings: u64) -> Option<Until>
-        requires roles { roles ≤ self.now.high }
-        requires bindings { bindings ≤ self.now.high }
-        ensures { LastsUntil (λ r b. MustGrantInWay self.now.timeline.now Roles r b self.now.who.now self.now.attrs.now) roles bindings self.now.high result }
-    {
-        self.granted_until(Link {
-            way: Way::Roles,
-            role_place: roles,
-            binding_place: bindings,
-        })
-    }
-
-    // Until where the role bindings that name cluster roles grant for certain.
-    fn cluster_role_block(&self, cluster_roles: u64, bindings: u64) -> Option<Until>
-        requires roles { cluster_roles ≤ self.now.high }
-        requires bindings { bindings ≤ self.now.high }
-        ensures { LastsUntil (λ c b. MustGrantInWay self.now.timeline.now ClusterRoles c b self.now.who.now self.now.attrs.now) cluster_roles bindings self.now.high result }
-    {
-        self.granted_until(Link {
-            way: Way::ClusterRoles,
-            role_place: cluster_roles,
-            binding_place: bindings,
-        })
     }
 
     // Until where the role bindings grant for certain: by one kind of roles, the others may be at any place.
@@ -180,7 +128,12 @@ impl<'a> Asked<'a> {
         ensures some { IfSome result (IsBlock self.now.timeline.now self.now.who.now self.now.attrs.now roles cluster_roles bindings self.now.high) }
         ensures none { IfNone result (IsFreePlain self.now.timeline.now self.now.who.now self.now.attrs.now roles cluster_roles bindings) }
     {
-        if let Some(by_role) = self.role_block(roles, bindings) {
+        let by_roles = Link {
+            way: Way::Roles,
+            role_place: roles,
+            binding_place: bindings,
+        };
+        if let Some(by_role) = self.granted_until(by_roles) {
             return Some(Block {
                 until: Until {
                     first: by_role.first,
@@ -189,7 +142,12 @@ impl<'a> Asked<'a> {
                 bindings: by_role.second,
             });
         }
-        if let Some(by_cluster_role) = self.cluster_role_block(cluster_roles, bindings) {
+        let by_cluster_roles = Link {
+            way: Way::ClusterRoles,
+            role_place: cluster_roles,
+            binding_place: bindings,
+        };
+        if let Some(by_cluster_role) = self.granted_until(by_cluster_roles) {
             return Some(Block {
                 until: Until {
                     first: self.high,

@@ -8,12 +8,12 @@ ghost use Rattle.base_types.specs.declared.placed.Places.{Places};
 
 use crate::extent::Extent;
 use crate::first::last_before;
-use crate::history::{Content, Gap, Histories, Removals, Stored, histories_of};
+use crate::history::{Content, Gap, Histories, Removals, Stored};
 use crate::index::Index;
 use crate::kind::{Kind, is_kind, kind_of_key, reaches};
 use crate::lookups::Lookups;
 use crate::nameless::Nameless;
-use crate::parts::{Parts, parts_of};
+use crate::parts::{Parts, all_parts};
 use crate::search::Asked;
 use crate::unsure::Unsure;
 use crate::version::{RbacEnds, RbacVersion, RbacVersions};
@@ -174,15 +174,10 @@ impl Timeline {
         ensures spans { IfOk result (λ timeline. timeline.spans ≡ spans) }
         ensures bypass { IfOk result (λ timeline. timeline.bypass ≡ bypass.now) }
     {
-        let parts = parts_of(
-            alloc,
-            versions.as_slice(),
-            ends.as_slice(),
-            spans.as_slice(),
-            bypass,
-        )?;
         let all_versions = Snapshot::of(&versions);
-        let histories = histories_of(alloc, versions)?;
+        let all_ends = Snapshot::of(&ends);
+        let all_spans = Snapshot::of(&spans);
+        let (histories, parts) = all_parts(alloc, versions, ends, spans, bypass)?;
         let Parts {
             bypass,
             removals,
@@ -203,8 +198,8 @@ impl Timeline {
             unsure,
             bypass,
             versions: all_versions,
-            ends: Snapshot::of(&ends),
-            spans: Snapshot::of(&spans),
+            ends: all_ends,
+            spans: all_spans,
         })
     }
 
@@ -319,22 +314,6 @@ impl Timeline {
         extent
     }
 
-    // What the bindings grant that name the user.
-    fn user_extent(&self, link: Link, who: &User, attrs: &RequestAttrs) -> Extent
-        ensures may { IsTrue result.may ↔ MayGrantOf self.now (NamesUser self.now.versions who.now.name) link.way link.role_place link.binding_place who.now attrs.now }
-        ensures must { IsTrue result.must ↔ MustGrantOf self.now (NamesUser self.now.versions who.now.name) link.way link.role_place link.binding_place who.now attrs.now }
-    {
-        self.keys_extent(self.index.by_user(&who.name), link, who, attrs)
-    }
-
-    // What the bindings grant that name the account that the user is.
-    fn account_extent(&self, link: Link, who: &User, attrs: &RequestAttrs) -> Extent
-        ensures may { IsTrue result.may ↔ MayGrantOf self.now (NamesAccount self.now.versions who.now.name) link.way link.role_place link.binding_place who.now attrs.now }
-        ensures must { IsTrue result.must ↔ MustGrantOf self.now (NamesAccount self.now.versions who.now.name) link.way link.role_place link.binding_place who.now attrs.now }
-    {
-        self.keys_extent(self.index.by_account_user(&who.name), link, who, attrs)
-    }
-
     // What the bindings grant that name a group.
     fn group_extent(&self, group: &Text, link: Link, who: &User, attrs: &RequestAttrs) -> Extent
         ensures may { IsTrue result.may ↔ MayGrantOf self.now (NamesGroup self.now.versions group.now) link.way link.role_place link.binding_place who.now attrs.now }
@@ -360,8 +339,8 @@ impl Timeline {
         ensures may { IsTrue result.may ↔ MayGrantOf self.now (NamesWho self.now.versions who.now) link.way link.role_place link.binding_place who.now attrs.now }
         ensures must { IsTrue result.must ↔ MustGrantOf self.now (NamesWho self.now.versions who.now) link.way link.role_place link.binding_place who.now attrs.now }
     {
-        let user = self.user_extent(link, who, attrs);
-        let account = self.account_extent(link, who, attrs);
+        let user = self.keys_extent(self.index.by_user(&who.name), link, who, attrs);
+        let account = self.keys_extent(self.index.by_account_user(&who.name), link, who, attrs);
         let groups = self.groups_extent(who.groups.as_slice(), link, who, attrs);
         user.or(account).or(groups)
     }

@@ -1,10 +1,8 @@
+use crate::given::{event_of, setup_of, tree};
 use answer_class::{Answer, class_of, conditions_of, listable};
-use audit_event::{Event, read_item};
-use json_tree::from_value;
-use serde_json::Value;
-use setup_file::{Setup, read_setup};
-use std::alloc::Global;
-use std::test::Fail;
+use audit_event::Event;
+use setup_file::Setup;
+use std::process::Abort;
 
 // Configmaps, whose patches that are objects are merge patches, and pods with two subresources. The log begins behind
 // revision 10 at 10:00, and ends at 11:00.
@@ -97,22 +95,22 @@ const TABLE: &str = r#"{"kind":"Table","metadata":{"resourceVersion":"12"},"rows
 
 // The event of a request, received and answered at these times of one day.
 fn event(
-    alloc: Global,
+    rt: &(impl Abort + AllocGlobal),
     request: (&str, &str, &str),
     times: (&str, &str),
     code: u16,
     answer: &str,
-) -> Result<Event, Fail> {
+) -> Event {
     let (verb, uri, body) = request;
     let (received, staged) = times;
-    let text = format!(in alloc;
+    let text = format!(in rt.alloc();
         r#"{{"level":"RequestResponse","auditID":"a","stage":"ResponseComplete","requestURI":"{uri}",
         "verb":"{verb}","user":{{"username":"u"}},"responseStatus":{{"code":{code}}},"requestObject":{body},
         "responseObject":{answer},"requestReceivedTimestamp":"2024-05-01T{received}Z",
         "stageTimestamp":"2024-05-01T{staged}Z"}}"#
-    )?;
-    let value = Value::from_str(alloc, text.as_str())?;
-    Ok(read_item(alloc, &value, 1)?)
+    )
+    .expect(rt, "memory");
+    event_of(rt, text.as_str(), 1)
 }
 
 fn word(answer: &Answer) -> &'static str {
@@ -201,33 +199,35 @@ static CLASSES: [((&str, &str, &str), (&str, &str), u16, &str, &str); 50] = [
     (("list", MAPS, NOTHING), WITHIN, 403, NOTHING, "free"),
 ];
 
-fn class_word(alloc: Global, setup: &Setup, event: &Event) -> Result<&'static str, Fail> {
-    let answer = class_of(alloc, setup, event)?;
+fn class_word(rt: &(impl Abort + AllocGlobal), setup: &Setup, event: &Event) -> &'static str {
+    let answer = class_of(rt.alloc(), setup, event).expect(rt, "memory");
     let told = word(&answer);
     drop(answer);
-    Ok(told)
+    told
 }
 
 fn told(
-    alloc: Global,
+    rt: &(impl Abort + AllocGlobal),
     setup: &Setup,
     request: (&str, &str, &str),
     times: (&str, &str),
     code: u16,
     answer: &str,
-) -> Result<&'static str, Fail> {
-    let event = event(alloc, request, times, code, answer)?;
-    class_word(alloc, setup, &event)
+) -> &'static str {
+    let event = event(rt, request, times, code, answer);
+    let told = class_word(rt, setup, &event);
+    drop(event);
+    told
 }
 
 #[test]
-fn each_class_is_told(rt: HostRuntime) -> Result<(), Fail> {
-    let setup = read_setup(rt.alloc(), SETUP.as_bytes())?;
+fn each_class_is_told(rt: HostRuntime) {
+    let setup = setup_of(&rt, SETUP);
     for (request, times, code, answer, class) in &CLASSES {
-        let found = told(rt.alloc(), &setup, *request, *times, *code, answer)?;
+        let found = told(&rt, &setup, *request, *times, *code, answer);
         assert_eq!(rt; found, *class, "of {answer}");
     }
-    Ok(())
+    drop(setup);
 }
 
 // A request, the revision that it asks for, and whether it asks for a uid.
@@ -242,31 +242,35 @@ static CONDITIONS: [((&str, &str, &str), Option<u64>, bool); 7] = [
 ];
 
 // The revision that an event's request asks for, and whether it asks for a uid.
-fn asked(alloc: Global, setup: &Setup, event: &Event) -> Result<(Option<u64>, bool), Fail> {
-    let found = conditions_of(alloc, setup, event)?;
+fn asked(rt: &(impl Abort + AllocGlobal), setup: &Setup, event: &Event) -> (Option<u64>, bool) {
+    let found = conditions_of(rt.alloc(), setup, event).expect(rt, "memory");
     let revision = found.revision.map(|revision| revision.get());
-    Ok((revision, found.uid.is_some()))
+    let has_uid = found.uid.is_some();
+    drop(found);
+    (revision, has_uid)
 }
 
 fn asked_by(
-    alloc: Global,
+    rt: &(impl Abort + AllocGlobal),
     setup: &Setup,
     request: (&str, &str, &str),
-) -> Result<(Option<u64>, bool), Fail> {
-    let event = event(alloc, request, WITHIN, 200, NOTHING)?;
-    asked(alloc, setup, &event)
+) -> (Option<u64>, bool) {
+    let event = event(rt, request, WITHIN, 200, NOTHING);
+    let asked = asked(rt, setup, &event);
+    drop(event);
+    asked
 }
 
 /// The conditions of an update, of a merge patch and of a delete, and of no other request.
 #[test]
-fn conditions_are_read(rt: HostRuntime) -> Result<(), Fail> {
-    let setup = read_setup(rt.alloc(), SETUP.as_bytes())?;
+fn conditions_are_read(rt: HostRuntime) {
+    let setup = setup_of(&rt, SETUP);
     for (request, revision, has_uid) in &CONDITIONS {
-        let (found, asks_uid) = asked_by(rt.alloc(), &setup, *request)?;
+        let (found, asks_uid) = asked_by(&rt, &setup, *request);
         assert_eq!(rt; found, *revision);
         assert_eq!(rt; asks_uid, *has_uid);
     }
-    Ok(())
+    drop(setup);
 }
 
 // An object, and whether it has the label `app=w`.
@@ -277,24 +281,28 @@ static LABELLED: [(&str, bool); 3] = [
 ];
 
 // The answer to a list with the selector `app=w`.
-fn selected_list(alloc: Global) -> Result<Answer, Fail> {
-    let event = event(alloc, ("list", LABEL, NOTHING), WITHIN, 200, LIST)?;
-    let setup = read_setup(alloc, SETUP.as_bytes())?;
-    Ok(class_of(alloc, &setup, &event)?)
+fn selected_list(rt: &(impl Abort + AllocGlobal)) -> Answer {
+    let event = event(rt, ("list", LABEL, NOTHING), WITHIN, 200, LIST);
+    let setup = setup_of(rt, SETUP);
+    let answer = class_of(rt.alloc(), &setup, &event);
+    drop(setup);
+    drop(event);
+    answer.expect(rt, "memory")
 }
 
-fn is_selected(alloc: Global, answer: &Answer, text: &str) -> Result<bool, Fail> {
-    let value = Value::from_str(alloc, text)?;
-    let tree = from_value(alloc, &value)?;
-    Ok(listable(answer, &tree))
+fn is_selected(rt: &(impl Abort + AllocGlobal), answer: &Answer, text: &str) -> bool {
+    let tree = tree(rt, text);
+    let is_listed = listable(answer, &tree);
+    drop(tree);
+    is_listed
 }
 
 /// The objects of a list with a selector.
 #[test]
-fn labels_are_selected(rt: HostRuntime) -> Result<(), Fail> {
-    let answer = selected_list(rt.alloc())?;
+fn labels_are_selected(rt: HostRuntime) {
+    let answer = selected_list(&rt);
     for (text, is_listed) in &LABELLED {
-        assert_eq!(rt; is_selected(rt.alloc(), &answer, *text)?, *is_listed);
+        assert_eq!(rt; is_selected(&rt, &answer, text), *is_listed);
     }
-    Ok(())
+    drop(answer);
 }

@@ -1,9 +1,8 @@
+use crate::given::{push, tree};
 use base_types::Texts;
-use json_tree::{Tree, from_value};
+use json_tree::Tree;
 use label_select::{Selector, SelectorFault, Test, matches, read_selector};
-use serde_json::Value;
-use std::alloc::Global;
-use std::test::Fail;
+use std::process::Abort;
 
 // The requirements of a selector as `KEY TEST VALUES` lines, or none where the text is no selector.
 static SELECTORS: [(&str, Option<&str>); 69] = [
@@ -81,63 +80,74 @@ static SELECTORS: [(&str, Option<&str>); 69] = [
     ("\u{e4}=b", None),
 ];
 
-fn write_values(line: &mut String, values: &Texts) -> Result<(), Fail> {
+fn write_values(rt: &impl Abort, line: &mut String, values: &Texts) {
     for value in values {
-        line.push(' ')?;
-        line.push_str(value.as_str())?;
+        push(rt, line, " ");
+        push(rt, line, value.as_str());
     }
-    Ok(())
 }
 
-fn write_test(line: &mut String, test: &Test) -> Result<(), Fail> {
+fn write_test(rt: &impl Abort, line: &mut String, test: &Test) {
     match test {
-        Test::Exists => line.push_str(" exists")?,
-        Test::Missing => line.push_str(" missing")?,
+        Test::Exists => push(rt, line, " exists"),
+        Test::Missing => push(rt, line, " missing"),
         Test::Is(value) => {
-            line.push_str(" is ")?;
-            line.push_str(value.as_str())?;
+            push(rt, line, " is ");
+            push(rt, line, value.as_str());
         }
         Test::IsNot(value) => {
-            line.push_str(" isnot ")?;
-            line.push_str(value.as_str())?;
+            push(rt, line, " isnot ");
+            push(rt, line, value.as_str());
         }
         Test::In(values) => {
-            line.push_str(" in")?;
-            write_values(line, values)?;
+            push(rt, line, " in");
+            write_values(rt, line, values);
         }
         Test::NotIn(values) => {
-            line.push_str(" notin")?;
-            write_values(line, values)?;
+            push(rt, line, " notin");
+            write_values(rt, line, values);
         }
     }
-    Ok(())
 }
 
-fn lines_of(alloc: Global, selector: &Selector) -> Result<String, Fail> {
-    let mut lines = String::new(alloc);
+fn lines_of(rt: &(impl Abort + AllocGlobal), selector: &Selector) -> String {
+    let mut lines = String::new(rt.alloc());
     for requirement in selector {
-        lines.push_str(requirement.key.as_str())?;
-        write_test(&mut lines, &requirement.test)?;
-        lines.push(';')?;
+        push(rt, &mut lines, requirement.key.as_str());
+        write_test(rt, &mut lines, &requirement.test);
+        push(rt, &mut lines, ";");
     }
-    Ok(lines)
+    lines
 }
 
-fn is_read_as(alloc: Global, text: &str, lines: Option<&str>) -> Result<bool, Fail> {
-    match (read_selector(alloc, text), lines) {
-        (Ok(selector), Some(lines)) => Ok(lines_of(alloc, &selector)?.as_str() == lines),
-        (Err(SelectorFault::Form), None) => Ok(true),
-        (Err(SelectorFault::OutOfMemory), _) => Err(SelectorFault::OutOfMemory.into()),
-        _ => Ok(false),
+fn has_lines(rt: &(impl Abort + AllocGlobal), selector: &Selector, lines: &str) -> bool {
+    lines_of(rt, selector).as_str() == lines
+}
+
+fn is_read_as(rt: &(impl Abort + AllocGlobal), text: &str, lines: &str) -> bool {
+    let selector = read_selector(rt.alloc(), text).expect(rt, "a selector");
+    let is_so = has_lines(rt, &selector, lines);
+    drop(selector);
+    is_so
+}
+
+fn is_refused(rt: &(impl Abort + AllocGlobal), text: &str) -> bool {
+    let fault = read_selector(rt.alloc(), text).err();
+    fault == Some(SelectorFault::Form)
+}
+
+fn is_right(rt: &(impl Abort + AllocGlobal), text: &str, lines: Option<&str>) -> bool {
+    match lines {
+        Some(lines) => is_read_as(rt, text, lines),
+        None => is_refused(rt, text),
     }
 }
 
 #[test]
-fn selectors(rt: HostRuntime) -> Result<(), Fail> {
+fn selectors(rt: HostRuntime) {
     for (text, lines) in &SELECTORS {
-        assert!(rt; is_read_as(rt.alloc(), text, *lines)?);
+        assert!(rt; is_right(&rt, text, *lines));
     }
-    Ok(())
 }
 
 // A selector, labels as JSON, and whether it takes them.
@@ -175,23 +185,25 @@ static LABELS: [(&str, &str, bool); 30] = [
 ];
 
 // Whether a selector takes these labels, or none.
-fn takes(alloc: Global, text: &str, labels: Option<&Tree>) -> Result<bool, Fail> {
-    let selector = read_selector(alloc, text)?;
-    Ok(matches(&selector, labels))
+fn takes(rt: &(impl Abort + AllocGlobal), text: &str, labels: Option<&Tree>) -> bool {
+    let selector = read_selector(rt.alloc(), text).expect(rt, "a selector");
+    let is_taken = matches(&selector, labels);
+    drop(selector);
+    is_taken
 }
 
-fn takes_labels(alloc: Global, text: &str, json: &str) -> Result<bool, Fail> {
-    let value = Value::from_str(alloc, json)?;
-    let labels = from_value(alloc, &value)?;
-    takes(alloc, text, Some(&labels))
+fn takes_labels(rt: &(impl Abort + AllocGlobal), text: &str, json: &str) -> bool {
+    let labels = tree(rt, json);
+    let is_taken = takes(rt, text, Some(&labels));
+    drop(labels);
+    is_taken
 }
 
 #[test]
-fn labels(rt: HostRuntime) -> Result<(), Fail> {
+fn labels(rt: HostRuntime) {
     for (text, json, taken) in &LABELS {
-        assert_eq!(rt; takes_labels(rt.alloc(), text, json)?, *taken);
+        assert_eq!(rt; takes_labels(&rt, text, json), *taken);
     }
-    assert!(rt; takes(rt.alloc(), "!a,b!=c", None)?);
-    assert!(rt; !takes(rt.alloc(), "!a,b", None)?);
-    Ok(())
+    assert!(rt; takes(&rt, "!a,b!=c", None));
+    assert!(rt; !takes(&rt, "!a,b", None));
 }

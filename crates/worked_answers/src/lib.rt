@@ -4,6 +4,8 @@
 #[cfg(test)]
 mod answer_class_rows;
 #[cfg(test)]
+mod given;
+#[cfg(test)]
 mod label_select_rows;
 #[cfg(test)]
 mod page_chains_rows;

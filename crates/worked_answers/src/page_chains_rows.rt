@@ -1,9 +1,8 @@
-use audit_event::{Event, Events, read_item};
+use crate::given::{assert_text, event_of, push, setup_of};
+use audit_event::{Event, Events};
 use page_chains::chains;
-use serde_json::Value;
-use setup_file::{Checkpoint, Checkpoints, read_setup};
-use std::alloc::Global;
-use std::test::Fail;
+use setup_file::{Checkpoint, Checkpoints};
+use std::process::Abort;
 
 const SETUP: &str =
     r#"{"kind":"PastSetup","version":1,"start":{"revision":"10","time":"2024-05-01T10:00:00Z"},
@@ -129,92 +128,99 @@ static LOGS: [(&str, &[(&str, &str, &str)]); 15] = [
     ),
 ];
 
-fn event(alloc: Global, line: u64, list: (&str, &str, &str)) -> Result<Event, Fail> {
+fn event(rt: &(impl Abort + AllocGlobal), line: u64, list: (&str, &str, &str)) -> Event {
     let (uri, second, answer) = list;
-    let text = format!(in alloc;
+    let text = format!(in rt.alloc();
         r#"{{"level":"RequestResponse","auditID":"a{line}","stage":"ResponseComplete","requestURI":"{uri}","verb":"list",
         "user":{{"username":"u"}},"responseStatus":{{"code":200}},"responseObject":{answer},
         "requestReceivedTimestamp":"2024-05-01T10:00:01Z","stageTimestamp":"2024-05-01T10:00:{second}Z"}}"#
-    )?;
-    let value = Value::from_str(alloc, text.as_str())?;
-    Ok(read_item(alloc, &value, line)?)
+    )
+    .expect(rt, "memory");
+    event_of(rt, text.as_str(), line)
 }
 
-fn write_chain(text: &mut String, chain: &Checkpoint) -> Result<(), Fail> {
-    text.push_str(chain.name.as_str())?;
-    text.push_str("=")?;
+fn write_chain(rt: &impl Abort, text: &mut String, chain: &Checkpoint) {
+    push(rt, text, chain.name.as_str());
+    push(rt, text, "=");
     for item in &chain.items {
-        text.push_str(item.key.name.as_str())?;
+        push(rt, text, item.key.name.as_str());
     }
-    text.push_str(" ")?;
-    Ok(())
+    push(rt, text, " ");
 }
 
 // The lists as the events of a log, of which the first has this line, with so many lines between two.
 fn log_of(
-    alloc: Global,
+    rt: &(impl Abort + AllocGlobal),
     lists: &[(&str, &str, &str)],
     first: u64,
     apart: u64,
-) -> Result<Events, Fail> {
-    let mut events = Events::new(alloc);
+) -> Events {
+    let mut events = Events::new(rt.alloc());
     let mut line = first;
     for list in lists {
-        let event = event(alloc, line, *list)?;
-        events.push(event)?;
+        let event = event(rt, line, *list);
+        events.push(event).expect(rt, "memory");
         line = line.saturating_add(apart);
     }
-    Ok(events)
+    events
 }
 
 // The chains that the lists make.
 fn chains_of(
-    alloc: Global,
+    rt: &(impl Abort + AllocGlobal),
     lists: &[(&str, &str, &str)],
     first: u64,
     apart: u64,
-) -> Result<Checkpoints, Fail> {
-    let events = log_of(alloc, lists, first, apart)?;
-    let setup = read_setup(alloc, SETUP.as_bytes())?;
-    Ok(chains(alloc, &setup, &events)?)
+) -> Checkpoints {
+    let events = log_of(rt, lists, first, apart);
+    let setup = setup_of(rt, SETUP);
+    let found = chains(rt.alloc(), &setup, &events);
+    drop(setup);
+    drop(events);
+    found.expect(rt, "memory")
 }
 
-fn told(alloc: Global, found: &Checkpoints) -> Result<String, Fail> {
-    let mut text = String::new(alloc);
+fn told(rt: &(impl Abort + AllocGlobal), found: &Checkpoints) -> String {
+    let mut text = String::new(rt.alloc());
     for chain in found {
-        write_chain(&mut text, chain)?;
+        write_chain(rt, &mut text, chain);
     }
-    Ok(text)
+    text
 }
 
-fn told_of(alloc: Global, lists: &[(&str, &str, &str)]) -> Result<String, Fail> {
-    let found = chains_of(alloc, lists, 1, 1)?;
-    told(alloc, &found)
+fn told_of(rt: &(impl Abort + AllocGlobal), lists: &[(&str, &str, &str)]) -> String {
+    let found = chains_of(rt, lists, 1, 1);
+    let text = told(rt, &found);
+    drop(found);
+    text
 }
 
 #[test]
-fn pages_make_chains(rt: HostRuntime) -> Result<(), Fail> {
+fn pages_make_chains(rt: HostRuntime) {
     for (wanted, lists) in &LOGS {
-        let text = told_of(rt.alloc(), *lists)?;
+        let text = told_of(&rt, *lists);
         assert_eq!(rt; text.as_str(), *wanted, "of {lists:?}");
     }
-    Ok(())
+}
+
+fn check_chain(rt: &impl Abort, chain: &Checkpoint) {
+    assert_text(rt, &chain.name, "pages:3");
+    assert_text(rt, &chain.resource, "configmaps");
+    assert_text(rt, &chain.namespace, "d");
+    assert_eq!(rt; chain.revision.get(), 10);
+}
+
+fn check_chains(rt: &impl Abort, found: &Checkpoints) {
+    assert_eq!(rt; found.len(), 1);
+    for chain in found {
+        check_chain(rt, chain);
+    }
 }
 
 #[test]
-fn a_chain_is_a_list_of_its_scope(rt: HostRuntime) -> Result<(), Fail> {
-    let found = chains_of(
-        rt.alloc(),
-        &[(FIRST, "02", A_THEN_T1), (NEXT, "04", B)],
-        3,
-        2,
-    )?;
-    assert_eq!(rt; found.len(), 1);
-    for chain in &found {
-        assert_eq!(rt; chain.name.as_str(), "pages:3");
-        assert_eq!(rt; chain.resource.as_str(), "configmaps");
-        assert_eq!(rt; chain.namespace.as_str(), "d");
-        assert_eq!(rt; chain.revision.get(), 10);
-    }
-    Ok(())
+fn a_chain_is_a_list_of_its_scope(rt: HostRuntime) {
+    let lists = [(FIRST, "02", A_THEN_T1), (NEXT, "04", B)];
+    let found = chains_of(&rt, &lists, 3, 2);
+    check_chains(&rt, &found);
+    drop(found);
 }

@@ -1,10 +1,9 @@
-use audit_event::{Event, read_item};
-use json_tree::{Tree, from_value};
+use crate::given::{event_of, setup_of, tree};
+use audit_event::Event;
+use json_tree::Tree;
 use request_bodies::is_body_right;
-use serde_json::Value;
-use setup_file::{Setup, read_setup};
-use std::alloc::Global;
-use std::test::Fail;
+use setup_file::Setup;
+use std::process::Abort;
 
 // Configmaps, whose patches that are objects are merge patches and of which each field is asked; and pods, whose data
 // the server may fill in, whose log is its own, and of whose status a subresource writes the phase.
@@ -89,65 +88,65 @@ static BODIES: [((&str, &str, &str), u16, &str, &str, bool); 27] = [
     (("delete", MAP, NOTHING), 200, TWO, DELETED, true),
 ];
 
-fn tree(alloc: Global, text: &str) -> Result<Tree, Fail> {
-    let value = Value::from_str(alloc, text)?;
-    Ok(from_value(alloc, &value)?)
-}
-
-fn event(alloc: Global, request: (&str, &str, &str), code: u16) -> Result<Event, Fail> {
+fn event(rt: &(impl Abort + AllocGlobal), request: (&str, &str, &str), code: u16) -> Event {
     let (verb, uri, body) = request;
-    let text = format!(in alloc;
+    let text = format!(in rt.alloc();
         r#"{{"level":"RequestResponse","auditID":"a","stage":"ResponseComplete","requestURI":"{uri}",
         "verb":"{verb}","user":{{"username":"u"}},"responseStatus":{{"code":{code}}},"requestObject":{body},
         "requestReceivedTimestamp":"2024-05-01T10:00:01Z","stageTimestamp":"2024-05-01T10:00:02Z"}}"#
-    )?;
-    let value = Value::from_str(alloc, text.as_str())?;
-    Ok(read_item(alloc, &value, 1)?)
+    )
+    .expect(rt, "memory");
+    event_of(rt, text.as_str(), 1)
 }
 
 fn is_right(
-    alloc: Global,
+    rt: &(impl Abort + AllocGlobal),
     setup: &Setup,
     event: &Event,
     before: &Tree,
     answered: &Tree,
-) -> Result<bool, Fail> {
+) -> bool {
     let old = if before.is_null() { None } else { Some(before) };
-    Ok(is_body_right(alloc, setup, event, answered, old)?)
+    is_body_right(rt.alloc(), setup, event, answered, old).expect(rt, "memory")
 }
 
 // Whether the answer to a request is what was asked of the object before.
 fn judged(
-    alloc: Global,
+    rt: &(impl Abort + AllocGlobal),
     setup: &Setup,
     event: &Event,
     before: &str,
     answered: &str,
-) -> Result<bool, Fail> {
-    let before = tree(alloc, before)?;
-    let answered = tree(alloc, answered)?;
-    is_right(alloc, setup, event, &before, &answered)
+) -> bool {
+    let before = tree(rt, before);
+    let answered = tree(rt, answered);
+    let right = is_right(rt, setup, event, &before, &answered);
+    drop(answered);
+    drop(before);
+    right
 }
 
 fn judged_request(
-    alloc: Global,
+    rt: &(impl Abort + AllocGlobal),
     setup: &Setup,
     asked: ((&str, &str, &str), u16),
     before: &str,
     answered: &str,
-) -> Result<bool, Fail> {
+) -> bool {
     let (request, code) = asked;
-    let event = event(alloc, request, code)?;
-    judged(alloc, setup, &event, before, answered)
+    let event = event(rt, request, code);
+    let right = judged(rt, setup, &event, before, answered);
+    drop(event);
+    right
 }
 
 #[test]
-fn bodies_are_judged(rt: HostRuntime) -> Result<(), Fail> {
-    let setup = read_setup(rt.alloc(), SETUP.as_bytes())?;
+fn bodies_are_judged(rt: HostRuntime) {
+    let setup = setup_of(&rt, SETUP);
     for (request, code, before, answered, right) in &BODIES {
         let asked = (*request, *code);
-        let found = judged_request(rt.alloc(), &setup, asked, before, answered)?;
+        let found = judged_request(&rt, &setup, asked, before, answered);
         assert_eq!(rt; found, *right, "of {before}");
     }
-    Ok(())
+    drop(setup);
 }

@@ -1,7 +1,7 @@
+use crate::given::{assert_count, assert_text, push, setup_of};
 use SetupRule::{S1, S2, S3, S4, S5, S6, S7, S8, S9, S10, S11, S12, S13, S14, S15};
 use setup_file::{Setup, SetupFault, SetupRule, read_setup};
-use std::alloc::Global;
-use std::test::Fail;
+use std::process::Abort;
 
 // A setup's members, as they usually are.
 static USUAL: [(&str, &str); 6] = [
@@ -151,56 +151,73 @@ static CASES: [(&str, &str, Option<SetupRule>); 45] = [
     ),
 ];
 
-fn text_with(alloc: Global, member: &str, value: &str) -> Result<String, Fail> {
-    let mut text = String::new(alloc);
-    text.push('{')?;
+fn write_member(rt: &(impl Abort + AllocGlobal), text: &mut String, name: &str, value: &str) {
+    let member = format!(in rt.alloc(); "\"{name}\":{value},").expect(rt, "memory");
+    push(rt, text, member.as_str());
+}
+
+fn text_with(rt: &(impl Abort + AllocGlobal), member: &str, value: &str) -> String {
+    let mut text = String::new(rt.alloc());
+    push(rt, &mut text, "{");
     for (name, usual) in &USUAL {
         if *name != member {
-            text.push_str(&format!(in alloc; "\"{name}\":{usual},")?)?;
+            write_member(rt, &mut text, name, usual);
         }
     }
     if !value.is_empty() {
-        text.push_str(&format!(in alloc; "\"{member}\":{value},")?)?;
+        write_member(rt, &mut text, member, value);
     }
     let _comma = text.pop();
-    text.push('}')?;
-    Ok(text)
+    push(rt, &mut text, "}");
+    text
 }
 
-fn broken_rule(alloc: Global, text: &str) -> Result<Option<SetupRule>, Fail> {
-    match read_setup(alloc, text.as_bytes()) {
-        Ok(_) => Ok(None),
-        Err(SetupFault::Rule(rule)) => Ok(Some(rule)),
-        Err(fault) => Err(fault.into()),
+fn broken_rule(rt: &(impl Abort + AllocGlobal), text: &str) -> Option<SetupRule> {
+    match read_setup(rt.alloc(), text.as_bytes()).err() {
+        None => None,
+        Some(SetupFault::Rule(rule)) => Some(rule),
+        Some(SetupFault::OutOfMemory) => panic!(rt; "memory"),
     }
 }
 
+fn broken_with(rt: &(impl Abort + AllocGlobal), member: &str, value: &str) -> Option<SetupRule> {
+    let text = text_with(rt, member, value);
+    broken_rule(rt, text.as_str())
+}
+
 #[test]
-fn first_broken_rules(rt: HostRuntime) -> Result<(), Fail> {
+fn first_broken_rules(rt: HostRuntime) {
     for (member, value, rule) in &CASES {
-        let text = text_with(rt.alloc(), member, value)?;
-        assert_eq!(rt;
-            broken_rule(rt.alloc(), text.as_str())?,
-            *rule,
-            "{member}: {value}"
-        );
+        let found = broken_with(&rt, member, value);
+        assert_eq!(rt; found, *rule, "{member}: {value}");
     }
-    assert_eq!(rt; broken_rule(rt.alloc(), "{\"kind\":")?, Some(S1));
-    Ok(())
+    assert_eq!(rt; broken_rule(&rt, "{\"kind\":"), Some(S1));
 }
 
-#[test]
-fn usual_members(rt: HostRuntime) -> Result<(), Fail> {
-    let text = text_with(rt.alloc(), "", "")?;
-    let setup = read_setup(rt.alloc(), text.as_bytes())?;
+fn check_times(rt: &impl Abort, setup: &Setup) {
     assert_eq!(rt; setup.start.get(), 10);
     assert_eq!(rt; setup.start_time.0, 1_714_557_600_000_000_000);
-    assert!(rt; setup.until.is_none() && !setup.authorize);
     assert_eq!(rt; setup.slack, 0);
     assert_eq!(rt; setup.lag, 0);
-    assert_eq!(rt; setup.bypass.len(), 1);
-    assert_eq!(rt; setup.skip.len(), 1);
-    assert_eq!(rt; setup.skip.as_slice()[0].as_str(), "system:nodes");
-    assert_eq!(rt; setup.checkpoints.len(), 0);
-    Ok(())
+}
+
+fn check_groups(rt: &impl Abort, setup: &Setup) {
+    assert!(rt; setup.until.is_none() && !setup.authorize);
+    assert_count(rt, setup.bypass.len(), 1);
+    assert_count(rt, setup.skip.len(), 1);
+    assert_text(
+        rt,
+        setup.skip.iter().next().expect(rt, "a group"),
+        "system:nodes",
+    );
+    assert_count(rt, setup.checkpoints.len(), 0);
+}
+
+#[test]
+fn usual_members(rt: HostRuntime) {
+    let text = text_with(&rt, "", "");
+    let setup = setup_of(&rt, text.as_str());
+    check_times(&rt, &setup);
+    check_groups(&rt, &setup);
+    drop(setup);
 }

@@ -1,121 +1,149 @@
-use crate::parts::{key, revision};
+use crate::parts::{key, revision, text};
 use base_types::{Cover, CoverName, ObjectKey, Text, covers};
 use clouds::{Clouds, KeyRevision, OpaqueSpan};
-use std::alloc::Global;
 use std::marker::{Send, Sync};
-use std::test::Fail;
+use std::process::Abort;
 
 const MAX: u64 = u64::MAX;
 
-fn write(alloc: Global, name: &str, number: u64) -> Result<KeyRevision, Fail> {
-    let revision = revision(number)?;
-    Ok(KeyRevision {
-        key: key(alloc, "pods", name)?,
-        revision,
-    })
+fn write(rt: &(impl Abort + AllocGlobal), name: &str, number: u64) -> KeyRevision {
+    KeyRevision {
+        key: key(rt, "pods", name),
+        revision: revision(rt, number),
+    }
 }
 
 // A name, the front of names and `*`, or `*` alone.
-fn name_of(alloc: Global, pattern: &str) -> Result<CoverName, Fail> {
+fn name_of(rt: &(impl Abort + AllocGlobal), pattern: &str) -> CoverName {
     let Some(front) = pattern.strip_suffix('*') else {
-        return Ok(CoverName::Exact(Text::from_str(alloc, pattern)?));
+        return CoverName::Exact(text(rt, pattern));
     };
     if front.is_empty() {
-        return Ok(CoverName::Any);
+        return CoverName::Any;
     }
-    Ok(CoverName::Prefix(Text::from_str(alloc, front)?))
+    CoverName::Prefix(text(rt, front))
 }
 
 // `*` for any namespace.
-fn cover(alloc: Global, namespace: &str, pattern: &str) -> Result<Cover, Fail> {
-    let mut given = None;
-    if namespace != "*" {
-        given = Some(Text::from_str(alloc, namespace)?);
+fn namespace_of(rt: &(impl Abort + AllocGlobal), pattern: &str) -> Option<Text> {
+    if pattern == "*" {
+        return None;
     }
-    Ok(Cover {
-        group: Text::new(alloc),
-        resource: Text::from_str(alloc, "pods")?,
-        namespace: given,
-        name: name_of(alloc, pattern)?,
-        creates: false,
-    })
+    Some(text(rt, pattern))
 }
 
-// One unrecorded write, as a list.
 fn span(
-    alloc: Global,
+    rt: &(impl Abort + AllocGlobal),
     namespace: &str,
     pattern: &str,
     low: u64,
     high: u64,
-) -> Result<Vec<OpaqueSpan>, Fail> {
-    let cover = cover(alloc, namespace, pattern)?;
-    let mut spans = Vec::new(alloc);
-    spans.push(OpaqueSpan { cover, low, high })?;
-    Ok(spans)
+) -> OpaqueSpan {
+    OpaqueSpan {
+        cover: Cover {
+            group: text(rt, ""),
+            resource: text(rt, "pods"),
+            namespace: namespace_of(rt, namespace),
+            name: name_of(rt, pattern),
+            creates: false,
+        },
+        low,
+        high,
+    }
 }
 
-fn writes(alloc: Global, rows: &[(&str, u64)]) -> Result<Vec<KeyRevision>, Fail> {
-    let mut writes = Vec::new(alloc);
+// One unrecorded write, and recorded ones.
+fn clouds_of(rt: &(impl Abort + AllocGlobal), span: OpaqueSpan, rows: &[(&str, u64)]) -> Clouds {
+    let mut spans = Vec::new(rt.alloc());
+    spans.push(span).expect(rt, "memory");
+    let mut writes = Vec::new(rt.alloc());
     for (name, number) in rows {
-        writes.push(write(alloc, name, *number)?)?;
+        writes.push(write(rt, name, *number)).expect(rt, "memory");
     }
-    Ok(writes)
+    Clouds::build(rt.alloc(), &spans, &writes).expect(rt, "memory")
 }
 
 fn shared<T: Send + Sync>(_value: &T) {}
 
 /// A binding whose answer doesn't show its pod, between places 10 and 14; an update shows it at 15.
-fn binding(alloc: Global) -> Result<Clouds, Fail> {
-    let spans = span(alloc, "d", "p", 10, 14)?;
-    let revisions = writes(alloc, &[("p", 15), ("q", 12), ("p", 9)])?;
-    Ok(Clouds::build(alloc, spans.as_slice(), revisions.as_slice())?)
+fn binding(rt: &(impl Abort + AllocGlobal)) -> Clouds {
+    let span = span(rt, "d", "p", 10, 14);
+    clouds_of(rt, span, &[("p", 15), ("q", 12), ("p", 9)])
+}
+
+// Places, and whether the pod is hidden there.
+static PLACES: [(u64, bool); 6] = [
+    (9, false),
+    (10, false),
+    (11, true),
+    (14, true),
+    (15, false),
+    (MAX, false),
+];
+
+// Ranges of places, and the first of them that hides the pod.
+static RANGES: [(u64, u64, Option<u64>); 4] = [
+    (10, 14, Some(11)),
+    (13, MAX, Some(13)),
+    (15, MAX, None),
+    (14, 11, None),
+];
+
+// Revisions, and whether the hidden write may have made them.
+static MAKES: [(u64, bool); 4] = [(10, false), (11, true), (14, true), (15, false)];
+
+fn check_pod(rt: &impl Abort, clouds: &Clouds, pod: &ObjectKey) {
+    for (place, hidden) in &PLACES {
+        assert!(rt; clouds.clouded(pod, *place) == *hidden);
+    }
+    for (low, high, first) in &RANGES {
+        assert!(rt; clouds.meets(pod, *low, *high) == *first);
+    }
+    for (number, may) in &MAKES {
+        assert!(rt; clouds.may_make(pod, revision(rt, *number)) == *may);
+    }
 }
 
 #[test]
-fn a_write_hidden_until_the_next(rt: HostRuntime) -> Result<(), Fail> {
-    let pod = key(rt.alloc(), "pods", "p")?;
-    let clouds = binding(rt.alloc())?;
-    let places = [9, 10, 11, 14, 15, MAX];
-    let hidden = places.map(|place| clouds.clouded(&pod, place));
-    assert!(rt; hidden == [false, false, true, true, false, false]);
-    let ranges = [(10, 14), (13, MAX), (15, MAX), (14, 11)];
-    let first = ranges.map(|(low, high)| clouds.meets(&pod, low, high));
-    assert!(rt; first == [Some(11), Some(13), None, None]);
-    for (number, may) in [(10, false), (11, true), (14, true), (15, false)] {
-        let revision = revision(number)?;
-        assert!(rt; clouds.may_make(&pod, revision) == may);
-    }
+fn a_write_hidden_until_the_next(rt: HostRuntime) {
+    let pod = key(&rt, "pods", "p");
+    let clouds = binding(&rt);
+    check_pod(&rt, &clouds, &pod);
     shared(&clouds);
-    Ok(())
+    drop(clouds);
+    drop(pod);
 }
 
 // Whether a span from place 3 to the last place hides the pod `web-1` of namespace `d`, and from where on.
-fn hidden_from(alloc: Global, namespace: &str, pattern: &str) -> Result<Option<u64>, Fail> {
-    let spans = span(alloc, namespace, pattern, 3, MAX)?;
-    let clouds = Clouds::build(alloc, spans.as_slice(), &[])?;
-    Ok(clouds.meets(&key(alloc, "pods", "web-1")?, 0, MAX))
+fn hidden_from(rt: &(impl Abort + AllocGlobal), namespace: &str, pattern: &str) -> Option<u64> {
+    let clouds = clouds_of(rt, span(rt, namespace, pattern, 3, MAX), &[]);
+    let pod = key(rt, "pods", "web-1");
+    let place = clouds.meets(&pod, 0, MAX);
+    drop(pod);
+    drop(clouds);
+    place
 }
 
+// The namespace and the name of a cover, and whether it covers the pod.
+static COVERS: [(&str, &str, bool); 10] = [
+    ("d", "web-1", true),
+    ("e", "web-1", false),
+    ("*", "web-1", true),
+    ("*", "web", false),
+    ("d", "web-*", true),
+    ("", "web-*", false),
+    ("*", "web-1*", true),
+    ("d", "*", true),
+    ("e", "*", false),
+    ("*", "*", true),
+];
+
 #[test]
-fn covers_of_all_forms(rt: HostRuntime) -> Result<(), Fail> {
-    let cases = [
-        ("d", "web-1", true),
-        ("e", "web-1", false),
-        ("*", "web-1", true),
-        ("*", "web", false),
-        ("d", "web-*", true),
-        ("", "web-*", false),
-        ("*", "web-1*", true),
-        ("d", "*", true),
-        ("e", "*", false),
-        ("*", "*", true),
-    ];
-    for (namespace, pattern, covered) in cases {
-        let expected = if covered { Some(4) } else { None };
-        assert!(rt; hidden_from(rt.alloc(), namespace, pattern)? == expected);
+fn covers_of_all_forms(rt: HostRuntime) {
+    for (namespace, pattern, covered) in &COVERS {
+        let expected = if *covered { Some(4) } else { None };
+        assert!(rt; hidden_from(&rt, namespace, pattern) == expected);
     }
-    Ok(())
 }
 
 /// By looking at every span and every revision.
@@ -136,57 +164,61 @@ fn next(bits: u64) -> u64 {
         .wrapping_add(1_442_695_040_888_963_407)
 }
 
-fn drawn_spans(alloc: Global, seed: u64) -> Result<Vec<OpaqueSpan>, Fail> {
-    let mut spans = Vec::new(alloc);
+fn drawn_spans(rt: &(impl Abort + AllocGlobal), seed: u64) -> Vec<OpaqueSpan> {
+    let mut spans = Vec::new(rt.alloc());
     let mut bits = seed;
     for _ in 0..seed % 7 {
         bits = next(bits);
         let namespace = ["*", "d", "e", "d"][(bits >> 60 & 3) as usize];
         let pattern = ["a", "ab", "a*", "*"][(bits >> 62) as usize];
-        spans.push(OpaqueSpan {
-            cover: cover(alloc, namespace, pattern)?,
-            low: bits >> 56 & 7,
-            high: bits >> 52 & 7,
-        })?;
+        let drawn = span(rt, namespace, pattern, bits >> 56 & 7, bits >> 52 & 7);
+        spans.push(drawn).expect(rt, "memory");
     }
-    Ok(spans)
+    spans
 }
 
-fn drawn_writes(alloc: Global, seed: u64) -> Result<Vec<KeyRevision>, Fail> {
-    let mut writes = Vec::new(alloc);
+fn drawn_writes(rt: &(impl Abort + AllocGlobal), seed: u64) -> Vec<KeyRevision> {
+    let mut writes = Vec::new(rt.alloc());
     let mut bits = seed;
     for _ in 0..3 {
         bits = next(bits);
         let name = ["ab", "a"][(bits >> 63) as usize];
-        writes.push(write(alloc, name, (bits >> 40 & 7).max(1))?)?;
+        let drawn = write(rt, name, (bits >> 40 & 7).max(1));
+        writes.push(drawn).expect(rt, "memory");
     }
-    Ok(writes)
+    writes
 }
 
 /// The clouded places below 10, and the first of them from each place on.
-fn agrees(alloc: Global, seed: u64) -> Result<bool, Fail> {
-    let pod = key(alloc, "pods", "ab")?;
-    let spans = drawn_spans(alloc, seed)?;
-    let writes = drawn_writes(alloc, seed)?;
-    let clouds = Clouds::build(alloc, &spans, &writes)?;
+fn agree(clouds: &Clouds, spans: &[OpaqueSpan], writes: &[KeyRevision], pod: &ObjectKey) -> bool {
     let mut first = None;
     let mut same = true;
     for place in (0..10u64).rev() {
-        let clouded = scanned(&spans, &writes, &pod, place);
+        let clouded = scanned(spans, writes, pod, place);
         if clouded {
             first = Some(place);
         }
         same = same
-            && clouds.clouded(&pod, place) == clouded
-            && clouds.meets(&pod, place, 9) == first;
+            && clouds.clouded(pod, place) == clouded
+            && clouds.meets(pod, place, 9) == first;
     }
-    Ok(same)
+    same
+}
+
+fn agrees(rt: &(impl Abort + AllocGlobal), seed: u64) -> bool {
+    let pod = key(rt, "pods", "ab");
+    let spans = drawn_spans(rt, seed);
+    let writes = drawn_writes(rt, seed);
+    let clouds = Clouds::build(rt.alloc(), &spans, &writes).expect(rt, "memory");
+    let same = agree(&clouds, &spans, &writes, &pod);
+    drop(clouds);
+    drop(pod);
+    same
 }
 
 #[test]
-fn scanning_gives_the_same(rt: HostRuntime) -> Result<(), Fail> {
+fn scanning_gives_the_same(rt: HostRuntime) {
     for seed in 0..200u64 {
-        assert!(rt; agrees(rt.alloc(), seed)?, "{seed}");
+        assert!(rt; agrees(&rt, seed), "{seed}");
     }
-    Ok(())
 }

@@ -1,17 +1,15 @@
-ghost use Rattle.std.specs.Prelude.{◌≡◌, ◌<◌, length, IfOk};
+ghost use Rattle.std.specs.Prelude.{◌≡◌, ◌<◌, length};
 
-use crate::parts::{key, revision};
+use crate::parts::{item, key, revision, text};
 use base_types::{
-    Cover, CoverName, Decision, Moment, OutOfMemory, PlacedAnswer, PlacedLine, Places, Reason,
-    Revision, Text,
+    Cover, CoverName, Decision, Moment, OutOfMemory, PlacedAnswer, Places, Reason, Revision,
 };
 use clouds::Clouds;
 use event_claims::{Decisions, View, claim_of, placed_line};
 use local_bounds::Listable;
 use node_pool::NodeId;
 use object_past::{Past, Removals, Versions};
-use std::alloc::Global;
-use std::test::Fail;
+use std::process::Abort;
 use time_windows::Windows;
 use write_groups::{Item, Items, Listing, LogEvent, Preconditions, Reading, Shown};
 
@@ -74,81 +72,77 @@ const CASES: [(Told, Option<Reason>); 11] = [
 ];
 
 // A version from before the start.
-fn item(alloc: Global) -> Result<Item, Fail> {
-    Ok(Item {
-        key: key(alloc, "configmaps", "a")?,
-        revision: revision(9)?,
-        uid: Text::from_str(alloc, "u")?,
-        node: NodeId(0),
-    })
+fn old(rt: &(impl Abort + AllocGlobal)) -> Item {
+    item(rt, "a", "u", 9)
 }
 
-fn cover(alloc: Global) -> Result<Cover, Fail> {
-    Ok(Cover {
-        group: Text::new(alloc),
-        resource: Text::from_str(alloc, "pods")?,
+fn cover(rt: &(impl Abort + AllocGlobal)) -> Cover {
+    Cover {
+        group: text(rt, ""),
+        resource: text(rt, "pods"),
         namespace: None,
         name: CoverName::Any,
         creates: false,
-    })
+    }
 }
 
-fn items(alloc: Global) -> Result<Items, Fail> {
-    let mut items = Items::new(alloc);
-    items.push(item(alloc)?)?;
-    Ok(items)
+fn items(rt: &(impl Abort + AllocGlobal)) -> Items {
+    let mut items = Items::new(rt.alloc());
+    items.push(old(rt)).expect(rt, "memory");
+    items
 }
 
 // A whole list at the start.
-fn listing(alloc: Global, items: Items) -> Result<Listing, Fail> {
-    Ok(Listing {
-        group: Text::new(alloc),
-        resource: Text::from_str(alloc, "configmaps")?,
-        namespace: Text::from_str(alloc, "d")?,
-        revision: revision(10)?,
+fn listing(rt: &(impl Abort + AllocGlobal), items: Items) -> Listing {
+    Listing {
+        group: text(rt, ""),
+        resource: text(rt, "configmaps"),
+        namespace: text(rt, "d"),
+        revision: revision(rt, 10),
         whole: true,
         items,
-    })
+    }
 }
 
-fn answer(alloc: Global, told: Told) -> Result<Shown, Fail> {
+fn answer(rt: &(impl Abort + AllocGlobal), told: Told) -> Shown {
     match told {
-        Told::Absent => Ok(Shown::SawNone {
-            key: key(alloc, "configmaps", "a")?,
-        }),
-        Told::Present => Ok(Shown::SawSome {
-            key: key(alloc, "configmaps", "a")?,
-        }),
-        Told::Seen => Ok(Shown::Saw { item: item(alloc)? }),
-        Told::Written => Ok(Shown::Made {
-            item: item(alloc)?,
+        Told::Absent => Shown::SawNone {
+            key: key(rt, "configmaps", "a"),
+        },
+        Told::Present => Shown::SawSome {
+            key: key(rt, "configmaps", "a"),
+        },
+        Told::Seen => Shown::Saw { item: old(rt) },
+        Told::Written => Shown::Made {
+            item: old(rt),
             created: false,
-        }),
-        Told::Removed => Ok(Shown::Removed {
-            key: key(alloc, "configmaps", "a")?,
-            uid: Text::new(alloc),
-        }),
-        Told::Unrecorded => Ok(Shown::Opaque {
-            cover: cover(alloc)?,
-        }),
-        Told::NoneListed => Ok(Shown::Listed {
-            listing: listing(alloc, Items::new(alloc))?,
-        }),
-        Told::SomeListed => Ok(Shown::Listed {
-            listing: listing(alloc, items(alloc)?)?,
-        }),
-        Told::OtherLevel => Ok(Shown::Free),
-        Told::OmittedStage => Ok(Shown::Free),
-        Told::Allowed => Ok(Shown::Free),
+        },
+        Told::Removed => Shown::Removed {
+            key: key(rt, "configmaps", "a"),
+            uid: text(rt, ""),
+        },
+        Told::Unrecorded => Shown::Opaque { cover: cover(rt) },
+        Told::NoneListed => Shown::Listed {
+            listing: listing(rt, Items::new(rt.alloc())),
+        },
+        Told::SomeListed => Shown::Listed {
+            listing: listing(rt, items(rt)),
+        },
+        Told::OtherLevel => Shown::Free,
+        Told::OmittedStage => Shown::Free,
+        Told::Allowed => Shown::Free,
     }
 }
 
-fn event(alloc: Global, told: Told) -> Result<LogEvent, Fail> {
-    let mut decision = None;
-    if matches!(told, Told::Allowed) {
-        decision = Some(Decision::Allow);
+fn decision(told: Told) -> Option<Decision> {
+    match told {
+        Told::Allowed => Some(Decision::Allow),
+        _ => None,
     }
-    Ok(LogEvent {
+}
+
+fn event(rt: &(impl Abort + AllocGlobal), told: Told) -> LogEvent {
+    LogEvent {
         line: 3,
         lo: Moment(100),
         hi: Moment(200),
@@ -157,11 +151,11 @@ fn event(alloc: Global, told: Told) -> Result<LogEvent, Fail> {
             revision: None,
             uid: None,
         },
-        answer: answer(alloc, told)?,
+        answer: answer(rt, told),
         other_level: matches!(told, Told::OtherLevel),
         omitted_stage: matches!(told, Told::OmittedStage),
-        decision,
-    })
+        decision: decision(told),
+    }
 }
 
 /// What is known of the log besides its events: nothing was written, and nothing is hidden.
@@ -172,27 +166,31 @@ struct World {
     past: Past,
 }
 
-fn make_world(alloc: Global, start: Revision) -> Result<World, Fail>
-    ensures { IfOk result (λ world. world.windows.start ≡ start) }
+fn make_world(rt: &(impl Abort + AllocGlobal), start: Revision) -> World
+    ensures { result.windows.start ≡ start }
 {
-    Ok(World {
-        windows: Windows::build(alloc, start, &[])?,
-        clouds: Clouds::build(alloc, &[], &[])?,
-        past: Past::build(alloc, Versions::new(alloc), Removals::new(alloc))?,
-    })
+    let windows = Windows::build(rt.alloc(), start, &[]).expect(rt, "memory");
+    let clouds = Clouds::build(rt.alloc(), &[], &[]).expect(rt, "memory");
+    let (versions, removals) = (Versions::new(rt.alloc()), Removals::new(rt.alloc()));
+    let past = Past::build(rt.alloc(), versions, removals).expect(rt, "memory");
+    World {
+        windows,
+        clouds,
+        past,
+    }
 }
 
-// The claim's code, and the placed line, of the first event.
+// The claim's code of the first event, and how its placed line answers.
 fn judged_in(
-    alloc: Global,
+    rt: &(impl Abort + AllocGlobal),
     view: &View<'_, Unselected, Unmoved>,
     fault: Option<Reason>,
-) -> Result<(Option<Reason>, Option<PlacedLine>), Fail>
+) -> (Option<Reason>, Option<PlacedAnswer>)
     requires { 0 < length view.now.log.now }
 {
-    let claim = claim_of(alloc, view, 0, fault)?;
-    let line = placed_line(alloc, view, 0, fault, &[])?;
-    Ok((claim.fails, line))
+    let claim = claim_of(rt.alloc(), view, 0, fault).expect(rt, "memory");
+    let line = placed_line(rt.alloc(), view, 0, fault, &[]).expect(rt, "memory");
+    (claim.fails, line.map(|line| line.answer))
 }
 
 // A write could not have found its revision.
@@ -203,11 +201,11 @@ fn finding_fault(told: Told) -> Option<Reason> {
     }
 }
 
-// The claim's code, and the placed line, of a log of one event.
-fn judged(alloc: Global, told: Told) -> Result<(Option<Reason>, Option<PlacedLine>), Fail> {
-    let start = revision(10)?;
-    let log = [event(alloc, told)?];
-    let world = make_world(alloc, start)?;
+// The claim's code of a log of one event, and how its placed line answers.
+fn judged(rt: &(impl Abort + AllocGlobal), told: Told) -> (Option<Reason>, Option<PlacedAnswer>) {
+    let start = revision(rt, 10);
+    let log = [event(rt, told)];
+    let world = make_world(rt, start);
     let view = View {
         start,
         lag: 5,
@@ -218,18 +216,19 @@ fn judged(alloc: Global, told: Told) -> Result<(Option<Reason>, Option<PlacedLin
         lists: &Unselected,
         decisions: &Unmoved,
     };
-    judged_in(alloc, &view, finding_fault(told))
+    let judged = judged_in(rt, &view, finding_fault(told));
+    drop(world);
+    drop(log);
+    judged
 }
 
 #[test]
-fn claims_of_one_event(rt: HostRuntime) -> Result<(), Fail> {
+fn claims_of_one_event(rt: HostRuntime) {
     for (told, wanted) in &CASES {
-        let (fails, line) = judged(rt.alloc(), *told)?;
+        let (fails, answer) = judged(&rt, *told);
         assert!(rt; fails == *wanted);
-        assert!(rt; line.is_some() == wanted.is_none());
+        assert!(rt; answer.is_some() == wanted.is_none());
     }
-    let (_, line) = judged(rt.alloc(), Told::Absent)?;
-    let placed = line.ok_or("no line")?;
-    assert!(rt; placed.answer == PlacedAnswer::At(10));
-    Ok(())
+    let (_, answer) = judged(&rt, Told::Absent);
+    assert!(rt; answer == Some(PlacedAnswer::At(10)));
 }

@@ -1,12 +1,12 @@
-ghost use Rattle.std.specs.Prelude.{◌≡◌, ◌<◌, ◌^◌, true, length, IfOk, AllPairs};
+ghost use Rattle.std.specs.Prelude.{◌≡◌, ◌<◌, ◌^◌, true, length, AllPairs};
 
-use crate::parts::{event_of, key, made, revision};
-use base_types::{OutOfMemory, Reason, Revision, Text};
+use crate::parts::{event_of, key, made, push, revision, text};
+use base_types::{OutOfMemory, Reason, Revision};
 use node_pool::NodeId;
-use object_past::Maker;
-use object_versions::{Bodies, Removed, past_of};
+use object_past::{Maker, Version};
+use object_versions::{Bodies, LogPast, past_of};
 use std::alloc::Global;
-use std::test::Fail;
+use std::process::Abort;
 use write_groups::{LogEvent, Reading, Shown};
 
 /// What an event of the test says of an object: its name, its uid and its revision.
@@ -50,19 +50,19 @@ impl Bodies for AllRight {
     }
 }
 
-fn removed(alloc: Global, name: &str, uid: &str) -> Result<Shown, Fail> {
-    Ok(Shown::Removed {
-        key: key(alloc, "configmaps", name)?,
-        uid: Text::from_str(alloc, uid)?,
-    })
+fn removed(rt: &(impl Abort + AllocGlobal), name: &str, uid: &str) -> Shown {
+    Shown::Removed {
+        key: key(rt, "configmaps", name),
+        uid: text(rt, uid),
+    }
 }
 
-fn answer(alloc: Global, told: Told) -> Result<Shown, Fail> {
+fn answer(rt: &(impl Abort + AllocGlobal), told: Told) -> Shown {
     match told {
-        Told::Created(name, uid, number) => Ok(made(alloc, name, uid, number, true)?),
-        Told::Updated(name, uid, number) => Ok(made(alloc, name, uid, number, false)?),
-        Told::Replaced(name, uid, number) => Ok(made(alloc, name, uid, number, false)?),
-        Told::Removed(name, uid) => Ok(removed(alloc, name, uid)?),
+        Told::Created(name, uid, number) => made(rt, name, uid, number, true),
+        Told::Updated(name, uid, number) => made(rt, name, uid, number, false),
+        Told::Replaced(name, uid, number) => made(rt, name, uid, number, false),
+        Told::Removed(name, uid) => removed(rt, name, uid),
     }
 }
 
@@ -73,70 +73,98 @@ fn wanted(told: Told) -> Option<Revision> {
     }
 }
 
-fn event(alloc: Global, line: u64, told: Told, lo: i128, hi: i128) -> Result<LogEvent, Fail>
-    ensures { IfOk result (λ event. event.line ≡ line) }
+fn event(rt: &(impl Abort + AllocGlobal), line: u64, told: Told, lo: i128, hi: i128) -> LogEvent
+    ensures { result.line ≡ line }
 {
-    let answer = answer(alloc, told)?;
-    Ok(event_of(line, (lo, hi), Reading::MostRecent, wanted(told), answer))
+    let answer = answer(rt, told);
+    event_of(line, (lo, hi), Reading::MostRecent, wanted(told), answer)
 }
 
-fn log(alloc: Global) -> Result<Vec<LogEvent>, Fail>
-    ensures few { IfOk result (λ events. length events.items < 2 ^ 32) }
-    ensures lines { IfOk result (λ events. AllPairs (λ a b. a.line < b.line) events.items) }
+fn log(rt: &(impl Abort + AllocGlobal)) -> Vec<LogEvent>
+    ensures few { length result.items < 2 ^ 32 }
+    ensures lines { AllPairs (λ a b. a.line < b.line) result.items }
 {
-    let mut events = Vec::new(alloc);
+    let mut events = Vec::new(rt.alloc());
     for line in 0..9u64 {
         let (told, lo, hi) = LOG[line as usize];
-        events.push(event(alloc, line, told, lo, hi)?)?;
+        let event = event(rt, line, told, lo, hi);
+        push(rt, &mut events, event);
     }
-    Ok(events)
+    events
 }
 
-/// The versions with their makers, what speaks against each write, and the removals with their ranges.
-#[test]
-fn past_of_a_log(rt: HostRuntime) -> Result<(), Fail> {
-    let alloc = rt.alloc();
-    let start = revision(10)?;
-    let past = past_of(alloc, &AllRight, start, &[], &log(alloc)?)?;
-    let versions = [
-        ("a", "a1", 11, Maker::Event(0), true),
-        ("a", "a1", 12, Maker::Event(1), true),
-        ("b", "b1", 14, Maker::Event(4), true),
-        ("a", "a2", 16, Maker::Event(5), true),
-        ("b", "b2", 18, Maker::Event(6), true),
-        ("a", "a1", 19, Maker::Event(7), false),
-    ];
+// The versions: name, uid and revision, which event made each, and whether it is the first of its uid.
+static VERSIONS: [(&str, &str, u64, Maker, bool); 6] = [
+    ("a", "a1", 11, Maker::Event(0), true),
+    ("a", "a1", 12, Maker::Event(1), true),
+    ("b", "b1", 14, Maker::Event(4), true),
+    ("a", "a2", 16, Maker::Event(5), true),
+    ("b", "b2", 18, Maker::Event(6), true),
+    ("a", "a1", 19, Maker::Event(7), false),
+];
+
+fn check_version(rt: &impl Abort, version: &Version, row: &(&str, &str, u64, Maker, bool)) {
+    let (name, uid, number, maker, _) = row;
+    assert!(rt; version.key.name.as_str() == *name && version.uid.as_str() == *uid);
+    assert_eq!(rt; version.revision.get(), *number);
+    assert_eq!(rt; version.maker, *maker, "maker of {number}");
+}
+
+fn check_versions(rt: &impl Abort, past: &LogPast) {
     assert_eq!(rt; past.versions.len(), 6);
-    for ((version, is_first), (name, uid, number, maker, first)) in past
-        .versions
-        .iter()
-        .zip(&past.firsts)
-        .zip(&versions)
-    {
-        assert!(rt; version.key.name.as_str() == *name && version.uid.as_str() == *uid);
-        assert_eq!(rt; version.revision.get(), *number);
-        assert_eq!(rt; version.maker, *maker, "maker of {number}");
+    for (version, row) in past.versions.iter().zip(&VERSIONS) {
+        check_version(rt, version, row);
+    }
+}
+
+fn check_firsts(rt: &impl Abort, past: &LogPast) {
+    assert_eq!(rt; past.firsts.len(), 6);
+    for (is_first, (_, _, number, _, first)) in past.firsts.iter().zip(&VERSIONS) {
         assert_eq!(rt; *is_first, *first, "first of {number}");
     }
-    let judged = [
-        (0, None, Some(Reason::U4)),
-        (2, None, None),
-        (1, None, Some(Reason::U7)),
-        (4, None, Some(Reason::U4)),
-        (5, None, Some(Reason::U4)),
-        (6, Some(Reason::U4), Some(Reason::U4)),
-        (7, Some(Reason::U4), Some(Reason::U4)),
-    ];
+}
+
+// Events, and what speaks against their writes.
+static JUDGED: [(u32, Option<Reason>, Option<Reason>); 7] = [
+    (0, None, Some(Reason::U4)),
+    (2, None, None),
+    (1, None, Some(Reason::U7)),
+    (4, None, Some(Reason::U4)),
+    (5, None, Some(Reason::U4)),
+    (6, Some(Reason::U4), Some(Reason::U4)),
+    (7, Some(Reason::U4), Some(Reason::U4)),
+];
+
+fn check_judged(rt: &impl Abort, past: &LogPast) {
     assert_eq!(rt; past.judged.len(), 7);
-    for (one, (number, making, finding)) in past.judged.iter().zip(&judged) {
+    for (one, (number, making, finding)) in past.judged.iter().zip(&JUDGED) {
         assert_eq!(rt; one.number, *number);
         assert!(rt; one.making == *making, "making of {number}");
         assert!(rt; one.finding == *finding, "finding of {number}");
     }
+}
+
+fn check_removals(rt: &impl Abort, past: &LogPast) {
     assert_eq!(rt; past.removals.len(), 1);
     for removal in past.removals.iter() {
         assert_eq!(rt; (removal.range.event, removal.last.get()), (3, 12));
         assert_eq!(rt; (removal.range.low, removal.range.high), (13, 13));
     }
-    Ok(())
+}
+
+fn past(rt: &(impl Abort + AllocGlobal)) -> LogPast {
+    let events = log(rt);
+    let start = revision(rt, 10);
+    past_of(rt.alloc(), &AllRight, start, &[], &events).expect(rt, "memory")
+}
+
+/// The versions with their makers, what speaks against each write, and the removals with their ranges.
+#[test]
+fn past_of_a_log(rt: HostRuntime) {
+    let past = past(&rt);
+    check_versions(&rt, &past);
+    check_firsts(&rt, &past);
+    check_judged(&rt, &past);
+    check_removals(&rt, &past);
+    drop(past);
 }

@@ -1,43 +1,51 @@
-ghost use Rattle.std.specs.Prelude.{◌≡◌};
+ghost use Rattle.std.specs.Prelude.{◌≡◌, ◌++◌, ◌∷◌, []};
 
 use base_types::{Moment, ObjectKey, Revision, Text};
 use node_pool::NodeId;
-use std::alloc::Global;
-use std::test::Fail;
+use std::process::Abort;
 use write_groups::{Item, LogEvent, Preconditions, Reading, Shown};
 
+pub fn text(rt: &(impl Abort + AllocGlobal), text: &str) -> Text {
+    Text::from_str(rt.alloc(), text).expect(rt, "memory")
+}
+
 /// The key of an object of the namespace `d`.
-pub fn key(alloc: Global, resource: &str, name: &str) -> Result<ObjectKey, Fail> {
-    Ok(ObjectKey {
-        group: Text::new(alloc),
-        resource: Text::from_str(alloc, resource)?,
-        namespace: Text::from_str(alloc, "d")?,
-        name: Text::from_str(alloc, name)?,
-    })
+pub fn key(rt: &(impl Abort + AllocGlobal), resource: &str, name: &str) -> ObjectKey {
+    ObjectKey {
+        group: text(rt, ""),
+        resource: text(rt, resource),
+        namespace: text(rt, "d"),
+        name: text(rt, name),
+    }
 }
 
 /// The revision of this number.
-pub fn revision(number: u64) -> Result<Revision, Fail> {
-    Ok(Revision::new(number).ok_or("no revision")?)
+pub fn revision(rt: &impl Abort, number: u64) -> Revision {
+    Revision::new(number).expect(rt, "a revision")
+}
+
+/// A version of a config map.
+pub fn item(rt: &(impl Abort + AllocGlobal), name: &str, uid: &str, number: u64) -> Item {
+    Item {
+        key: key(rt, "configmaps", name),
+        revision: revision(rt, number),
+        uid: text(rt, uid),
+        node: NodeId(0),
+    }
 }
 
 /// The answer to a write of a config map.
 pub fn made(
-    alloc: Global,
+    rt: &(impl Abort + AllocGlobal),
     name: &str,
     uid: &str,
     number: u64,
     created: bool,
-) -> Result<Shown, Fail> {
-    Ok(Shown::Made {
-        item: Item {
-            key: key(alloc, "configmaps", name)?,
-            revision: revision(number)?,
-            uid: Text::from_str(alloc, uid)?,
-            node: NodeId(0),
-        },
+) -> Shown {
+    Shown::Made {
+        item: item(rt, name, uid, number),
         created,
-    })
+    }
 }
 
 /// An event between these moments, whose request asks for this revision.
@@ -65,4 +73,11 @@ pub fn event_of(
         omitted_stage: false,
         decision: None,
     }
+}
+
+/// Puts an event behind the others.
+pub fn push(rt: &impl Abort, events: &mut Vec<LogEvent>, event: LogEvent)
+    ensures { events.new.items ≡ events.old.items ++ event ∷ [] }
+{
+    events.push(event).expect(rt, "memory");
 }

@@ -1,13 +1,12 @@
-ghost use Rattle.std.specs.Prelude.{◌≡◌, ◌<◌, ◌^◌, length, IfOk, AllPairs};
+ghost use Rattle.std.specs.Prelude.{◌≡◌, ◌<◌, ◌^◌, length, AllPairs};
 
-use crate::parts::{event_of, key, made, revision};
-use base_types::{Cover, CoverName, Moment, Revision, Text};
-use std::alloc::Global;
-use std::test::Fail;
-use time_windows::Windows;
+use crate::parts::{event_of, key, made, push, revision, text};
+use base_types::{Cover, CoverName, Moment, Revision};
+use std::process::Abort;
+use time_windows::{Span, Windows};
 use write_groups::{
-    Hidden, LogEvent, Reading, Shown, Window, groups_of, highest, lowest, order_of, spans_of,
-    window_of,
+    Group, Hidden, LogEvent, Reading, Shown, Window, groups_of, highest, lowest, order_of,
+    spans_of, window_of,
 };
 
 /// What an event of the test says of an object.
@@ -36,32 +35,32 @@ const LOG: [(Told, i128, i128); 10] = [
     (Told::Checked(12), 0, 0),
 ];
 
-fn unseen(alloc: Global, name: &str) -> Result<Shown, Fail> {
-    Ok(Shown::Opaque {
+fn unseen(rt: &(impl Abort + AllocGlobal), name: &str) -> Shown {
+    Shown::Opaque {
         cover: Cover {
-            group: Text::new(alloc),
-            resource: Text::from_str(alloc, "configmaps")?,
-            namespace: Some(Text::from_str(alloc, "d")?),
-            name: CoverName::Exact(Text::from_str(alloc, name)?),
+            group: text(rt, ""),
+            resource: text(rt, "configmaps"),
+            namespace: Some(text(rt, "d")),
+            name: CoverName::Exact(text(rt, name)),
             creates: false,
         },
-    })
-}
-
-fn answer(alloc: Global, told: Told) -> Result<Shown, Fail> {
-    match told {
-        Told::Updated(name, number) => Ok(made(alloc, name, name, number, false)?),
-        Told::Created(name, number) => Ok(made(alloc, name, name, number, true)?),
-        Told::Replaced(name, number, _) => Ok(made(alloc, name, name, number, false)?),
-        Told::Unseen(name) => Ok(unseen(alloc, name)?),
-        Told::Checked(_) => Ok(Shown::Free),
     }
 }
 
-fn reading(told: Told) -> Result<Reading, Fail> {
+fn answer(rt: &(impl Abort + AllocGlobal), told: Told) -> Shown {
     match told {
-        Told::Checked(number) => Ok(Reading::Checkpoint(revision(number)?)),
-        _ => Ok(Reading::MostRecent),
+        Told::Updated(name, number) => made(rt, name, name, number, false),
+        Told::Created(name, number) => made(rt, name, name, number, true),
+        Told::Replaced(name, number, _) => made(rt, name, name, number, false),
+        Told::Unseen(name) => unseen(rt, name),
+        Told::Checked(_) => Shown::Free,
+    }
+}
+
+fn reading(rt: &impl Abort, told: Told) -> Reading {
+    match told {
+        Told::Checked(number) => Reading::Checkpoint(revision(rt, number)),
+        _ => Reading::MostRecent,
     }
 }
 
@@ -72,110 +71,172 @@ fn wanted(told: Told) -> Option<Revision> {
     }
 }
 
-fn event(alloc: Global, line: u64, told: Told, lo: i128, hi: i128) -> Result<LogEvent, Fail>
-    ensures { IfOk result (λ event. event.line ≡ line) }
+fn event(rt: &(impl Abort + AllocGlobal), line: u64, told: Told, lo: i128, hi: i128) -> LogEvent
+    ensures { result.line ≡ line }
 {
-    let reading = reading(told)?;
-    let answer = answer(alloc, told)?;
-    Ok(event_of(line, (lo, hi), reading, wanted(told), answer))
+    let reading = reading(rt, told);
+    let answer = answer(rt, told);
+    event_of(line, (lo, hi), reading, wanted(told), answer)
 }
 
-fn log(alloc: Global) -> Result<Vec<LogEvent>, Fail>
-    ensures few { IfOk result (λ events. length events.items < 2 ^ 32) }
-    ensures lines { IfOk result (λ events. AllPairs (λ a b. a.line < b.line) events.items) }
+fn log(rt: &(impl Abort + AllocGlobal)) -> Vec<LogEvent>
+    ensures few { length result.items < 2 ^ 32 }
+    ensures lines { AllPairs (λ a b. a.line < b.line) result.items }
 {
-    let mut events = Vec::new(alloc);
+    let mut events = Vec::new(rt.alloc());
     for line in 0..10u64 {
         let (told, lo, hi) = LOG[line as usize];
-        events.push(event(alloc, line, told, lo, hi)?)?;
+        let event = event(rt, line, told, lo, hi);
+        push(rt, &mut events, event);
     }
-    Ok(events)
+    events
+}
+
+// Revisions, each with the object's name and the events of its group.
+static GROUPS: [(u64, &str, &[u32]); 3] = [(11, "a", &[0, 4]), (12, "b", &[2]), (13, "b", &[7])];
+
+fn check_group(rt: &impl Abort, group: &Group, row: &(u64, &str, &[u32])) {
+    let (number, name, members) = row;
+    assert_eq!(rt; group.revision.get(), *number);
+    assert!(rt; group.key.name.as_str() == *name);
+    assert!(rt; group.members.as_slice() == *members, "members of {number}");
+}
+
+fn check_groups(rt: &impl Abort, groups: &[Group]) {
+    assert_eq!(rt; groups.len(), 3);
+    for (group, row) in groups.iter().zip(&GROUPS) {
+        check_group(rt, group, row);
+    }
+}
+
+// Revisions, each with the moments between which it was written.
+static TIMES: [(u64, i128, i128); 3] = [(11, 50, 130), (12, 120, 140), (13, 150, 170)];
+
+fn check_spans(rt: &impl Abort, spans: &[Span]) {
+    assert_eq!(rt; spans.len(), 3);
+    for (span, (number, lo, hi)) in spans.iter().zip(&TIMES) {
+        assert_eq!(rt; span.revision.get(), *number);
+        assert_eq!(rt; (span.lo.0, span.hi.0), (*lo, *hi), "times of {number}");
+    }
 }
 
 /// The events in the order of judgement, the groups of the revisions, and when each was written.
 #[test]
-fn groups_of_a_log(rt: HostRuntime) -> Result<(), Fail> {
-    let alloc = rt.alloc();
-    let events = log(alloc)?;
-    let order = order_of(alloc, &events)?;
+fn groups_of_a_log(rt: HostRuntime) {
+    let events = log(&rt);
+    let order = order_of(rt.alloc(), &events).expect(&rt, "memory");
     assert!(rt; order.as_slice() == [6u32, 0, 2, 3, 5, 4, 7, 1, 8, 9].as_slice());
-    let start = revision(10)?;
-    let groups = groups_of(alloc, start, &events, &order)?;
-    let expected: [(u64, &str, &[u32]); 3] = [(11, "a", &[0, 4]), (12, "b", &[2]), (13, "b", &[7])];
-    assert_eq!(rt; groups.len(), 3);
-    for (group, (number, name, members)) in groups.iter().zip(&expected) {
-        assert_eq!(rt; group.revision.get(), *number);
-        assert!(rt; group.key.name.as_str() == *name);
-        assert!(rt; group.members.as_slice() == *members, "members of {number}");
-    }
-    let spans = spans_of(alloc, start, &events, groups.as_slice())?;
-    let times = [(11, 50, 130), (12, 120, 140), (13, 150, 170)];
-    assert_eq!(rt; spans.len(), 3);
-    for (span, (number, lo, hi)) in spans.iter().zip(&times) {
-        assert_eq!(rt; span.revision.get(), *number);
-        assert_eq!(rt; (span.lo.0, span.hi.0), (*lo, *hi), "times of {number}");
-    }
-    Ok(())
+    let start = revision(&rt, 10);
+    let groups = groups_of(rt.alloc(), start, &events, &order).expect(&rt, "memory");
+    check_groups(&rt, groups.as_slice());
+    let spans = spans_of(rt.alloc(), start, &events, groups.as_slice()).expect(&rt, "memory");
+    check_spans(&rt, &spans);
+}
+
+// Names, and when the first unrecorded write of each may have begun.
+static SINCE: [(&str, Option<Moment>); 3] = [
+    ("a", Some(Moment(50))),
+    ("b", Some(Moment(10))),
+    ("c", None),
+];
+
+fn since(rt: &(impl Abort + AllocGlobal), hidden: &Hidden, name: &str) -> Option<Moment> {
+    let key = key(rt, "configmaps", name);
+    let since = hidden.since(&key);
+    drop(key);
+    since
 }
 
 /// When the first unrecorded write of a key may have begun.
 #[test]
-fn unrecorded_writes(rt: HostRuntime) -> Result<(), Fail> {
-    let alloc = rt.alloc();
-    let hidden = Hidden::build(alloc, &log(alloc)?)?;
-    for (name, since) in [
-        ("a", Some(Moment(50))),
-        ("b", Some(Moment(10))),
-        ("c", None),
-    ] {
-        assert!(rt;
-            hidden.since(&key(alloc, "configmaps", name)?) == since,
-            "since of {name}"
-        );
+fn unrecorded_writes(rt: HostRuntime) {
+    let events = log(&rt);
+    let hidden = Hidden::build(rt.alloc(), &events).expect(&rt, "memory");
+    for (name, wanted) in &SINCE {
+        assert!(rt; since(&rt, &hidden, name) == *wanted, "since of {name}");
     }
-    Ok(())
+    drop(hidden);
 }
 
-fn windows(alloc: Global, start: Revision) -> Result<Windows, Fail>
-    ensures { IfOk result (λ windows. windows.start ≡ start) }
+fn windows(rt: &(impl Abort + AllocGlobal), start: Revision) -> Windows
+    ensures { result.start ≡ start }
 {
-    let events = log(alloc)?;
-    let order = order_of(alloc, &events)?;
-    let groups = groups_of(alloc, start, &events, &order)?;
-    let spans = spans_of(alloc, start, &events, groups.as_slice())?;
-    Ok(Windows::build(alloc, start, &spans)?)
+    let events = log(rt);
+    let order = order_of(rt.alloc(), &events).expect(rt, "memory");
+    let groups = groups_of(rt.alloc(), start, &events, &order).expect(rt, "memory");
+    let spans = spans_of(rt.alloc(), start, &events, groups.as_slice()).expect(rt, "memory");
+    Windows::build(rt.alloc(), start, &spans).expect(rt, "memory")
+}
+
+// How a reading is asked for.
+#[derive(Clone, Copy)]
+enum Asked {
+    MostRecent,
+    AnyVersion,
+    NotOlderThan(u64),
+    Exactly(u64),
+    Checkpoint(u64),
+}
+
+fn reading_asked(rt: &impl Abort, asked: Asked) -> Reading {
+    match asked {
+        Asked::MostRecent => Reading::MostRecent,
+        Asked::AnyVersion => Reading::AnyVersion,
+        Asked::NotOlderThan(number) => Reading::NotOlderThan(revision(rt, number)),
+        Asked::Exactly(number) => Reading::Exactly(revision(rt, number)),
+        Asked::Checkpoint(number) => Reading::Checkpoint(revision(rt, number)),
+    }
+}
+
+// Readings, each with its window.
+static WINDOWS: [(Asked, u64, u64); 8] = [
+    (Asked::MostRecent, 11, 12),
+    (Asked::AnyVersion, 10, 12),
+    (Asked::NotOlderThan(12), 12, 12),
+    (Asked::NotOlderThan(9), 10, 12),
+    (Asked::Exactly(12), 12, 12),
+    (Asked::Exactly(13), 1, 0),
+    (Asked::Exactly(9), 1, 0),
+    (Asked::Checkpoint(13), 13, 13),
+];
+
+// An event from 135 to 145.
+fn read(rt: &(impl Abort + AllocGlobal), reading: Reading) -> LogEvent {
+    let answer = unseen(rt, "a");
+    event_of(1, (135, 145), reading, None, answer)
+}
+
+fn window(
+    rt: &(impl Abort + AllocGlobal),
+    windows: &Windows,
+    start: Revision,
+    reading: Reading,
+) -> Window
+    requires { windows.now.start ≡ start }
+{
+    let event = read(rt, reading);
+    let window = window_of(windows, start, &event);
+    drop(event);
+    window
 }
 
 /// The window of an event from 135 to 145 by each reading: revision 11 had been written, revision 13 had not begun.
 #[test]
-fn windows_of_readings(rt: HostRuntime) -> Result<(), Fail> {
-    let alloc = rt.alloc();
-    let start = revision(10)?;
-    let windows = windows(alloc, start)?;
-    let mut read = event(alloc, 1, Told::Unseen("a"), 135, 145)?;
-    let cases = [
-        (Reading::MostRecent, 11, 12),
-        (Reading::AnyVersion, 10, 12),
-        (Reading::NotOlderThan(revision(12)?), 12, 12),
-        (Reading::NotOlderThan(revision(9)?), 10, 12),
-        (Reading::Exactly(revision(12)?), 12, 12),
-        (Reading::Exactly(revision(13)?), 1, 0),
-        (Reading::Exactly(revision(9)?), 1, 0),
-        (Reading::Checkpoint(revision(13)?), 13, 13),
-    ];
-    for (reading, low, high) in cases {
-        read.reading = reading;
-        assert!(rt;
-            window_of(&windows, start, &read) == (Window { low, high }),
-            "{low} to {high}"
-        );
+fn windows_of_readings(rt: HostRuntime) {
+    let start = revision(&rt, 10);
+    let windows = windows(&rt, start);
+    for (reading, low, high) in &WINDOWS {
+        let found = window(&rt, &windows, start, reading_asked(&rt, *reading));
+        let wanted = Window {
+            low: *low,
+            high: *high,
+        };
+        assert!(rt; found == wanted, "{low} to {high}");
     }
-    assert_eq!(rt;
-        (
-            lowest(&windows, Moment(130)),
-            highest(&windows, Moment(150))
-        ),
-        (10, u64::MAX)
+    let (low, high) = (
+        lowest(&windows, Moment(130)),
+        highest(&windows, Moment(150)),
     );
-    Ok(())
+    assert_eq!(rt; (low, high), (10, u64::MAX));
+    drop(windows);
 }

@@ -1,12 +1,15 @@
-use base_types::{RequestAttrs, Text};
+use crate::given::{assert_count, assert_text, text};
+use base_types::{Pairs, RequestAttrs};
 use request_attrs::{UriFault, attrs_of};
-use std::alloc::Global;
-use std::test::Fail;
+use std::process::Abort;
 
-fn read(alloc: Global, verb: &str, uri: &str) -> Result<RequestAttrs, UriFault> {
-    let verb = Text::from_str(alloc, verb)?;
-    let uri = Text::from_str(alloc, uri)?;
-    attrs_of(alloc, &verb, &uri)
+fn read(rt: &(impl Abort + AllocGlobal), verb: &str, uri: &str) -> Result<RequestAttrs, UriFault> {
+    let verb = text(rt, verb);
+    let uri = text(rt, uri);
+    let attrs = attrs_of(rt.alloc(), &verb, &uri);
+    drop(uri);
+    drop(verb);
+    attrs
 }
 
 // Verb and URI with group, version, namespace, resource, name and subresource.
@@ -162,86 +165,111 @@ static REQUESTS: [(&str, &str, [&str; 6]); 33] = [
     ),
 ];
 
+// The attributes of a request for a resource.
+fn check_resource(rt: &impl Abort, attrs: &RequestAttrs, verb: &str, parts: &[&str; 6]) {
+    let [group, version, namespace, resource, name, subresource] = parts;
+    assert!(rt; attrs.is_resource);
+    assert_text(rt, &attrs.verb, verb);
+    assert_text(rt, &attrs.group, group);
+    assert_text(rt, &attrs.version, version);
+    assert_text(rt, &attrs.namespace, namespace);
+    assert_text(rt, &attrs.resource, resource);
+    assert_text(rt, &attrs.name, name);
+    assert_text(rt, &attrs.subresource, subresource);
+}
+
 #[test]
-fn resource_requests(rt: HostRuntime) -> Result<(), Fail> {
+fn resource_requests(rt: HostRuntime) {
     for (verb, uri, parts) in &REQUESTS {
-        let attrs = read(rt.alloc(), verb, uri)?;
-        assert!(rt; attrs.is_resource);
-        assert_eq!(rt; attrs.verb.as_str(), *verb);
-        let [group, version, namespace, resource, name, subresource] = parts;
-        assert_eq!(rt; attrs.group.as_str(), *group);
-        assert_eq!(rt; attrs.version.as_str(), *version);
-        assert_eq!(rt; attrs.namespace.as_str(), *namespace);
-        assert_eq!(rt; attrs.resource.as_str(), *resource);
-        assert_eq!(rt; attrs.name.as_str(), *name);
-        assert_eq!(rt; attrs.subresource.as_str(), *subresource);
+        let attrs = read(&rt, verb, uri).expect(&rt, "attributes");
+        check_resource(&rt, &attrs, verb, parts);
+        drop(attrs);
     }
-    Ok(())
+}
+
+// The attributes of a request of a path.
+fn check_other(rt: &impl Abort, attrs: &RequestAttrs, path: &str) {
+    assert!(rt; !attrs.is_resource);
+    assert_text(rt, &attrs.path, path);
+    assert!(rt; attrs.resource.is_empty() && attrs.name.is_empty() && attrs.version.is_empty());
+}
+
+// A URI, and the path that it asks for.
+static PATHS: [(&str, &str); 10] = [
+    ("/", "/"),
+    ("///", "///"),
+    ("/healthz?verbose", "/healthz"),
+    ("/api", "/api"),
+    ("/api/v1", "/api/v1"),
+    ("/api/v1/", "/api/v1/"),
+    ("/apis/apps/v1", "/apis/apps/v1"),
+    ("/apis", "/apis"),
+    ("/API/v1/pods", "/API/v1/pods"),
+    ("/logs/a+b%20c%25", "/logs/a+b c%"),
+];
+
+#[test]
+fn other_paths(rt: HostRuntime) {
+    for (uri, path) in &PATHS {
+        let attrs = read(&rt, "list", uri).expect(&rt, "attributes");
+        check_other(&rt, &attrs, path);
+        drop(attrs);
+    }
+}
+
+// The members of a query.
+static MEMBERS: [(&str, &str); 8] = [
+    ("a", "1"),
+    ("a", "2"),
+    ("b", ""),
+    ("c", ""),
+    ("", "d"),
+    ("limit", "50"),
+    ("l", "p q r"),
+    ("%zz", "\u{e4}\u{fffd}?="),
+];
+
+fn check_query(rt: &impl Abort, query: &Pairs) {
+    assert_count(rt, query.len(), MEMBERS.len());
+    for (pair, (name, value)) in query.iter().zip(&MEMBERS) {
+        assert_text(rt, &pair.name, name);
+        assert_text(rt, &pair.value, value);
+    }
 }
 
 #[test]
-fn other_paths(rt: HostRuntime) -> Result<(), Fail> {
-    let rows = [
-        ("/", "/"),
-        ("///", "///"),
-        ("/healthz?verbose", "/healthz"),
-        ("/api", "/api"),
-        ("/api/v1", "/api/v1"),
-        ("/api/v1/", "/api/v1/"),
-        ("/apis/apps/v1", "/apis/apps/v1"),
-        ("/apis", "/apis"),
-        ("/API/v1/pods", "/API/v1/pods"),
-        ("/logs/a+b%20c%25", "/logs/a+b c%"),
-    ];
-    for (uri, path) in rows {
-        let attrs = read(rt.alloc(), "list", uri)?;
-        assert!(rt; !attrs.is_resource);
-        assert_eq!(rt; attrs.path.as_str(), path);
-        assert!(rt; attrs.resource.is_empty() && attrs.name.is_empty() && attrs.version.is_empty());
-    }
-    Ok(())
-}
-
-#[test]
-fn queries(rt: HostRuntime) -> Result<(), Fail> {
+fn queries(rt: HostRuntime) {
     let uri = "/x?a=1&a=2&&b&c=&=d&limit=5%30&l=p%20q+r&%zz=%C3%A4%FF?=";
-    let attrs = read(rt.alloc(), "get", uri)?;
-    let rows = [
-        ("a", "1"),
-        ("a", "2"),
-        ("b", ""),
-        ("c", ""),
-        ("", "d"),
-        ("limit", "50"),
-        ("l", "p q r"),
-        ("%zz", "\u{e4}\u{fffd}?="),
-    ];
-    assert_eq!(rt; attrs.query.len(), rows.len());
-    for (pair, (name, value)) in attrs.query.iter().zip(&rows) {
-        assert_eq!(rt; pair.name.as_str(), *name);
-        assert_eq!(rt; pair.value.as_str(), *value);
-    }
-    Ok(())
+    let attrs = read(&rt, "get", uri).expect(&rt, "attributes");
+    check_query(&rt, &attrs.query);
+    drop(attrs);
 }
+
+// Why a request has no attributes.
+fn fault(rt: &(impl Abort + AllocGlobal), uri: &str) -> Option<UriFault> {
+    read(rt, "get", uri).err()
+}
+
+// A URI, and why it has no attributes.
+static REFUSALS: [(&str, UriFault); 13] = [
+    ("", UriFault::NoSlash),
+    ("x", UriFault::NoSlash),
+    ("%zz", UriFault::NoSlash),
+    ("?/", UriFault::NoSlash),
+    ("/%", UriFault::BadEscape),
+    ("/%4", UriFault::BadEscape),
+    ("/a%4?", UriFault::BadEscape),
+    ("/%zz", UriFault::BadEscape),
+    ("/%4g", UriFault::BadEscape),
+    ("/%%41", UriFault::BadEscape),
+    ("/%ff%", UriFault::BadEscape),
+    ("/%ff", UriFault::NotText),
+    ("/%C3", UriFault::NotText),
+];
 
 #[test]
 fn refusals(rt: HostRuntime) {
-    let rows = [
-        ("", UriFault::NoSlash),
-        ("x", UriFault::NoSlash),
-        ("%zz", UriFault::NoSlash),
-        ("?/", UriFault::NoSlash),
-        ("/%", UriFault::BadEscape),
-        ("/%4", UriFault::BadEscape),
-        ("/a%4?", UriFault::BadEscape),
-        ("/%zz", UriFault::BadEscape),
-        ("/%4g", UriFault::BadEscape),
-        ("/%%41", UriFault::BadEscape),
-        ("/%ff%", UriFault::BadEscape),
-        ("/%ff", UriFault::NotText),
-        ("/%C3", UriFault::NotText),
-    ];
-    for (uri, fault) in rows {
-        assert!(rt; matches!(read(rt.alloc(), "get", uri), Err(found) if found == fault));
+    for (uri, wanted) in &REFUSALS {
+        assert!(rt; fault(&rt, uri) == Some(*wanted));
     }
 }

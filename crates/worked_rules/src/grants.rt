@@ -1,38 +1,47 @@
-use base_types::{Listed, RequestAttrs, Text};
-use json_tree::from_value;
-use rbac_rules::{grants, read_role};
-use serde_json::Value;
-use std::alloc::Global;
-use std::test::Fail;
-
-fn text(alloc: Global, text: &str) -> Result<Text, Fail> {
-    Ok(Text::from_str(alloc, text)?)
-}
+use crate::given::{text, tree};
+use base_types::{Listed, RequestAttrs};
+use rbac_rules::{PolicyRules, grants, read_role};
+use std::process::Abort;
 
 // A request of the group `apps`, of these parts: verb, resource, subresource and name.
-fn request(alloc: Global, parts: &[&str; 4]) -> Result<RequestAttrs, Fail> {
+fn request(rt: &(impl Abort + AllocGlobal), parts: &[&str; 4]) -> RequestAttrs {
     let [verb, resource, subresource, name] = parts;
-    Ok(RequestAttrs {
-        verb: text(alloc, verb)?,
-        path: text(alloc, "/x")?,
+    RequestAttrs {
+        verb: text(rt, verb),
+        path: text(rt, "/x"),
         is_resource: true,
-        group: text(alloc, "apps")?,
-        version: text(alloc, "v1")?,
-        resource: text(alloc, resource)?,
-        subresource: text(alloc, subresource)?,
-        namespace: text(alloc, "d")?,
-        name: text(alloc, name)?,
-        query: Listed::new(alloc),
-    })
+        group: text(rt, "apps"),
+        version: text(rt, "v1"),
+        resource: text(rt, resource),
+        subresource: text(rt, subresource),
+        namespace: text(rt, "d"),
+        name: text(rt, name),
+        query: Listed::new(rt.alloc()),
+    }
 }
 
-// The one rule of a role grants the request.
-fn is_granted(alloc: Global, rule: &str, attrs: &RequestAttrs) -> Result<bool, Fail> {
-    let role = format!(in alloc; "{{\"rules\":[{rule}]}}")?;
-    let value = Value::from_str(alloc, role.as_str())?;
-    let tree = from_value(alloc, &value)?;
-    let rules = read_role(alloc, &tree)?;
-    Ok(grants(rules.as_slice(), attrs))
+fn path_request(rt: &(impl Abort + AllocGlobal), path: &str) -> RequestAttrs {
+    let mut attrs = request(rt, &POD);
+    attrs.is_resource = false;
+    attrs.path = text(rt, path);
+    attrs
+}
+
+// The rules of a role.
+fn rules_of(rt: &(impl Abort + AllocGlobal), rules: &str) -> PolicyRules {
+    let role = format!(in rt.alloc(); "{{\"rules\":[{rules}]}}").expect(rt, "memory");
+    let tree = tree(rt, role.as_str());
+    let rules = read_role(rt.alloc(), &tree).expect(rt, "a role");
+    drop(tree);
+    rules
+}
+
+// A role of these rules grants the request.
+fn is_granted(rt: &(impl Abort + AllocGlobal), rules: &str, attrs: &RequestAttrs) -> bool {
+    let rules = rules_of(rt, rules);
+    let granted = grants(rules.as_slice(), attrs);
+    drop(rules);
+    granted
 }
 
 const POD: [&str; 4] = ["get", "pods", "", "p"];
@@ -73,16 +82,26 @@ static RESOURCES: [(&str, &str, [&str; 4], bool); 22] = [
     (r#""pods""#, r#""p""#, NAMELESS, false),
 ];
 
+fn is_granted_on(
+    rt: &(impl Abort + AllocGlobal),
+    resources: &str,
+    names: &str,
+    parts: &[&str; 4],
+) -> bool {
+    let rule = format!(in rt.alloc();
+        "{{\"apiGroups\":[\"*\"],\"verbs\":[\"*\"],\"resources\":[{resources}],\"resourceNames\":[{names}]}}"
+    ).expect(rt, "memory");
+    let attrs = request(rt, parts);
+    let granted = is_granted(rt, rule.as_str(), &attrs);
+    drop(attrs);
+    granted
+}
+
 #[test]
-fn resources_and_names(rt: HostRuntime) -> Result<(), Fail> {
+fn resources_and_names(rt: HostRuntime) {
     for (resources, names, parts, granted) in &RESOURCES {
-        let rule = format!(in rt.alloc();
-            "{{\"apiGroups\":[\"*\"],\"verbs\":[\"*\"],\"resources\":[{resources}],\"resourceNames\":[{names}]}}"
-        )?;
-        let attrs = request(rt.alloc(), parts)?;
-        assert_eq!(rt; is_granted(rt.alloc(), rule.as_str(), &attrs)?, *granted);
+        assert_eq!(rt; is_granted_on(&rt, resources, names, parts), *granted);
     }
-    Ok(())
 }
 
 // The groups and the verbs of a rule for every resource, and whether it grants the request.
@@ -109,34 +128,51 @@ static PATHS: [(&str, &str, bool); 8] = [
     (r#""*""#, "", false),
 ];
 
-#[test]
-fn groups_verbs_and_paths(rt: HostRuntime) -> Result<(), Fail> {
-    let mut attrs = request(rt.alloc(), &POD)?;
-    for (groups, verbs, granted) in &GROUPS {
-        let rule = format!(in rt.alloc();
-            "{{\"apiGroups\":[{groups}],\"verbs\":[{verbs}],\"resources\":[\"*\"],\"nonResourceURLs\":[\"*\"]}}"
-        )?;
-        assert_eq!(rt; is_granted(rt.alloc(), rule.as_str(), &attrs)?, *granted);
-    }
-    attrs.is_resource = false;
-    attrs.path = text(rt.alloc(), "/healthz/ping")?;
-    for (verbs, paths, granted) in &PATHS {
-        let rule = format!(in rt.alloc();
-            "{{\"apiGroups\":[\"*\"],\"verbs\":[{verbs}],\"resources\":[\"*\"],\"nonResourceURLs\":[{paths}]}}"
-        )?;
-        assert_eq!(rt; is_granted(rt.alloc(), rule.as_str(), &attrs)?, *granted);
-    }
-    Ok(())
+fn is_granted_in(
+    rt: &(impl Abort + AllocGlobal),
+    groups: &str,
+    verbs: &str,
+    attrs: &RequestAttrs,
+) -> bool {
+    let rule = format!(in rt.alloc();
+        "{{\"apiGroups\":[{groups}],\"verbs\":[{verbs}],\"resources\":[\"*\"],\"nonResourceURLs\":[\"*\"]}}"
+    ).expect(rt, "memory");
+    is_granted(rt, rule.as_str(), attrs)
+}
+
+fn is_granted_at(
+    rt: &(impl Abort + AllocGlobal),
+    verbs: &str,
+    paths: &str,
+    attrs: &RequestAttrs,
+) -> bool {
+    let rule = format!(in rt.alloc();
+        "{{\"apiGroups\":[\"*\"],\"verbs\":[{verbs}],\"resources\":[\"*\"],\"nonResourceURLs\":[{paths}]}}"
+    ).expect(rt, "memory");
+    is_granted(rt, rule.as_str(), attrs)
 }
 
 #[test]
-fn each_rule_may_grant(rt: HostRuntime) -> Result<(), Fail> {
-    let attrs = request(rt.alloc(), &POD)?;
-    let pods = r#"{"apiGroups":["apps"],"verbs":["get"],"resources":["pods"]}"#;
-    let first = format!(in rt.alloc(); "{pods},{{}}")?;
-    assert!(rt; is_granted(rt.alloc(), first.as_str(), &attrs)?);
-    let last = format!(in rt.alloc(); "{{}},{pods}")?;
-    assert!(rt; is_granted(rt.alloc(), last.as_str(), &attrs)?);
-    assert!(rt; !is_granted(rt.alloc(), "", &attrs)?);
-    Ok(())
+fn groups_verbs_and_paths(rt: HostRuntime) {
+    let pod = request(&rt, &POD);
+    for (groups, verbs, granted) in &GROUPS {
+        assert_eq!(rt; is_granted_in(&rt, groups, verbs, &pod), *granted);
+    }
+    drop(pod);
+    let ping = path_request(&rt, "/healthz/ping");
+    for (verbs, paths, granted) in &PATHS {
+        assert_eq!(rt; is_granted_at(&rt, verbs, paths, &ping), *granted);
+    }
+    drop(ping);
+}
+
+#[test]
+fn each_rule_may_grant(rt: HostRuntime) {
+    let attrs = request(&rt, &POD);
+    let first = r#"{"apiGroups":["apps"],"verbs":["get"],"resources":["pods"]},{}"#;
+    let last = r#"{},{"apiGroups":["apps"],"verbs":["get"],"resources":["pods"]}"#;
+    assert!(rt; is_granted(&rt, first, &attrs));
+    assert!(rt; is_granted(&rt, last, &attrs));
+    assert!(rt; !is_granted(&rt, "", &attrs));
+    drop(attrs);
 }

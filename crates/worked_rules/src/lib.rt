@@ -4,6 +4,8 @@
 #[cfg(test)]
 mod attributes;
 #[cfg(test)]
+mod given;
+#[cfg(test)]
 mod grants;
 #[cfg(test)]
 mod policies_read;

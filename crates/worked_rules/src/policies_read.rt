@@ -1,9 +1,8 @@
-use audit_policy::{Policy, PolicyFault, read_policy};
+use crate::given::{assert_count, assert_text, tree};
+use audit_policy::{AuditRule, GroupResources, Policy, PolicyFault, read_policy};
 use base_types::{Level, PolicyLevel};
-use json_tree::from_value;
-use serde_json::Value;
-use std::alloc::Global;
-use std::test::Fail;
+use std::process::Abort;
+
 // A policy, and the part of it that isn't in its form.
 static POLICIES: [(&str, Option<u32>); 34] = [
     (
@@ -135,48 +134,62 @@ static POLICIES: [(&str, Option<u32>); 34] = [
     ),
 ];
 
-fn broken_part(alloc: Global, text: &str) -> Result<Option<u32>, Fail> {
-    let value = Value::from_str(alloc, text)?;
-    let tree = from_value(alloc, &value)?;
-    match read_policy(alloc, &tree) {
-        Ok(_) => Ok(None),
-        Err(PolicyFault::Form { rule }) => Ok(Some(rule)),
-        Err(fault) => Err(fault.into()),
+fn read(rt: &(impl Abort + AllocGlobal), text: &str) -> Result<Policy, PolicyFault> {
+    let tree = tree(rt, text);
+    let policy = read_policy(rt.alloc(), &tree);
+    drop(tree);
+    policy
+}
+
+fn broken_part(rt: &(impl Abort + AllocGlobal), text: &str) -> Option<u32> {
+    match read(rt, text).err() {
+        None => None,
+        Some(PolicyFault::Form { rule }) => Some(rule),
+        Some(PolicyFault::OutOfMemory) => panic!(rt; "memory"),
     }
 }
 
 #[test]
-fn forms(rt: HostRuntime) -> Result<(), Fail> {
+fn forms(rt: HostRuntime) {
     for (text, broken) in &POLICIES {
-        assert_eq!(rt; broken_part(rt.alloc(), text)?, *broken);
+        assert_eq!(rt; broken_part(&rt, text), *broken);
     }
-    Ok(())
 }
 
-#[test]
-fn a_policy_whole(rt: HostRuntime) -> Result<(), Fail> {
-    let text =
-        "{\"kind\":\"Policy\",\"apiVersion\":\"audit.k8s.io/v1\",\"omitStages\":[\"ResponseComplete\"],\"rules\":[{\
-        \"level\":\"RequestResponse\",\"users\":[\"u\"],\"userGroups\":[\"g\",\"h\"],\"verbs\":[\"v\"],\"namespaces\":[\"n\"],\
-        \"resources\":[{\"group\":\"apps\",\"resources\":[\"r\"],\"resourceNames\":[\"a\",\"b\"]},{}],\
-        \"omitStages\":[\"RequestReceived\",\"ResponseStarted\"]}]}";
-    let value = Value::from_str(rt.alloc(), text)?;
-    let tree = from_value(rt.alloc(), &value)?;
-    let policy = read_policy(rt.alloc(), &tree)?;
-    assert!(rt; policy.omitted.complete && !policy.omitted.received);
-    assert_eq!(rt; policy.rules.len(), 1);
-    let rule = policy.rules.iter().next().ok_or("a rule")?;
+const WHOLE: &str =
+    "{\"kind\":\"Policy\",\"apiVersion\":\"audit.k8s.io/v1\",\"omitStages\":[\"ResponseComplete\"],\"rules\":[{\
+    \"level\":\"RequestResponse\",\"users\":[\"u\"],\"userGroups\":[\"g\",\"h\"],\"verbs\":[\"v\"],\"namespaces\":[\"n\"],\
+    \"resources\":[{\"group\":\"apps\",\"resources\":[\"r\"],\"resourceNames\":[\"a\",\"b\"]},{}],\
+    \"omitStages\":[\"RequestReceived\",\"ResponseStarted\"]}]}";
+
+fn check_rule(rt: &impl Abort, rule: &AuditRule) {
     assert!(rt; rule.level == PolicyLevel::Set(Level::RequestResponse));
     assert!(rt; rule.omitted.received && rule.omitted.started && !rule.omitted.complete);
-    assert_eq!(rt; rule.users.len(), 1);
-    assert_eq!(rt; rule.user_groups.len(), 2);
-    assert_eq!(rt; rule.verbs.len(), 1);
-    assert_eq!(rt; rule.namespaces.len(), 1);
-    assert_eq!(rt; rule.non_resource_urls.len(), 0);
-    assert_eq!(rt; rule.resources.len(), 2);
-    let item = rule.resources.iter().next().ok_or("an item")?;
-    assert_eq!(rt; item.group.as_str(), "apps");
-    assert_eq!(rt; item.resources.len(), 1);
-    assert_eq!(rt; item.resource_names.len(), 2);
-    Ok(())
+    assert_count(rt, rule.users.len(), 1);
+    assert_count(rt, rule.user_groups.len(), 2);
+    assert_count(rt, rule.verbs.len(), 1);
+    assert_count(rt, rule.namespaces.len(), 1);
+    assert_count(rt, rule.non_resource_urls.len(), 0);
+    assert_count(rt, rule.resources.len(), 2);
+}
+
+fn check_item(rt: &impl Abort, item: &GroupResources) {
+    assert_text(rt, &item.group, "apps");
+    assert_count(rt, item.resources.len(), 1);
+    assert_count(rt, item.resource_names.len(), 2);
+}
+
+fn check_policy(rt: &impl Abort, policy: &Policy) {
+    assert!(rt; policy.omitted.complete && !policy.omitted.received);
+    assert_count(rt, policy.rules.len(), 1);
+    let rule = policy.rules.iter().next().expect(rt, "a rule");
+    check_rule(rt, rule);
+    check_item(rt, rule.resources.iter().next().expect(rt, "an item"));
+}
+
+#[test]
+fn a_policy_whole(rt: HostRuntime) {
+    let policy = read(&rt, WHOLE).expect(&rt, "a policy");
+    check_policy(&rt, &policy);
+    drop(policy);
 }

@@ -1,60 +1,66 @@
+use crate::given::{text, tree, user};
 use audit_policy::{Policy, level_of, read_policy};
-use base_types::{Level, Listed, PolicyLevel, RequestAttrs, StageSet, Text, Texts, User};
-use json_tree::from_value;
-use serde_json::Value;
-use std::alloc::Global;
-use std::test::Fail;
+use base_types::{Level, Listed, PolicyLevel, RequestAttrs, StageSet, User};
+use std::process::Abort;
 
-fn policy(alloc: Global, text: &str) -> Result<Policy, Fail> {
-    let value = Value::from_str(alloc, text)?;
-    let tree = from_value(alloc, &value)?;
-    Ok(read_policy(alloc, &tree)?)
+fn policy(rt: &(impl Abort + AllocGlobal), text: &str) -> Policy {
+    let tree = tree(rt, text);
+    let policy = read_policy(rt.alloc(), &tree).expect(rt, "a policy");
+    drop(tree);
+    policy
 }
 
 // A policy whose first rule is this one at level None, and whose second is for everything.
-fn policy_of_rule(alloc: Global, conditions: &str) -> Result<Policy, Fail> {
-    let text = format!(in alloc;
+fn policy_of_rule(rt: &(impl Abort + AllocGlobal), conditions: &str) -> Policy {
+    let text = format!(in rt.alloc();
         "{{\"kind\":\"Policy\",\"apiVersion\":\"audit.k8s.io/v1\",\"rules\":[{{\"level\":\"None\"{conditions}}},{{\"level\":\"Request\"}}]}}"
-    )?;
-    policy(alloc, text.as_str())
+    ).expect(rt, "memory");
+    policy(rt, text.as_str())
 }
 
-fn user(alloc: Global) -> Result<User, Fail> {
-    let mut groups = Texts::new(alloc);
-    groups.push(Text::from_str(alloc, "dev")?)?;
-    groups.push(Text::from_str(alloc, "ops")?)?;
-    Ok(User {
-        name: Text::from_str(alloc, "ann")?,
-        groups,
-    })
+fn ann(rt: &(impl Abort + AllocGlobal)) -> User {
+    user(rt, "ann", &["dev", "ops"])
 }
 
-// A `get` of the group `apps`, of these parts: resource, subresource, namespace and name.
-fn request(alloc: Global, parts: &[&str; 4]) -> Result<RequestAttrs, Fail> {
+// A request of the group `apps`, of these parts: resource, subresource, namespace and name.
+fn asked(rt: &(impl Abort + AllocGlobal), verb: &str, parts: &[&str; 4]) -> RequestAttrs {
     let [resource, subresource, namespace, name] = parts;
-    Ok(RequestAttrs {
-        verb: Text::from_str(alloc, "get")?,
-        path: Text::new(alloc),
+    RequestAttrs {
+        verb: text(rt, verb),
+        path: text(rt, ""),
         is_resource: true,
-        group: Text::from_str(alloc, "apps")?,
-        version: Text::from_str(alloc, "v1")?,
-        resource: Text::from_str(alloc, resource)?,
-        subresource: Text::from_str(alloc, subresource)?,
-        namespace: Text::from_str(alloc, namespace)?,
-        name: Text::from_str(alloc, name)?,
-        query: Listed::new(alloc),
-    })
+        group: text(rt, "apps"),
+        version: text(rt, "v1"),
+        resource: text(rt, resource),
+        subresource: text(rt, subresource),
+        namespace: text(rt, namespace),
+        name: text(rt, name),
+        query: Listed::new(rt.alloc()),
+    }
 }
 
-fn path_request(alloc: Global, path: &str) -> Result<RequestAttrs, Fail> {
-    let mut attrs = request(alloc, &["", "", "", ""])?;
+fn request(rt: &(impl Abort + AllocGlobal), parts: &[&str; 4]) -> RequestAttrs {
+    asked(rt, "get", parts)
+}
+
+fn path_request(rt: &(impl Abort + AllocGlobal), path: &str) -> RequestAttrs {
+    let mut attrs = request(rt, &["", "", "", ""]);
     attrs.is_resource = false;
-    attrs.path = Text::from_str(alloc, path)?;
-    Ok(attrs)
+    attrs.path = text(rt, path);
+    attrs
 }
 
-fn is_taken(policy: &Policy, attrs: &RequestAttrs, user: &User) -> bool {
-    level_of(policy, attrs, user).0 == PolicyLevel::NoLevel
+// Whether the rule of these conditions takes the request.
+fn is_taken(
+    rt: &(impl Abort + AllocGlobal),
+    conditions: &str,
+    attrs: &RequestAttrs,
+    user: &User,
+) -> bool {
+    let policy = policy_of_rule(rt, conditions);
+    let (level, _) = level_of(&policy, attrs, user);
+    drop(policy);
+    level == PolicyLevel::NoLevel
 }
 
 const POD: [&str; 4] = ["pods", "", "d", "p"];
@@ -196,16 +202,17 @@ static RESOURCE_ROWS: [(&str, [&str; 4], bool); 38] = [
 ];
 
 #[test]
-fn rules_and_resource_requests(rt: HostRuntime) -> Result<(), Fail> {
-    let user = user(rt.alloc())?;
+fn rules_and_resource_requests(rt: HostRuntime) {
+    let user = ann(&rt);
     for (conditions, parts, taken) in &RESOURCE_ROWS {
-        let policy = policy_of_rule(rt.alloc(), conditions)?;
-        let attrs = request(rt.alloc(), parts)?;
-        assert_eq!(rt; is_taken(&policy, &attrs, &user), *taken);
+        let attrs = request(&rt, parts);
+        assert_eq!(rt; is_taken(&rt, conditions, &attrs, &user), *taken);
+        drop(attrs);
     }
-    Ok(())
+    drop(user);
 }
 
+// The conditions of a rule, a path, and whether the rule takes it.
 static PATH_ROWS: [(&str, &str, bool); 10] = [
     ("", "/healthz", true),
     (r#","nonResourceURLs":["/healthz"]"#, "/healthz", true),
@@ -220,26 +227,36 @@ static PATH_ROWS: [(&str, &str, bool); 10] = [
 ];
 
 #[test]
-fn rules_and_other_requests(rt: HostRuntime) -> Result<(), Fail> {
-    let user = user(rt.alloc())?;
+fn rules_and_other_requests(rt: HostRuntime) {
+    let user = ann(&rt);
     for (conditions, path, taken) in &PATH_ROWS {
-        let policy = policy_of_rule(rt.alloc(), conditions)?;
-        let attrs = path_request(rt.alloc(), path)?;
-        assert_eq!(rt; is_taken(&policy, &attrs, &user), *taken);
+        let attrs = path_request(&rt, path);
+        assert_eq!(rt; is_taken(&rt, conditions, &attrs, &user), *taken);
+        drop(attrs);
     }
-    Ok(())
+    drop(user);
+}
+
+const RULES: &str =
+    "{\"kind\":\"Policy\",\"apiVersion\":\"audit.k8s.io/v1\",\"omitStages\":[\"RequestReceived\"],\"rules\":[\
+    {\"level\":\"RequestResponse\",\"users\":[\"bob\"]},\
+    {\"level\":\"Metadata\",\"verbs\":[\"get\"],\"omitStages\":[\"Panic\",\"RequestReceived\"]},\
+    {\"level\":\"Request\",\"omitStages\":[\"ResponseStarted\"]}]}";
+
+// The level and the omitted stages of a request of this verb.
+fn level(rt: &(impl Abort + AllocGlobal), verb: &str) -> (PolicyLevel, StageSet) {
+    let policy = policy(rt, RULES);
+    let user = ann(rt);
+    let attrs = asked(rt, verb, &POD);
+    let level = level_of(&policy, &attrs, &user);
+    drop(attrs);
+    drop(user);
+    drop(policy);
+    level
 }
 
 #[test]
-fn the_first_rule_decides(rt: HostRuntime) -> Result<(), Fail> {
-    let text =
-        "{\"kind\":\"Policy\",\"apiVersion\":\"audit.k8s.io/v1\",\"omitStages\":[\"RequestReceived\"],\"rules\":[\
-        {\"level\":\"RequestResponse\",\"users\":[\"bob\"]},\
-        {\"level\":\"Metadata\",\"verbs\":[\"get\"],\"omitStages\":[\"Panic\",\"RequestReceived\"]},\
-        {\"level\":\"Request\",\"omitStages\":[\"ResponseStarted\"]}]}";
-    let policy = policy(rt.alloc(), text)?;
-    let user = user(rt.alloc())?;
-    let mut attrs = request(rt.alloc(), &POD)?;
+fn the_first_rule_decides(rt: HostRuntime) {
     let mut omitted = StageSet {
         received: true,
         started: false,
@@ -247,11 +264,9 @@ fn the_first_rule_decides(rt: HostRuntime) -> Result<(), Fail> {
         panic: true,
     };
     let metadata = PolicyLevel::Set(Level::Metadata);
-    assert!(rt; level_of(&policy, &attrs, &user) == (metadata, omitted));
-    attrs.verb = Text::from_str(rt.alloc(), "list")?;
+    assert!(rt; level(&rt, "get") == (metadata, omitted));
     omitted.started = true;
     omitted.panic = false;
     let request = PolicyLevel::Set(Level::Request);
-    assert!(rt; level_of(&policy, &attrs, &user) == (request, omitted));
-    Ok(())
+    assert!(rt; level(&rt, "list") == (request, omitted));
 }

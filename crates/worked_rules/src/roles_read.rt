@@ -1,9 +1,7 @@
-use base_types::Text;
-use json_tree::{Tree, from_value};
-use rbac_rules::{RbacFault, Subject, read_binding, read_role};
-use serde_json::Value;
-use std::alloc::Global;
-use std::test::Fail;
+use crate::given::{assert_count, assert_text, text, tree};
+use rbac_rules::{Binding, PolicyRule, PolicyRules, RbacFault, Subject, read_binding, read_role};
+use std::process::Abort;
+
 // The members of a Role, and how many rules it has where it is one.
 static ROLES: [(&str, Option<usize>); 16] = [
     ("{}", Some(0)),
@@ -27,34 +25,45 @@ static ROLES: [(&str, Option<usize>); 16] = [
     (r#"{"rules":[{"nonResourceURLs":{}},{}]}"#, None),
 ];
 
-fn tree_of(alloc: Global, text: &str) -> Result<Tree, Fail> {
-    let value = Value::from_str(alloc, text)?;
-    Ok(from_value(alloc, &value)?)
+fn role(rt: &(impl Abort + AllocGlobal), text: &str) -> Result<PolicyRules, RbacFault> {
+    let tree = tree(rt, text);
+    let rules = read_role(rt.alloc(), &tree);
+    drop(tree);
+    rules
 }
 
-fn count_of_rules(alloc: Global, text: &str) -> Result<Option<usize>, Fail> {
-    match read_role(alloc, &tree_of(alloc, text)?) {
-        Ok(rules) => Ok(Some(rules.len())),
-        Err(RbacFault::Form) => Ok(None),
-        Err(fault) => Err(fault.into()),
+// How many parts something has that was read, and none where it isn't in its form.
+fn count_of(rt: &impl Abort, count: Result<usize, RbacFault>) -> Option<usize> {
+    match count {
+        Ok(count) => Some(count),
+        Err(RbacFault::Form) => None,
+        Err(RbacFault::OutOfMemory) => panic!(rt; "memory"),
     }
+}
+
+fn count_of_rules(rt: &(impl Abort + AllocGlobal), text: &str) -> Option<usize> {
+    count_of(rt, role(rt, text).map(|rules| rules.len()))
+}
+
+const WHOLE: &str =
+    r#"{"rules":[{"apiGroups":["g"],"resources":["r","s"],"verbs":["v"],"resourceNames":["n"],"nonResourceURLs":["/u"]}]}"#;
+
+fn check_rule(rt: &impl Abort, rule: &PolicyRule) {
+    assert_count(rt, rule.api_groups.len(), 1);
+    assert_count(rt, rule.resources.len(), 2);
+    assert_count(rt, rule.verbs.len(), 1);
+    assert_count(rt, rule.resource_names.len(), 1);
+    assert_count(rt, rule.non_resource_urls.len(), 1);
 }
 
 #[test]
-fn roles(rt: HostRuntime) -> Result<(), Fail> {
+fn roles(rt: HostRuntime) {
     for (text, count) in &ROLES {
-        assert!(rt; count_of_rules(rt.alloc(), text)? == *count);
+        assert!(rt; count_of_rules(&rt, text) == *count);
     }
-    let text =
-        r#"{"rules":[{"apiGroups":["g"],"resources":["r","s"],"verbs":["v"],"resourceNames":["n"],"nonResourceURLs":["/u"]}]}"#;
-    let rules = read_role(rt.alloc(), &tree_of(rt.alloc(), text)?)?;
-    let rule = rules.iter().next().ok_or("a rule")?;
-    assert_eq!(rt; rule.api_groups.len(), 1);
-    assert_eq!(rt; rule.resources.len(), 2);
-    assert_eq!(rt; rule.verbs.len(), 1);
-    assert_eq!(rt; rule.resource_names.len(), 1);
-    assert_eq!(rt; rule.non_resource_urls.len(), 1);
-    Ok(())
+    let rules = role(&rt, WHOLE).expect(&rt, "a role");
+    check_rule(&rt, rules.iter().next().expect(&rt, "a rule"));
+    drop(rules);
 }
 
 // The members of a binding behind its metadata, and how many subjects it has where it is one.
@@ -122,21 +131,26 @@ static BINDINGS: [(&str, Option<usize>); 22] = [
     ),
 ];
 
-fn count_of_subjects(alloc: Global, members: &str) -> Result<Option<usize>, Fail> {
-    let text = format!(in alloc; "{{\"metadata\":{{}},{members}}}")?;
-    match read_binding(alloc, &tree_of(alloc, text.as_str())?) {
-        Ok(binding) => Ok(Some(binding.subjects.len())),
-        Err(RbacFault::Form) => Ok(None),
-        Err(fault) => Err(fault.into()),
-    }
+fn binding(rt: &(impl Abort + AllocGlobal), text: &str) -> Result<Binding, RbacFault> {
+    let tree = tree(rt, text);
+    let binding = read_binding(rt.alloc(), &tree);
+    drop(tree);
+    binding
+}
+
+fn count_of_subjects(rt: &(impl Abort + AllocGlobal), members: &str) -> Option<usize> {
+    let text = format!(in rt.alloc(); "{{\"metadata\":{{}},{members}}}").expect(rt, "memory");
+    count_of(
+        rt,
+        binding(rt, text.as_str()).map(|binding| binding.subjects.len()),
+    )
 }
 
 #[test]
-fn bindings(rt: HostRuntime) -> Result<(), Fail> {
+fn bindings(rt: HostRuntime) {
     for (members, count) in &BINDINGS {
-        assert!(rt; count_of_subjects(rt.alloc(), members)? == *count);
+        assert!(rt; count_of_subjects(&rt, members) == *count);
     }
-    Ok(())
 }
 
 // The metadata of a binding, the namespace member of its service account, and the account's namespace.
@@ -152,20 +166,30 @@ static HOMES: [(&str, &str, &str); 9] = [
     ("null", r#","namespace":"e""#, "e"),
 ];
 
+// The binding of this metadata to a service account with this member.
+fn account_binding(rt: &(impl Abort + AllocGlobal), metadata: &str, member: &str) -> Binding {
+    let text = format!(in rt.alloc();
+        "{{\"metadata\":{metadata},\"roleRef\":{{\"kind\":\"ClusterRole\",\"name\":\"r\"}},\"subjects\":[{{\"kind\":\"ServiceAccount\",\"name\":\"a\"{member}}}]}}"
+    ).expect(rt, "memory");
+    binding(rt, text.as_str()).expect(rt, "a binding")
+}
+
+fn check_binding(rt: &(impl Abort + AllocGlobal), binding: &Binding, namespace: &str) {
+    assert!(rt; binding.role_is_cluster);
+    assert_text(rt, &binding.role, "r");
+    let account = Subject::ServiceAccount {
+        namespace: text(rt, namespace),
+        name: text(rt, "a"),
+    };
+    assert!(rt; binding.subjects.iter().next() == Some(&account));
+    drop(account);
+}
+
 #[test]
-fn namespaces_of_accounts(rt: HostRuntime) -> Result<(), Fail> {
+fn namespaces_of_accounts(rt: HostRuntime) {
     for (metadata, member, namespace) in &HOMES {
-        let text = format!(in rt.alloc();
-            "{{\"metadata\":{metadata},\"roleRef\":{{\"kind\":\"ClusterRole\",\"name\":\"r\"}},\"subjects\":[{{\"kind\":\"ServiceAccount\",\"name\":\"a\"{member}}}]}}"
-        )?;
-        let binding = read_binding(rt.alloc(), &tree_of(rt.alloc(), text.as_str())?)?;
-        assert!(rt; binding.role_is_cluster);
-        assert_eq!(rt; binding.role.as_str(), "r");
-        let account = Subject::ServiceAccount {
-            namespace: Text::from_str(rt.alloc(), namespace)?,
-            name: Text::from_str(rt.alloc(), "a")?,
-        };
-        assert!(rt; binding.subjects.iter().next() == Some(&account));
+        let binding = account_binding(&rt, metadata, member);
+        check_binding(&rt, &binding, namespace);
+        drop(binding);
     }
-    Ok(())
 }

@@ -1,17 +1,7 @@
-use base_types::{Text, Texts, User};
+use crate::given::{text, user};
+use base_types::User;
 use rbac_rules::{Subject, subject_matches};
-use std::alloc::Global;
-use std::test::Fail;
-
-fn user(alloc: Global, name: &str) -> Result<User, Fail> {
-    let mut groups = Texts::new(alloc);
-    groups.push(Text::from_str(alloc, "dev")?)?;
-    groups.push(Text::from_str(alloc, "ops")?)?;
-    Ok(User {
-        name: Text::from_str(alloc, name)?,
-        groups,
-    })
-}
+use std::process::Abort;
 
 // The namespace and the name of a service account, a user name, and whether it is the account's.
 static ACCOUNTS: [(&str, &str, &str, bool); 9] = [
@@ -26,24 +16,47 @@ static ACCOUNTS: [(&str, &str, &str, bool); 9] = [
     ("", "robot", "system:serviceaccount::robot", false),
 ];
 
+// The subject is the user's.
+fn is_whose(subject: Subject, user: &User) -> bool {
+    let matches = subject_matches(&subject, user);
+    drop(subject);
+    matches
+}
+
+fn is_user_of(rt: &(impl Abort + AllocGlobal), name: &str, user: &User) -> bool {
+    is_whose(Subject::User(text(rt, name)), user)
+}
+
+fn is_group_of(rt: &(impl Abort + AllocGlobal), name: &str, user: &User) -> bool {
+    is_whose(Subject::Group(text(rt, name)), user)
+}
+
+fn is_account_of(
+    rt: &(impl Abort + AllocGlobal),
+    namespace: &str,
+    name: &str,
+    whose: &str,
+) -> bool {
+    let account = Subject::ServiceAccount {
+        namespace: text(rt, namespace),
+        name: text(rt, name),
+    };
+    let user = user(rt, whose, &["dev", "ops"]);
+    let is_theirs = is_whose(account, &user);
+    drop(user);
+    is_theirs
+}
+
 #[test]
-fn subjects_and_users(rt: HostRuntime) -> Result<(), Fail> {
-    let ann = user(rt.alloc(), "ann")?;
-    let text = |text: &str| Text::from_str(rt.alloc(), text);
-    assert!(rt; subject_matches(&Subject::User(text("ann")?), &ann));
-    assert!(rt; !subject_matches(&Subject::User(text("ops")?), &ann));
-    assert!(rt; !subject_matches(&Subject::User(text("*")?), &ann));
-    assert!(rt; subject_matches(&Subject::Group(text("ops")?), &ann));
-    assert!(rt; !subject_matches(&Subject::Group(text("ann")?), &ann));
+fn subjects_and_users(rt: HostRuntime) {
+    let ann = user(&rt, "ann", &["dev", "ops"]);
+    assert!(rt; is_user_of(&rt, "ann", &ann));
+    assert!(rt; !is_user_of(&rt, "ops", &ann));
+    assert!(rt; !is_user_of(&rt, "*", &ann));
+    assert!(rt; is_group_of(&rt, "ops", &ann));
+    assert!(rt; !is_group_of(&rt, "ann", &ann));
+    drop(ann);
     for (namespace, name, whose, is_theirs) in &ACCOUNTS {
-        let account = Subject::ServiceAccount {
-            namespace: text(namespace)?,
-            name: text(name)?,
-        };
-        assert_eq!(rt;
-            subject_matches(&account, &user(rt.alloc(), whose)?),
-            *is_theirs
-        );
+        assert_eq!(rt; is_account_of(&rt, namespace, name, whose), *is_theirs);
     }
-    Ok(())
 }

@@ -1,155 +1,170 @@
-ghost use Rattle.std.specs.Prelude.{◌≡◌, IfOk, map};
+ghost use Rattle.std.specs.Prelude.{◌≡◌, map};
 ghost use Rattle.rbac_timeline.specs.Examples.{example_ends, example_key, example_revisions};
 ghost use Rattle.rbac_timeline.specs.Known.{key_revision};
 
+use crate::given::{text, user};
 use base_types::{
-    Cover, CoverName, Decision, ObjectKey, OutOfMemory, Pairs, Places, Possible, RequestAttrs,
-    Revision, Text, Texts, User,
+    Cover, CoverName, Decision, ObjectKey, Pairs, Places, Possible, RequestAttrs, Revision, Texts,
+    User,
 };
 use clouds::{OpaqueSpan, OpaqueSpans};
 use rbac_rules::{Binding, PolicyRule, PolicyRules, Subject, Subjects};
 use rbac_timeline::{RbacContent, RbacEnd, RbacEnds, RbacVersion, RbacVersions, Timeline};
-use std::alloc::Global;
-use std::test::Fail;
+use std::process::Abort;
 
 const MAX: u64 = u64::MAX;
 
-fn one_text(alloc: Global, text: &str) -> Result<Texts, OutOfMemory> {
-    let mut texts = Texts::new(alloc);
-    texts.push(Text::from_str(alloc, text)?)?;
-    Ok(texts)
+fn one_text(rt: &(impl Abort + AllocGlobal), only: &str) -> Texts {
+    let mut texts = Texts::new(rt.alloc());
+    texts.push(text(rt, only)).expect(rt, "memory");
+    texts
 }
 
-fn key(alloc: Global, resource: &str, name: &str) -> Result<ObjectKey, OutOfMemory>
-    ensures { IfOk result (λ key. key ≡ example_key resource.now name.now) }
+fn key(rt: &(impl Abort + AllocGlobal), resource: &str, name: &str) -> ObjectKey
+    ensures { result ≡ example_key resource.now name.now }
 {
-    Ok(ObjectKey {
-        group: Text::from_str(alloc, "rbac.authorization.k8s.io")?,
-        resource: Text::from_str(alloc, resource)?,
-        namespace: Text::from_str(alloc, "d")?,
-        name: Text::from_str(alloc, name)?,
-    })
+    ObjectKey {
+        group: text(rt, "rbac.authorization.k8s.io"),
+        resource: text(rt, resource),
+        namespace: text(rt, "d"),
+        name: text(rt, name),
+    }
 }
 
 // Gets configmaps.
-fn reader(alloc: Global) -> Result<RbacContent, OutOfMemory> {
-    let mut rules = PolicyRules::new(alloc);
-    rules.push(PolicyRule {
-        api_groups: one_text(alloc, "")?,
-        resources: one_text(alloc, "configmaps")?,
-        verbs: one_text(alloc, "get")?,
-        resource_names: Texts::new(alloc),
-        non_resource_urls: Texts::new(alloc),
-    })?;
-    Ok(RbacContent::Role(rules))
+fn reader(rt: &(impl Abort + AllocGlobal)) -> RbacContent {
+    let mut rules = PolicyRules::new(rt.alloc());
+    let rule = PolicyRule {
+        api_groups: one_text(rt, ""),
+        resources: one_text(rt, "configmaps"),
+        verbs: one_text(rt, "get"),
+        resource_names: Texts::new(rt.alloc()),
+        non_resource_urls: Texts::new(rt.alloc()),
+    };
+    rules.push(rule).expect(rt, "memory");
+    RbacContent::Role(rules)
 }
 
 // From a user to the Role `r`.
-fn bound(alloc: Global, user: &str) -> Result<RbacContent, OutOfMemory> {
-    let mut subjects = Subjects::new(alloc);
-    subjects.push(Subject::User(Text::from_str(alloc, user)?))?;
-    Ok(RbacContent::Bound(Binding {
+fn bound(rt: &(impl Abort + AllocGlobal), user: &str) -> RbacContent {
+    let mut subjects = Subjects::new(rt.alloc());
+    let subject = Subject::User(text(rt, user));
+    subjects.push(subject).expect(rt, "memory");
+    RbacContent::Bound(Binding {
         role_is_cluster: false,
-        role: Text::from_str(alloc, "r")?,
+        role: text(rt, "r"),
         subjects,
-    }))
-}
-
-fn version(key: ObjectKey, number: u64, content: RbacContent) -> Result<RbacVersion, Fail>
-    ensures { IfOk result (λ version. key_revision version ≡ record { key = key; revision = number }) }
-{
-    let revision = Revision::new(number).ok_or("no revision")?;
-    Ok(RbacVersion {
-        key,
-        revision,
-        content,
     })
 }
 
-fn end(key: ObjectKey, number: u64, low: u64, high: u64) -> Result<RbacEnd, Fail>
-    ensures { IfOk result (λ end. end ≡ record { key = key; last = number; low = low; high = high }) }
+fn revision(rt: &impl Abort, number: u64) -> Revision
+    ensures { result ≡ number }
 {
-    let last = Revision::new(number).ok_or("no revision")?;
-    Ok(RbacEnd {
+    Revision::new(number).expect(rt, "a revision")
+}
+
+fn version(key: ObjectKey, revision: Revision, content: RbacContent) -> RbacVersion
+    ensures { key_revision result ≡ record { key = key; revision = revision } }
+{
+    RbacVersion {
+        key,
+        revision,
+        content,
+    }
+}
+
+fn end(key: ObjectKey, last: Revision, low: u64, high: u64) -> RbacEnd
+    ensures { result ≡ record { key = key; last = last; low = low; high = high } }
+{
+    RbacEnd {
         key,
         last,
         low,
         high,
-    })
+    }
 }
 
 // The binding `b` of user u at 4 and `c` of user v at 15, and the Role `r` at 3.
-fn versions(alloc: Global) -> Result<RbacVersions, Fail>
-    ensures { IfOk result (λ versions. map key_revision versions ≡ example_revisions) }
+fn versions(rt: &(impl Abort + AllocGlobal)) -> RbacVersions
+    ensures { map key_revision result ≡ example_revisions }
 {
-    let mut versions = RbacVersions::new(alloc);
-    versions.push(version(key(alloc, "rolebindings", "b")?, 4, bound(alloc, "u")?)?)?;
-    versions.push(version(key(alloc, "rolebindings", "c")?, 15, bound(alloc, "v")?)?)?;
-    versions.push(version(key(alloc, "roles", "r")?, 3, reader(alloc)?)?)?;
-    Ok(versions)
+    let b = version(
+        key(rt, "rolebindings", "b"),
+        revision(rt, 4),
+        bound(rt, "u"),
+    );
+    let c = version(
+        key(rt, "rolebindings", "c"),
+        revision(rt, 15),
+        bound(rt, "v"),
+    );
+    let r = version(key(rt, "roles", "r"), revision(rt, 3), reader(rt));
+    let mut versions = RbacVersions::new(rt.alloc());
+    versions.push(b).expect(rt, "memory");
+    versions.push(c).expect(rt, "memory");
+    versions.push(r).expect(rt, "memory");
+    versions
 }
 
 // `b` was removed at 11 or 12, `r` at 21 or 22.
-fn ends(alloc: Global) -> Result<RbacEnds, Fail>
-    ensures { IfOk result (λ ends. ends ≡ example_ends) }
+fn ends(rt: &(impl Abort + AllocGlobal)) -> RbacEnds
+    ensures { result ≡ example_ends }
 {
-    let mut ends = RbacEnds::new(alloc);
-    ends.push(end(key(alloc, "rolebindings", "b")?, 4, 11, 12)?)?;
-    ends.push(end(key(alloc, "roles", "r")?, 3, 21, 22)?)?;
-    Ok(ends)
+    let b = end(key(rt, "rolebindings", "b"), revision(rt, 4), 11, 12);
+    let r = end(key(rt, "roles", "r"), revision(rt, 3), 21, 22);
+    let mut ends = RbacEnds::new(rt.alloc());
+    ends.push(b).expect(rt, "memory");
+    ends.push(r).expect(rt, "memory");
+    ends
 }
 
 // A binding was created behind place 30 without a known name.
-fn spans(alloc: Global) -> Result<OpaqueSpans, OutOfMemory> {
-    let covered = key(alloc, "rolebindings", "")?;
-    let mut spans = OpaqueSpans::new(alloc);
-    spans.push(OpaqueSpan {
+fn spans(rt: &(impl Abort + AllocGlobal)) -> OpaqueSpans {
+    let span = OpaqueSpan {
         cover: Cover {
-            group: covered.group,
-            resource: covered.resource,
-            namespace: Some(covered.namespace),
+            group: text(rt, "rbac.authorization.k8s.io"),
+            resource: text(rt, "rolebindings"),
+            namespace: Some(text(rt, "d")),
             name: CoverName::Any,
             creates: true,
         },
         low: 30,
         high: MAX,
-    })?;
-    Ok(spans)
+    };
+    let mut spans = OpaqueSpans::new(rt.alloc());
+    spans.push(span).expect(rt, "memory");
+    spans
 }
 
-fn example(alloc: Global) -> Result<Timeline, Fail> {
-    let bypass = one_text(alloc, "system:masters")?;
-    Ok(Timeline::build(
-        alloc,
-        versions(alloc)?,
-        ends(alloc)?,
-        spans(alloc)?,
-        &bypass,
-    )?)
+fn example(rt: &(impl Abort + AllocGlobal)) -> Timeline {
+    let bypass = one_text(rt, "system:masters");
+    let versions = versions(rt);
+    let ends = ends(rt);
+    let spans = spans(rt);
+    let timeline = Timeline::build(rt.alloc(), versions, ends, spans, &bypass);
+    drop(bypass);
+    timeline.expect(rt, "memory")
 }
 
 // A user of one group, which has the user's name.
-fn user(alloc: Global, name: &str) -> Result<User, OutOfMemory> {
-    Ok(User {
-        name: Text::from_str(alloc, name)?,
-        groups: one_text(alloc, name)?,
-    })
+fn who(rt: &(impl Abort + AllocGlobal), name: &str) -> User {
+    user(rt, name, &[name])
 }
 
 // A get of a configmap.
-fn get(alloc: Global, namespace: &str) -> Result<RequestAttrs, OutOfMemory> {
-    Ok(RequestAttrs {
-        verb: Text::from_str(alloc, "get")?,
-        path: Text::new(alloc),
+fn get(rt: &(impl Abort + AllocGlobal), namespace: &str) -> RequestAttrs {
+    RequestAttrs {
+        verb: text(rt, "get"),
+        path: text(rt, ""),
         is_resource: true,
-        group: Text::new(alloc),
-        version: Text::new(alloc),
-        resource: Text::from_str(alloc, "configmaps")?,
-        subresource: Text::new(alloc),
-        namespace: Text::from_str(alloc, namespace)?,
-        name: Text::new(alloc),
-        query: Pairs::new(alloc),
-    })
+        group: text(rt, ""),
+        version: text(rt, ""),
+        resource: text(rt, "configmaps"),
+        subresource: text(rt, ""),
+        namespace: text(rt, namespace),
+        name: text(rt, ""),
+        query: Pairs::new(rt.alloc()),
+    }
 }
 
 // All caches at one place.
@@ -202,26 +217,32 @@ const LEAST: [(Asked, u64, Decision, Option<u64>); 8] = [
 ];
 
 fn decided(
-    alloc: Global,
+    rt: &(impl Abort + AllocGlobal),
     timeline: &Timeline,
     asked: Asked,
     place: u64,
-) -> Result<Possible, OutOfMemory> {
-    let who = user(alloc, asked.0)?;
-    let attrs = get(alloc, asked.1)?;
-    Ok(timeline.decide(&all_at(place), &who, &attrs))
+) -> Possible {
+    let who = who(rt, asked.0);
+    let attrs = get(rt, asked.1);
+    let possible = timeline.decide(&all_at(place), &who, &attrs);
+    drop(attrs);
+    drop(who);
+    possible
 }
 
 fn least(
-    alloc: Global,
+    rt: &(impl Abort + AllocGlobal),
     timeline: &Timeline,
     asked: Asked,
     low: u64,
     wanted: Decision,
-) -> Result<Option<Places>, OutOfMemory> {
-    let who = user(alloc, asked.0)?;
-    let attrs = get(alloc, asked.1)?;
-    Ok(timeline.find_decision(low, 40, &who, &attrs, wanted))
+) -> Option<Places> {
+    let who = who(rt, asked.0);
+    let attrs = get(rt, asked.1);
+    let places = timeline.find_decision(low, 40, &who, &attrs, wanted);
+    drop(attrs);
+    drop(who);
+    places
 }
 
 fn with_bindings(low: u64, bindings: Option<u64>) -> Option<Places> {
@@ -233,34 +254,39 @@ fn with_bindings(low: u64, bindings: Option<u64>) -> Option<Places> {
 }
 
 #[test]
-fn decisions(rt: HostRuntime) -> Result<(), Fail> {
-    let timeline = example(rt.alloc())?;
+fn decisions(rt: HostRuntime) {
+    let timeline = example(&rt);
     for (asked, place, allow, forbid) in &DECISIONS {
-        let possible = decided(rt.alloc(), &timeline, *asked, *place)?;
+        let possible = decided(&rt, &timeline, *asked, *place);
         assert!(rt; possible.allow == *allow);
         assert!(rt; possible.forbid == *forbid);
     }
-    Ok(())
+    drop(timeline);
 }
 
 #[test]
-fn least_places(rt: HostRuntime) -> Result<(), Fail> {
-    let timeline = example(rt.alloc())?;
+fn least_places(rt: HostRuntime) {
+    let timeline = example(&rt);
     for (asked, low, wanted, bindings) in &LEAST {
-        let places = least(rt.alloc(), &timeline, *asked, *low, *wanted)?;
+        let places = least(&rt, &timeline, *asked, *low, *wanted);
         assert!(rt; places == with_bindings(*low, *bindings));
     }
-    Ok(())
+    drop(timeline);
 }
 
-#[test]
-fn bindings_of_a_subject(rt: HostRuntime) -> Result<(), Fail> {
-    let timeline = example(rt.alloc())?;
-    let user = Subject::User(Text::from_str(rt.alloc(), "u")?);
+fn check_bindings(rt: &(impl Abort + AllocGlobal), timeline: &Timeline) {
+    let user = Subject::User(text(rt, "u"));
     let bindings = timeline.bindings_of(&user);
     assert!(rt; bindings.len() == 1);
     for binding in bindings {
         assert!(rt; binding.name.as_str() == "b");
     }
-    Ok(())
+    drop(user);
+}
+
+#[test]
+fn bindings_of_a_subject(rt: HostRuntime) {
+    let timeline = example(&rt);
+    check_bindings(&rt, &timeline);
+    drop(timeline);
 }

@@ -2,8 +2,7 @@ use crate::patching::{fault_of, nulls};
 use crate::reading::read;
 use json_patch::{ApplyCause, ApplyFault, PatchFault, read_patch};
 use json_tree::Tree;
-use std::alloc::Global;
-use std::test::Fail;
+use std::process::Abort;
 
 /// Document, patch, and the first operation that can't be done with its first cause.
 static REFUSED: [(&str, &str, u32, ApplyCause); 22] = [
@@ -141,27 +140,22 @@ static REFUSED: [(&str, &str, u32, ApplyCause); 22] = [
     ),
 ];
 
-fn is_refused(
-    alloc: Global,
-    document: &str,
-    patch: &str,
-    index: u32,
-    cause: ApplyCause,
-) -> Result<bool, Fail> {
-    let document = read(alloc, document)?;
-    let fault = fault_of(alloc, &document, patch)?;
-    Ok(fault == Some(ApplyFault::Operation { index, cause }))
+fn fault(rt: &(impl Abort + AllocGlobal), document: &str, patch: &str) -> Option<ApplyFault> {
+    let document = read(rt, document);
+    let fault = fault_of(rt, &document, patch);
+    drop(document);
+    fault
 }
 
 #[test]
-fn refused_operations(rt: HostRuntime) -> Result<(), Fail> {
+fn refused_operations(rt: HostRuntime) {
     for (document, patch, index, cause) in &REFUSED {
-        assert!(rt;
-            is_refused(rt.alloc(), document, patch, *index, *cause)?,
-            "of {patch}"
-        );
+        let wanted = ApplyFault::Operation {
+            index: *index,
+            cause: *cause,
+        };
+        assert!(rt; fault(&rt, document, patch) == Some(wanted), "of {patch}");
     }
-    Ok(())
 }
 
 // Patches that can't be read, and why.
@@ -195,31 +189,21 @@ static UNREAD: [(&str, PatchFault); 9] = [
     (r#"[{"path": "/a"}]"#, PatchFault::BadOperation { index: 0 }),
 ];
 
-fn unread(alloc: Global, tree: &Tree) -> Option<PatchFault> {
-    read_patch(alloc, tree).err()
-}
-
-fn why_unread(alloc: Global, patch: &str) -> Result<Option<PatchFault>, Fail> {
-    let tree = read(alloc, patch)?;
-    Ok(unread(alloc, &tree))
-}
-
-fn why_nulls_unread(alloc: Global, count: usize) -> Result<Option<PatchFault>, Fail> {
-    let tree = nulls(alloc, count)?;
-    Ok(unread(alloc, &tree))
+// Why a tree can't be read as a patch.
+fn why_unread(rt: &(impl Abort + AllocGlobal), tree: Tree) -> Option<PatchFault> {
+    let fault = read_patch(rt.alloc(), &tree).err();
+    drop(tree);
+    fault
 }
 
 #[test]
-fn refused_patches(rt: HostRuntime) -> Result<(), Fail> {
+fn refused_patches(rt: HostRuntime) {
     for (patch, fault) in &UNREAD {
-        assert!(rt;
-            why_unread(rt.alloc(), patch)? == Some(*fault),
-            "of {patch}"
-        );
+        let found = why_unread(&rt, read(&rt, patch));
+        assert!(rt; found == Some(*fault), "of {patch}");
     }
-    let many = why_nulls_unread(rt.alloc(), 10_001)?;
+    let many = why_unread(&rt, nulls(&rt, 10_001));
     assert!(rt; many == Some(PatchFault::TooMany));
-    let most = why_nulls_unread(rt.alloc(), 10_000)?;
+    let most = why_unread(&rt, nulls(&rt, 10_000));
     assert!(rt; most == Some(PatchFault::BadOperation { index: 0 }));
-    Ok(())
 }

@@ -1,4 +1,4 @@
-use crate::reading::read;
+use crate::reading::{is_tree, read};
 use base_types::Text;
 use json_tree::{
     MemberList, Node, PointerFault, Tree, TreeFault, copy, equal, from_value, get, read_pointer,
@@ -6,7 +6,7 @@ use json_tree::{
 };
 use serde_json::Value;
 use std::alloc::Global;
-use std::test::Fail;
+use std::process::Abort;
 
 /// Each text with what it is printed as: members in order, the last of a name, integers to the ends of
 /// their range.
@@ -20,20 +20,23 @@ static PRINTED: [(&str, &str); 7] = [
     (r#"{"a": 1, "b": 2, "a": 3}"#, r#"{"a":3,"b":2}"#),
 ];
 
-fn printed(alloc: Global, text: &str) -> Result<String, Fail> {
-    let value = Value::from_str(alloc, text)?;
-    let tree = from_value(alloc, &value)?;
-    let again = to_value(alloc, &tree)?;
-    Ok(again.to_string(alloc)?)
+fn printed(rt: &(impl Abort + AllocGlobal), text: &str) -> String {
+    let value = Value::from_str(rt.alloc(), text).expect(rt, "JSON");
+    let tree = from_value(rt.alloc(), &value).expect(rt, "a tree");
+    drop(value);
+    let again = to_value(rt.alloc(), &tree).expect(rt, "memory");
+    drop(tree);
+    let text = again.to_string(rt.alloc()).expect(rt, "memory");
+    drop(again);
+    text
 }
 
 #[test]
-fn values_come_back(rt: HostRuntime) -> Result<(), Fail> {
+fn values_come_back(rt: HostRuntime) {
     for (text, wanted) in &PRINTED {
-        let found = printed(rt.alloc(), text)?;
+        let found = printed(&rt, text);
         assert_eq!(rt; found.as_str(), *wanted, "of {text}");
     }
-    Ok(())
 }
 
 static FRACTIONS: [&str; 6] = [
@@ -45,18 +48,19 @@ static FRACTIONS: [&str; 6] = [
     r#"[1, {"a": 2.5}]"#,
 ];
 
-fn has_fraction(alloc: Global, text: &str) -> Result<bool, Fail> {
-    let value = Value::from_str(alloc, text)?;
-    let answer = from_value(alloc, &value);
-    Ok(matches!(answer, Err(TreeFault::Fraction)))
+fn tree_fault(rt: &(impl Abort + AllocGlobal), text: &str) -> Option<TreeFault> {
+    let value = Value::from_str(rt.alloc(), text).expect(rt, "JSON");
+    let fault = from_value(rt.alloc(), &value).err();
+    drop(value);
+    fault
 }
 
 #[test]
-fn fractions_have_no_tree(rt: HostRuntime) -> Result<(), Fail> {
+fn fractions_have_no_tree(rt: HostRuntime) {
     for text in &FRACTIONS {
-        assert!(rt; has_fraction(rt.alloc(), text)?, "of {text}");
+        let fault = tree_fault(&rt, text);
+        assert!(rt; fault == Some(TreeFault::Fraction), "of {text}");
     }
-    Ok(())
 }
 
 const DOCUMENT: &str = r#"{"foo": ["bar", "baz"], "": 0, "a/b": 1, "c%d": 2, "e^f": 3, "g|h": 4,
@@ -87,29 +91,32 @@ static LEADING_NOWHERE: [&str; 6] = [
     "/bar",
 ];
 
-// Whether there is this value at the pointer, or nothing.
-fn leads_to(alloc: Global, document: &Tree, at: &str, value: Option<&str>) -> Result<bool, Fail> {
-    let pointer = read_pointer(alloc, at)?;
-    match (get(document, &pointer), value) {
-        (Some(found), Some(value)) => Ok(equal(found, &read(alloc, value)?)),
-        (found, value) => Ok(found.is_none() && value.is_none()),
+fn pointed<'a>(rt: &(impl Abort + AllocGlobal), document: &'a Tree, at: &str) -> Option<&'a Tree> {
+    let pointer = read_pointer(rt.alloc(), at).expect(rt, "a pointer");
+    let found = get(document, &pointer);
+    drop(pointer);
+    found
+}
+
+// Whether this value is at the pointer.
+fn leads_to(rt: &(impl Abort + AllocGlobal), document: &Tree, at: &str, value: &str) -> bool {
+    match pointed(rt, document, at) {
+        Some(found) => is_tree(rt, found, value),
+        None => false,
     }
 }
 
 /// The table of RFC 6901 section 5, and pointers that lead nowhere.
 #[test]
-fn pointers_lead_to_values(rt: HostRuntime) -> Result<(), Fail> {
-    let document = read(rt.alloc(), DOCUMENT)?;
+fn pointers_lead_to_values(rt: HostRuntime) {
+    let document = read(&rt, DOCUMENT);
     for (text, value) in &POINTERS {
-        assert!(rt;
-            leads_to(rt.alloc(), &document, text, Some(*value))?,
-            "at {text}"
-        );
+        assert!(rt; leads_to(&rt, &document, text, value), "at {text}");
     }
     for text in &LEADING_NOWHERE {
-        assert!(rt; leads_to(rt.alloc(), &document, text, None)?, "at {text}");
+        assert!(rt; pointed(&rt, &document, text).is_none(), "at {text}");
     }
-    Ok(())
+    drop(document);
 }
 
 static NO_POINTERS: [&str; 6] = ["a", "~", "/~", "/a~2", "/é~", " /a"];
@@ -122,26 +129,33 @@ static TOKENS: [(&str, &str); 4] = [
     ("/", ""),
 ];
 
-fn is_one_token(alloc: Global, text: &str, token: &str) -> Result<bool, Fail> {
-    let pointer = read_pointer(alloc, text)?;
-    Ok(match pointer.as_slice() {
+fn is_one_token(rt: &(impl Abort + AllocGlobal), text: &str, token: &str) -> bool {
+    let pointer = read_pointer(rt.alloc(), text).expect(rt, "a pointer");
+    match pointer.as_slice() {
         [only] => only.as_str() == token,
         _ => false,
-    })
+    }
+}
+
+fn pointer_fault(alloc: Global, text: &str) -> Option<PointerFault> {
+    read_pointer(alloc, text).err()
+}
+
+fn count_of_tokens(rt: &(impl Abort + AllocGlobal), text: &str) -> usize {
+    read_pointer(rt.alloc(), text).expect(rt, "a pointer").len()
 }
 
 /// A text without `/` at its front, or with a `~` of no meaning, is no pointer. `~01` is `~1`.
 #[test]
-fn pointers_have_one_spelling(rt: HostRuntime) -> Result<(), Fail> {
+fn pointers_have_one_spelling(rt: HostRuntime) {
     for text in &NO_POINTERS {
-        let answer = read_pointer(rt.alloc(), text);
-        assert!(rt; matches!(answer, Err(PointerFault::Form)), "of {text}");
+        let fault = pointer_fault(rt.alloc(), text);
+        assert!(rt; fault == Some(PointerFault::Form), "of {text}");
     }
     for (text, token) in &TOKENS {
-        assert!(rt; is_one_token(rt.alloc(), text, token)?, "of {text}");
+        assert!(rt; is_one_token(&rt, text, token), "of {text}");
     }
-    assert_eq!(rt; read_pointer(rt.alloc(), "/a//b")?.len(), 3);
-    Ok(())
+    assert_eq!(rt; count_of_tokens(&rt, "/a//b"), 3);
 }
 
 static DISTINCT: [&str; 12] = [
@@ -159,26 +173,31 @@ static DISTINCT: [&str; 12] = [
     r#"{"b": null}"#,
 ];
 
-fn is_its_copy(alloc: Global, text: &str) -> Result<bool, Fail> {
-    let tree = read(alloc, text)?;
-    Ok(copy(alloc, &tree)? == tree)
+fn is_its_copy(rt: &(impl Abort + AllocGlobal), text: &str) -> bool {
+    let tree = read(rt, text);
+    let copied = copy(rt.alloc(), &tree).expect(rt, "memory");
+    let is_same = copied == tree;
+    drop(copied);
+    drop(tree);
+    is_same
 }
 
-fn are_equal(alloc: Global, text: &str, other: &str) -> Result<bool, Fail> {
-    let tree = read(alloc, text)?;
-    Ok(equal(&tree, &read(alloc, other)?))
+fn are_equal(rt: &(impl Abort + AllocGlobal), text: &str, other: &str) -> bool {
+    let tree = read(rt, text);
+    let is_same = is_tree(rt, &tree, other);
+    drop(tree);
+    is_same
 }
 
 #[test]
-fn trees_are_told_apart(rt: HostRuntime) -> Result<(), Fail> {
+fn trees_are_told_apart(rt: HostRuntime) {
     for (i, text) in DISTINCT.iter().enumerate() {
-        assert!(rt; is_its_copy(rt.alloc(), text)?, "a copy of {text}");
+        assert!(rt; is_its_copy(&rt, text), "a copy of {text}");
         for (j, other) in DISTINCT.iter().enumerate() {
-            let same = are_equal(rt.alloc(), text, other)?;
+            let same = are_equal(&rt, text, other);
             assert_eq!(rt; same, i == j, "{text} and {other}");
         }
     }
-    Ok(())
 }
 
 // Objects and their stored forms.
@@ -193,19 +212,19 @@ static STORED: [(&str, &str); 4] = [
     (r#"["kind"]"#, r#"["kind"]"#),
 ];
 
-fn is_stored_as(alloc: Global, object: &str, stored: &str) -> Result<bool, Fail> {
-    let wanted = read(alloc, stored)?;
-    let tree = stored_form(read(alloc, object)?);
-    Ok(equal(&tree, &wanted))
+fn is_stored_as(rt: &(impl Abort + AllocGlobal), object: &str, stored: &str) -> bool {
+    let tree = stored_form(read(rt, object));
+    let is_same = is_tree(rt, &tree, stored);
+    drop(tree);
+    is_same
 }
 
 /// The members are dropped at their places alone, also where the metadata isn't an object.
 #[test]
-fn stored_forms(rt: HostRuntime) -> Result<(), Fail> {
+fn stored_forms(rt: HostRuntime) {
     for (object, stored) in &STORED {
-        assert!(rt; is_stored_as(rt.alloc(), object, stored)?, "of {object}");
+        assert!(rt; is_stored_as(&rt, object, stored), "of {object}");
     }
-    Ok(())
 }
 
 fn text_of(tree: Option<&Tree>) -> Option<&str> {
@@ -216,12 +235,7 @@ fn length_of(tree: Option<&Tree>) -> Option<usize> {
     Some(tree?.as_items()?.all.len())
 }
 
-#[test]
-fn one_level(rt: HostRuntime) -> Result<(), Fail> {
-    let tree = read(
-        rt.alloc(),
-        r#"{"f": true, "i": [1], "n": null, "t": "x", "w": -7}"#,
-    )?;
+fn check_members(rt: &impl Abort, tree: &Tree) {
     assert!(rt; tree.member("f").and_then(|flag| flag.as_flag()) == Some(true));
     assert!(rt; tree.member("w").and_then(|whole| whole.as_whole()) == Some(-7));
     assert!(rt; text_of(tree.member("t")) == Some("x"));
@@ -229,36 +243,64 @@ fn one_level(rt: HostRuntime) -> Result<(), Fail> {
     assert!(rt; tree.as_members().map(|members| members.all.len()) == Some(5));
     assert!(rt; tree.member("n").is_some_and(|null| null.is_null()));
     assert!(rt; tree.member("m").is_none());
-    Ok(())
+}
+
+#[test]
+fn one_level(rt: HostRuntime) {
+    let tree = read(
+        &rt,
+        r#"{"f": true, "i": [1], "n": null, "t": "x", "w": -7}"#,
+    );
+    check_members(&rt, &tree);
+    drop(tree);
 }
 
 static PUT_IN: [&str; 4] = ["c", "a", "e", "c"];
 
-fn put(alloc: Global, list: &mut MemberList, name: &str) -> Result<(), Fail> {
-    let value = read(alloc, "3")?;
-    let _was = list.put(Text::from_str(alloc, name)?, value)?;
-    Ok(())
+fn put(rt: &(impl Abort + AllocGlobal), list: &mut MemberList, name: &str) {
+    let value = read(rt, "3");
+    let name = Text::from_str(rt.alloc(), name).expect(rt, "memory");
+    let was = list.put(name, value).expect(rt, "memory");
+    drop(was);
+}
+
+fn members_of(rt: &(impl Abort + AllocGlobal), text: &str) -> MemberList {
+    match read(rt, text).node {
+        Node::Members(list) => list,
+        other => {
+            drop(other);
+            panic!(rt; "no object")
+        }
+    }
 }
 
 // The members of a tree, with others put in.
-fn put_in(alloc: Global, text: &str) -> Result<MemberList, Fail> {
-    let tree = read(alloc, text)?;
-    let Node::Members(mut list) = tree.node else {
-        return Err(Fail::from("no object"));
-    };
+fn put_in(rt: &(impl Abort + AllocGlobal), text: &str) -> MemberList {
+    let mut list = members_of(rt, text);
     for name in &PUT_IN {
-        put(alloc, &mut list, name)?;
+        put(rt, &mut list, name);
     }
-    Ok(list)
+    list
+}
+
+fn takes(list: &mut MemberList, name: &str) -> bool {
+    list.take(name).is_some()
+}
+
+fn is_object(rt: &(impl Abort + AllocGlobal), list: MemberList, text: &str) -> bool {
+    let tree = Tree {
+        node: Node::Members(list),
+    };
+    let is_same = is_tree(rt, &tree, text);
+    drop(tree);
+    is_same
 }
 
 #[test]
-fn members_are_put_and_taken(rt: HostRuntime) -> Result<(), Fail> {
-    let wanted = read(rt.alloc(), r#"{"a": 3, "b": 1, "c": 3, "e": 3}"#)?;
-    let mut list = put_in(rt.alloc(), r#"{"b": 1, "d": 2}"#)?;
+fn members_are_put_and_taken(rt: HostRuntime) {
+    let mut list = put_in(&rt, r#"{"b": 1, "d": 2}"#);
     assert_eq!(rt; list.all.len(), 5);
-    assert!(rt; list.take("d").is_some() && list.take("d").is_none());
-    let node = Node::Members(list);
-    assert!(rt; equal(&Tree { node }, &wanted));
-    Ok(())
+    assert!(rt; takes(&mut list, "d") && !takes(&mut list, "d"));
+    let wanted = r#"{"a": 3, "b": 1, "c": 3, "e": 3}"#;
+    assert!(rt; is_object(&rt, list, wanted));
 }

@@ -1,8 +1,7 @@
-use crate::reading::read;
-use json_tree::equal;
+use crate::reading::{is_tree, read};
+use json_tree::Tree;
 use merge_patch::merge;
-use std::alloc::Global;
-use std::test::Fail;
+use std::process::Abort;
 
 /// Target, patch and what comes of it: the table of RFC 7386 appendix A, the example of its section 3, names
 /// before, between and behind those of the target, and nulls that name nothing.
@@ -51,25 +50,34 @@ static MERGES: [(&str, &str, &str); 21] = [
 ];
 
 // Whether a patch makes this of a target, or of nothing.
-fn makes(alloc: Global, target: Option<&str>, patch: &str, made: &str) -> Result<bool, Fail> {
-    let patch = read(alloc, patch)?;
-    let made = read(alloc, made)?;
-    let Some(target) = target else {
-        return Ok(equal(&merge(alloc, None, &patch)?, &made));
-    };
-    let target = read(alloc, target)?;
-    Ok(equal(&merge(alloc, Some(&target), &patch)?, &made))
+fn merged(rt: &(impl Abort + AllocGlobal), target: Option<&Tree>, patch: &str) -> Tree {
+    let patch = read(rt, patch);
+    let made = merge(rt.alloc(), target, &patch).expect(rt, "memory");
+    drop(patch);
+    made
+}
+
+fn makes(rt: &(impl Abort + AllocGlobal), target: &str, patch: &str, made: &str) -> bool {
+    let target = read(rt, target);
+    let answer = merged(rt, Some(&target), patch);
+    drop(target);
+    let is_made = is_tree(rt, &answer, made);
+    drop(answer);
+    is_made
+}
+
+fn makes_alone(rt: &(impl Abort + AllocGlobal), patch: &str, made: &str) -> bool {
+    let answer = merged(rt, None, patch);
+    let is_made = is_tree(rt, &answer, made);
+    drop(answer);
+    is_made
 }
 
 #[test]
-fn patches_merge(rt: HostRuntime) -> Result<(), Fail> {
+fn patches_merge(rt: HostRuntime) {
     for (target, patch, made) in &MERGES {
-        assert!(rt;
-            makes(rt.alloc(), Some(*target), patch, made)?,
-            "of {patch}"
-        );
+        assert!(rt; makes(&rt, target, patch, made), "of {patch}");
     }
-    Ok(())
 }
 
 // Patches and what they make of nothing.
@@ -79,9 +87,8 @@ static MADE: [(&str, &str); 2] = [
 ];
 
 #[test]
-fn without_a_target(rt: HostRuntime) -> Result<(), Fail> {
+fn without_a_target(rt: HostRuntime) {
     for (patch, made) in &MADE {
-        assert!(rt; makes(rt.alloc(), None, patch, made)?, "of {patch}");
+        assert!(rt; makes_alone(&rt, patch, made), "of {patch}");
     }
-    Ok(())
 }

@@ -1,11 +1,10 @@
-ghost use Rattle.std.specs.Prelude.{◌<◌, length};
+ghost use Rattle.std.specs.Prelude.{◌<◌, IfSome, length};
 
-use crate::reading::read;
-use json_tree::{equal, read_pointer};
+use crate::reading::{is_tree, read};
+use json_tree::read_pointer;
 use node_pool::{NodeId, Pool, PoolFault};
-use std::alloc::Global;
 use std::marker::{Send, Sync};
-use std::test::Fail;
+use std::process::Abort;
 
 // A value that may be sent to threads and shared by them.
 fn shared<T: Send + Sync>(_value: &T) {}
@@ -20,25 +19,27 @@ static NUMBERS: [(&str, Option<u32>, u32); 5] = [
 ];
 
 // The number of a tree, or none where the pool is full.
-fn number(alloc: Global, pool: &mut Pool, text: &str) -> Result<Option<u32>, Fail> {
-    let tree = read(alloc, text)?;
-    match pool.intern(&tree) {
-        Ok(node) => Ok(Some(node.0)),
-        Err(PoolFault::Full) => Ok(None),
-        Err(fault) => Err(fault.into()),
+fn number(rt: &(impl Abort + AllocGlobal), pool: &mut Pool, text: &str) -> Option<u32> {
+    let tree = read(rt, text);
+    let interned = pool.intern(&tree);
+    drop(tree);
+    match interned {
+        Ok(node) => Some(node.0),
+        Err(PoolFault::Full) => None,
+        Err(fault) => panic!(rt; "{fault}"),
     }
 }
 
 #[test]
-fn a_tree_has_one_number(rt: HostRuntime) -> Result<(), Fail> {
-    let mut pool = Pool::new(rt.alloc(), 2)?;
+fn a_tree_has_one_number(rt: HostRuntime) {
+    let mut pool = Pool::new(rt.alloc(), 2).expect(&rt, "memory");
     shared(&pool);
     for (text, wanted, len) in &NUMBERS {
-        let found = number(rt.alloc(), &mut pool, text)?;
+        let found = number(&rt, &mut pool, text);
         assert_eq!(rt; found, *wanted, "of {text}");
         assert_eq!(rt; pool.len(), *len, "after {text}");
     }
-    Ok(())
+    drop(pool);
 }
 
 const OBJECT: &str = r#"{"metadata": {"name": "a", "finalizers": ["x/y"]}, "data": {"k": "x"}}"#;
@@ -54,37 +55,66 @@ static PARTS: [(&str, Option<&str>); 7] = [
     ("/data/k/0", None),
 ];
 
+// The number of what is at the pointer.
+fn found(rt: &(impl Abort + AllocGlobal), pool: &Pool, object: NodeId, at: &str) -> Option<NodeId>
+    requires { object.0 < length pool.now.trees }
+    ensures { IfSome result (λ node. node.0 < length pool.now.trees) }
+{
+    let pointer = read_pointer(rt.alloc(), at).expect(rt, "a pointer");
+    pool.at(object, &pointer)
+}
+
+fn equals(rt: &(impl Abort + AllocGlobal), pool: &Pool, node: NodeId, text: &str) -> bool
+    requires { node.0 < length pool.now.trees }
+{
+    let tree = read(rt, text);
+    let is_equal = pool.equals(node, &tree);
+    drop(tree);
+    is_equal
+}
+
 // Whether this part of an object of the pool is at the pointer, or nothing.
 fn is_there(
-    alloc: Global,
+    rt: &(impl Abort + AllocGlobal),
     pool: &Pool,
     object: NodeId,
     at: &str,
     part: Option<&str>,
-) -> Result<bool, Fail>
+) -> bool
     requires { object.0 < length pool.now.trees }
 {
-    let pointer = read_pointer(alloc, at)?;
-    let Some(found) = pool.at(object, &pointer) else {
-        return Ok(part.is_none());
-    };
-    let Some(part) = part else {
-        return Ok(false);
-    };
-    let part = read(alloc, part)?;
-    Ok(pool.equals(found, &part))
+    match (found(rt, pool, object, at), part) {
+        (Some(found), Some(part)) => equals(rt, pool, found, part),
+        (found, part) => found.is_none() && part.is_none(),
+    }
+}
+
+fn comes_back(rt: &(impl Abort + AllocGlobal), pool: &Pool, node: NodeId, text: &str) -> bool
+    requires { node.0 < length pool.now.trees }
+{
+    let tree = pool.tree(node).expect(rt, "memory");
+    let is_same = is_tree(rt, &tree, text);
+    drop(tree);
+    is_same
+}
+
+fn check_parts(rt: &(impl Abort + AllocGlobal), pool: &Pool, node: NodeId)
+    requires { node.0 < length pool.now.trees }
+{
+    assert!(rt; pool.same(node, node) && equals(rt, pool, node, OBJECT));
+    assert!(rt; comes_back(rt, pool, node, OBJECT));
+    for (at, part) in &PARTS {
+        assert!(rt; is_there(rt, pool, node, at, *part), "at {at}");
+    }
 }
 
 #[test]
-fn parts_are_found(rt: HostRuntime) -> Result<(), Fail> {
-    let object = read(rt.alloc(), OBJECT)?;
-    let mut pool = Pool::new(rt.alloc(), 100)?;
-    let node = pool.intern(&object)?;
+fn parts_are_found(rt: HostRuntime) {
+    let object = read(&rt, OBJECT);
+    let mut pool = Pool::new(rt.alloc(), 100).expect(&rt, "memory");
+    let node = pool.intern(&object).expect(&rt, "room");
+    drop(object);
     assert_eq!(rt; pool.len(), 7);
-    assert!(rt; pool.same(node, node) && pool.equals(node, &object));
-    assert!(rt; equal(&pool.tree(node)?, &object));
-    for (at, part) in &PARTS {
-        assert!(rt; is_there(rt.alloc(), &pool, node, at, *part)?, "at {at}");
-    }
-    Ok(())
+    check_parts(&rt, &pool, node);
+    drop(pool);
 }

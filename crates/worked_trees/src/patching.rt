@@ -1,35 +1,43 @@
 use crate::reading::read;
-use json_patch::{ApplyFault, apply, read_patch};
+use json_patch::{ApplyFault, Patch, apply, read_patch};
 use json_tree::{Node, Tree, Trees};
-use std::alloc::Global;
-use std::test::Fail;
+use std::process::Abort;
+
+fn patch_of(rt: &(impl Abort + AllocGlobal), text: &str) -> Patch {
+    let tree = read(rt, text);
+    let patch = read_patch(rt.alloc(), &tree).expect(rt, "a patch");
+    drop(tree);
+    patch
+}
 
 /// What a patch makes of a document.
 pub(crate) fn patched(
-    alloc: Global,
+    rt: &(impl Abort + AllocGlobal),
     document: &Tree,
     patch: &str,
-) -> Result<Result<Tree, ApplyFault>, Fail> {
-    let patch = read_patch(alloc, &read(alloc, patch)?)?;
-    Ok(apply(alloc, document, &patch))
+) -> Result<Tree, ApplyFault> {
+    let patch = patch_of(rt, patch);
+    let made = apply(rt.alloc(), document, &patch);
+    drop(patch);
+    made
 }
 
 /// Why a patch of a document can't be done, if it can't.
 pub(crate) fn fault_of(
-    alloc: Global,
+    rt: &(impl Abort + AllocGlobal),
     document: &Tree,
     patch: &str,
-) -> Result<Option<ApplyFault>, Fail> {
-    Ok(patched(alloc, document, patch)?.err())
+) -> Option<ApplyFault> {
+    patched(rt, document, patch).err()
 }
 
 /// A list of so many nulls.
-pub(crate) fn nulls(alloc: Global, count: usize) -> Result<Tree, Fail> {
-    let mut all = Vec::new(alloc);
+pub(crate) fn nulls(rt: &(impl Abort + AllocGlobal), count: usize) -> Tree {
+    let mut all = Vec::new(rt.alloc());
     for _ in 0..count {
-        all.push(Tree { node: Node::Null })?;
+        all.push(Tree { node: Node::Null }).expect(rt, "memory");
     }
-    Ok(Tree {
+    Tree {
         node: Node::Items(Trees { all }),
-    })
+    }
 }

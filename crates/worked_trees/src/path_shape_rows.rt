@@ -1,34 +1,52 @@
 use crate::reading::read;
 use json_tree::Tree;
 use path_shape::{FieldClass, Shape, ShapeFault, agrees, keeps};
-use std::alloc::Global;
-use std::test::Fail;
+use std::process::Abort;
 
-fn shape_of(alloc: Global, text: &str) -> Result<Shape, Fail> {
-    Ok(Shape::read(alloc, &read(alloc, text)?, FieldClass::Asked)?)
+fn shape_of(rt: &(impl Abort + AllocGlobal), text: &str) -> Shape {
+    let list = read(rt, text);
+    let shape = Shape::read(rt.alloc(), &list, FieldClass::Asked).expect(rt, "a shape");
+    drop(list);
+    shape
 }
 
-// Whether what is answered is what was asked of the old object, if there was one.
-fn agree_on(
-    alloc: Global,
+fn agree_from(
+    rt: &(impl Abort + AllocGlobal),
     shape: &Shape,
     old: &str,
     asked: &Tree,
     answered: &Tree,
-) -> Result<bool, Fail> {
-    if old == "none" {
-        return Ok(agrees(shape, None, asked, answered));
-    }
-    let old = read(alloc, old)?;
-    Ok(agrees(shape, Some(&old), asked, answered))
+) -> bool {
+    let old = read(rt, old);
+    let is_so = agrees(shape, Some(&old), asked, answered);
+    drop(old);
+    is_so
 }
 
-fn agree(alloc: Global, given: &[&str; 3], answered: &str) -> Result<bool, Fail> {
+// Whether what is answered is what was asked of the old object, if there was one.
+fn agree_on(
+    rt: &(impl Abort + AllocGlobal),
+    shape: &Shape,
+    old: &str,
+    asked: &Tree,
+    answered: &Tree,
+) -> bool {
+    if old == "none" {
+        return agrees(shape, None, asked, answered);
+    }
+    agree_from(rt, shape, old, asked, answered)
+}
+
+fn agree(rt: &(impl Abort + AllocGlobal), given: &[&str; 3], answered: &str) -> bool {
     let [shapes, old, asked] = given;
-    let shape = shape_of(alloc, shapes)?;
-    let asked = read(alloc, asked)?;
-    let answered = read(alloc, answered)?;
-    agree_on(alloc, &shape, old, &asked, &answered)
+    let shape = shape_of(rt, shapes);
+    let asked = read(rt, asked);
+    let answered = read(rt, answered);
+    let is_so = agree_on(rt, &shape, old, &asked, &answered);
+    drop(answered);
+    drop(asked);
+    drop(shape);
+    is_so
 }
 
 // Lists of entries, and the first fault of each.
@@ -69,17 +87,18 @@ static LISTS: [(&str, Option<ShapeFault>); 13] = [
     ("[[]]", Some(ShapeFault::Entry { index: 0 })),
 ];
 
-fn first_fault(alloc: Global, text: &str) -> Result<Option<ShapeFault>, Fail> {
-    let list = read(alloc, text)?;
-    Ok(Shape::read(alloc, &list, FieldClass::Kept).err())
+fn first_fault(rt: &(impl Abort + AllocGlobal), text: &str) -> Option<ShapeFault> {
+    let list = read(rt, text);
+    let fault = Shape::read(rt.alloc(), &list, FieldClass::Kept).err();
+    drop(list);
+    fault
 }
 
 #[test]
-fn lists_of_entries(rt: HostRuntime) -> Result<(), Fail> {
+fn lists_of_entries(rt: HostRuntime) {
     for (text, fault) in &LISTS {
-        assert!(rt; first_fault(rt.alloc(), text)? == *fault, "of {text}");
+        assert!(rt; first_fault(&rt, text) == *fault, "of {text}");
     }
-    Ok(())
 }
 
 // Entries, the old object, what is asked, and answers that agree and that don't.
@@ -208,12 +227,11 @@ static CASES: [([&str; 3], &str, &str); 14] = [
 ];
 
 #[test]
-fn answers_agree(rt: HostRuntime) -> Result<(), Fail> {
+fn answers_agree(rt: HostRuntime) {
     for (given, right, wrong) in &CASES {
-        assert!(rt; agree(rt.alloc(), given, right)?, "{given:?} and {right}");
-        assert!(rt; !agree(rt.alloc(), given, wrong)?, "{given:?} and {wrong}");
+        assert!(rt; agree(&rt, given, right), "{given:?} and {right}");
+        assert!(rt; !agree(&rt, given, wrong), "{given:?} and {wrong}");
     }
-    Ok(())
 }
 
 // Entries, the old object, and answers of a delete that keep it and that don't.
@@ -250,24 +268,21 @@ static KEPT: [[&str; 4]; 5] = [
     ],
 ];
 
-fn is_kept(alloc: Global, shapes: &str, old: &str, answered: &str) -> Result<bool, Fail> {
-    let shape = shape_of(alloc, shapes)?;
-    let old = read(alloc, old)?;
-    let answered = read(alloc, answered)?;
-    Ok(keeps(&shape, &old, &answered))
+fn is_kept(rt: &(impl Abort + AllocGlobal), shapes: &str, old: &str, answered: &str) -> bool {
+    let shape = shape_of(rt, shapes);
+    let old = read(rt, old);
+    let answered = read(rt, answered);
+    let is_so = keeps(&shape, &old, &answered);
+    drop(answered);
+    drop(old);
+    drop(shape);
+    is_so
 }
 
 #[test]
-fn deletes_keep(rt: HostRuntime) -> Result<(), Fail> {
+fn deletes_keep(rt: HostRuntime) {
     for [shapes, old, right, wrong] in &KEPT {
-        assert!(rt;
-            is_kept(rt.alloc(), shapes, old, right)?,
-            "{shapes} and {right}"
-        );
-        assert!(rt;
-            !is_kept(rt.alloc(), shapes, old, wrong)?,
-            "{shapes} and {wrong}"
-        );
+        assert!(rt; is_kept(&rt, shapes, old, right), "{shapes} and {right}");
+        assert!(rt; !is_kept(&rt, shapes, old, wrong), "{shapes} and {wrong}");
     }
-    Ok(())
 }

@@ -1,7 +1,7 @@
-use Rattle.std.proofs.Common.{arith, ◌≡◌, None, map, string_bytes, Global, inl, inr, refl}
+use Rattle.std.proofs.Common.{arith, ◌≡◌, None, map, string_bytes, Global, inl, inr, refl, subst}
 use Rattle.context_intake.proofs.ReadingFacts.{log_untouched}
 use Rattle.log_intake.specs.Setup.{most_setup}
-use Rattle.kubepast.specs.Command.{Judge, Verify, command_asked}
+use Rattle.kubepast.specs.Command.{IsRead, Judge, Verify, command_asked}
 use Rattle.kubepast.specs.Program.{usage_answer}
 use Rattle.kubepast.specs.Verifying.{most_placement}
 use Rattle.kubepast.proofs.RunFacts.{HasRun, keeps_same, run_answer, run_desk_left, run_log_left, run_log_taken, run_others_left, run_placement_left, run_placement_taken, run_printed, run_setup_taken}
@@ -11,13 +11,13 @@ use Rattle.kubepast.proofs.run.run.Goals as goal
 
 -- words that are no command
 pub returns-in-Ok-None-clause-answer : goal.returns-in-Ok-None-clause-answer
-returns-in-Ok-None-clause-answer g c = λ files tells. inl (usage_answer, (None, c.in-Ok-None.ensures.read, refl), c.end_with.ensures.ends)
+returns-in-Ok-None-clause-answer g c = λ files tells. inl (usage_answer, (None, subst (IsRead (map (string_bytes {Z = Global}) c.args.words.now)) c.in-Ok-None.field-0-is c.in-Ok-None.ensures.read, refl), c.end_with.ensures.ends)
 
 pub returns-in-Ok-None-clause-placement_taken : goal.returns-in-Ok-None-clause-placement_taken
-returns-in-Ok-None-clause-placement_taken g c = λ setup log placement asks. absurd (c.in-Ok-None.ensures.read (Verify setup log placement) asks)
+returns-in-Ok-None-clause-placement_taken g c = λ setup log placement asks. absurd (subst (IsRead (map (string_bytes {Z = Global}) c.args.words.now)) c.in-Ok-None.field-0-is c.in-Ok-None.ensures.read (Verify setup log placement) asks)
 
 pub returns-in-Ok-None-clause-printed : goal.returns-in-Ok-None-clause-printed
-returns-in-Ok-None-clause-printed g c = λ setup log asks is. absurd (c.in-Ok-None.ensures.read (Judge setup log) asks)
+returns-in-Ok-None-clause-printed g c = λ setup log asks is. absurd (subst (IsRead (map (string_bytes {Z = Global}) c.args.words.now)) c.in-Ok-None.field-0-is c.in-Ok-None.ensures.read (Judge setup log) asks)
 
 -- no memory for the words
 pub returns-in-Err-clause-answer : goal.returns-in-Err-clause-answer
@@ -44,7 +44,7 @@ ran : (g : Over) (c : goal.After-conclude g)
     (g.D.Desk.faults c.args.desk.now) (g.D.Desk.faults c.report_of.new.desk) (g.K.Sink.faults c.args.out.now) (g.K.Sink.faults c.conclude.new.out)
     (g.K.Sink.written c.args.out.now) (g.K.Sink.written c.conclude.new.out) c.conclude.result c.report_of.result
 ran g c = record {
-  spelled = c.in-Ok-Some.ensures.read;
+  spelled = subst (IsRead (map (string_bytes {Z = Global}) c.args.words.now)) c.in-Ok-Some.field-0-is c.in-Ok-Some.ensures.read;
   reported = c.report_of.ensures;
   concluded = c.conclude.ensures;
 }

@@ -1,7 +1,6 @@
 use Rattle.std.proofs.Common.{◌≡◌, ◌≢◌, Option, true, false, Some, None, rules, refl, sym, ap, ◌∙◌, subst, true≢false}
 use Rattle.std.specs.Prelude.{option_map}
 use Rattle.std.specs.Cmp.Lexicographic.{bytes_decides}
-use Rattle.clouds.proofs.Adding.{same_key}
 use Rattle.history_model.specs.Incarnations.{IsRemovalBehind}
 use Rattle.object_versions.proofs.Ending.{end_none, end_some, next_none, next_some, recorded_is}
 use Rattle.object_past.specs.Modelled.{recorded}
@@ -30,10 +29,10 @@ returns c =
           (λ same. true≢false (sym ((bytes_decides w.in-Some.after.now.uid c.args.version.now.uid).1 same) ∙ sym w.if-eq.ensures))
       | in-None w ↦ end_none c.args.version.now c.args.after w.in-None.is
     ] in
-    let parts = c.in_ok-clone.ensures.cases in
-    let key : c.in_ok-clone.field-0 ≡ c.args.version.now.key = same_key _ _ parts.0 parts.1.0 parts.1.1.0 parts.1.1.1 in
-    let copy = recorded_is c.args.version.now c.in-Some-found.range c.in_ok-clone.field-0 c.in_ok-clone-2.field-0 key c.in_ok-clone-2.ensures.cases in
-    let made : Removal = record { key = c.in_ok-clone.field-0; uid = c.in_ok-clone-2.field-0; last = c.args.version.now.revision; range = c.in-Some-found.range } in (
+    let key = c.in_ok-owner.owner.key in
+    let uid = c.in_ok-owner.owner.uid in
+    let copy = recorded_is c.args.version.now c.in-Some-found.range key uid c.in_ok-owner.ensures.key c.in_ok-owner.ensures.uid in
+    let made : Removal = record { key = key; uid = uid; last = c.args.version.now.revision; range = c.in-Some-found.range } in (
       ends,
       λ h log first. subst (λ n. IsRemovalBehind h (version_of c.args.version.now) n (recorded made)) next
           (subst (IsRemovalBehind h (version_of c.args.version.now) c.match-after.next) (sym copy) (c.in-Some-found.ensures.some h log first)),

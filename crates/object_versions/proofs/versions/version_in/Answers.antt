@@ -1,6 +1,5 @@
 use Rattle.std.proofs.Common.{◌≡◌, Some, option_map, refl, sym, ap, ◌∙◌, subst}
 use Rattle.std.specs.Prelude.{IsSome}
-use Rattle.clouds.proofs.Adding.{same_key}
 use Rattle.write_groups.specs.Grouped.{item_at}
 use Rattle.object_versions.proofs.Choosing.{IsChosen, chosen, first_find, made_version}
 use Rattle.object_versions.proofs.Writing.{shown_write}
@@ -19,8 +18,6 @@ write_at-making-requires c =
 pub returns-clause-made : goal.returns-clause-made
 returns-clause-made c = λ h of.
     let first = c.first_number-first.result in
-    let parts = c.in_ok-clone.ensures.cases in
-    let key : c.in_ok-clone.field-0 ≡ c.args.group.now.key = same_key _ _ parts.0 parts.1.0 parts.1.1.0 parts.1.1.1 in
     let told = of.clouds.unrecorded c.args.group.now.key c.args.group.now.revision in
     let may = c.may_make-may_be_unrecorded.ensures in
     let choice = chosen h c.args.log.events.now c.args.group.now c.args.judged.now first c.may_make-may_be_unrecorded.result of.all of.grouped of.members (first_find c.args.judged.now ∙ c.first_number-first.ensures)
@@ -28,4 +25,4 @@ returns-clause-made c = λ h of.
     made_version h c.args.log.events.now c.args.group.now _ (shown_by first c.maker_among-maker.result) (making_of c.write_at-making.result)
     (subst (λ m. IsChosen h c.args.group.now m (shown_by first m)) (sym c.maker_among-maker.ensures) choice) of.all of.grouped
     (subst (λ n. making_at c.args.log.events.now n ≡ Some (making_of c.write_at-making.result)) c.shown_by.ensures c.write_at-making.ensures)
-    key refl c.in_ok-clone-2.ensures.cases refl
+    c.in_ok-owner.ensures.key refl c.in_ok-owner.ensures.uid refl

@@ -24,14 +24,10 @@ loop-group-init g c = (
     begun : c.in_ok-grown.grown ≡ map (λ item. snapshot_version item.now) c.in_ok-order.order.items
     begun = c.in_ok-grown.ensures ∙ ap (map (λ item. snapshot_version item.now)) c.deref.ensures.value
 
-pub with-requires : goal.with-requires
-with-requires g c =
-    let items = map (λ item. item.now) c.in_ok-order.order.items in
-    record {
-      above = subst (λ n. All (λ (v : Version). v.revision < n) c.loop-group.grown) (sym c.in_ok-version_in.ensures.revision)
-          (before_group c.args.start c.args.snapshot.now items c.args.groups.now c.loop-group.group-index c.group-item.result c.loop-group.grown c.requires.snapshot c.in_ok-order.ensures.same
-          c.requires.rising c.requires.above c.loop-group-test.true (sym c.group-item.is) c.loop-group.invariant.0);
-    }
+pub add_group-requires-clause-above : goal.add_group-requires-clause-above
+add_group-requires-clause-above g c =
+    before_group c.args.start c.args.snapshot.now (map (λ item. item.now) c.in_ok-order.order.items) c.args.groups.now c.loop-group.group-index c.group-item.result c.loop-group.grown c.requires.snapshot
+    c.in_ok-order.ensures.same c.requires.rising c.requires.above c.loop-group-test.true (sym c.group-item.is) c.loop-group.invariant.0
 
 pub loop-group-preserved : goal.loop-group-preserved
 loop-group-preserved g c =
@@ -39,29 +35,27 @@ loop-group-preserved g c =
     let begun = map snapshot_version items in
     let i = c.loop-group.group-index in
     let group = c.group-item.result in
-    let version = c.in_ok-version_in.field-0 in
+    let added = c.in_ok-grown-2.ensures in
+    let version = added.0 in
+    let more = added.1 in
     let events = c.args.log.events.now in
     let within : i < length c.args.groups.now = c.loop-group-test.true in
-    let pushed : c.in_ok-grown-2.grown ≡ c.loop-group.grown ++ version ∷ [] = c.in_ok-grown-2.ensures in (
+    let pushed : c.in_ok-grown-2.grown ≡ c.loop-group.grown ++ version ∷ [] = added.2 in (
       subst (AreGrown begun (take (i + 1) c.args.groups.now)) (sym pushed)
-          (grown_with begun c.args.groups.now i group c.loop-group.grown version within (sym c.group-item.is) c.loop-group.invariant.0 c.in_ok-version_in.ensures.key c.in_ok-version_in.ensures.revision),
+          (grown_with begun c.args.groups.now i group c.loop-group.grown version within (sym c.group-item.is) c.loop-group.invariant.0 added.4 added.5),
       (λ h of grouped start on.
           let on_v : GoesOn h (c.loop-group.grown ++ version ∷ []) = subst (GoesOn h) pushed on in
           let is_group : IsGroupOf h group = all_at (IsGroupOf h) c.args.groups.now group grouped.sound (i, within, sym c.group-item.is) in
           let below = before_group c.args.start c.args.snapshot.now items c.args.groups.now i group c.loop-group.grown c.requires.snapshot c.in_ok-order.ensures.same
           c.requires.rising c.requires.above within (sym c.group-item.is) c.loop-group.invariant.0 in
-          let further = extends h c.loop-group.grown version group.revision on_v c.in_ok-version_in.ensures.revision (let above = is_group.above in omega (arith, above)) below in
-          let members : c.as_slice.result.now ≡ group.members = c.as_slice.ensures in
-          let more = c.in_ok-members.members.items in
-          let zipped : AreJudged h events group.members more = subst (λ l. AreJudged h events l more) members
-          (c.in_ok-members.ensures.judged h group.revision of further (subst (All (IsAnsweredAt events group.revision)) (sym members) (answered h events group of.surroundings.all is_group))) in
-          let handed : c.deref-in-loop-group.result.now ≡ more = c.deref-in-loop-group.ensures.value in
-          let made = c.in_ok-version_in.ensures.made h (record { all = of.surroundings.all; clouds = of.judged.clouds; grouped = is_group; members = subst (AreJudged h events group.members) (sym handed) zipped }) in
+          let further = extends h c.loop-group.grown version group.revision on_v added.5 (let above = is_group.above in omega (arith, above)) below in
+          let zipped : AreJudged h events group.members more = added.7 h of further (answered h events group of.surroundings.all is_group) in
+          let made = added.8 h (record { all = of.surroundings.all; clouds = of.judged.clouds; grouped = is_group; members = zipped }) in
           let before = c.loop-group.invariant.1 h of grouped start (goes_on_before h c.loop-group.grown version on_v) in
-          subst (λ l. AreWritten h events begun (take (i + 1) c.args.groups.now) l c.append.new.self.items) (sym pushed)
-          (subst (AreWritten h events begun (take (i + 1) c.args.groups.now) (c.loop-group.grown ++ version ∷ [])) (sym c.in_ok-append.ensures.items)
+          subst (λ l. AreWritten h events begun (take (i + 1) c.args.groups.now) l c.add_group.new.judged.items) (sym pushed)
+          (subst (AreWritten h events begun (take (i + 1) c.args.groups.now) (c.loop-group.grown ++ version ∷ [])) (sym added.3)
           (written_more h events begun c.args.groups.now i group c.loop-group.grown version c.loop-group.judged.items more within (sym c.group-item.is) before made zipped
-          (c.in_ok-members.ensures.numbers ∙ members)))),
+          added.6))),
     )
 
 pub returns-clause-slots : goal.returns-clause-slots

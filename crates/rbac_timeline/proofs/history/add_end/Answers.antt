@@ -1,7 +1,7 @@
 use Rattle.std.proofs.Common.{◌≡◌, [], ◌∷◌, Some, ap, rules, subst, sym}
 use Rattle.std.specs.BTreeMap.{Updates}
 use Rattle.clouds.specs.Kept.{items_at, items_of, key_order}
-use Rattle.clouds.proofs.Adding.{AddsAt-updates, Grows, Grows-permuted, Grows-push, key_order_total, same_key}
+use Rattle.clouds.proofs.Adding.{AddsAt-updates, Grows, Grows-permuted, Grows-push, key_order_total}
 use Rattle.rbac_timeline.specs.Kept.{gap_of}
 use Rattle.rbac_timeline.proofs.history.add_end.Goals as goal
 
@@ -15,14 +15,9 @@ returns-in-Some c =
 
 pub returns : goal.returns
 returns c =
+    let gap = gap_of c.args.end.now in
     let none : items_at key_order c.args.removals.now c.args.end.now.key ≡ [] = ap items_of (sym c.in-None.ensures.value) in
-    let parts = c.in_ok-clone-in-None.ensures.cases in
-    let copy : c.in_ok-clone-in-None.field-0 ≡ c.args.end.now.key = same_key _ _ parts.0 parts.1.0 parts.1.1.0 parts.1.1.1 in
-    let updates = rw c.get_mut.follows.holds-at-none at c.in_ok-_none-in-None.ensures.updates in
-    let here : Updates key_order c.args.removals.now c.insert.new.self c.args.end.now.key (Some c.in_ok-made-in-None.made) =
-    subst (λ k. Updates key_order c.args.removals.now c.insert.new.self k (Some c.in_ok-made-in-None.made)) copy updates in
-    let made : c.in_ok-made-in-None.made ≡ gap_of c.args.end.now ∷ [] = rw c.get.ensures.value at c.in_ok-made-in-None.ensures in
-    let grows : Grows [] c.in_ok-made-in-None.made (gap_of c.args.end.now) =
-    subst (λ l. Grows [] l (gap_of c.args.end.now)) (sym made) (Grows-push [] (gap_of c.args.end.now)) in
-    AddsAt-updates key_order key_order_total _ _ _ c.in_ok-made-in-None.made (gap_of c.args.end.now) here
-    (subst (λ l. Grows l c.in_ok-made-in-None.made (gap_of c.args.end.now)) (sym none) grows)
+    let updates : Updates key_order c.args.removals.now c.begin_gaps.new.removals c.args.end.now.key (Some (gap ∷ [])) =
+    rw (c.get_mut.follows.holds-at-none, c.get.ensures.value) at c.in_ok-begin_gaps-in-None.ensures in
+    AddsAt-updates key_order key_order_total _ _ _ (gap ∷ []) gap updates
+    (subst (λ l. Grows l (gap ∷ []) gap) (sym none) (Grows-push [] gap))

@@ -14,11 +14,9 @@ returns-in-Some c =
 
 pub returns : goal.returns
 returns c =
+    let stored = c.args.stored in
     let none : items_at key_order c.args.histories.now c.args.key ≡ [] = ap items_of (sym c.in-None.ensures.value) in
-    let updates : Updates key_order c.args.histories.now c.insert.new.self c.args.key (Some c.in_ok-made-in-None.made) =
-    rw c.get_mut.follows.holds-at-none at c.in_ok-_none-in-None.ensures.updates in
-    let made : c.in_ok-made-in-None.made ≡ c.args.stored ∷ [] = c.in_ok-made-in-None.ensures in
-    let grows : Grows [] c.in_ok-made-in-None.made c.args.stored =
-    subst (λ l. Grows [] l c.args.stored) (sym made) (Grows-push [] c.args.stored) in
-    AddsAt-updates key_order key_order_total _ _ _ c.in_ok-made-in-None.made c.args.stored updates
-    (subst (λ l. Grows l c.in_ok-made-in-None.made c.args.stored) (sym none) grows)
+    let updates : Updates key_order c.args.histories.now c.begin_stored.new.histories c.args.key (Some (stored ∷ [])) =
+    rw c.get_mut.follows.holds-at-none at c.in_ok-begin_stored-in-None.ensures in
+    AddsAt-updates key_order key_order_total _ _ _ (stored ∷ []) stored updates
+    (subst (λ l. Grows l (stored ∷ []) stored) (sym none) (Grows-push [] stored))

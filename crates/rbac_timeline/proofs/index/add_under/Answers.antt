@@ -1,5 +1,4 @@
-use Rattle.std.proofs.Common.{◌≡◌, [], Some, ap, rules, subst, sym}
-use Rattle.std.specs.BTreeMap.{Updates}
+use Rattle.std.proofs.Common.{◌≡◌, [], ap, rules, subst, sym}
 use Rattle.std.proofs.lemmas.Cmp.{nat_list_cmp_total}
 use Rattle.clouds.specs.Kept.{items_at, items_of, text_order}
 use Rattle.clouds.proofs.Adding.{AddsAt-updates, Grows}
@@ -16,10 +15,6 @@ returns-in-Some c =
 pub returns : goal.returns
 returns c =
     let none : items_at text_order c.args.index.now c.args.text.now ≡ [] = ap items_of (sym c.in-None.ensures.value) in
-    let copy : c.in_ok-copy-in-None.copy ≡ c.args.text.now = search rules in
-    let updates = rw c.get_mut.follows.holds-at-none at c.in_ok-_none-in-None.ensures.updates in
-    let here : Updates text_order c.args.index.now c.insert.new.self c.args.text.now (Some c.add-in-None.new.self) =
-    subst (λ k. Updates text_order c.args.index.now c.insert.new.self k (Some c.add-in-None.new.self)) copy updates in
-    let grows = rw c.new-keys.ensures at c.in_ok-add-in-None.ensures in
-    AddsAt-updates text_order nat_list_cmp_total _ _ _ c.add-in-None.new.self c.args.key.now here
-    (subst (λ l. Grows l c.add-in-None.new.self c.args.key.now) (sym none) (Grows-more _ _ _ grows))
+    let made = rw c.get_mut.follows.holds-at-none at c.in_ok-begin_under-in-None.ensures in
+    AddsAt-updates text_order nat_list_cmp_total _ _ _ made.0 c.args.key.now made.1
+    (subst (λ l. Grows l made.0 c.args.key.now) (sym none) (Grows-more _ _ _ made.2))

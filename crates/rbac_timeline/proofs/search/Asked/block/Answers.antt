@@ -16,9 +16,9 @@ returns-in-Some-clause-some c =
       };
     }
 
-pub returns-in-Some-cluster_role_block-clause-some : goal.returns-in-Some-cluster_role_block-clause-some
-returns-in-Some-cluster_role_block-clause-some c =
-    let by = c.in-Some-cluster_role_block.ensures in
+pub returns-in-Some-granted_until-clause-some : goal.returns-in-Some-granted_until-clause-some
+returns-in-Some-granted_until-clause-some c =
+    let by = c.in-Some-granted_until.ensures in
     record {
       from = by.second_from;
       upto = by.second_upto;
@@ -32,4 +32,4 @@ returns-in-Some-cluster_role_block-clause-some c =
     }
 
 pub returns-clause-none : goal.returns-clause-none
-returns-clause-none c = (c.in_default.ensures, c.in_default-cluster_role_block.ensures)
+returns-clause-none c = (c.in_default.ensures, c.in_default-granted_until.ensures)

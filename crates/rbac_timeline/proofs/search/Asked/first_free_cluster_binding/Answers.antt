@@ -10,8 +10,8 @@ places-init c =
     let s = c.args.self.now in
     AreBarred-start (λ (cr b : ℕ). IsFreeCluster s.timeline.now s.who.now s.attrs.now cr b → ⊥) c.args.cluster_roles s.low s.high c.requires.range c.requires.upto
 
-pub cluster_block-requires : goal.cluster_block-requires
-cluster_block-requires c = record { roles = c.requires.upto; bindings = c.places.invariant.upto }
+pub granted_until-requires : goal.granted_until-requires
+granted_until-requires c = record { roles = c.requires.upto; bindings = c.places.invariant.upto }
 
 pub returns-then-until-self-clause-none : goal.returns-then-until-self-clause-none
 returns-then-until-self-clause-none c =

@@ -1,5 +1,5 @@
-ghost use Rattle.std.specs.Prelude.{◌≡◌, ◌++◌, IfOk, OnOk, string_bytes};
-ghost use Rattle.history_query.specs.Deciding.{IsCanText, IsDecision, equal_places, possible_word};
+ghost use Rattle.std.specs.Prelude.{◌≡◌, IfOk};
+ghost use Rattle.history_query.specs.Deciding.{IsCanText, equal_places, possible_word};
 
 use crate::telling::is_below_start;
 use base_types::{Bytes, OutOfMemory, Places, Possible, RequestAttrs, User};

@@ -1,7 +1,7 @@
-use Rattle.std.proofs.Common.{string_bytes, length, take, subst}
+use Rattle.std.proofs.Common.{string_bytes, subst}
 use Rattle.std.proofs.lemmas.List.{take_all}
 use Rattle.history_query.proofs.StateFacts.{AreTexts, texts_more, texts_none, texts_whole}
-use Rattle.history_query.proofs.state.append_keys.Goals as goal
+use Rattle.history_query.proofs.standing.append_keys.Goals as goal
 
 pub loop-key-init : goal.loop-key-init
 loop-key-init c = texts_none c.args.context.now c.args.place _

@@ -1,11 +1,10 @@
-use Rattle.std.proofs.Common.{◌≡◌, ◌+◌, ◌<◌, Bor, Option, Some, None, List, length, slice_get, option_map, refl, sym, ap, subst, ◌∙◌, arith, AllPairs}
-use Rattle.std.specs.Option.{option_or}
+use Rattle.std.proofs.Common.{◌≡◌, ◌+◌, ◌<◌, Bor, Some, length, slice_get, option_map, refl, sym, ap, subst, ◌∙◌, arith, AllPairs}
 use Rattle.std.proofs.lemmas.Option.{slice_get_read}
 use Rattle.object_past.specs.declared.version.Version.{Version}
-use Rattle.history_query.proofs.BlameFacts.{IsBefore, IsSinceAmong, pointed_or, pointed_unwrapped, since_more, since_none, since_past, since_whole}
+use Rattle.history_query.proofs.BlameFacts.{IsSinceAmong, pointed_or, pointed_unwrapped, since_more, since_none, since_past, since_whole}
 use Rattle.history_query.specs.Blaming.{IsSince}
-use Rattle.history_query.proofs.blame.since_of.Goals as goal
-use Rattle.history_query.proofs.blame.since_of.Goals.{then-is_before+then-is_same_at, then-is_before+else-is_same_at, else-is_before}
+use Rattle.history_query.proofs.blaming.since_of.Goals as goal
+use Rattle.history_query.proofs.blaming.since_of.Goals.{then-is_before+then-is_same_at, then-is_before+else-is_same_at, else-is_before}
 
 pub loop-other-preserved : goal.loop-other-preserved
 loop-other-preserved c =

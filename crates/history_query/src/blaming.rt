@@ -151,12 +151,7 @@ fn is_same_at(context: &Context, pointer: &Pointer, version: &Version, other: &V
     other.uid == version.uid && has_same_value(context, pointer, version, other)
 }
 
-fn has_same_value(
-    context: &Context,
-    pointer: &Pointer,
-    version: &Version,
-    other: &Version,
-) -> bool
+fn has_same_value(context: &Context, pointer: &Pointer, version: &Version, other: &Version) -> bool
     requires version { Contains context.now.versions version.now }
     requires other { Contains context.now.versions other.now }
     ensures { IsTrue result ↔ (value_at context.now.trees pointer.now other.now ≡ value_at context.now.trees pointer.now version.now) }

@@ -1,6 +1,6 @@
 use Rattle.std.proofs.Common.{take, string_bytes}
 use Rattle.history_query.proofs.StateFacts.{AreTexts}
-use Rattle.history_query.proofs.state.append_keys.Given as goal
+use Rattle.history_query.proofs.standing.append_keys.Given as goal
 
 -- the texts of the keys so far
 abbrev pub invariant-loop-key : goal.invariant-loop-key

@@ -1,6 +1,6 @@
 use Rattle.std.proofs.Common.{string_bytes}
 use Rattle.history_query.proofs.StateFacts.{nothing_told}
-use Rattle.history_query.proofs.state.append_key.Goals as goal
+use Rattle.history_query.proofs.standing.append_key.Goals as goal
 
 pub returns-in-Told-None-default : goal.returns-in-Told-None-default
 returns-in-Told-None-default c =

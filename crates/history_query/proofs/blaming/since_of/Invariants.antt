@@ -1,6 +1,6 @@
 use Rattle.std.proofs.Common.{option_map}
 use Rattle.history_query.proofs.BlameFacts.{IsSinceAmong}
-use Rattle.history_query.proofs.blame.since_of.Given as goal
+use Rattle.history_query.proofs.blaming.since_of.Given as goal
 
 -- what the versions so far tell
 abbrev pub invariant-loop-other : goal.invariant-loop-other

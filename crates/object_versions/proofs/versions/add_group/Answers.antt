@@ -1,0 +1,26 @@
+use Rattle.std.proofs.Common.{◌<◌, ◌≡◌, ◌∙◌, List, sym, subst}
+use Rattle.std.specs.Prelude.{All}
+use Rattle.object_past.specs.declared.version.Version.{Version}
+use Rattle.object_versions.specs.Written.{AreJudged, IsAnsweredAt, IsOfGroup}
+use Rattle.object_versions.specs.declared.maker.Judged.{Judged}
+use Rattle.object_versions.proofs.versions.add_group.Goals as goal
+
+pub with-requires : goal.with-requires
+with-requires g c = record { above = subst (λ n. All (λ (v : Version). v.revision < n) c.args.grown) (sym c.in_ok-version.ensures.revision) c.requires.above }
+
+pub returns : goal.returns
+returns g c =
+    let events = c.args.log.events.now in
+    let group = c.args.group.now in
+    let more = c.in_ok-members.members.items in (
+      c.in_ok-version.version,
+      more,
+      c.in_ok-grown.ensures,
+      c.in_ok-append.ensures.items,
+      c.in_ok-version.ensures.key,
+      c.in_ok-version.ensures.revision,
+      c.in_ok-members.ensures.numbers ∙ c.as_slice.ensures,
+      (λ h of further answered. subst (λ l. AreJudged h events l more) c.as_slice.ensures
+          (c.in_ok-members.ensures.judged h group.revision of further (subst (All (IsAnsweredAt events group.revision)) (sym c.as_slice.ensures) answered))),
+      (λ h of. c.in_ok-version.ensures.made h (subst (λ (l : List Judged). IsOfGroup c.args.log group l h) (sym c.deref.ensures.value) of)),
+    )
