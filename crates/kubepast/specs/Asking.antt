@@ -1,5 +1,5 @@
 -- The words of a question to a history.
-use Rattle.std.specs.Prelude.{◌≡◌, ◌<◌, ◌==◌, ℕ, Bool, List, [], ◌∷◌, Option, Some, None, bytes_eq, codes, decimal, if◌then◌else◌}
+use Rattle.std.specs.Prelude.{◌≡◌, ◌<◌, ◌⊎◌, ◌==◌, ℕ, Bool, List, [], ◌∷◌, Option, Some, None, bytes_eq, codes, decimal, if◌then◌else◌}
 use Rattle.std.specs.List.{slice_split}
 use Rattle.base_types.specs.Keys.{IsNamed, key_spelling}
 use Rattle.base_types.specs.declared.key.ObjectKey.{ObjectKey}
@@ -18,6 +18,15 @@ verb_of (Versions key) = codes "versions"
 verb_of (State place) = codes "state"
 verb_of (Blame key pointer place) = codes "blame"
 verb_of (Can place who attrs) = codes "can"
+
+-- the verb of a question
+abbrev pub IsVerb : List ℕ → Type 0
+IsVerb word = (word ≡ codes "show") ⊎ (word ≡ codes "versions") ⊎ (word ≡ codes "state") ⊎ (word ≡ codes "blame") ⊎ (word ≡ codes "can")
+
+-- the first word is one
+abbrev pub BeginsQuestion : List (List ℕ) → Type 0
+BeginsQuestion [] = ⊥
+BeginsQuestion (word ∷ words) = IsVerb word
 
 -- PLACE: a decimal number from 1
 pub record IsPlaceWord (word : List ℕ) (place : ℕ) : Type 0 where

@@ -1,6 +1,6 @@
-ghost use Rattle.std.specs.Prelude.{◌≡◌, ◌≢◌, ◌∷◌, [], ℕ, None, IfOk, IfSome, IfNone, IsErrOf, map, string_bytes, codes};
+ghost use Rattle.std.specs.Prelude.{◌≡◌, ◌≢◌, ◌∷◌, [], ℕ, None, IfOk, IfSome, IfNone, IsErrOf, IsTrue, ◌↔◌, OnErr, map, string_bytes, codes};
 ghost use Rattle.base_types.specs.Keys.{IsNamed};
-ghost use Rattle.kubepast.specs.Asking.{IsPlaceWord, IsQuestionRead, groups_of};
+ghost use Rattle.kubepast.specs.Asking.{BeginsQuestion, IsPlaceWord, IsQuestionRead, IsVerb, groups_of};
 ghost use Rattle.kubepast.specs.Command.{IsAskRead};
 
 use crate::words::{Command, are_names};
@@ -11,9 +11,11 @@ use request_attrs::{UriFault, attrs_of};
 use std::alloc::Global;
 use verdict_text::read_number;
 
-/// Reads the words of a question to a history, which stands behind the names of a setup and a log.
+/// Reads the words of a question to a history, which stands behind the names of a setup and a log. Only words that begin with
+/// the verb of a question want memory.
 pub fn read_asked(alloc: Global, words: &[String]) -> Result<Option<Command<'_>>, OutOfMemory>
-    ensures { IfOk result (IsAskRead (map string_bytes words.now)) }
+    ensures read { IfOk result (IsAskRead (map string_bytes words.now)) }
+    ensures memory { OnErr result (BeginsQuestion (map string_bytes words.now)) }
 {
     match words {
         [verb, setup, log, rest @ ..] => read_named(alloc, verb, setup, log, rest),
@@ -28,8 +30,12 @@ fn read_named<'a>(
     log: &'a str,
     rest: &[String],
 ) -> Result<Option<Command<'a>>, OutOfMemory>
-    ensures { IfOk result (IsAskRead (verb.now ∷ setup.entry.now ∷ log.entry.now ∷ map string_bytes rest.now)) }
+    ensures read { IfOk result (IsAskRead (verb.now ∷ setup.entry.now ∷ log.entry.now ∷ map string_bytes rest.now)) }
+    ensures memory { OnErr result (IsVerb verb.now) }
 {
+    if !is_verb(verb) {
+        return Ok(None);
+    }
     if !are_names(setup, log) {
         return Ok(None);
     }
@@ -41,6 +47,12 @@ fn read_named<'a>(
         log,
         question,
     }))
+}
+
+fn is_verb(word: &str) -> bool
+    ensures { IsTrue result ↔ IsVerb word.now }
+{
+    word == "show" || word == "versions" || word == "state" || word == "blame" || word == "can"
 }
 
 // Each question has a number of words of its own, but for `versions` and `state`.

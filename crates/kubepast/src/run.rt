@@ -6,6 +6,7 @@ ghost use Rattle.edge_io.specs.Faults.{Rose};
 ghost use Rattle.edge_io.specs.Whole.{TakesWhole};
 ghost use Rattle.log_intake.specs.Setup.{TakesSetup};
 ghost use Rattle.log_intake.specs.Taking.{TakesLog};
+ghost use Rattle.kubepast.specs.Asking.{BeginsQuestion};
 ghost use Rattle.kubepast.specs.Command.{Asked, AsksOf, IsAsked, Judge, Reads, TellsWords, Verify};
 ghost use Rattle.kubepast.specs.Verifying.{most_placement};
 ghost use Rattle.kubepast.specs.Endings.{IsAnswered, Ends};
@@ -43,7 +44,7 @@ pub fn run<R: Threads + Sync, D: Desk, K: Sink, G: Gate, H: Gate>(
 
     // Whether the desk tells its bytes or not.
     ensures usage { IsAsked (map string_bytes words.now) None
-        → Ends 2 usage_answer.text (K.faults out.old) (K.faults out.new) (K.written out.old) (K.written out.new) result ⊎ (result ≡ 8) }
+        → Ends 2 usage_answer.text (K.faults out.old) (K.faults out.new) (K.written out.old) (K.written out.new) result ⊎ (BeginsQuestion (map string_bytes words.now) × (result ≡ 8)) }
     ensures usage_only { result ≡ 2 → IsAsked (map string_bytes words.now) None }
     ensures read_fault { result ≡ 5 → Rose (D.faults desk.old) (D.faults desk.new) }
     ensures write_fault { result ≡ 6 → Rose (K.faults out.old) (K.faults out.new) }

@@ -1,4 +1,5 @@
-ghost use Rattle.std.specs.Prelude.{◌≡◌, ◌≢◌, ◌≤◌, ℕ, ◌∷◌, [], IfOk, IfSome, IfNone, IsTrue, ◌↔◌, map, string_bytes, codes, decimal};
+ghost use Rattle.std.specs.Prelude.{◌≡◌, ◌≢◌, ◌≤◌, ℕ, ◌∷◌, [], IfOk, OnErr, IfSome, IfNone, IsTrue, ◌↔◌, map, string_bytes, codes, decimal};
+ghost use Rattle.kubepast.specs.Asking.{BeginsQuestion};
 ghost use Rattle.kubepast.specs.Command.{AreNames, IsPlainRead, IsRead, IsThirdName, most_made};
 
 use crate::questions::read_asked;
@@ -42,9 +43,11 @@ pub enum Command<'a> {
     },
 }
 
-/// Reads the words behind the program's name: none where they are no command.
+/// Reads the words behind the program's name: none where they are no command. Only words that begin with the verb of a
+/// question want memory.
 pub fn read_words(alloc: Global, words: &[String]) -> Result<Option<Command<'_>>, OutOfMemory>
-    ensures { IfOk result (IsRead (map string_bytes words.now)) }
+    ensures read { IfOk result (IsRead (map string_bytes words.now)) }
+    ensures memory { OnErr result (BeginsQuestion (map string_bytes words.now)) }
 {
     match read_plain(words) {
         Some(command) => Ok(Some(command)),

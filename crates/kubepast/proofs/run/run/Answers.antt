@@ -11,17 +11,20 @@ use Rattle.kubepast.proofs.run.run.Goals as goal
 
 -- words that are no command
 pub returns-in-Ok-None-clause-answer : goal.returns-in-Ok-None-clause-answer
-returns-in-Ok-None-clause-answer g c = λ files tells. inl (usage_answer, (None, subst (IsRead (map (string_bytes {Z = Global}) c.args.words.now)) c.in-Ok-None.field-0-is c.in-Ok-None.ensures, refl), c.end_with.ensures.ends)
+returns-in-Ok-None-clause-answer g c = λ files tells. inl (usage_answer, (None, subst (IsRead (map (string_bytes {Z = Global}) c.args.words.now)) c.in-Ok-None.field-0-is c.in-Ok-None.ensures.read, refl), c.end_with.ensures.ends)
 
 pub returns-in-Ok-None-clause-placement_taken : goal.returns-in-Ok-None-clause-placement_taken
-returns-in-Ok-None-clause-placement_taken g c = λ setup log placement asks. absurd (subst (IsRead (map (string_bytes {Z = Global}) c.args.words.now)) c.in-Ok-None.field-0-is c.in-Ok-None.ensures (Verify setup log placement) asks)
+returns-in-Ok-None-clause-placement_taken g c = λ setup log placement asks. absurd (subst (IsRead (map (string_bytes {Z = Global}) c.args.words.now)) c.in-Ok-None.field-0-is c.in-Ok-None.ensures.read (Verify setup log placement) asks)
 
 pub returns-in-Ok-None-clause-printed : goal.returns-in-Ok-None-clause-printed
-returns-in-Ok-None-clause-printed g c = λ setup log asks is. absurd (subst (IsRead (map (string_bytes {Z = Global}) c.args.words.now)) c.in-Ok-None.field-0-is c.in-Ok-None.ensures (Judge setup log) asks)
+returns-in-Ok-None-clause-printed g c = λ setup log asks is. absurd (subst (IsRead (map (string_bytes {Z = Global}) c.args.words.now)) c.in-Ok-None.field-0-is c.in-Ok-None.ensures.read (Judge setup log) asks)
 
 -- no memory for the words
 pub returns-in-Err-clause-answer : goal.returns-in-Err-clause-answer
 returns-in-Err-clause-answer g c = λ files tells. inr (inr (refl, keeps_same (g.K.Sink.written c.args.out.now)))
+
+pub returns-in-Err-clause-usage : goal.returns-in-Err-clause-usage
+returns-in-Err-clause-usage g c = λ none. inr (c.in-Err.ensures.memory, refl)
 
 pub returns-in-Err-clause-memory : goal.returns-in-Err-clause-memory
 returns-in-Err-clause-memory g c = λ is. keeps_same (g.K.Sink.written c.args.out.now)
@@ -41,7 +44,7 @@ ran : (g : Over) (c : goal.After-conclude g)
     (g.D.Desk.faults c.args.desk.now) (g.D.Desk.faults c.report_of.new.desk) (g.K.Sink.faults c.args.out.now) (g.K.Sink.faults c.conclude.new.out)
     (g.K.Sink.written c.args.out.now) (g.K.Sink.written c.conclude.new.out) c.conclude.result c.report_of.result
 ran g c = record {
-  spelled = subst (IsRead (map (string_bytes {Z = Global}) c.args.words.now)) c.in-Ok-Some.field-0-is c.in-Ok-Some.ensures;
+  spelled = subst (IsRead (map (string_bytes {Z = Global}) c.args.words.now)) c.in-Ok-Some.field-0-is c.in-Ok-Some.ensures.read;
   reported = c.report_of.ensures;
   concluded = c.conclude.ensures;
 }
