@@ -21,6 +21,7 @@ use Rattle.version_store.proofs.OneHistory.{not_both_less, one_told, same_versio
 use Rattle.version_store.specs.Histories.{history_of}
 use Rattle.version_store.specs.Keyed.{AreKeys}
 use Rattle.version_store.specs.Known.{Known}
+use Rattle.write_groups.specs.declared.groups.Group.{Group}
 use Rattle.version_store.specs.Told.{IsTold as IsTruth}
 use Rattle.history_query.specs.Blaming.{IsBlame, IsBlameOf, IsPresentBlame, IsSince, since_text, value_at, value_text}
 use Rattle.history_query.specs.Deciding.{IsCanText, IsCanTextBy, IsDecision, possible_word}
@@ -131,6 +132,59 @@ module _ (known : Known) (truth : IsTruth known) where
   text_once (Blame key pointer place) a b x y = told_once (IsUntold known key place) (IsBlame known key pointer place) (blame_once key pointer place) a b x y
   text_once (Can place who attrs) a b x y = can_once known.setup.authorize place who attrs a b x y
 
+-- no text hangs on how a context groups the writes
+module _ (b : Known) (groups : List Group) where
+  regrouped : Known
+  regrouped = record b { groups = groups }
+
+  presence_in : (key : ObjectKey) (place : ℕ) (present : Option Version) → IsPresence b key place present → IsPresence regrouped key place present
+  presence_in key place None is = is
+  presence_in key place (Some v) is = is
+
+  sight_in : (key : ObjectKey) (place : ℕ) (sight : Sight) → IsSight b key place sight → IsSight regrouped key place sight
+  sight_in key place Clouded is = is
+  sight_in key place (Told present absent) is = (is.0, presence_in key place (option_map (λ v. v.now) present) is.1, is.2)
+
+  told_in : (untold : Type 0) (Is Other : List ℕ → Type 0) → ((text : List ℕ) → Is text → Other text) → (text : List ℕ) → IsTold untold Is text → IsTold untold Other text
+  told_in untold Is Other to text (IsTold.nothing hid is) = IsTold.nothing hid is
+  told_in untold Is Other to text (IsTold.something seen is) = IsTold.something seen (to text is)
+
+  keys_in : (place : ℕ) (keys : List ObjectKey) (texts : List (List ℕ)) → AllZip (IsKeyText b place) keys texts → AllZip (IsKeyText regrouped place) keys texts
+  keys_in place [] [] is = is
+  keys_in place [] (text ∷ texts) is = is
+  keys_in place (key ∷ keys) [] is = is
+  keys_in place (key ∷ keys) (text ∷ texts) is = ((is.0.0, sight_in key place is.0.0 is.0.1, is.0.2), keys_in place keys texts is.1)
+
+  state_in : (place : ℕ) (text : List ℕ) → IsStateOf b place text → IsStateOf regrouped place text
+  state_in place text is = record { keys = is.keys; are_keys = is.are_keys; texts = is.texts; each = keys_in place is.keys is.texts is.each; joined = is.joined }
+
+  since_in : (pointer : List (List ℕ)) (v since : Version) → IsSince b pointer v since → IsSince regrouped pointer v since
+  since_in pointer v since is = record { known_is = is.known_is; of_key = is.of_key; upto = is.upto; stays = is.stays; least = is.least }
+
+  blamed_in : (pointer : List (List ℕ)) (present : Option Version) (text : List ℕ) → IsPresentBlame b pointer present text → IsPresentBlame regrouped pointer present text
+  blamed_in pointer None text is = is
+  blamed_in pointer (Some v) text (since, is, told) = (since, since_in pointer v since is, told)
+
+  blame_in : (key : ObjectKey) (pointer : List (List ℕ)) (place : ℕ) (text : List ℕ) → IsBlame b key pointer place text → IsBlame regrouped key pointer place text
+  blame_in key pointer place text (Clouded, is, told) = (Clouded, is, told)
+  blame_in key pointer place text (Told present absent, is, told) =
+      (Told present absent, sight_in key place (Told present absent) is, blamed_in pointer (option_map (λ v. v.now) present) text told)
+
+  decision_in : (place : ℕ) (who : User) (attrs : RequestAttrs) (text : List ℕ) → IsDecision b place who attrs text → IsDecision regrouped place who attrs text
+  decision_in place who attrs text is = record { allow = is.allow; forbid = is.forbid; allowed = is.allowed; forbidden = is.forbidden; word = is.word }
+
+  can_in : (judged : Bool) (place : ℕ) (who : User) (attrs : RequestAttrs) (text : List ℕ) → IsCanTextBy judged b place who attrs text → IsCanTextBy judged regrouped place who attrs text
+  can_in false place who attrs text is = is
+  can_in true place who attrs text is = told_in (IsBelowStart b place) (IsDecision b place who attrs) (IsDecision regrouped place who attrs) (decision_in place who attrs) text is
+
+  text_in : (question : Question) (text : List ℕ) → IsHistoryText b question text → IsHistoryText regrouped question text
+  text_in (Show key place) text is =
+      told_in (IsUntold b key place) (IsSightText b key place) (IsSightText regrouped key place) (λ told shown. (shown.0, sight_in key place shown.0 shown.1, shown.2)) text is
+  text_in (Versions key) text is = is
+  text_in (State place) text is = told_in (IsBelowStart b place) (IsStateOf b place) (IsStateOf regrouped place) (state_in place) text is
+  text_in (Blame key pointer place) text is = told_in (IsUntold b key place) (IsBlame b key pointer place) (IsBlame regrouped key pointer place) (blame_in key pointer place) text is
+  text_in (Can place who attrs) text is = can_in b.setup.authorize place who attrs text is
+
 pub one_text : OneText
 one_text = λ a b question text other x y setups events of_a of_b.
-    text_once a x question text other of_a (subst (λ known. IsHistoryText known question other) (sym (one_told a b x y setups events)) of_b)
+    text_once a x question text other of_a (subst (λ known. IsHistoryText known question other) (sym (one_told a b x y setups events)) (text_in b a.groups question other of_b))
