@@ -3,15 +3,12 @@ use Rattle.std.proofs.Common.{◌≡◌, ◌≤◌, ◌↔◌, ℕ, Bool, true, 
 use Rattle.std.specs.List.{AllZip, flat_map}
 use Rattle.std.proofs.lemmas.Option.{same_Some}
 use Rattle.base_types.specs.declared.key.ObjectKey.{ObjectKey}
-use Rattle.base_types.specs.declared.request.Decision.TheVariants.{Allow, Forbid}
 use Rattle.base_types.specs.declared.request.RequestAttrs.{RequestAttrs}
 use Rattle.base_types.specs.declared.request.User.{User}
 use Rattle.clouds.specs.Kept.{key_order}
 use Rattle.history_model.proofs.Members.{apart}
 use Rattle.history_model.proofs.SameSorted.{same_sorted}
 use Rattle.history_model.specs.Histories as past
-use Rattle.history_model.specs.Histories.{History}
-use Rattle.history_model.specs.States.{latest}
 use Rattle.object_past.proofs.Looking.{in_map}
 use Rattle.object_past.specs.Modelled.{version_of}
 use Rattle.object_past.specs.declared.version.Version.{Version}
@@ -23,8 +20,8 @@ use Rattle.version_store.specs.Keyed.{AreKeys}
 use Rattle.version_store.specs.Known.{Known}
 use Rattle.write_groups.specs.declared.groups.Group.{Group}
 use Rattle.version_store.specs.Told.{IsTold as IsTruth}
-use Rattle.history_query.specs.Blaming.{IsBlame, IsBlameOf, IsPresentBlame, IsSince, since_text, value_at, value_text}
-use Rattle.history_query.specs.Deciding.{IsCanText, IsCanTextBy, IsDecision, possible_word}
+use Rattle.history_query.specs.Blaming.{IsBlame, IsPresentBlame, IsSince, since_text, value_at, value_text}
+use Rattle.history_query.specs.Deciding.{IsCanTextBy, IsDecision, possible_word}
 use Rattle.history_query.specs.OneText.{OneText}
 use Rattle.history_query.specs.Questions.{IsHistoryText}
 use Rattle.history_query.specs.Showing.{IsSightText, absent_text, clouded_text, present_text, sight_text}
@@ -134,7 +131,7 @@ module _ (known : Known) (truth : IsTruth known) where
 
 -- no text hangs on how a context groups the writes
 module _ (b : Known) (groups : List Group) where
-  regrouped : Known
+  abbrev regrouped : Known
   regrouped = record b { groups = groups }
 
   presence_in : (key : ObjectKey) (place : ℕ) (present : Option Version) → IsPresence b key place present → IsPresence regrouped key place present
