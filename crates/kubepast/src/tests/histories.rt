@@ -24,7 +24,7 @@ tells absent
 status 0
 
 row objects that may be there
-words state s l 15
+words state s l 16
 event a1 create configmaps 01 02 201 new|a|x cm|a|A|14|x
 event a2 create configmaps 01 02 201 new|b|x cm|b|B|15|x
 event a3 delete configmaps/a 03 08 200 - ok|a|A
