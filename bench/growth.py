@@ -1,0 +1,249 @@
+#!/usr/bin/env python3
+"""Looks how time grows with logs that are made to be slow.
+
+growth.py PROGRAM [--sizes LIST] [--kinds LIST] [--most SECONDS] [--keep FOLDER]
+
+A writer of requests chooses much of an audit log. Each kind of log below leans on one search of the program. For each
+kind and each size (by default 1000,10000,100000) a setup and a log are made and judged; a line tells the bytes, the
+wall time, the peak of memory, and by how much the time grew since the size before. n log n grows by 13 at most for ten
+times the size. A kind stops where a run takes longer than --most seconds (by default 120).
+
+  plain      creates, updates and reads, for comparison
+  prefixes   unrecorded creates, each with another generateName
+  decisions  roles and bindings that come and go within the lag, and refused requests
+  pages      first pages of one list that all have one token
+  inserts    JSON Patches that insert at the front of a list, ten to an object
+  spans      writes one behind the other, each with a read whose window ends there
+  absent     reads answered 404 in windows that stay open, among creates and deletes
+  resources  hundreds of tracked resources
+  names      one object, written over and over
+  subjects   bindings that all name one group
+"""
+import argparse
+import os
+import shutil
+import subprocess
+import sys
+import tempfile
+import time
+
+from make_log import COLLECTION, RESOURCE, compact, config_map, moment, status
+
+RBAC = "rbac.authorization.k8s.io"
+ROLES = f"/apis/{RBAC}/v1/namespaces/d/roles"
+BINDINGS = f"/apis/{RBAC}/v1/namespaces/d/rolebindings"
+
+
+def resource(name, kind, namespaced=True, group="", **more):
+    return {"group": group, "version": "v1", "resource": name, "kind": kind, "listKind": kind + "List",
+            "namespaced": namespaced, **more}
+
+
+class Log:
+    """A log in the making: each event a millisecond behind the one before, unless it says otherwise."""
+
+    def __init__(self):
+        self.revision, self.lines, self.now, self.stored = 10, [], 1000, {}
+        self.setup = {"kind": "PastSetup", "version": 1, "start": {"revision": "10", "time": moment(0)},
+                      "policy": {"apiVersion": "audit.k8s.io/v1", "kind": "Policy",
+                                 "rules": [{"level": "RequestResponse"}]},
+                      "resources": [dict(RESOURCE)], "snapshot": []}
+
+    def event(self, verb, uri, code, request, answer, received=None, answered=None, **more):
+        self.now += 1000
+        event = {"kind": "Event", "apiVersion": "audit.k8s.io/v1", "level": "RequestResponse",
+                 "auditID": "a%d" % len(self.lines), "stage": "ResponseComplete", "requestURI": uri, "verb": verb,
+                 "user": {"username": "u", "groups": ["system:masters"]}, "responseStatus": {"metadata": {}, "code": code}}
+        event.update(more)
+        if request is not None:
+            event["requestObject"] = request
+        if answer is not None:
+            event["responseObject"] = answer
+        event["requestReceivedTimestamp"] = moment(self.now if received is None else received)
+        event["stageTimestamp"] = moment(self.now + 500 if answered is None else answered)
+        self.lines.append(compact(event))
+
+    def write(self, name, value, verb="create", **more):
+        self.revision += 1
+        uid = "u-" + name
+        self.stored[name] = config_map(name, value, uid=uid, resourceVersion=str(self.revision))
+        uri, code = (COLLECTION, 201) if verb == "create" else (COLLECTION + "/" + name, 200)
+        self.event(verb, uri, code, config_map(name, value), self.stored[name], **more)
+
+    def read(self, name, **more):
+        self.event("get", COLLECTION + "/" + name, 200, None, self.stored[name], **more)
+
+    def remove(self, name, **more):
+        self.revision += 1
+        del self.stored[name]
+        details = {"name": name, "kind": "configmaps", "uid": "u-" + name}
+        self.event("delete", COLLECTION + "/" + name, 200, None, status(name, status="Success", details=details), **more)
+
+    def missing(self, name, **more):
+        answer = status(name, status="Failure", reason="NotFound", code=404)
+        self.event("get", COLLECTION + "/" + name, 404, None, answer, **more)
+
+    def role_object(self, plural, name, **members):
+        self.revision += 1
+        kind = "Role" if plural == "roles" else "RoleBinding"
+        body = {"kind": kind, "apiVersion": RBAC + "/v1", "metadata": {"name": name, "namespace": "d"}, **members}
+        answer = {**body, "metadata": {**body["metadata"], "uid": f"u-{plural}-{name}", "resourceVersion": str(self.revision)}}
+        self.event("create", ROLES if plural == "roles" else BINDINGS, 201, body, answer)
+
+    def remove_role_object(self, plural, name):
+        self.revision += 1
+        details = {"name": name, "kind": plural, "uid": f"u-{plural}-{name}"}
+        self.event("delete", (ROLES if plural == "roles" else BINDINGS) + "/" + name, 200, None,
+                   status(name, status="Success", details=details))
+
+    def authorize(self, lag):
+        self.setup.update(authorize=True, lagNanos=lag)
+        self.setup["resources"] += [resource("roles", "Role", group=RBAC), resource("clusterroles", "ClusterRole", False, RBAC),
+                                    resource("rolebindings", "RoleBinding", group=RBAC),
+                                    resource("clusterrolebindings", "ClusterRoleBinding", False, RBAC)]
+
+
+def plain(log, size):
+    for number in range(size // 4):
+        name = "c%d" % number
+        log.write(name, "a")
+        log.read(name)
+        log.write(name, "b", "update")
+        log.read(name)
+
+
+def prefixes(log, size):
+    for number in range(size // 2):
+        body = {"kind": "ConfigMap", "apiVersion": "v1", "metadata": {"generateName": "p%d-" % number, "namespace": "d"}}
+        log.revision += 1
+        log.event("create", COLLECTION, 201, body, None, level="Request", user={"username": "p"})
+        log.write("c%d" % number, "a")
+    log.setup["policy"]["rules"] = [{"level": "Request", "users": ["p"]}, {"level": "RequestResponse"}]
+
+
+def decisions(log, size):
+    log.authorize(10 ** 12)
+    rule = [{"verbs": ["get"], "apiGroups": [""], "resources": ["configmaps"]}]
+    subject = [{"kind": "User", "name": "anna", "apiGroup": RBAC}]
+    for number in range(size // 5):
+        name = "r%d" % number
+        log.role_object("roles", name, rules=rule)
+        log.role_object("rolebindings", name, subjects=subject, roleRef={"apiGroup": RBAC, "kind": "Role", "name": name})
+        log.event("get", COLLECTION + "/c", 403, None, status("c", status="Failure", reason="Forbidden", code=403),
+                  user={"username": "anna"}, annotations={"authorization.k8s.io/decision": "forbid"})
+        log.remove_role_object("rolebindings", name)
+        log.remove_role_object("roles", name)
+
+
+def pages(log, size):
+    log.write("a", "1")
+    log.write("b", "1")
+
+    def page(token, uri, item):
+        metadata = {"resourceVersion": str(log.revision), **({"continue": token} if token else {})}
+        log.event("list", uri, 200, None, {"kind": "ConfigMapList", "apiVersion": "v1", "metadata": metadata, "items": [item]})
+    for _ in range(size - 3):
+        page("t", COLLECTION + "?limit=1", log.stored["a"])
+    page("", COLLECTION + "?limit=1&continue=t", log.stored["b"])
+
+
+def inserts(log, size):
+    for number in range(10):
+        name = "c%d" % number
+        count = size // 10
+        body = {**config_map(name, "a"), "binaryData": {"l": []}}
+        log.revision += 1
+        made = {**body, "metadata": {**body["metadata"], "uid": "u-" + name, "resourceVersion": str(log.revision)}}
+        log.event("create", COLLECTION, 201, body, made)
+        log.revision += 1
+        patched = {**made, "binaryData": {"l": ["x"] * count},
+                   "metadata": {**made["metadata"], "resourceVersion": str(log.revision)}}
+        patch = [{"op": "add", "path": "/binaryData/l/0", "value": "x"}] * count
+        log.event("patch", COLLECTION + "/" + name, 200, patch, patched)
+
+
+def spans(log, size):
+    log.write("a", "0")
+    for number in range(size // 2):
+        begun = log.now
+        log.write("a", str(number), "update")
+        log.read("a", received=begun, answered=log.now + 600)
+
+
+def absent(log, size):
+    end = (size + 10) * 1000
+    for number in range(size // 3):
+        name = "c%d" % number
+        log.write(name, "a")
+        log.remove(name)
+        log.missing(name, received=500, answered=end)
+
+
+def resources(log, size):
+    for number in range(400):
+        log.setup["resources"].append(resource("things%d" % number, "Thing%d" % number, group="g%d.example" % (number % 7)))
+    plain(log, size)
+
+
+def names(log, size):
+    log.write("a", "0")
+    for number in range(size - 1):
+        log.write("a", str(number % 7), "update")
+
+
+def subjects(log, size):
+    log.authorize(0)
+    rule = [{"verbs": ["get"], "apiGroups": [""], "resources": ["secrets"]}]
+    log.role_object("roles", "r", rules=rule)
+    for number in range(size // 2):
+        log.role_object("rolebindings", "b%d" % number, subjects=[{"kind": "Group", "name": "g", "apiGroup": RBAC}],
+                        roleRef={"apiGroup": RBAC, "kind": "Role", "name": "r"})
+        log.event("get", COLLECTION + "/c", 403, None, status("c", status="Failure", reason="Forbidden", code=403),
+                  user={"username": "anna", "groups": ["g"]}, annotations={"authorization.k8s.io/decision": "forbid"})
+
+
+KINDS = {it.__name__: it for it in (plain, prefixes, decisions, pages, inserts, spans, absent, resources, names, subjects)}
+
+
+def judged(program, folder):
+    """Wall seconds, peak kilobytes, and the first words of the answer."""
+    begun = time.monotonic()
+    ran = subprocess.Popen([program, "judge", "setup.json", "log.json"], cwd=folder, stdout=subprocess.PIPE)
+    text = ran.stdout.read(80)
+    while ran.stdout.read(1 << 20):
+        pass
+    _, _, used = os.wait4(ran.pid, 0)
+    return time.monotonic() - begun, used.ru_maxrss, text.decode("utf-8", "replace").split("\n")[0]
+
+
+def main():
+    words = argparse.ArgumentParser(description=__doc__, formatter_class=argparse.RawDescriptionHelpFormatter)
+    words.add_argument("program")
+    words.add_argument("--sizes", default="1000,10000,100000")
+    words.add_argument("--kinds", default=",".join(KINDS))
+    words.add_argument("--most", type=float, default=120)
+    words.add_argument("--keep", default="")
+    asked = words.parse_args()
+    for kind in asked.kinds.split(","):
+        before = None
+        for size in map(int, asked.sizes.split(",")):
+            folder = os.path.join(asked.keep, f"{kind}-{size}") if asked.keep else tempfile.mkdtemp()
+            os.makedirs(folder, exist_ok=True)
+            log = Log()
+            KINDS[kind](log, size)
+            for name, text in (("setup.json", compact(log.setup) + "\n"), ("log.json", "\n".join(log.lines) + "\n")):
+                with open(os.path.join(folder, name), "w") as file:
+                    file.write(text)
+            length = os.path.getsize(os.path.join(folder, "log.json"))
+            taken, peak, answer = judged(os.path.abspath(asked.program), folder)
+            grown = "" if before is None else f", {taken / before:.1f} times"
+            print(f"{kind:10} {size:7} events {length / 1e6:7.1f} MB {taken:8.2f} s {peak / 1024:7.0f} MB{grown}  {answer}",
+                  flush=True)
+            before = taken
+            if not asked.keep:
+                shutil.rmtree(folder)
+            if taken > asked.most:
+                break
+
+
+main()
