@@ -1,5 +1,5 @@
 -- The revisions that answers show are revisions of the cluster's sequence.
-use Rattle.std.proofs.Common.{◌≡◌, ℕ, ◌-◌, ◌^◌, ◌<◌, ◌≤◌, Bool, true, false, ◌&&◌, ◌||◌, not, List, Option, Some, None, bytes_eq, nat_lt, nat_le, codes, decimal, refl, subst, if◌then◌else◌, arith}
+use Rattle.std.proofs.Common.{◌≡◌, ℕ, ◌-◌, ◌^◌, Bool, true, false, ◌&&◌, ◌||◌, not, List, Option, Some, None, bytes_eq, nat_lt, nat_le, codes, decimal, refl, subst, if◌then◌else◌}
 use Rattle.std.specs.Prelude.{⊤}
 use Rattle.std.specs.Str.Parse.{digits_value}
 use Rattle.std.proofs.lemmas.Bool.{and_parts, leb-true, ltb-true}
@@ -19,7 +19,7 @@ use Rattle.setup_file.specs.declared.setup.Setup.{Setup}
 use Rattle.setup_file.specs.declared.setup.SnapshotObject.{SnapshotObject}
 use Rattle.setup_file.specs.declared.setup.Tracked.{Tracked}
 use Rattle.answer_class.specs.Bodies.{answered_object}
-use Rattle.answer_class.specs.Classes.{asked_name, class_in, class_of, conflict_class, got, gathered, is_conflict, is_dry, is_hidden, is_idle, is_made_by, is_missing, is_outside, is_out_of_sight, is_taken, key_named, later_class, listed, made, made_class, path_key, read_by, read_class, refused_class, removed, removed_uid, saw, succeeded_class, taken_class, tracked_class}
+use Rattle.answer_class.specs.Classes.{asked_name, class_in, class_of, conflict_class, is_conflict, is_dry, is_hidden, is_idle, is_made_by, is_missing, is_outside, is_out_of_sight, is_taken, later_class, listed, made, made_class, read_by, read_class, refused_class, removed, removed_uid, saw, succeeded_class, taken_class, tracked_class}
 use Rattle.answer_class.specs.Covers.{cover_of}
 use Rattle.answer_class.specs.Lists.{answered_list}
 use Rattle.answer_class.specs.Requests.{effect_of, is_code, is_completing, is_done, is_empty, is_open, is_own, is_read, is_unknown, is_write, succeeds, verb_of}

@@ -1,17 +1,16 @@
 -- A log that is read keeps few events, at small lines.
-use Rattle.std.proofs.Common.{◌≡◌, ℕ, ◌+◌, ◌-◌, ◌<◌, ◌≤◌, inl, inr, List, [], ◌∷◌, ◌++◌, length, length-append, Option, Some, None, Result, Ok, Err, IfNone, All, refl, sym, subst, ap, arith}
+use Rattle.std.proofs.Common.{◌≡◌, ℕ, ◌+◌, ◌-◌, ◌≤◌, inl, inr, List, [], ◌∷◌, length, length-append, Option, Some, None, Result, Ok, Err, IfNone, All, refl, sym, subst, ap, arith}
 use Rattle.std.proofs.lemmas.List.Elements.{All-nil, All-cons, All-push, All-tail}
 use Rattle.audit_event.specs.declared.event.Event.{Event}
-use Rattle.audit_event.specs.Events.{IsValueOf}
 use Rattle.batch_decode.proofs.ListLemmas.{numbered}
-use Rattle.batch_decode.specs.Batches.{DecodesValue, IsDecoded}
+use Rattle.batch_decode.specs.Batches.{IsDecoded}
 use Rattle.batch_decode.specs.Lists.{list_items, values_of}
 use Rattle.batch_decode.specs.declared.decoded.Decoded.{Decoded}
 use Rattle.batch_decode.specs.declared.decoded.ItemFault.{ItemFault}
 use Rattle.line_reader.specs.Lines.{NumberedLine, lines_from, lines_of}
 use Rattle.log_intake.proofs.NumberFacts.{few_numbers, ordered_less, ordered_numbered}
 use Rattle.log_intake.proofs.ReadFacts.{limit_is}
-use Rattle.log_intake.specs.Log.{IsLogRead, LogState, TakesDecoded, TakesEvent, TakesLine, TakesLines, behind_events, kept_of, most_input, nothing_read, numbered_events, past_limit, unless_fault}
+use Rattle.log_intake.specs.Log.{IsLogRead, LogState, TakesEvent, TakesLine, TakesLines, behind_events, kept_of, most_input, nothing_read, numbered_events, past_limit, unless_fault}
 use Rattle.log_intake.specs.Numbering.{AreOrdered, most_items}
 use Rattle.log_intake.specs.Steps.{InOrder}
 use Rattle.log_intake.specs.declared.stop.LogStop.{LogStop}

@@ -1,7 +1,6 @@
 -- What `judge` printed of an explained log is verified.
-use Rattle.std.proofs.Common.{◌≡◌, ℕ, ◌+◌, ◌-◌, ◌*◌, ◌≤◌, List, length, Some, None, slice_get, refl, sym, subst, arith}
+use Rattle.std.proofs.Common.{◌≡◌, ℕ, ◌≤◌, List, length, refl, sym, subst, arith}
 use Rattle.base_types.specs.Choices.{IsChoice}
-use Rattle.base_types.specs.declared.placed.Outcome.{Outcome}
 use Rattle.base_types.specs.declared.placed.Outcome.TheVariants.{Explained, Unexplained}
 use Rattle.base_types.specs.declared.placed.PlacedLine.{PlacedLine}
 use Rattle.context_intake.specs.Contexts.{IsContextOf}

@@ -15,7 +15,7 @@ use Rattle.log_intake.specs.Taking.{TakesLog}
 use Rattle.history_query.specs.declared.question.Question.{Question}
 use Rattle.serial_machine.specs.declared.checked.Checked.{Checked}
 use Rattle.kubepast.specs.Answering.{IsHistory}
-use Rattle.kubepast.specs.Command.{Ask, Judge, Make, Reads, Strict, Tells, Verify}
+use Rattle.kubepast.specs.Command.{Ask, Judge, Make, Strict, Tells, Verify}
 use Rattle.kubepast.specs.Endings.{Answer}
 use Rattle.kubepast.specs.Judging.{IsJudged}
 use Rattle.kubepast.specs.Program.{IsAnswerTo, history_answer, judged_answer, refusal_answer, report_answer, strictly_answer, verified_answer}

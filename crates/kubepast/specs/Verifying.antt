@@ -6,7 +6,6 @@ use Rattle.context_intake.specs.Contexts.{IsContextOf, IsRefused}
 use Rattle.context_intake.specs.declared.told.Told.{Told}
 use Rattle.context_intake.specs.declared.told.Told.TheVariants as told
 use Rattle.serial_machine.specs.Checks.{IsChecked}
-use Rattle.serial_machine.specs.declared.checked.Checked.{Checked}
 use Rattle.verdict_text.specs.Outcome.{explained_text}
 use Rattle.verdict_text.specs.Reading.{IsFaultLine, IsPlacement}
 use Rattle.version_store.specs.Histories.{history_of}

@@ -1,4 +1,4 @@
-use Rattle.std.proofs.Common.{arith, ◌≡◌, None, map, string_bytes, Global, inl, inr, refl, subst}
+use Rattle.std.proofs.Common.{◌≡◌, None, map, string_bytes, Global, inl, inr, refl, subst}
 use Rattle.context_intake.proofs.ReadingFacts.{log_untouched}
 use Rattle.log_intake.specs.Setup.{most_setup}
 use Rattle.kubepast.specs.Command.{IsRead, Judge, Verify, command_asked}
