@@ -1,5 +1,5 @@
 -- What a setup and a log come to.
-use Rattle.std.proofs.Common.{◌≡◌, ℕ, List, Option, Some, Result, Ok, Err, IfOk, IsErrOf, refl, sym, ◌∙◌, subst}
+use Rattle.std.proofs.Common.{◌≡◌, ℕ, List, Result, IsErrOf, refl, sym, ◌∙◌, subst}
 use Rattle.base_types.specs.declared.placed.Outcome.{Outcome}
 use Rattle.context_intake.specs.Contexts.{IsToldBy, RefusesNothing}
 use Rattle.context_intake.specs.declared.stop.Stop.{Stop}

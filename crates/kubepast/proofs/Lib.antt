@@ -17,3 +17,10 @@ pub mod ReportedFacts
 pub mod RunFacts
 pub mod MadeFacts
 pub mod ReportFacts
+pub mod PlacedTexts
+pub mod PlacedNumbers
+pub mod LogBounds
+pub mod AnsweredRevisions
+pub mod CheckpointRevisions
+pub mod ToldNumbers
+pub mod DecidingFacts

@@ -28,7 +28,8 @@ get_pushed (z ∷ zs) x (suc i) y e = go (get_pushed zs x i y e)
     go (inl q) = inl q
     go (inr q) = inr (ap suc q.0, q.1)
 
-pairs_at : {X : Type 0} (R : X → X → Type 0) (xs : List X) (i j : ℕ) (x y : X) → AllPairs R xs → i < j → slice_get xs i ≡ Some x → slice_get xs j ≡ Some y → R x y
+-- what holds of each two holds of those at two places
+pub pairs_at : {X : Type 0} (R : X → X → Type 0) (xs : List X) (i j : ℕ) (x y : X) → AllPairs R xs → i < j → slice_get xs i ≡ Some x → slice_get xs j ≡ Some y → R x y
 pairs_at R xs i j x y pairs l a b =
     subst (λ z. R z y) (same_Some (get_or xs i x) x (sym (slice_get-get_or xs i x (slice_get_within xs i x a)) ∙ a))
     (subst (λ z. R (get_or xs i x) z) (same_Some (get_or xs j x) y (sym (slice_get-get_or xs j x (slice_get_within xs j y b)) ∙ b)) (pairs i j x l (slice_get_within xs j y b)))

@@ -6,7 +6,7 @@ use Rattle.history_query.specs.declared.question.Question.TheVariants.{Show, Ver
 use Rattle.request_attrs.specs.Refusals.{IsCause, IsReadable}
 use Rattle.request_attrs.specs.declared.fault.UriFault.{UriFault}
 use Rattle.request_attrs.specs.declared.fault.UriFault.TheVariants as fault
-use Rattle.kubepast.specs.Asking.{IsQuestionRead, SpellsQuestion, verb_of}
+use Rattle.kubepast.specs.Asking.{IsQuestionRead, SpellsQuestion}
 use Rattle.kubepast.specs.Command.{Ask, Asked, IsAskRead, IsPlainRead, IsRead, Judge, Make, Spells, Strict, Verify}
 use Rattle.kubepast.specs.declared.words.Command.{Command}
 

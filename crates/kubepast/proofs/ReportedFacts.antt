@@ -15,7 +15,7 @@ use Rattle.log_intake.specs.Taking.{TakesLog}
 use Rattle.history_query.specs.declared.question.Question.{Question}
 use Rattle.serial_machine.specs.declared.checked.Checked.{Checked}
 use Rattle.kubepast.specs.Answering.{IsHistory}
-use Rattle.kubepast.specs.Command.{Ask, Judge, Make, Reads, Strict, Tells, Verify}
+use Rattle.kubepast.specs.Command.{Ask, Judge, Make, Strict, Tells, Verify}
 use Rattle.kubepast.specs.Endings.{Answer}
 use Rattle.kubepast.specs.Judging.{IsJudged}
 use Rattle.kubepast.specs.Program.{IsAnswerTo, history_answer, judged_answer, refusal_answer, report_answer, strictly_answer, verified_answer}
@@ -23,7 +23,7 @@ use Rattle.context_intake.specs.Refusals.{IsSetupRefused}
 use Rattle.kubepast.specs.Reported.{IsPrinted, IsReported, IsVerdict}
 use Rattle.kubepast.specs.Strictly as strict
 use Rattle.kubepast.specs.Strictly.{IsStrictlyJudged}
-use Rattle.kubepast.specs.Verifying.{IsVerified, most_placement}
+use Rattle.kubepast.specs.Verifying.{IsReadLast, IsVerified, most_placement}
 use Rattle.kubepast.specs.declared.asking.Answered.{Answered}
 use Rattle.kubepast.specs.declared.asking.Answered.TheVariants as answered
 use Rattle.kubepast.specs.declared.judged.Judged.{Judged}
@@ -165,10 +165,10 @@ module _ (old now : List ℕ → Option (List ℕ)) (untouched : Type 0) (before
       → IfOk inner (λ found. (checked : Checked) → found ≡ verified.Judged checked → IsAtEnd (now setup) × IsAtEnd (now log) × IsAtEnd (now placement))
       → (IsErrOf inner ReadFault → Rose before after) → TakesSetup (old setup) (now setup) (IsErrOf inner ReadFault) → TakesLog (old log) (now log) (IsErrOf inner ReadFault)
       → TakesWhole most_placement (old placement) (now placement) (IsErrOf inner ReadFault)
-      → ((s l : List ℕ) (refusal : Refusal) → old setup ≡ Some s → old log ≡ Some l → IsRefused s l refusal → now placement ≡ old placement)
+      → ((s l : List ℕ) (refusal : Refusal) → old setup ≡ Some s → old log ≡ Some l → IsRefused s l refusal → now placement ≡ old placement) → IsReadLast (now setup) (now log) (old placement) (now placement)
       → ((s : List ℕ) (refusal : Refusal) → old setup ≡ Some s → IsSetupRefused s refusal → now log ≡ old log) → ((name : List ℕ) → name ≢ setup → name ≢ log → name ≢ placement → now name ≡ old name)
       → IsReported (Verify setup log placement) old now untouched before after result
-  verify_reported placement inner passed is ends fault setup_taken log_taken placement_taken left log_left others = record {
+  verify_reported placement inner passed is ends fault setup_taken log_taken placement_taken left last log_left others = record {
     answered = of_report verified_answer inner result _ (λ report. (files : List ℕ → List ℕ) → Tells (Verify setup log placement) old files → IsAnswerTo (Some (Verify setup log placement)) files (report_answer report)) passed is
         (λ found report told judges files tells. (found, judges (files setup) (files log) (files placement) (tells setup (inl refl)) (tells log (inr (inl refl))) (tells placement (inr (inr refl))), told));
     fault = λ failed. fault (failed_read verified_answer inner result passed failed);
@@ -185,6 +185,7 @@ module _ (old now : List ℕ → Option (List ℕ)) (untouched : Type 0) (before
             (λ found report told ended. verified_end (IsAtEnd (now placement)) found report told (λ checked same. let all = ended checked same in all.2));
         taken = whole_from most_placement (old placement) (old placement) (now placement) (IsErrOf inner ReadFault) (IsErrOf result ReadFault) refl (failed_read verified_answer inner result passed) placement_taken;
         left = left;
+        after = last;
       },
     );
     others = λ name unread. others name (λ e. unread (inl e)) (λ e. unread (inr (inl e))) (λ e. unread (inr (inr e)));

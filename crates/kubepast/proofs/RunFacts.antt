@@ -14,7 +14,7 @@ use Rattle.kubepast.specs.Program.{Concludes, IsAnswer, IsAnswerTo, report_answe
 use Rattle.context_intake.specs.Refusals.{IsSetupRefused}
 use Rattle.std.specs.Io.KnownBytes.{Appends}
 use Rattle.kubepast.specs.Reported.{IsPlacementText, IsPrinted, IsReported, Takes, TakesNames, TakesPlacement}
-use Rattle.kubepast.specs.Verifying.{most_placement}
+use Rattle.kubepast.specs.Verifying.{IsReadLast, most_placement}
 use Rattle.kubepast.proofs.AskedFacts.{one_command}
 use Rattle.kubepast.proofs.VerifyingFacts.{whole_from}
 use Rattle.kubepast.specs.declared.report.Report.{Report}
@@ -116,6 +116,9 @@ module _ {words : List (List ℕ)} {asked : Asked} {old now : List ℕ → Optio
   pub run_placement_left : (setup log placement of_setup of_log : List ℕ) (refusal : Refusal) → IsAsked words (Some (Verify setup log placement))
       → old setup ≡ Some of_setup → old log ≡ Some of_log → IsRefused of_setup of_log refusal → now placement ≡ old placement
   run_placement_left setup log placement of_setup of_log refusal asks = (takes_placement setup log placement asks).left of_setup of_log refusal
+
+  pub run_placement_after : (setup log placement : List ℕ) → IsAsked words (Some (Verify setup log placement)) → IsReadLast (now setup) (now log) (old placement) (now placement)
+  run_placement_after setup log placement asks = (takes_placement setup log placement asks).after
 
   pub run_log_left : (setup log of_setup : List ℕ) (refusal : Refusal) → AsksOf words setup log → old setup ≡ Some of_setup → IsSetupRefused of_setup refusal → now log ≡ old log
   run_log_left setup log of_setup refusal asks = (takes_names setup log asks).log_left of_setup refusal

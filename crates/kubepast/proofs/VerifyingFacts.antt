@@ -1,5 +1,6 @@
 -- What a placement comes to, of what a setup and a log tell.
-use Rattle.std.proofs.Common.{◌≡◌, ◌≤◌, ℕ, List, [], Option, Result, Ok, refl, sym, subst, arith}
+use Rattle.std.proofs.Common.{◌≡◌, ◌≤◌, ℕ, inl, inr, List, [], Option, Result, Ok, refl, sym, subst, arith}
+use Rattle.std.specs.Io.KnownBytes.{IsAtEnd}
 use Rattle.edge_io.specs.Faults.{Rose}
 use Rattle.edge_io.specs.Whole.{TakesWhole}
 use Rattle.edge_io.proofs.TakenFacts.{taken_nothing}
@@ -11,7 +12,7 @@ use Rattle.context_intake.specs.declared.told.Told.{Told}
 use Rattle.context_intake.specs.declared.told.Told.TheVariants as told
 use Rattle.context_intake.proofs.OneContextFacts.{one_way}
 use Rattle.version_store.specs.Known.{Known}
-use Rattle.kubepast.specs.Verifying.{IsVerified, IsVerifiedFrom}
+use Rattle.kubepast.specs.Verifying.{IsReadLast, IsVerified, IsVerifiedFrom}
 use Rattle.kubepast.specs.declared.verified.Verified.{Verified}
 use Rattle.kubepast.specs.declared.verified.Verified.TheVariants.{Refused, TooLong, Misspelt, Judged}
 
@@ -30,6 +31,11 @@ refused_told setup log refusal (told.Context known) refused is context = one_way
 pub context_told : (found : Told) → IsOfContext found → (known : Known) × (found ≡ told.Context known)
 context_told (told.Refused refusal) context = absurd context
 context_told (told.Context known) context = (known, refl)
+
+-- a placement is read behind a context alone
+pub read_last : (found : Told) (setup log old now : Option (List ℕ)) → ((IsOfContext found → ⊥) → now ≡ old) → ((known : Known) → found ≡ told.Context known → IsAtEnd setup × IsAtEnd log) → IsReadLast setup log old now
+read_last (told.Refused refusal) setup log old now left ends = inl (left (λ none. none))
+read_last (told.Context known) setup log old now left ends = inr (ends known refl)
 
 -- of a name of which nothing was read
 pub whole_untouched : (most : ℕ) (old now : Option (List ℕ)) (fine : Type 0) → now ≡ old → TakesWhole most old now fine

@@ -1,5 +1,5 @@
 -- How a call of the program may end.
-use Rattle.std.specs.Prelude.{◌≡◌, ℕ, ◌<◌, ◌⊎◌, List, Option, Some, length, take, ◌++◌, ◌∷◌, [], codes}
+use Rattle.std.specs.Prelude.{◌≡◌, ℕ, ◌<◌, ◌⊎◌, List, Option, length, take, ◌++◌, ◌∷◌, [], codes}
 use Rattle.std.specs.Io.KnownBytes.{Appends, Keeps}
 use Rattle.edge_io.specs.Faults.{Rose}
 use Rattle.line_reader.specs.Lines.{newline}

@@ -11,3 +11,4 @@ pub mod Reported
 pub mod Strictly
 pub mod Summary
 pub mod Verifying
+pub mod Deciding

@@ -1,19 +1,16 @@
 -- The check of what `judge` printed of an explained log.
-use Rattle.std.specs.Prelude.{◌≡◌, ◌≤◌, ℕ, List, Some, codes, length}
+use Rattle.std.specs.Prelude.{◌≡◌, ℕ, List, Some, codes}
 use Rattle.base_types.specs.declared.placed.Outcome.TheVariants.{Explained}
 use Rattle.base_types.specs.declared.placed.PlacedLine.{PlacedLine}
 use Rattle.verdict_text.specs.Outcome.{outcome_text}
-use Rattle.verdict_text.specs.Reading.{IsPlacement}
 use Rattle.verdict_text.specs.Words.{ended}
 use Rattle.kubepast.specs.Command.{Verify}
 use Rattle.kubepast.specs.Judging.{IsJudged}
 use Rattle.kubepast.specs.Program.{IsAnswerTo, answer}
-use Rattle.kubepast.specs.Verifying.{most_placement}
 use Rattle.kubepast.specs.declared.judged.Judged.TheVariants.{Verdict}
 
--- an explained log's text holds as its placement, where its numbers are those that a text may have and it isn't too long
+-- an explained log's text holds as its placement
 abbrev pub PrintedHolds : Type 0
 PrintedHolds = (files : List ℕ → List ℕ) (setup log placement : List ℕ) (lines : List PlacedLine)
     → IsJudged (files setup) (files log) (Verdict (Explained lines)) → files placement ≡ outcome_text (Explained lines)
-    → IsPlacement lines → length (files placement) ≤ most_placement
     → IsAnswerTo (Some (Verify setup log placement)) files (answer 0 (ended (codes "holds")))

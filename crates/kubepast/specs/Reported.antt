@@ -13,7 +13,7 @@ use Rattle.log_intake.specs.Setup.{TakesSetup}
 use Rattle.log_intake.specs.Taking.{TakesLog}
 use Rattle.kubepast.specs.Command.{Ask, Asked, Judge, Make, Reads, Spells, Strict, Tells, Verify}
 use Rattle.kubepast.specs.Program.{IsAnswerTo, report_answer, status_number}
-use Rattle.kubepast.specs.Verifying.{most_placement}
+use Rattle.kubepast.specs.Verifying.{IsReadLast, most_placement}
 use Rattle.kubepast.specs.declared.report.Report.{Report}
 use Rattle.verdict_text.specs.Outcome.{explained_text}
 use Rattle.verdict_text.specs.Reading.{IsPlacement}
@@ -33,11 +33,12 @@ pub record TakesNames (setup log : List ℕ) (old now : List ℕ → Option (Lis
   pub log_taken : TakesLog (old log) (now log) (IsErrOf found ReadFault)
   pub log_left : (of_setup : List ℕ) (refusal : Refusal) → old setup ≡ Some of_setup → IsSetupRefused of_setup refusal → now log ≡ old log
 
--- what was taken of a placement: nothing where the setup or the log is refused
+-- what was taken of a placement: nothing where the setup or the log is refused, or isn't read to its end
 pub record TakesPlacement (setup log placement : List ℕ) (old now : List ℕ → Option (List ℕ)) (found : Result Report Stop) : Type 0 where
   pub whole : IfOk found (λ report. IsVerdict report → IsAtEnd (now placement))
   pub taken : TakesWhole most_placement (old placement) (now placement) (IsErrOf found ReadFault)
   pub left : (of_setup of_log : List ℕ) (refusal : Refusal) → old setup ≡ Some of_setup → old log ≡ Some of_log → IsRefused of_setup of_log refusal → now placement ≡ old placement
+  pub after : IsReadLast (now setup) (now log) (old placement) (now placement)
 
 -- a command that reads nothing leaves the desk untouched
 abbrev pub Takes : Asked → (old now : List ℕ → Option (List ℕ)) → (untouched : Type 0) → Result Report Stop → Type 0

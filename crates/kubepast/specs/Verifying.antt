@@ -1,11 +1,11 @@
 -- What a placement comes to by a setup and a log, of their bytes alone.
-use Rattle.std.specs.Prelude.{◌≡◌, ⊤, ◌<◌, ◌≤◌, ℕ, List, length}
+use Rattle.std.specs.Prelude.{◌≡◌, ⊤, ◌<◌, ◌≤◌, ◌⊎◌, ℕ, List, Option, length}
+use Rattle.std.specs.Io.KnownBytes.{IsAtEnd}
 use Rattle.base_types.specs.declared.placed.PlacedLine.{PlacedLine}
 use Rattle.context_intake.specs.Contexts.{IsContextOf, IsRefused}
 use Rattle.context_intake.specs.declared.told.Told.{Told}
 use Rattle.context_intake.specs.declared.told.Told.TheVariants as told
 use Rattle.serial_machine.specs.Checks.{IsChecked}
-use Rattle.serial_machine.specs.declared.checked.Checked.{Checked}
 use Rattle.verdict_text.specs.Outcome.{explained_text}
 use Rattle.verdict_text.specs.Reading.{IsFaultLine, IsPlacement}
 use Rattle.version_store.specs.Histories.{history_of}
@@ -35,6 +35,10 @@ IsOfText (Refused refusal) = ⊥
 IsOfText TooLong = ⊥
 IsOfText (Misspelt line) = ⊤
 IsOfText (Judged checked) = ⊤
+
+-- nothing was taken of the placement, or the setup and the log were read to their ends
+abbrev pub IsReadLast : (setup log old now : Option (List ℕ)) → Type 0
+IsReadLast setup log old now = (now ≡ old) ⊎ (IsAtEnd setup × IsAtEnd log)
 
 -- what the setup and the log told, and then the placement
 abbrev pub IsVerifiedFrom : Told → List ℕ → Verified → Type 0

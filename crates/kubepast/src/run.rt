@@ -8,7 +8,7 @@ ghost use Rattle.log_intake.specs.Setup.{TakesSetup};
 ghost use Rattle.log_intake.specs.Taking.{TakesLog};
 ghost use Rattle.kubepast.specs.Asking.{BeginsQuestion};
 ghost use Rattle.kubepast.specs.Command.{Asked, AsksOf, IsAsked, Judge, Reads, TellsWords, Verify};
-ghost use Rattle.kubepast.specs.Verifying.{most_placement};
+ghost use Rattle.kubepast.specs.Verifying.{IsReadLast, most_placement};
 ghost use Rattle.kubepast.specs.Endings.{IsAnswered, Ends};
 ghost use Rattle.kubepast.specs.Reported.{IsPlacementText};
 ghost use Rattle.kubepast.specs.Program.{Concludes, IsAnswer, usage_answer};
@@ -62,6 +62,8 @@ pub fn run<R: Threads + Sync, D: Desk, K: Sink, G: Gate, H: Gate>(
         → TakesWhole most_placement (D.left desk.old placement) (D.left desk.new placement) (result ≡ 5) }
     ensures placement_left { (setup log placement of_setup of_log : List ℕ) (refusal : Refusal) → IsAsked (map string_bytes words.now) (Some (Verify setup log placement))
         → D.left desk.old setup ≡ Some of_setup → D.left desk.old log ≡ Some of_log → IsRefused of_setup of_log refusal → D.left desk.new placement ≡ D.left desk.old placement }
+    ensures placement_after { (setup log placement : List ℕ) → IsAsked (map string_bytes words.now) (Some (Verify setup log placement))
+        → IsReadLast (D.left desk.new setup) (D.left desk.new log) (D.left desk.old placement) (D.left desk.new placement) }
     ensures log_left { (setup log of_setup : List ℕ) (refusal : Refusal) → AsksOf (map string_bytes words.now) setup log
         → D.left desk.old setup ≡ Some of_setup → IsSetupRefused of_setup refusal → D.left desk.new log ≡ D.left desk.old log }
     ensures others_left { (asked : Asked) (name : List ℕ) → IsAsked (map string_bytes words.now) (Some asked) → (Reads asked name → ⊥)

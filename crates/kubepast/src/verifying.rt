@@ -6,7 +6,7 @@ ghost use Rattle.edge_io.specs.Faults.{Rose};
 ghost use Rattle.edge_io.specs.Whole.{TakesWhole};
 ghost use Rattle.log_intake.specs.Setup.{TakesSetup};
 ghost use Rattle.log_intake.specs.Taking.{TakesLog};
-ghost use Rattle.kubepast.specs.Verifying.{IsOfText, IsVerified, IsVerifiedBy, IsVerifiedFrom, most_placement};
+ghost use Rattle.kubepast.specs.Verifying.{IsOfText, IsReadLast, IsVerified, IsVerifiedBy, IsVerifiedFrom, most_placement};
 
 use crate::verified::Verified;
 use base_types::OutOfMemory;
@@ -52,6 +52,7 @@ pub fn verify<R: Threads + Sync, D: Desk, H: Gate>(
     ensures placement_taken { TakesWhole most_placement (D.left desk.old placement.now) (D.left desk.new placement.now) (IsErrOf result Stop.ReadFault) }
     ensures placement_left { (of_setup of_log : List ℕ) (refusal : Refusal) → D.left desk.old setup.now ≡ Some of_setup → D.left desk.old log.now ≡ Some of_log
         → IsRefused of_setup of_log refusal → D.left desk.new placement.now ≡ D.left desk.old placement.now }
+    ensures placement_after { IsReadLast (D.left desk.new setup.now) (D.left desk.new log.now) (D.left desk.old placement.now) (D.left desk.new placement.now) }
     ensures log_left { (of_setup : List ℕ) (refusal : Refusal) → D.left desk.old setup.now ≡ Some of_setup → IsSetupRefused of_setup refusal
         → D.left desk.new log.now ≡ D.left desk.old log.now }
     ensures others { (other : List ℕ) → other ≢ setup.now → other ≢ log.now → other ≢ placement.now → D.left desk.new other ≡ D.left desk.old other }

@@ -1,6 +1,6 @@
-use Rattle.std.proofs.Common.{◌≡◌, ℕ, ◌+◌, ◌-◌, ◌≤◌, length, take, drop, arith}
+use Rattle.std.proofs.Common.{arith}
 use Rattle.std.proofs.lemmas.List.{take_rest, length-drop}
-use Rattle.kubepast.proofs.EndingFacts.{IsWritten, appends_more}
+use Rattle.kubepast.proofs.EndingFacts.{appends_more}
 use Rattle.kubepast.proofs.ending.write_text.Goals as goal
 
 pub pieces-preserved : goal.pieces-preserved

@@ -1,5 +1,4 @@
-use Rattle.std.proofs.Common.{◌≤◌, ◌-◌, length, take}
-use Rattle.std.specs.Io.KnownBytes.{Appends}
+use Rattle.std.proofs.Common.{◌-◌, length}
 use Rattle.kubepast.proofs.EndingFacts.{IsWritten}
 use Rattle.kubepast.proofs.ending.write_text.Given as goal
 

@@ -1,4 +1,4 @@
-use Rattle.std.proofs.Common.{◌≡◌, Ok, Err, refl, sym, ◌∙◌, subst, rules}
+use Rattle.std.proofs.Common.{◌≡◌, Ok, Err, refl, ◌∙◌, subst, rules}
 use Rattle.context_intake.specs.Contexts.{RefusesNothing}
 use Rattle.context_intake.proofs.ReadingFacts.{log_as, setup_as}
 use Rattle.context_intake.specs.declared.stop.Stop.TheVariants.{ReadFault}

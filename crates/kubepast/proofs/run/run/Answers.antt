@@ -1,10 +1,10 @@
-use Rattle.std.proofs.Common.{arith, ◌≡◌, None, map, string_bytes, Global, inl, inr, refl, subst}
+use Rattle.std.proofs.Common.{◌≡◌, None, map, string_bytes, Global, inl, inr, refl, subst}
 use Rattle.context_intake.proofs.ReadingFacts.{log_untouched}
 use Rattle.log_intake.specs.Setup.{most_setup}
 use Rattle.kubepast.specs.Command.{IsRead, Judge, Verify, command_asked}
 use Rattle.kubepast.specs.Program.{usage_answer}
 use Rattle.kubepast.specs.Verifying.{most_placement}
-use Rattle.kubepast.proofs.RunFacts.{HasRun, keeps_same, run_answer, run_desk_left, run_log_left, run_log_taken, run_others_left, run_placement_left, run_placement_taken, run_printed, run_setup_taken}
+use Rattle.kubepast.proofs.RunFacts.{HasRun, keeps_same, run_answer, run_desk_left, run_log_left, run_log_taken, run_others_left, run_placement_after, run_placement_left, run_placement_taken, run_printed, run_setup_taken}
 use Rattle.kubepast.proofs.VerifyingFacts.{whole_untouched}
 use Rattle.kubepast.proofs.run.run.Given.{Over}
 use Rattle.kubepast.proofs.run.run.Goals as goal
@@ -15,6 +15,9 @@ returns-in-Ok-None-clause-answer g c = λ files tells. inl (usage_answer, (None,
 
 pub returns-in-Ok-None-clause-placement_taken : goal.returns-in-Ok-None-clause-placement_taken
 returns-in-Ok-None-clause-placement_taken g c = λ setup log placement asks. absurd (subst (IsRead (map (string_bytes {Z = Global}) c.args.words.now)) c.in-Ok-None.field-0-is c.in-Ok-None.ensures.read (Verify setup log placement) asks)
+
+pub returns-in-Ok-None-clause-placement_after : goal.returns-in-Ok-None-clause-placement_after
+returns-in-Ok-None-clause-placement_after g c = λ setup log placement asks. inl refl
 
 pub returns-in-Ok-None-clause-printed : goal.returns-in-Ok-None-clause-printed
 returns-in-Ok-None-clause-printed g c = λ setup log asks is. absurd (subst (IsRead (map (string_bytes {Z = Global}) c.args.words.now)) c.in-Ok-None.field-0-is c.in-Ok-None.ensures.read (Judge setup log) asks)
@@ -37,6 +40,9 @@ returns-in-Err-clause-log_taken g c = λ setup log asks. log_untouched (g.D.Desk
 
 pub returns-in-Err-clause-placement_taken : goal.returns-in-Err-clause-placement_taken
 returns-in-Err-clause-placement_taken g c = λ setup log placement asks. whole_untouched most_placement (g.D.Desk.left c.args.desk.now placement) (g.D.Desk.left c.args.desk.now placement) _ refl
+
+pub returns-in-Err-clause-placement_after : goal.returns-in-Err-clause-placement_after
+returns-in-Err-clause-placement_after g c = λ setup log placement asks. inl refl
 
 -- words that are one
 ran : (g : Over) (c : goal.After-conclude g)
@@ -66,6 +72,9 @@ returns-in-Ok-Some-clause-placement_taken g c = run_placement_taken (ran g c)
 
 pub returns-in-Ok-Some-clause-placement_left : goal.returns-in-Ok-Some-clause-placement_left
 returns-in-Ok-Some-clause-placement_left g c = run_placement_left (ran g c)
+
+pub returns-in-Ok-Some-clause-placement_after : goal.returns-in-Ok-Some-clause-placement_after
+returns-in-Ok-Some-clause-placement_after g c = run_placement_after (ran g c)
 
 pub returns-in-Ok-Some-clause-log_left : goal.returns-in-Ok-Some-clause-log_left
 returns-in-Ok-Some-clause-log_left g c = run_log_left (ran g c)

@@ -1,11 +1,11 @@
-use Rattle.std.proofs.Common.{refl, sym, ◌∙◌, subst, rules}
+use Rattle.std.proofs.Common.{inl, refl, sym, ◌∙◌, subst, rules}
 use Rattle.std.proofs.lemmas.Result.{IfOk-weaker}
 use Rattle.std.specs.Io.KnownBytes.{IsAtEnd}
 use Rattle.context_intake.specs.Contexts.{IsOfContext, RefusesNothing}
 use Rattle.context_intake.proofs.ReadingFacts.{log_as, setup_as}
 use Rattle.kubepast.specs.Verifying.{IsVerifiedFrom}
 use Rattle.kubepast.proofs.JudgingFacts.{nothing_refused}
-use Rattle.kubepast.proofs.VerifyingFacts.{context_nothing, context_told, log_upto, refused_told, rose_from, verified_told, whole_from, whole_untouched}
+use Rattle.kubepast.proofs.VerifyingFacts.{context_nothing, context_told, log_upto, read_last, refused_told, rose_from, verified_told, whole_from, whole_untouched}
 use Rattle.kubepast.proofs.verifying.verify.Goals as goal
 
 pub returns-in_err-found-clause-setup_taken : goal.returns-in_err-found-clause-setup_taken
@@ -19,6 +19,9 @@ returns-in_err-found-clause-placement_taken g c = whole_untouched _ _ _ _ (c.rea
 
 pub returns-in_err-found-clause-placement_left : goal.returns-in_err-found-clause-placement_left
 returns-in_err-found-clause-placement_left g c = λ s l refusal ts tl refused. c.read_context.ensures.others c.args.placement.now c.requires.not_setup c.requires.not_log
+
+pub returns-in_err-found-clause-placement_after : goal.returns-in_err-found-clause-placement_after
+returns-in_err-found-clause-placement_after g c = inl (c.read_context.ensures.others c.args.placement.now c.requires.not_setup c.requires.not_log)
 
 pub returns-clause-verified : goal.returns-clause-verified
 returns-clause-verified g c =
@@ -55,6 +58,14 @@ pub returns-clause-placement_left : goal.returns-clause-placement_left
 returns-clause-placement_left g c = λ s l refusal ts tl refused.
     c.verified_of.ensures.left (λ context. refused_told s l refusal c.in_ok-found.found refused (c.in_ok-found.ensures.told s l ts tl) (subst IsOfContext (c.deref.ensures ∙ c.new-told.ensures) context))
     ∙ c.in_ok-found.ensures.others c.args.placement.now c.requires.not_setup c.requires.not_log
+
+pub returns-clause-placement_after : goal.returns-clause-placement_after
+returns-clause-placement_after g c =
+    read_last c.in_ok-found.found (g.D.Desk.left c.verified_of.new.desk c.args.setup.now) (g.D.Desk.left c.verified_of.new.desk c.args.log.now) (g.D.Desk.left c.args.desk.now c.args.placement.now) (g.D.Desk.left c.verified_of.new.desk c.args.placement.now)
+    (λ none. c.verified_of.ensures.left (λ context. none (subst IsOfContext (c.deref.ensures ∙ c.new-told.ensures) context)) ∙ c.in_ok-found.ensures.others c.args.placement.now c.requires.not_setup c.requires.not_log)
+    (λ known is.
+    let ends = c.in_ok-found.ensures.whole known is in
+    (subst IsAtEnd (sym (c.verified_of.ensures.others c.args.setup.now (λ e. c.requires.not_setup (sym e)))) ends.0, subst IsAtEnd (sym (c.verified_of.ensures.others c.args.log.now (λ e. c.requires.not_log (sym e)))) ends.1))
 
 pub returns-clause-log_left : goal.returns-clause-log_left
 returns-clause-log_left g c = λ s refusal ts refused.
