@@ -55,10 +55,10 @@ kept_new eq tells log entries after identity home event none is at grows = recor
   more = (identity, home) ∷ [];
   grows = grows;
   steps = λ kept homes. (
-      kept ++ event ∷ [],
-      subst (λ es. AreHomes log es (kept ++ event ∷ [])) (sym grows) (homes_push log entries kept identity home event homes is at),
-      inl (absent eq tells log event entries kept (subst (λ i. lookup (eq i) entries ≡ None) is none) homes, refl),
-    );
+    kept ++ event ∷ [],
+    subst (λ es. AreHomes log es (kept ++ event ∷ [])) (sym grows) (homes_push log entries kept identity home event homes is at),
+    inl (absent eq tells log event entries kept (subst (λ i. lookup (eq i) entries ≡ None) is none) homes, refl),
+  );
 }
 
 -- the steps that were made lead to events that stand somewhere

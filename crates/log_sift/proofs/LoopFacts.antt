@@ -1,5 +1,5 @@
 -- What becomes of a log's lines, line after line.
-use Rattle.std.proofs.Common.{◌≡◌, ℕ, ◌+◌, ◌-◌, ◌<◌, ◌≤◌, List, [], ◌∷◌, ◌++◌, length, take, drop, slice_range, nat_lt, All, Bool, true, false, refl, sym, ap, subst, ◌∙◌, arith, append_assoc}
+use Rattle.std.proofs.Common.{◌≡◌, ℕ, ◌+◌, ◌-◌, ◌<◌, ◌≤◌, List, [], ◌∷◌, ◌++◌, length, take, drop, slice_range, nat_lt, All, Bool, true, false, inl, inr, refl, sym, ap, subst, ◌∙◌, arith, append_assoc}
 use Rattle.std.specs.List.{flat_map}
 use Rattle.std.proofs.Math.Nat.{sub_self}
 use Rattle.std.proofs.Math.Seq.{take-add}
@@ -111,8 +111,8 @@ texts_join log rest sifting from start next number Blank first second = longer l
 texts_join log rest sifting from start next number Stays first second = longer log (stretches_text log sifting.stays) rest from start next first second
 texts_join log rest sifting from start next number (Left cause) first second =
     ap (λ bytes. bytes ++ rest) (sym (stretch_text log sifting.stays from start first)
-      ∙ sym (append-nil (stretches_text log (with_stretch sifting.stays from start)))
-      ∙ ap (λ none. stretches_text log (with_stretch sifting.stays from start) ++ none) (sym (nothing_between log next)))
+    ∙ sym (append-nil (stretches_text log (with_stretch sifting.stays from start)))
+    ∙ ap (λ none. stretches_text log (with_stretch sifting.stays from start) ++ none) (sym (nothing_between log next)))
 
 left_join : (sifting : Sifting) (from start number : ℕ) (fate : Fate) (rest : List LeftLine) → sifting.left ++ left_line fate number rest ≡ (noted sifting from start number fate).left ++ rest
 left_join sifting from start number Blank rest = refl
@@ -182,11 +182,13 @@ pub all_sifted : (log : List ℕ) (entries : List (Identity × Home)) (sifting t
     → told ≡ record sifting { stays = with_stretch sifting.stays from start } → (fates : List Fate) × IsSifting log fates told
 all_sifted log entries sifting told number from start has past is =
     let over : drop start log ≡ [] = drop_all start log past in
-    let on = has.goes_on [] has.events (subst (λ bytes. SiftsLines has.events (lines_of bytes) [] has.events) (sym over) refl) in
-    (on.all, subst (IsSifting log on.all) (sym is) record {
-      sifted = record { kept = has.events; sifts = on.sifts };
-      within = stretch_within log sifting.stays from start has.within has.first has.last;
-      stays = stretch_text log sifting.stays from start has.first ∙ sym (append-nil (stretches_text log sifting.stays ++ slice_range log from start)) ∙ sym on.stays;
-      left = sym (append-nil sifting.left) ∙ sym on.left;
-      kept = (let k = on.kept in omega (arith, k));
-    })
+    let on = has.goes_on [] has.events (subst (λ bytes. SiftsLines has.events (lines_of bytes) [] has.events) (sym over) refl) in (
+      on.all,
+      subst (IsSifting log on.all) (sym is) record {
+        sifted = record { kept = has.events; sifts = on.sifts };
+        within = stretch_within log sifting.stays from start has.within has.first has.last;
+        stays = stretch_text log sifting.stays from start has.first ∙ sym (append-nil (stretches_text log sifting.stays ++ slice_range log from start)) ∙ sym on.stays;
+        left = sym (append-nil sifting.left) ∙ sym on.left;
+        kept = (let k = on.kept in omega (arith, k));
+      },
+    )

@@ -1,4 +1,6 @@
 pub mod Cutting
+pub mod NothingLeft
+pub mod OneSifting
 pub mod Recalling
 pub mod Sift
 pub mod Sifted

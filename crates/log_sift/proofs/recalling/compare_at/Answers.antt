@@ -11,6 +11,6 @@ returns c =
     let found = c.in_ok-earlier.earlier in
     if_ok c.compare.result (λ cause. AreOfOneStage found event → Compares found event cause) (λ cause. (earlier : Event) → IsAt c.args.log.now c.args.home earlier → AreOfOneStage earlier event → Compares earlier event cause)
     (λ cause compares. λ earlier at one.
-        let same : found ≡ earlier = c.in_ok-earlier.ensures earlier at in
-        subst (λ e. Compares e event cause) same (compares (subst (λ e. AreOfOneStage e event) (sym same) one)))
+    let same : found ≡ earlier = c.in_ok-earlier.ensures earlier at in
+    subst (λ e. Compares e event cause) same (compares (subst (λ e. AreOfOneStage e event) (sym same) one)))
     c.compare.ensures
