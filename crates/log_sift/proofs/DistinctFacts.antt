@@ -1,5 +1,5 @@
 -- Kept events, of which no two are of one request and stage.
-use Rattle.std.proofs.Common.{◌≡◌, ℕ, ◌<◌, ◌≤◌, ◌⊎◌, inl, inr, List, [], ◌∷◌, ◌++◌, length, get_or, Result, Ok, Err, sym, ◌∙◌, ap, subst, arith}
+use Rattle.std.proofs.Common.{◌≡◌, ℕ, ◌<◌, ◌≤◌, ◌⊎◌, inl, inr, List, length, get_or, Result, Ok, Err, sym, ◌∙◌, ap, subst, arith}
 use Rattle.std.specs.List.{AllPairs}
 use Rattle.std.proofs.lemmas.Bool.{cases_lt}
 use Rattle.std.proofs.lemmas.List.{get_or_default}
@@ -9,8 +9,6 @@ use Rattle.audit_event.specs.declared.event.Event.{Event}
 use Rattle.audit_event.specs.Keeping.{AreOfOneStage, SameButLine, WasKept}
 use Rattle.log_intake.specs.Log.{Differs, IsNew, Repeats}
 use Rattle.log_sift.specs.declared.answer.LeftCause.{LeftCause}
-use Rattle.log_sift.specs.declared.answer.LeftCause.TheVariants.{Rule}
-use Rattle.audit_event.specs.declared.fault.Malformed.TheVariants.{M12}
 use Rattle.log_sift.specs.Sift.{KeepsEvent}
 
 abbrev pub IsDistinct : List Event → Type 0

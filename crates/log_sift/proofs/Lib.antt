@@ -6,4 +6,6 @@ pub mod KeepingFacts
 pub mod LoopFacts
 pub mod OneFacts
 pub mod SameFacts
+pub mod StayFacts
+pub mod TakenFacts
 pub mod WholeFacts

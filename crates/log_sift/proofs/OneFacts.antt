@@ -1,5 +1,5 @@
 -- Each line of a log becomes one thing.
-use Rattle.std.proofs.Common.{◌≡◌, ℕ, ◌<◌, ◌≤◌, ◌⊎◌, inl, inr, List, [], ◌∷◌, length, Option, Some, None, Result, Ok, Err, sym, ◌∙◌, refl, ap, subst, arith, true≢false}
+use Rattle.std.proofs.Common.{◌≡◌, ℕ, inl, inr, List, [], ◌∷◌, Option, Some, None, Result, Ok, Err, sym, ◌∙◌, refl, ap, subst, arith, true≢false}
 use Rattle.line_reader.specs.Lines.{lines_of}
 use Rattle.audit_event.specs.declared.event.Event.{Event}
 use Rattle.batch_decode.specs.declared.decoded.Decoded.{Decoded}
@@ -26,11 +26,11 @@ decoded_keeps : (kept after : List Event) (decoded : Decoded) (events : Result (
 decoded_keeps kept after decoded (Ok next) distinct takes is = whole_distinct decoded.fault next after (in_order_keeps KeepsEvent IsDistinct event_keeps kept next decoded.events distinct takes) is
 decoded_keeps kept after decoded (Err cause) distinct takes is = absurd cc
 
-line_keeps : (kept after : List Event) (line : List ℕ) → IsDistinct kept → KeepsLine kept line (Ok after) → IsDistinct after
+pub line_keeps : (kept after : List Event) (line : List ℕ) → IsDistinct kept → KeepsLine kept line (Ok after) → IsDistinct after
 line_keeps kept after line distinct (inl (long, is)) = absurd cc
 line_keeps kept after line distinct (inr (short, (decoded, decodes, keeps))) = decoded_keeps kept after decoded keeps.0 distinct keeps.1 keeps.2
 
-line_once : (kept : List Event) (line : List ℕ) (a b : Result (List Event) LeftCause) → IsDistinct kept → KeepsLine kept line a → KeepsLine kept line b → a ≡ b
+pub line_once : (kept : List Event) (line : List ℕ) (a b : Result (List Event) LeftCause) → IsDistinct kept → KeepsLine kept line a → KeepsLine kept line b → a ≡ b
 line_once kept line a b distinct (inl x) (inl y) = x.1 ∙ sym y.1
 line_once kept line a b distinct (inl x) (inr y) = absurd (let long = x.0 in let short = y.0 in omega (arith, long, short))
 line_once kept line a b distinct (inr x) (inl y) = absurd (let short = x.0 in let long = y.0 in omega (arith, long, short))

@@ -1,6 +1,5 @@
 -- Events that are equal in all but the line, and what is kept of them.
-use Rattle.std.proofs.Common.{◌≡◌, ℕ, suc, zero, ◌+◌, ◌<◌, inl, inr, List, [], ◌∷◌, ◌++◌, length, get_or, Option, Some, None, Result, Ok, Err, All, Contains, refl, sym, ◌∙◌, ap, subst, arith}
-use Rattle.std.specs.Prelude.{⊤}
+use Rattle.std.proofs.Common.{◌≡◌, ℕ, suc, zero, ◌+◌, inl, inr, List, [], ◌∷◌, ◌++◌, Option, Some, None, Ok, Err, Contains, refl, sym, ◌∙◌, ap, subst, arith}
 use Rattle.std.proofs.lemmas.List.Elements.{All-cons, All-nil, Contains-append_right, Contains-get_or}
 use Rattle.line_reader.specs.Lines.{NumberedLine}
 use Rattle.line_reader.proofs.LineFacts.{All-head, All-tail}
@@ -8,13 +7,13 @@ use Rattle.audit_event.specs.declared.event.Event.{Event}
 use Rattle.audit_event.specs.Keeping.{AreOfOneStage, SameButLine, WasKept}
 use Rattle.batch_decode.specs.declared.decoded.Decoded.{Decoded}
 use Rattle.batch_decode.specs.declared.decoded.ItemFault.{ItemFault}
-use Rattle.log_intake.specs.declared.stop.LogStop.{LogStop}
 use Rattle.log_intake.specs.Log.{IsNew, LogState, TakesDecoded, TakesEvent, TakesLine, numbered_events, unless_fault as state_unless}
 use Rattle.log_intake.specs.Steps.{InOrder}
 use Rattle.log_sift.specs.Sift.{KeepsDecoded, KeepsEvent, KeepsLine, behind_events}
+use Rattle.log_sift.specs.Taken.{AreSame}
 
 -- an event is equal to itself on another line
-same_line : (event : Event) (number : ℕ) → SameButLine record event { line = number } event
+pub same_line : (event : Event) (number : ℕ) → SameButLine record event { line = number } event
 same_line event number = record {
   origin = record { audit_id = refl; stage = refl; level = refl; received = refl; staged = refl };
   request = record {
@@ -27,7 +26,7 @@ same_line event number = record {
   answer = record { status = refl; response = refl; decision = refl };
 }
 
-same_back : (a b : Event) → SameButLine a b → SameButLine b a
+pub same_back : (a b : Event) → SameButLine a b → SameButLine b a
 same_back a b s = record {
   origin = record { audit_id = sym s.origin.audit_id; stage = sym s.origin.stage; level = sym s.origin.level; received = sym s.origin.received; staged = sym s.origin.staged };
   request = record {
@@ -40,7 +39,7 @@ same_back a b s = record {
   answer = record { status = sym s.answer.status; response = sym s.answer.response; decision = sym s.answer.decision };
 }
 
-same_both : (a b c : Event) → SameButLine a b → SameButLine b c → SameButLine a c
+pub same_both : (a b c : Event) → SameButLine a b → SameButLine b c → SameButLine a c
 same_both a b c s t = record {
   origin = record {
     audit_id = s.origin.audit_id ∙ t.origin.audit_id;
@@ -75,15 +74,8 @@ same_both a b c s t = record {
   };
 }
 
-same_stage : (a b : Event) → SameButLine a b → AreOfOneStage a b
+pub same_stage : (a b : Event) → SameButLine a b → AreOfOneStage a b
 same_stage a b same = λ i. record { audit_id = same.origin.audit_id i; stage = same.origin.stage i }
-
--- each event is equal to the other list's in all but the line
-abbrev pub AreSame : List Event → List Event → Type 0
-AreSame [] [] = ⊤
-AreSame [] (y ∷ ys) = ⊥
-AreSame (x ∷ xs) [] = ⊥
-AreSame (x ∷ xs) (y ∷ ys) = SameButLine x y × AreSame xs ys
 
 same_push : (xs ys : List Event) (x y : Event) → AreSame xs ys → SameButLine x y → AreSame (xs ++ x ∷ []) (ys ++ y ∷ [])
 same_push [] [] x y are same = (same, tt)
@@ -91,7 +83,7 @@ same_push [] (b ∷ ys) x y are same = absurd are
 same_push (a ∷ xs) [] x y are same = absurd are
 same_push (a ∷ xs) (b ∷ ys) x y are same = (are.0, same_push xs ys x y are.1 same)
 
-partner : (xs ys : List Event) (x : Event) → AreSame xs ys → Contains xs x → (y : Event) × Contains ys y × SameButLine x y
+pub partner : (xs ys : List Event) (x : Event) → AreSame xs ys → Contains xs x → (y : Event) × Contains ys y × SameButLine x y
 partner [] ys x are (i, within, is) = absurd (omega (arith, within))
 partner (a ∷ xs) [] x are among = absurd are
 partner (a ∷ xs) (b ∷ ys) x are (zero, within, is) = (b, Contains-get_or (b ∷ ys) 0 b (omega arith), subst (λ e. SameButLine e b) is are.0)
@@ -108,7 +100,7 @@ new_same (a ∷ xs) (b ∷ ys) e f are same new =
     (λ one. All-head (λ (other : Event). ¬ AreOfOneStage other e) a xs new (same_stage a b are.0 ∙ one ∙ sym (same_stage e f same)))
     (new_same xs ys e f are.1 same (All-tail (λ (other : Event). ¬ AreOfOneStage other e) a xs new))
 
-event_same : (xs ys next : List Event) (event : Event) (number : ℕ) → AreSame xs ys → TakesEvent xs record event { line = number } (Ok next)
+pub event_same : (xs ys next : List Event) (event : Event) (number : ℕ) → AreSame xs ys → TakesEvent xs record event { line = number } (Ok next)
     → (after : List Event) × KeepsEvent ys event (Ok after) × AreSame next after
 event_same xs ys next event number are (inl (new, few, is)) =
     let now : Event = record event { line = number } in

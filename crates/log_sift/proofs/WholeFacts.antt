@@ -1,12 +1,11 @@
 -- Of a log that a judge takes nothing is left out.
-use Rattle.std.proofs.Common.{◌≡◌, ℕ, suc, ◌+◌, ◌==◌, inl, inr, List, [], ◌∷◌, ◌++◌, length, map, nat_eq, if◌then◌else◌, Bool, true, false, Result, Ok, Err, refl, sym, ◌∙◌, ap, subst, arith, append_assoc, length-append}
+use Rattle.std.proofs.Common.{◌≡◌, ℕ, suc, ◌+◌, inl, inr, List, [], ◌∷◌, ◌++◌, length, map, nat_eq, if◌then◌else◌, Bool, true, false, Ok, Err, refl, sym, ◌∙◌, ap, subst, arith, append_assoc, length-append}
 use Rattle.std.specs.Prelude.{⊤}
 use Rattle.std.proofs.lemmas.Bool.{eqb-true}
 use Rattle.std.proofs.lemmas.List.{append-nil}
 use Rattle.line_reader.specs.Lines.{extend_first, extend_rest, is_dropped, last_line, lines_of, newline, number_after, number_line, numbered, rest_of, whole_lines}
 use Rattle.audit_event.specs.declared.event.Event.{Event}
-use Rattle.log_intake.specs.declared.stop.LogStop.{LogStop}
-use Rattle.log_intake.specs.Log.{IsLogRead, LogState, TakesLine, kept_of, nothing_read, past_limit}
+use Rattle.log_intake.specs.Log.{IsLogRead, LogState, TakesLine, nothing_read}
 use Rattle.log_intake.specs.Steps.{InOrder}
 use Rattle.log_sift.specs.declared.answer.Fate.{Fate}
 use Rattle.log_sift.specs.declared.answer.Fate.TheVariants.{Blank, Stays, Left}
@@ -14,7 +13,8 @@ use Rattle.log_sift.specs.Cutting.{closed, texts_of}
 use Rattle.log_sift.specs.Sift.{IsSifted, SiftsLines}
 use Rattle.log_sift.specs.Sifted.{kept_text, left_lines, staying}
 use Rattle.log_sift.proofs.OneFacts.{lines_once, none_distinct}
-use Rattle.log_sift.proofs.SameFacts.{AreSame, line_same}
+use Rattle.log_sift.specs.Taken.{AreSame}
+use Rattle.log_sift.proofs.SameFacts.{line_same}
 
 -- no line is left out
 abbrev AllStay : List Fate → Type 0

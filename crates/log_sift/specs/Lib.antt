@@ -4,4 +4,5 @@ pub mod OneSifting
 pub mod Recalling
 pub mod Sift
 pub mod Sifted
+pub mod Taken
 pub mod Telling

@@ -1,5 +1,5 @@
 -- Of a log that a judge takes nothing is left out.
-use Rattle.std.specs.Prelude.{◌≡◌, ℕ, List, [], Result, Ok}
+use Rattle.std.specs.Prelude.{◌≡◌, ℕ, List, [], Ok}
 use Rattle.audit_event.specs.declared.event.Event.{Event}
 use Rattle.log_intake.specs.Log.{IsLogRead}
 use Rattle.log_sift.specs.declared.answer.Fate.{Fate}

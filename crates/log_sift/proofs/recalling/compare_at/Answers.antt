@@ -1,4 +1,4 @@
-use Rattle.std.proofs.Common.{◌≡◌, List, ℕ, subst, sym}
+use Rattle.std.proofs.Common.{◌≡◌, subst, sym}
 use Rattle.audit_event.specs.Keeping.{AreOfOneStage}
 use Rattle.audit_event.specs.declared.event.Event.{Event}
 use Rattle.log_sift.specs.Recalling.{Compares, IsAt}

@@ -1,4 +1,4 @@
-use Rattle.std.proofs.Common.{◌≡◌, ◌+◌, arith, slice_range, subst, sym}
+use Rattle.std.proofs.Common.{◌+◌, slice_range, subst, sym}
 use Rattle.log_sift.specs.declared.answer.Sifting.{Sifting}
 use Rattle.log_sift.specs.Sifted.{stays_from}
 use Rattle.log_sift.proofs.LoopFacts.{HasSifted, all_sifted, has_sifted}
