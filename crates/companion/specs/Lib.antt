@@ -1,0 +1,3 @@
+pub mod Command
+pub mod Endings
+pub mod Program
