@@ -1,1 +1,3 @@
 pub mod EndingFacts
+pub mod ReportedFacts
+pub mod RunFacts

@@ -2,7 +2,12 @@
 #![tactic(auto)]
 
 mod ending;
+mod reading;
+mod report;
+mod reporting;
 mod run;
+mod sifting;
+mod stop;
 mod words;
 
 use edge_io::{FileDesk, StdSink};
