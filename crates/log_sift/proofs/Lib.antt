@@ -1,0 +1,5 @@
+pub mod CompareFacts
+pub mod CutFacts
+pub mod HomeFacts
+pub mod KeepingFacts
+pub mod LoopFacts

@@ -1,0 +1,5 @@
+pub mod Cutting
+pub mod Recalling
+pub mod Sift
+pub mod Sifted
+pub mod Telling

@@ -1,0 +1,13 @@
+//! A log without the lines that a judge refuses: which of its lines stay, and why each other line is left out.
+#![tactic(auto)]
+
+mod answer;
+mod cutting;
+mod keeping;
+mod recalling;
+mod telling;
+mod whole;
+
+pub use answer::{Fate, LeftCause, LeftLine, LeftLines, Sifting, Stretch, Stretches};
+pub use telling::left_text;
+pub use whole::sift;
