@@ -2,9 +2,11 @@
 use Rattle.std.proofs.Common.{◌≡◌, ◌↔◌, ℕ, List, [], ◌∷◌, ◌++◌, Option, Some, None, Bool, true, false, Contains, IfSome, IsSome, option_map, bytes_eq, codes, if◌then◌else◌, refl, sym, ◌∙◌, ap, subst}
 use Rattle.std.proofs.lemmas.Slice.Eq.{bytes_eq-Decides}
 use Rattle.code_guide.specs.Guides.{guides_of, text_of, word_guides}
+use Rattle.code_guide.specs.FileGuides.{file_guides}
 use Rattle.code_guide.specs.LimitGuides.{limit_guides}
 use Rattle.code_guide.specs.LogGuides.{log_guides}
-use Rattle.code_guide.specs.Names.{IsCode, limit_names, names_of, status_names, word_names}
+use Rattle.code_guide.specs.MakingGuides.{making_guides}
+use Rattle.code_guide.specs.Names.{IsCode, file_names, limit_names, making_names, names_of, status_names, word_names}
 use Rattle.code_guide.specs.SetupGuides.{setup_guides}
 use Rattle.code_guide.specs.StatusGuides.{status_guides}
 use Rattle.code_guide.specs.Texts.{Begins, Guide, text_in}
@@ -35,15 +37,35 @@ limits_begun : are_begun (codes "limit ") limit_guides ≡ true
 unfolding limit_guides
 limits_begun = refl
 
--- the names of both families
-family_names_in : (is_status is_limit : Bool)
-    → names_in (if is_status then status_guides else if is_limit then limit_guides else []) ≡ (if is_status then status_names else if is_limit then limit_names else [])
-family_names_in true is_limit = status_names_are
-family_names_in false true = limit_names_are
-family_names_in false false = refl
+making_names_are : names_in making_guides ≡ making_names
+unfolding making_guides
+making_names_are = refl
+
+file_names_are : names_in file_guides ≡ file_names
+unfolding file_guides
+file_names_are = refl
+
+makings_begun : are_begun (codes "setup ") making_guides ≡ true
+unfolding making_guides
+makings_begun = refl
+
+files_begun : are_begun (codes "file ") file_guides ≡ true
+unfolding file_guides
+files_begun = refl
+
+-- the names of each family
+family_names_in : (is_status is_limit is_making is_file : Bool)
+    → names_in (if is_status then status_guides else if is_limit then limit_guides else if is_making then making_guides else if is_file then file_guides else [])
+    ≡ (if is_status then status_names else if is_limit then limit_names else if is_making then making_names else if is_file then file_names else [])
+family_names_in true is_limit is_making is_file = status_names_are
+family_names_in false true is_making is_file = limit_names_are
+family_names_in false false true is_file = making_names_are
+family_names_in false false false true = file_names_are
+family_names_in false false false false = refl
 
 family_names_are : (family : List ℕ) → names_in (guides_of family) ≡ names_of family
-family_names_are family = family_names_in (bytes_eq family (codes "status")) (bytes_eq family (codes "limit"))
+family_names_are family =
+    family_names_in (bytes_eq family (codes "status")) (bytes_eq family (codes "limit")) (bytes_eq family (codes "setup")) (bytes_eq family (codes "file"))
 
 exactly : (guides : List Guide) (names : List (List ℕ)) (name : List ℕ) → names_in guides ≡ names → IsSome (text_in guides name) ↔ Contains names name
 exactly guides names name are = (
@@ -62,22 +84,24 @@ some_of (family ∷ code ∷ []) = exactly (guides_of family) (names_of family) 
 some_of (family ∷ code ∷ other ∷ others) = ((λ some. let no : false ≡ true = some in absurd cc), λ code. absurd code)
 
 -- the words of a family of two words, in front of a colon
-family_begins : (family code text : List ℕ) (is_status is_limit : Bool) → bytes_eq family (codes "status") ≡ is_status → bytes_eq family (codes "limit") ≡ is_limit
-    → text_in (if is_status then status_guides else if is_limit then limit_guides else []) code ≡ Some text → Begins (family ∷ code ∷ []) text
-family_begins family code text true is_limit same other is =
-    let named : codes "status" ≡ family = sym ((bytes_eq-Decides family (codes "status")).0 same) in
-    let w = begun (codes "status ") status_guides code text statuses_begun is in
-    subst (λ f. Begins (f ∷ code ∷ []) text) named w
-family_begins family code text false true differs same is =
-    let named : codes "limit" ≡ family = sym ((bytes_eq-Decides family (codes "limit")).0 same) in
-    let w = begun (codes "limit ") limit_guides code text limits_begun is in
-    subst (λ f. Begins (f ∷ code ∷ []) text) named w
-family_begins family code text false false differs other is = absurd (let no : None ≡ Some text = is in cc)
+as_family : (word family code text : List ℕ) → bytes_eq family word ≡ true → Begins (word ∷ code ∷ []) text → Begins (family ∷ code ∷ []) text
+as_family word family code text same begins = subst (λ f. Begins (f ∷ code ∷ []) text) (sym ((bytes_eq-Decides family word).0 same)) begins
+
+family_begins : (family code text : List ℕ) (is_status is_limit is_making is_file : Bool)
+    → bytes_eq family (codes "status") ≡ is_status → bytes_eq family (codes "limit") ≡ is_limit → bytes_eq family (codes "setup") ≡ is_making → bytes_eq family (codes "file") ≡ is_file
+    → text_in (if is_status then status_guides else if is_limit then limit_guides else if is_making then making_guides else if is_file then file_guides else []) code ≡ Some text
+    → Begins (family ∷ code ∷ []) text
+family_begins family code text true is_limit is_making is_file same a b c is = as_family (codes "status") family code text same (begun (codes "status ") status_guides code text statuses_begun is)
+family_begins family code text false true is_making is_file a same b c is = as_family (codes "limit") family code text same (begun (codes "limit ") limit_guides code text limits_begun is)
+family_begins family code text false false true is_file a b same c is = as_family (codes "setup") family code text same (begun (codes "setup ") making_guides code text makings_begun is)
+family_begins family code text false false false true a b c same is = as_family (codes "file") family code text same (begun (codes "file ") file_guides code text files_begun is)
+family_begins family code text false false false false a b c d is = absurd (let no : None ≡ Some text = is in cc)
 
 begins_of : (words : List (List ℕ)) (text : List ℕ) → text_of words ≡ Some text → Begins words text
 begins_of [] text is = absurd (let no : None ≡ Some text = is in cc)
 begins_of (code ∷ []) text is = begun [] word_guides code text words_begun is
-begins_of (family ∷ code ∷ []) text is = family_begins family code text (bytes_eq family (codes "status")) (bytes_eq family (codes "limit")) refl refl is
+begins_of (family ∷ code ∷ []) text is =
+    family_begins family code text (bytes_eq family (codes "status")) (bytes_eq family (codes "limit")) (bytes_eq family (codes "setup")) (bytes_eq family (codes "file")) refl refl refl refl is
 begins_of (family ∷ code ∷ other ∷ others) text is = absurd (let no : None ≡ Some text = is in cc)
 
 -- the same of what a call answers

@@ -4,5 +4,7 @@ pub mod SetupGuides
 pub mod VerdictGuides
 pub mod StatusGuides
 pub mod LimitGuides
+pub mod MakingGuides
+pub mod FileGuides
 pub mod Guides
 pub mod Names

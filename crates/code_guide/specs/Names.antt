@@ -1,4 +1,5 @@
--- The names of all codes. A code is one word, or two: `status` and a number, `limit` and a name.
+-- The names of all codes. A code is one word, or two: `status` and a number, or `limit`, `setup` or `file` and a
+-- word.
 use Rattle.std.specs.Prelude.{ℕ, List, [], ◌∷◌, Contains, bytes_eq, codes, if◌then◌else◌}
 
 -- the rules that an event of the log can break, those of a setup, and the reasons of a verdict
@@ -13,11 +14,23 @@ abbrev pub status_names : List (List ℕ)
 status_names = codes "0" ∷ codes "1" ∷ codes "2" ∷ codes "3" ∷ codes "4" ∷ codes "5" ∷ codes "6" ∷ codes "7" ∷ codes "8" ∷ codes "70" ∷ []
 
 abbrev pub limit_names : List (List ℕ)
-limit_names = codes "setup" ∷ codes "line" ∷ codes "events" ∷ codes "input" ∷ codes "placement" ∷ codes "pool" ∷ []
+limit_names = codes "setup" ∷ codes "line" ∷ codes "events" ∷ codes "input" ∷ codes "file" ∷ codes "placement" ∷ codes "pool" ∷ []
+
+-- why no setup can be made
+abbrev pub making_names : List (List ℕ)
+making_names = codes "time" ∷ codes "policy" ∷ codes "empty" ∷ []
+
+abbrev pub file_names : List (List ℕ)
+file_names = codes "json" ∷ codes "kind" ∷ codes "pages" ∷ codes "unknown" ∷ codes "version" ∷ codes "twice" ∷ codes "revision" ∷ []
 
 -- the second words that go with the first
 abbrev pub names_of : List ℕ → List (List ℕ)
-names_of family = if bytes_eq family (codes "status") then status_names else if bytes_eq family (codes "limit") then limit_names else []
+names_of family =
+    if bytes_eq family (codes "status") then status_names
+    else if bytes_eq family (codes "limit") then limit_names
+    else if bytes_eq family (codes "setup") then making_names
+    else if bytes_eq family (codes "file") then file_names
+    else []
 
 -- the words are a code
 abbrev pub IsCode : List (List ℕ) → Type 0

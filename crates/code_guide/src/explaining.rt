@@ -3,8 +3,10 @@ ghost use Rattle.code_guide.specs.Guides.{guides_of, text_of, word_guides};
 ghost use Rattle.code_guide.specs.Names.{IsCode};
 ghost use Rattle.code_guide.specs.Texts.{Begins, text_in};
 
+use crate::file_codes::file_text;
 use crate::limits::limit_text;
 use crate::log_codes::log_text;
+use crate::making_codes::making_text;
 use crate::setup_codes::setup_text;
 use crate::statuses::status_text;
 use crate::verdict_codes::verdict_text;
@@ -46,6 +48,12 @@ fn family_text(family: &str, code: &str) -> Option<&'static str>
     }
     if family == "limit" {
         return limit_text(code);
+    }
+    if family == "setup" {
+        return making_text(code);
+    }
+    if family == "file" {
+        return file_text(code);
     }
     None
 }

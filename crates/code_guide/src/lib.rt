@@ -2,8 +2,10 @@
 #![tactic(auto)]
 
 mod explaining;
+mod file_codes;
 mod limits;
 mod log_codes;
+mod making_codes;
 mod setup_codes;
 mod statuses;
 mod verdict_codes;

@@ -20,7 +20,7 @@ How it comes about: In a large cluster one list of everything can have that size
 Look at: the longest line of the log.
 
 What to do: Record lists of resources that aren't judged at a lower level, or leave that
-line out by hand and say so beside the verdict.
+line out with `kubepast sift`, and say so beside the verdict.
 ";
 
 /// `limit events`
@@ -42,6 +42,17 @@ How it comes about: It is very long, or what is read never ends.
 Look at: what LOG names.
 
 What to do: Judge it in parts, each with a setup of its own.
+";
+
+/// `limit file`
+pub const LIMIT_FILE: &str =
+    "limit file: a policy or a file that is given to `setup` has more than 268,435,456 bytes.
+
+How it comes about: A list of everything in a large cluster can have that size.
+
+Look at: the sizes of the files.
+
+What to do: Take lists of fewer resources.
 ";
 
 /// `limit placement`
@@ -76,6 +87,7 @@ pub fn limit_text(name: &str) -> Option<&'static str>
         "line" => Some(LIMIT_LINE),
         "events" => Some(LIMIT_EVENTS),
         "input" => Some(LIMIT_INPUT),
+        "file" => Some(LIMIT_FILE),
         "placement" => Some(LIMIT_PLACEMENT),
         "pool" => Some(LIMIT_POOL),
         _ => None,

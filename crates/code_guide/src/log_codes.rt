@@ -14,9 +14,9 @@ that whoever may patch one object can bring this about.
 Look at: the end of the line: is it the log's last one, and cut off? Else at its `verb` and
 `user`.
 
-What to do: Cut the log behind its last newline, or wait for the rest. Any other such line
-has to be left out by hand; say so beside the verdict, since a write that is left out can
-make later events unexplained.
+What to do: Cut the log behind its last newline, or wait for the rest. `kubepast sift`
+leaves any other such line out; say so beside the verdict, since a write that is left out
+can make later events unexplained.
 ";
 
 /// `M2`
@@ -69,7 +69,8 @@ time service.
 Look at: both timestamps of the line, and what the server's time service did then.
 
 What to do: Judge what lies before and what lies behind the step as two logs, each with a
-setup of its own. If it is one line, leave it out by hand and say so beside the verdict.
+setup of its own. If it is one line, leave it out with `kubepast sift`, and say so beside
+the verdict.
 ";
 
 /// `M6`
@@ -122,7 +123,7 @@ without any rights.
 
 Look at: `verb`, `requestURI`, `user` and the status code of the answer on that line.
 
-What to do: Leave such lines out by hand, and say so beside the verdict.
+What to do: Leave such lines out with `kubepast sift`, and say so beside the verdict.
 ";
 
 /// `M10`
@@ -164,8 +165,8 @@ delivered twice doesn't bring this about.
 
 Look at: all lines with this `auditID`: their users, their times and what they differ in.
 
-What to do: Judge each cluster's log by itself. Of two events of one client leave one out by
-hand, and say so beside the verdict.
+What to do: Judge each cluster's log by itself. Of two events of one client `kubepast sift`
+leaves the later one out; say so beside the verdict.
 ";
 
 /// The text of the code of a rule that an event of the log can break, or none where there is no such code.

@@ -5,7 +5,7 @@ ghost use Rattle.code_guide.specs.StatusGuides.{status_guides};
 /// `status 0`
 pub const STATUS_0: &str =
     "status 0: the log is explained (with `--strict`: and nothing crosses), the placement holds,
-or the question is answered.
+or what was asked for was done.
 
 How it comes about: This is what a true log gives under a setup that fits it.
 
@@ -28,7 +28,7 @@ first shows an earlier revision than the second, and began after that had ended.
 ";
 
 /// `status 2`
-pub const STATUS_2: &str = "status 2: the words are no command.
+pub const STATUS_2: &str = "status 2: the words are no command, or name no code.
 
 How it comes about: A name is missing, SETUP and LOG are one name, SETUP is `-`, or a number
 has leading zeros.
@@ -39,13 +39,15 @@ What to do: Call again. A key begins with a slash where its group is empty.
 ";
 
 /// `status 3`
-pub const STATUS_3: &str = "status 3: the setup breaks a rule, or can't be made of what was given.
+pub const STATUS_3: &str =
+    "status 3: the setup breaks a rule, or none can be made of what was given.
 
 How it comes about: It was written by hand, or its lists were taken at different moments.
 
 Look at: the code behind `setup`.
 
-What to do: Ask for that code: `kubepast explain S12`.
+What to do: Ask for that code: `kubepast explain S12`, `kubepast explain setup time` or,
+where it says `file 3 pages`, `kubepast explain file pages`.
 ";
 
 /// `status 4`
@@ -86,7 +88,8 @@ What to do: Call again; the text isn't whole.
 /// `status 7`
 pub const STATUS_7: &str = "status 7: a limit is passed.
 
-How it comes about: The log or the setup is larger than what is held in memory.
+How it comes about: The log, the setup or another file is larger than what is held in
+memory.
 
 Look at: the name behind `limit`.
 

@@ -42,3 +42,6 @@ fn main(rt: HostRuntime) -> ExitCode {
     let status = run(rt.alloc(), &words, &mut desk, &mut sink);
     ExitCode::from(status)
 }
+
+#[cfg(test)]
+mod tests;
