@@ -1,10 +1,8 @@
 -- An event and an earlier one of its request and stage.
-use Rattle.std.proofs.Common.{◌≡◌, ℕ, suc, zero, ◌<◌, List, [], ◌∷◌, ◌++◌, length, Option, Some, None, Result, Ok, Err, All, Contains, slice_get, slice_range, get_or, refl, sym, ap, subst, ◌∙◌, arith}
+use Rattle.std.proofs.Common.{◌≡◌, ℕ, suc, zero, List, [], ◌∷◌, Some, Ok, All, Contains, slice_get, slice_range, get_or, sym, subst, arith}
 use Rattle.audit_event.specs.declared.event.Event.{Event}
 use Rattle.audit_event.specs.declared.seen.Admitted.{Admitted}
 use Rattle.audit_event.specs.declared.seen.Admitted.TheVariants.{Fresh, Repeat}
-use Rattle.audit_event.specs.declared.fault.SeenFault.{SeenFault}
-use Rattle.audit_event.specs.declared.fault.SeenFault.TheVariants.{Differs}
 use Rattle.audit_event.specs.Keeping.{Admits, AreOfOneStage, SameButLine}
 use Rattle.batch_decode.specs.declared.decoded.Decoded.{Decoded}
 use Rattle.batch_decode.specs.Batches.{IsDecoded}
@@ -15,13 +13,6 @@ use Rattle.log_sift.specs.Recalling.{IsAt}
 -- events that are equal in all but the line are so with any lines
 pub same_moved : (a b : Event) (m n : ℕ) → SameButLine record a { line = m } record b { line = n } → SameButLine a b
 same_moved a b m n same = record {
-  origin = record { audit_id = same.origin.audit_id; stage = same.origin.stage; level = same.origin.level; received = same.origin.received; staged = same.origin.staged };
-  request = record { path = same.request.path; object = same.request.object; user = same.request.user; impersonated = same.request.impersonated; request = same.request.request };
-  answer = record { status = same.answer.status; response = same.answer.response; decision = same.answer.decision };
-}
-
-pub same_at : (a b : Event) (m n : ℕ) → SameButLine a b → SameButLine record a { line = m } record b { line = n }
-same_at a b m n same = record {
   origin = record { audit_id = same.origin.audit_id; stage = same.origin.stage; level = same.origin.level; received = same.origin.received; staged = same.origin.staged };
   request = record { path = same.request.path; object = same.request.object; user = same.request.user; impersonated = same.request.impersonated; request = same.request.request };
   answer = record { status = same.answer.status; response = same.answer.response; decision = same.answer.decision };
@@ -48,14 +39,6 @@ repeated earlier event seen after Repeat one is admits =
     let second : Event = record event { line = 1 } in
     let f = admits.0 in
     same_moved earlier event 0 1 (subst (λ e. SameButLine e second) (sym (one_found first f.0 (subst (λ events. Contains events f.0) is f.1.among))) f.2)
-
-pub differed : (earlier event : Event) (seen after : List Event) (line : ℕ) → seen ≡ record earlier { line = 0 } ∷ []
-    → Admits seen record event { line = 1 } (Err (Differs line)) after → ¬ SameButLine earlier event
-differed earlier event seen after line is admits =
-    let first : Event = record earlier { line = 0 } in
-    let second : Event = record event { line = 1 } in
-    let f = admits.0 in
-    λ same. f.3 (subst (λ e. SameButLine e second) (one_found first f.0 (subst (λ events. Contains events f.0) is f.1.among)) (same_at earlier event 0 1 same))
 
 -- a line that is decoded again holds the event where it was
 pub again_at : (log : List ℕ) (home : Home) (event : Event) (decoded : Decoded) → IsDecoded (slice_range log home.start home.end) decoded → IsAt log home event → slice_get decoded.events home.item ≡ Some event

@@ -2,13 +2,13 @@
 use Rattle.std.proofs.Common.{◌≡◌, ℕ, suc, ◌+◌, ◌-◌, ◌<◌, ◌≤◌, List, [], ◌∷◌, ◌++◌, length, take, drop, slice_index, slice_range, refl, sym, ap, ◌∙◌, arith}
 use Rattle.std.proofs.Math.Seq.{drop-length}
 use Rattle.std.proofs.lemmas.List.{length-drop, length-take-le, take_rest}
-use Rattle.line_reader.specs.Lines.{newline, last_line, lines_of, whole_lines, rest_of}
+use Rattle.line_reader.specs.Lines.{newline, last_line, lines_of}
 use Rattle.line_reader.specs.Search.{HasNoNewline}
 use Rattle.line_reader.proofs.LineFacts.{line_cut, rest_of-line, rest_of-none, whole_lines-line, whole_lines-none}
 use Rattle.log_sift.specs.Cutting.{BeginsWith, closed, texts_of}
 
 -- a line and its newline at the front
-begins_closed : (line more : List ℕ) → HasNoNewline line → BeginsWith (line ++ newline ∷ more) line (closed line) more
+pub begins_closed : (line more : List ℕ) → HasNoNewline line → BeginsWith (line ++ newline ∷ more) line (closed line) more
 begins_closed line more none = record {
   lines = rw (whole_lines-line line more none, rest_of-line line more none) refl;
   texts = rw (whole_lines-line line more none, rest_of-line line more none) refl;
@@ -19,7 +19,7 @@ last_line-some [] some = absurd (omega (arith, some))
 last_line-some (byte ∷ bytes) some = refl
 
 -- a line without a newline
-begins_open : (bytes : List ℕ) → 0 < length bytes → HasNoNewline bytes → BeginsWith bytes bytes bytes []
+pub begins_open : (bytes : List ℕ) → 0 < length bytes → HasNoNewline bytes → BeginsWith bytes bytes bytes []
 begins_open bytes some none = record {
   lines = rw (whole_lines-none bytes none, rest_of-none bytes none, last_line-some bytes some) refl;
   texts = rw (whole_lines-none bytes none, rest_of-none bytes none, last_line-some bytes some) refl;

@@ -1,13 +1,13 @@
 -- Where the kept events of a log stand.
-use Rattle.std.proofs.Common.{◌≡◌, ℕ, suc, zero, List, [], ◌∷◌, ◌++◌, length, Option, Some, None, Bool, true, false, cond, slice_get, get_or, All, Contains, refl, sym, ap, subst, ◌∙◌, arith, true≢false}
+use Rattle.std.proofs.Common.{◌≡◌, ℕ, List, [], ◌∷◌, ◌++◌, length, Some, None, Bool, true, false, cond, slice_get, Contains, refl, sym, subst, ◌∙◌, arith, true≢false}
 use Rattle.std.specs.Map.{lookup}
 use Rattle.std.proofs.lemmas.List.Elements.{All-cons, All-nil, Contains-append_right, Contains-get_or}
 use Rattle.audit_event.specs.declared.event.Event.{Event}
-use Rattle.audit_event.specs.Keeping.{AreOfOneStage, identity_of as theirs}
+use Rattle.audit_event.specs.Keeping.{AreOfOneStage}
 use Rattle.log_intake.specs.Log.{IsNew}
 use Rattle.log_sift.specs.declared.recalling.Identity.{Identity}
 use Rattle.log_sift.specs.declared.recalling.Home.{Home}
-use Rattle.log_sift.specs.Recalling.{AreHomed, AreHomes, IsAt, identity_of}
+use Rattle.log_sift.specs.Recalling.{AreHomes, IsAt, identity_of}
 
 pub one_identity : (a b : Event) → AreOfOneStage a b → identity_of a ≡ identity_of b
 one_identity a b one = λ i. record { audit_id = (one i).audit_id; stage = (one i).stage }

@@ -1,22 +1,19 @@
 -- What the events of a line leave of where the kept events stand.
-use Rattle.std.proofs.Common.{◌≡◌, ℕ, ◌<◌, ◌≤◌, inl, inr, List, [], ◌∷◌, ◌++◌, length, take, Option, Some, None, Result, Ok, Err, IfOk, Bool, true, false, slice_range, refl, sym, ap, subst, ◌∙◌, append_assoc}
+use Rattle.std.proofs.Common.{◌≡◌, ℕ, ◌≤◌, inl, inr, List, [], ◌∷◌, ◌++◌, length, Option, Some, None, Result, Ok, Err, IfOk, Bool, true, refl, sym, ap, subst, ◌∙◌, append_assoc}
 use Rattle.std.proofs.lemmas.List.{append-nil}
 use Rattle.std.specs.Map.{lookup}
-use Rattle.line_reader.specs.Lines.{is_dropped, longest_line}
+use Rattle.line_reader.specs.Lines.{longest_line}
 use Rattle.audit_event.specs.declared.event.Event.{Event}
 use Rattle.audit_event.specs.Keeping.{AreOfOneStage, WasKept}
 use Rattle.batch_decode.specs.declared.decoded.Decoded.{Decoded}
-use Rattle.batch_decode.specs.declared.decoded.ItemFault.{ItemFault}
 use Rattle.batch_decode.specs.Batches.{IsDecoded}
 use Rattle.log_intake.specs.Steps.{InOrder}
 use Rattle.log_intake.proofs.StepFacts.{in_order_push, in_order_stopped}
 use Rattle.log_sift.specs.declared.answer.LeftCause.{LeftCause}
-use Rattle.log_sift.specs.declared.answer.LeftCause.TheVariants.{LineTooLong, Rule}
-use Rattle.log_sift.specs.declared.answer.Fate.TheVariants.{Blank, Stays, Left}
 use Rattle.log_sift.specs.declared.recalling.Identity.{Identity}
 use Rattle.log_sift.specs.declared.recalling.Home.{Home}
-use Rattle.log_sift.specs.Recalling.{AreHomed, AreHomes, AreItemsAt, Compares, IsAt, Moves, SiftsAt, Steps, home_at, identity_of}
-use Rattle.log_sift.specs.Sift.{KeepsDecoded, KeepsEvent, KeepsLine, behind_events}
+use Rattle.log_sift.specs.Recalling.{AreHomes, Compares, IsAt, Moves, Steps, identity_of}
+use Rattle.log_sift.specs.Sift.{KeepsDecoded, KeepsEvent, KeepsLine}
 use Rattle.log_sift.proofs.HomeFacts.{IsFound, absent, found, homes_push, one_stage}
 
 abbrev Entry : Type 0
@@ -55,23 +52,11 @@ kept_new eq tells log entries after identity home event none is at grows = recor
   more = (identity, home) ∷ [];
   grows = grows;
   steps = λ kept homes. (
-      kept ++ event ∷ [],
-      subst (λ es. AreHomes log es (kept ++ event ∷ [])) (sym grows) (homes_push log entries kept identity home event homes is at),
-      inl (absent eq tells log event entries kept (subst (λ i. lookup (eq i) entries ≡ None) is none) homes, refl),
-    );
+    kept ++ event ∷ [],
+    subst (λ es. AreHomes log es (kept ++ event ∷ [])) (sym grows) (homes_push log entries kept identity home event homes is at),
+    inl (absent eq tells log event entries kept (subst (λ i. lookup (eq i) entries ≡ None) is none) homes, refl),
+  );
 }
-
--- the steps that were made lead to events that stand somewhere
-pub homed_after : (log : List ℕ) (a b : List Entry) (Step : List Event → Result (List Event) LeftCause → Type 0) → AreHomed log a → Moves log a b Step None → AreHomed log b
-homed_after log a b Step homed moves = let next = moves.steps homed.0 homed.1 in (next.0, next.1)
-
--- no event yet
-pub moves_none : (log : List ℕ) (entries : List Entry) → Moves log entries entries (λ kept. InOrder KeepsEvent kept []) None
-moves_none log entries = record { more = []; grows = sym (append-nil entries); steps = λ kept homes. (kept, homes, refl) }
-
-take_front : (xs ys : List Entry) → take (length xs) (xs ++ ys) ≡ xs
-take_front [] ys = refl
-take_front (x ∷ xs) ys = ap (λ rest. x ∷ rest) (take_front xs ys)
 
 grows_both : (a b c first second : List Entry) → b ≡ a ++ first → c ≡ b ++ second → c ≡ a ++ (first ++ second)
 grows_both a b c first second x y = y ∙ ap (λ es. es ++ second) x ∙ append_assoc a first second
@@ -100,28 +85,6 @@ moves_stopped log a b c done more all event cause first second is = record {
       subst (λ events. InOrder KeepsEvent kept events (Err cause)) (sym is) (in_order_stopped KeepsEvent kept middle.0 done more event cause middle.2 stopped);
 }
 
--- the events up to one that isn't kept
-pub decoded_stopped : (log : List ℕ) (a b : List Entry) (decoded : Decoded) (cause : LeftCause) → Moves log a b (λ kept. InOrder KeepsEvent kept decoded.events) (Some cause)
-    → Moves log a b (λ kept. KeepsDecoded kept decoded) (Some cause)
-decoded_stopped log a b decoded cause moves = record { more = moves.more; grows = moves.grows; steps = λ kept homes. (Err cause, moves.steps kept homes, refl) }
-
--- all events, and then nothing or the fault
-pub decoded_whole : (log : List ℕ) (a b : List Entry) (decoded : Decoded) → Moves log a b (λ kept. InOrder KeepsEvent kept decoded.events) None → decoded.fault ≡ None
-    → Moves log a b (λ kept. KeepsDecoded kept decoded) None
-decoded_whole log a b decoded moves none = record {
-  more = moves.more;
-  grows = moves.grows;
-  steps = λ kept homes. let next = moves.steps kept homes in (next.0, next.1, (Ok next.0, next.2, ap (λ fault. behind_events fault (Ok next.0)) (sym none)));
-}
-
-pub decoded_broken : (log : List ℕ) (a b : List Entry) (decoded : Decoded) (fault : ItemFault) → Moves log a b (λ kept. InOrder KeepsEvent kept decoded.events) None → decoded.fault ≡ Some fault
-    → Moves log a b (λ kept. KeepsDecoded kept decoded) (Some (Rule fault.code))
-decoded_broken log a b decoded fault moves some = record {
-  more = moves.more;
-  grows = moves.grows;
-  steps = λ kept homes. let next = moves.steps kept homes in (Ok next.0, next.2, ap (λ fault. behind_events fault (Ok next.0)) (sym some));
-}
-
 -- a line that is decoded
 pub line_decoded : (log : List ℕ) (a b : List Entry) (line : List ℕ) (decoded : Decoded) (cause : Option LeftCause) → length line ≤ longest_line → IsDecoded line decoded
     → Moves log a b (λ kept. KeepsDecoded kept decoded) cause → Moves log a b (λ kept. KeepsLine kept line) cause
@@ -135,19 +98,3 @@ line_decoded log a b line decoded (Some cause) short is moves = record {
   grows = moves.grows;
   steps = λ kept homes. inr (short, (decoded, is, moves.steps kept homes));
 }
-
-pub line_long : (log : List ℕ) (entries : List Entry) (line : List ℕ) → longest_line < length line → Moves log entries entries (λ kept. KeepsLine kept line) (Some LineTooLong)
-line_long log entries line long = record { more = []; grows = sym (append-nil entries); steps = λ kept homes. inl (long, refl) }
-
-pub sifts_blank : (log : List ℕ) (entries : List Entry) (line : List ℕ) → is_dropped line ≡ true → SiftsAt log entries entries line Blank
-sifts_blank log entries line dropped = λ kept homes. (kept, homes, (dropped, refl))
-
-pub sifts_stays : (log : List ℕ) (a b : List Entry) (line : List ℕ) → is_dropped line ≡ false → Moves log a b (λ kept. KeepsLine kept line) None → SiftsAt log a b line Stays
-sifts_stays log a b line filled moves = λ kept homes. let next = moves.steps kept homes in (next.0, next.1, (filled, next.2))
-
--- the homes that a line left that is left out go
-pub sifts_left : (log : List ℕ) (a b c : List Entry) (line : List ℕ) (cause : LeftCause) → is_dropped line ≡ false → Moves log a b (λ kept. KeepsLine kept line) (Some cause) → c ≡ take (length a) b
-    → SiftsAt log a c line (Left cause)
-sifts_left log a b c line cause filled moves cut =
-    let same : c ≡ a = cut ∙ ap (λ es. take (length a) es) moves.grows ∙ take_front a moves.more in
-    λ kept homes. (kept, subst (λ es. AreHomes log es kept) (sym same) homes, (filled, moves.steps kept homes, refl))

@@ -1,5 +1,11 @@
 pub mod CompareFacts
 pub mod CutFacts
+pub mod DistinctFacts
 pub mod HomeFacts
 pub mod KeepingFacts
 pub mod LoopFacts
+pub mod OneFacts
+pub mod SameFacts
+pub mod StayFacts
+pub mod TakenFacts
+pub mod WholeFacts

@@ -1,13 +1,12 @@
 -- What becomes of a log's lines, line after line.
-use Rattle.std.proofs.Common.{◌≡◌, ℕ, ◌+◌, ◌-◌, ◌<◌, ◌≤◌, List, [], ◌∷◌, ◌++◌, length, take, drop, slice_range, nat_lt, All, Bool, true, false, refl, sym, ap, subst, ◌∙◌, arith, append_assoc}
-use Rattle.std.specs.List.{flat_map}
+use Rattle.std.proofs.Common.{◌≡◌, ℕ, ◌+◌, ◌-◌, ◌<◌, ◌≤◌, List, [], ◌∷◌, ◌++◌, length, take, drop, slice_range, nat_lt, All, true, false, inl, inr, refl, sym, ap, subst, ◌∙◌, arith, append_assoc}
 use Rattle.std.proofs.Math.Nat.{sub_self}
 use Rattle.std.proofs.Math.Seq.{take-add}
 use Rattle.std.proofs.lemmas.Bool.{cases_lt}
 use Rattle.std.proofs.lemmas.Bool.Decides.{nat_tests}
 use Rattle.std.proofs.lemmas.Grind.{flat_map-append}
 use Rattle.std.proofs.lemmas.List.{append-nil, drop-drop, drop_all}
-use Rattle.std.proofs.lemmas.List.Elements.{All-nil, All-push}
+use Rattle.std.proofs.lemmas.List.Elements.{All-push}
 use Rattle.line_reader.specs.Lines.{lines_of}
 use Rattle.audit_event.specs.declared.event.Event.{Event}
 use Rattle.log_sift.specs.declared.answer.Fate.{Fate}
@@ -18,8 +17,8 @@ use Rattle.log_sift.specs.declared.answer.Sifting.{Sifting}
 use Rattle.log_sift.specs.declared.recalling.Identity.{Identity}
 use Rattle.log_sift.specs.declared.recalling.Home.{Home}
 use Rattle.log_sift.specs.Cutting.{BeginsWith, texts_of}
-use Rattle.log_sift.specs.Recalling.{AreHomed, AreHomes, SiftsAt}
-use Rattle.log_sift.specs.Sift.{IsSifted, SiftsLine, SiftsLines}
+use Rattle.log_sift.specs.Recalling.{AreHomes, SiftsAt}
+use Rattle.log_sift.specs.Sift.{SiftsLines}
 use Rattle.log_sift.specs.Sifted.{IsSifting, IsWithin, count_of, count_stays, kept_text, left_line, left_lines, noted, staying, stays_from, stays_of, stretches_text, with_stretch}
 
 -- where the lines to come become these, what becomes of the whole log
@@ -40,27 +39,6 @@ pub record HasSifted (log : List ℕ) (entries : List (Identity × Home)) (sifti
   pub events : List Event
   pub homes : AreHomes log entries events
   pub goes_on : (fates : List Fate) (after : List Event) → SiftsLines events (lines_of (drop start log)) fates after → GoesOn log sifting number from start fates after
-
-abbrev pub nothing_told : Sifting
-nothing_told = record { stays = []; left = []; kept = 0 }
-
-pub nothing_sifted : (log : List ℕ) (entries : List (Identity × Home)) (sifting : Sifting) → entries ≡ [] → sifting ≡ nothing_told → HasSifted log entries sifting 0 0 0
-nothing_sifted log entries sifting none is = record {
-  first = omega arith;
-  last = omega arith;
-  few = omega arith;
-  fewer = rw is (omega arith);
-  within = rw is (All-nil (IsWithin log));
-  events = [];
-  homes = rw none tt;
-  goes_on = λ fates after sifts. record {
-    all = fates;
-    sifts = sifts;
-    stays = rw is refl;
-    left = rw is refl;
-    kept = rw is (omega arith);
-  };
-}
 
 lt_true : (a b : ℕ) → a < b → nat_lt a b ≡ true
 lt_true a b below = grind (arith, nat_tests)
@@ -111,8 +89,8 @@ texts_join log rest sifting from start next number Blank first second = longer l
 texts_join log rest sifting from start next number Stays first second = longer log (stretches_text log sifting.stays) rest from start next first second
 texts_join log rest sifting from start next number (Left cause) first second =
     ap (λ bytes. bytes ++ rest) (sym (stretch_text log sifting.stays from start first)
-      ∙ sym (append-nil (stretches_text log (with_stretch sifting.stays from start)))
-      ∙ ap (λ none. stretches_text log (with_stretch sifting.stays from start) ++ none) (sym (nothing_between log next)))
+    ∙ sym (append-nil (stretches_text log (with_stretch sifting.stays from start)))
+    ∙ ap (λ none. stretches_text log (with_stretch sifting.stays from start) ++ none) (sym (nothing_between log next)))
 
 left_join : (sifting : Sifting) (from start number : ℕ) (fate : Fate) (rest : List LeftLine) → sifting.left ++ left_line fate number rest ≡ (noted sifting from start number fate).left ++ rest
 left_join sifting from start number Blank rest = refl
@@ -174,19 +152,18 @@ has_sifted log line entries after sifting number from start next fate has furthe
           (has.goes_on (fate ∷ fates) kept (subst (λ lines. SiftsLines has.events lines (fate ∷ fates) kept) (sym begins.lines) (here.0, here.2, rest)));
     }
 
-pub homed_now : (log : List ℕ) (entries : List (Identity × Home)) (sifting : Sifting) (number from start : ℕ) → HasSifted log entries sifting number from start → AreHomed log entries
-homed_now log entries sifting number from start has = (has.events, has.homes)
-
 -- all lines are sifted
 pub all_sifted : (log : List ℕ) (entries : List (Identity × Home)) (sifting told : Sifting) (number from start : ℕ) → HasSifted log entries sifting number from start → length log ≤ start
     → told ≡ record sifting { stays = with_stretch sifting.stays from start } → (fates : List Fate) × IsSifting log fates told
 all_sifted log entries sifting told number from start has past is =
     let over : drop start log ≡ [] = drop_all start log past in
-    let on = has.goes_on [] has.events (subst (λ bytes. SiftsLines has.events (lines_of bytes) [] has.events) (sym over) refl) in
-    (on.all, subst (IsSifting log on.all) (sym is) record {
-      sifted = record { kept = has.events; sifts = on.sifts };
-      within = stretch_within log sifting.stays from start has.within has.first has.last;
-      stays = stretch_text log sifting.stays from start has.first ∙ sym (append-nil (stretches_text log sifting.stays ++ slice_range log from start)) ∙ sym on.stays;
-      left = sym (append-nil sifting.left) ∙ sym on.left;
-      kept = (let k = on.kept in omega (arith, k));
-    })
+    let on = has.goes_on [] has.events (subst (λ bytes. SiftsLines has.events (lines_of bytes) [] has.events) (sym over) refl) in (
+      on.all,
+      subst (IsSifting log on.all) (sym is) record {
+        sifted = record { kept = has.events; sifts = on.sifts };
+        within = stretch_within log sifting.stays from start has.within has.first has.last;
+        stays = stretch_text log sifting.stays from start has.first ∙ sym (append-nil (stretches_text log sifting.stays ++ slice_range log from start)) ∙ sym on.stays;
+        left = sym (append-nil sifting.left) ∙ sym on.left;
+        kept = (let k = on.kept in omega (arith, k));
+      },
+    )

@@ -3,7 +3,6 @@ use Rattle.std.specs.Prelude.{◌≡◌, ℕ, ◌+◌, ◌≤◌, List, [], ◌�
 use Rattle.std.specs.List.{flat_map}
 use Rattle.log_sift.specs.declared.answer.Fate.{Fate}
 use Rattle.log_sift.specs.declared.answer.Fate.TheVariants.{Blank, Stays, Left}
-use Rattle.log_sift.specs.declared.answer.LeftCause.{LeftCause}
 use Rattle.log_sift.specs.declared.answer.LeftLine.{LeftLine}
 use Rattle.log_sift.specs.declared.answer.Stretch.{Stretch}
 use Rattle.log_sift.specs.declared.answer.Sifting.{Sifting}

@@ -25,8 +25,9 @@ fn keep_event(
     requires homed { AreHomed log.now homes.old.entries }
     ensures { IfOk result (Moves log.now homes.old.entries homes.new.entries (λ kept. KeepsEvent kept event)) }
 {
+    let audit_id = event.audit_id.clone()?;
     let identity = Identity {
-        audit_id: event.audit_id.clone()?,
+        audit_id,
         stage: event.stage,
     };
     match home_of(homes, &identity) {
@@ -53,10 +54,10 @@ fn keep_events(
 {
     let mut item = 0;
     for event in events.into_vec() {
-        if let Some(cause) = keep_event(alloc, log, homes, Home { start, end, item }, event)? {
-            return Ok(Some(cause));
+        match keep_event(alloc, log, homes, Home { start, end, item }, event)? {
+            Some(cause) => return Ok(Some(cause)),
+            None => item += 1,
         }
-        item += 1;
     }
     Ok(None)
 }

@@ -4,10 +4,12 @@
 mod answer;
 mod cutting;
 mod keeping;
+mod law;
 mod recalling;
 mod telling;
 mod whole;
 
 pub use answer::{Fate, LeftCause, LeftLine, LeftLines, Sifting, Stretch, Stretches};
+pub use law::{one_sifting_law, taken_law, whole_law};
 pub use telling::left_text;
 pub use whole::sift;

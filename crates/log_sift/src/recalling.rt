@@ -42,7 +42,12 @@ pub fn home_of(homes: &Homes, identity: &Identity) -> Option<Home>
 }
 
 /// What the line between two indexes holds.
-pub fn decode_at(alloc: Global, log: &[u8], start: usize, end: usize) -> Result<Decoded, OutOfMemory>
+pub fn decode_at(
+    alloc: Global,
+    log: &[u8],
+    start: usize,
+    end: usize,
+) -> Result<Decoded, OutOfMemory>
     requires first { start ≤ end }
     requires last { end ≤ length log.now }
     ensures { IfOk result (IsDecoded (slice_range log.now start end)) }

@@ -1,4 +1,4 @@
-ghost use Rattle.std.specs.Prelude.{◌≡◌, ◌≤◌, ◌<◌, ◌+◌, ◌^◌, IfOk, OnOk, List};
+ghost use Rattle.std.specs.Prelude.{◌≡◌, ◌<◌, ◌+◌, IfOk, OnOk, List};
 ghost use Rattle.log_sift.specs.declared.answer.Fate.{Fate as Became};
 ghost use Rattle.log_sift.specs.Sifted.{IsSifting, noted, stays_from, with_stretch};
 

@@ -1,4 +1,4 @@
-use Rattle.std.proofs.Common.{◌≡◌, ◌∙◌, List, [], ◌∷◌, ◌++◌, Option, Some, None, Bool, true, ap, rules, sym, subst}
+use Rattle.std.proofs.Common.{◌≡◌, ◌∙◌, Some, None, true, rules, sym}
 use Rattle.std.specs.Map.{lookup}
 use Rattle.indexmap.proofs.CallerLemmas.{insert_entry-new}
 use Rattle.audit_event.specs.declared.event.Event.{Event}
@@ -36,8 +36,8 @@ returns-in-Some c =
     if_ok c.compare_at.result (λ cause. (earlier : Event) → IsAt log home earlier → AreOfOneStage earlier event → Compares earlier event cause) (Moves log entries entries (λ kept. KeepsEvent kept event))
     (λ cause compares. compared same.eq-value.it means log entries identity home event cause there is compares) c.compare_at.ensures
 
-pub returns-in-None : goal.returns-in-None
-returns-in-None c =
+pub returns-in_ok-insert-in-None : goal.returns-in_ok-insert-in-None
+returns-in_ok-insert-in-None c =
     let log = c.args.log.now in
     let entries = c.args.homes.now.entries in
     let event = c.args.event in
@@ -45,4 +45,4 @@ returns-in-None c =
     let is : identity ≡ identity_of event = (λ i. record { audit_id = c.in_ok-audit_id.ensures.cases i; stage = event.stage }) in
     let none : lookup (same.eq-value.it identity) entries ≡ None = sym c.home_of.ensures ∙ c.in-None.is in
     kept_new same.eq-value.it tells log entries c.insert.new.self.entries identity c.args.home event none is c.requires.stands
-    (c.in_ok-insert.ensures.entries ∙ insert_entry-new same.eq-value.it c.args.homes.now identity c.args.home none)
+    (c.in_ok-insert-in-None.ensures.entries ∙ insert_entry-new same.eq-value.it c.args.homes.now identity c.args.home none)

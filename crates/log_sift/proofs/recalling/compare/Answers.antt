@@ -1,4 +1,4 @@
-use Rattle.log_sift.proofs.CompareFacts.{differed, repeated}
+use Rattle.log_sift.proofs.CompareFacts.{repeated}
 use Rattle.log_sift.proofs.recalling.compare.Goals as goal
 
 pub returns-in-Ok : goal.returns-in-Ok
