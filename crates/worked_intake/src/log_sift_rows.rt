@@ -192,6 +192,9 @@ fn long_lines(rt: HostRuntime) -> Result<(), Fail> {
     let short = sift(alloc, spaces(alloc, 16_777_216)?.as_slice())?;
     assert_eq!(rt; left_text(alloc, &short)?.as_str(), "kept 0 left 0\n");
     let long = sift(alloc, spaces(alloc, 16_777_217)?.as_slice())?;
-    assert_eq!(rt; left_text(alloc, &long)?.as_str(), "1 limit line\nkept 0 left 1\n");
+    assert_eq!(rt;
+        left_text(alloc, &long)?.as_str(),
+        "1 limit line\nkept 0 left 1\n"
+    );
     Ok(())
 }
