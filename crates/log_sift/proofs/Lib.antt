@@ -1,8 +1,10 @@
 pub mod CompareFacts
 pub mod CutFacts
 pub mod DistinctFacts
+pub mod FrontFacts
 pub mod HomeFacts
 pub mod KeepingFacts
+pub mod LongFacts
 pub mod LoopFacts
 pub mod OneFacts
 pub mod SameFacts

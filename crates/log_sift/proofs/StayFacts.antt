@@ -20,7 +20,7 @@ staying_lines (line ∷ lines) (Stays ∷ fates) = line ∷ staying_lines lines 
 staying_lines (line ∷ lines) (Left cause ∷ fates) = staying_lines lines fates
 
 -- no line has a newline
-abbrev AreLines : List (List ℕ) → Type 0
+abbrev pub AreLines : List (List ℕ) → Type 0
 AreLines [] = ⊤
 AreLines (line ∷ lines) = HasNoNewline line × AreLines lines
 
@@ -31,7 +31,7 @@ begun_plain : (byte : ℕ) (lines : List (List ℕ)) (rest : List ℕ) → byte 
 begun_plain byte [] rest other are = (tt, All-cons (λ b. b ≢ newline) byte rest other are.1)
 begun_plain byte (line ∷ lines) rest other are = ((All-cons (λ b. b ≢ newline) byte line other are.0.0, are.0.1), are.1)
 
-plain : (bytes : List ℕ) → AreLines (whole_lines bytes) × HasNoNewline (rest_of bytes)
+pub plain : (bytes : List ℕ) → AreLines (whole_lines bytes) × HasNoNewline (rest_of bytes)
 plain [] = (tt, All-nil (λ b. b ≢ newline))
 plain (byte ∷ bytes) = go (nat_eq byte newline) refl (plain bytes)
   where

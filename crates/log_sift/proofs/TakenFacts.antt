@@ -1,5 +1,5 @@
 -- What a judge reads of the lines that stay.
-use Rattle.std.proofs.Common.{◌≡◌, ℕ, ◌+◌, ◌-◌, ◌≤◌, inl, inr, List, [], ◌∷◌, length, Option, Some, None, Result, Ok, Err, refl, sym, ◌∙◌, ap, subst, arith}
+use Rattle.std.proofs.Common.{◌≡◌, ℕ, ◌+◌, ◌-◌, inl, inr, List, [], ◌∷◌, Option, Some, None, Result, Ok, Err, refl, sym, ◌∙◌, subst, arith}
 use Rattle.line_reader.specs.Lines.{NumberedLine, lines_of, number_after, number_line, numbered}
 use Rattle.audit_event.specs.declared.event.Event.{Event}
 use Rattle.audit_event.specs.declared.fault.Malformed.TheVariants.{M12}
@@ -9,7 +9,7 @@ use Rattle.batch_decode.specs.declared.decoded.ItemFault.{ItemFault}
 use Rattle.batch_decode.proofs.Alone.{one_decoding}
 use Rattle.log_intake.specs.declared.stop.LogStop.{LogStop}
 use Rattle.log_intake.specs.declared.stop.LogStop.TheVariants.{TooManyEvents}
-use Rattle.log_intake.specs.Log.{Differs, IsLogRead, LogState, TakesDecoded, TakesEvent, TakesLine, kept_of, most_input, nothing_read, numbered_events, unless_fault as state_unless}
+use Rattle.log_intake.specs.Log.{Differs, LogState, TakesDecoded, TakesEvent, TakesLine, kept_of, nothing_read, numbered_events, unless_fault as state_unless}
 use Rattle.log_intake.specs.Steps.{InOrder}
 use Rattle.log_sift.specs.declared.answer.LeftCause.{LeftCause}
 use Rattle.log_sift.specs.declared.answer.LeftCause.TheVariants.{Rule}
@@ -71,7 +71,7 @@ decoded_stop state ys after decoded first stop distinct are (events, keeps, is) 
     let same : stop ≡ other = cc in
     same ∙ events_stop decoded.events state.kept ys after first other distinct are (subst (λ e. InOrder KeepsEvent ys decoded.events e) whole.1 keeps) takes
 
-line_stop : (state : LogState) (ys after : List Event) (line : NumberedLine) (stop : LogStop) → IsDistinct ys → AreSame state.kept ys → KeepsLine ys line.bytes (Ok after)
+pub line_stop : (state : LogState) (ys after : List Event) (line : NumberedLine) (stop : LogStop) → IsDistinct ys → AreSame state.kept ys → KeepsLine ys line.bytes (Ok after)
     → TakesLine state line (Err stop) → stop ≡ TooManyEvents
 line_stop state ys after line stop distinct are (inl (long, is)) takes = absurd cc
 line_stop state ys after line stop distinct are (inr (short, keeps)) (inl (long, is)) = absurd (omega (arith, short, long))
@@ -108,11 +108,11 @@ reads_lines (line ∷ lines) (Stays ∷ fates) number state ys after found disti
 
 read_of : (kept : List Event) (found : Result LogState LogStop) (read : Result (List Event) LogStop) → ReadsState kept found → read ≡ kept_of found → ReadsKept kept read
 read_of kept (Ok state) read reads is = subst (ReadsKept kept) (sym is) reads
-read_of kept (Err stop) read reads is = subst (ReadsKept kept) (sym is) reads
+read_of kept (Err stop) read reads is = subst (ReadsKept kept) (sym is) (inl reads)
 
-pub kept_is_taken : (log : List ℕ) (fates : List Fate) (read : Result (List Event) LogStop) (sifted : IsSifted log fates) → length (kept_text log fates) ≤ most_input
-    → IsLogRead (kept_text log fates) read → ReadsKept sifted.kept read
-kept_is_taken log fates read sifted short (inl (within, (found, takes, is))) =
+-- what stays is read to its end
+pub whole_is_taken : (log : List ℕ) (fates : List Fate) (read : Result (List Event) LogStop) (found : Result LogState LogStop) (sifted : IsSifted log fates)
+    → InOrder TakesLine nothing_read (numbered 0 (lines_of (kept_text log fates))) found → read ≡ kept_of found → ReadsKept sifted.kept read
+whole_is_taken log fates read found sifted takes is =
     read_of sifted.kept found read
     (reads_lines (lines_of log) fates 0 nothing_read [] sifted.kept found none_distinct tt sifted.sifts (subst (λ lines. InOrder TakesLine nothing_read (numbered 0 lines) found) (lines_kept log fates) takes)) is
-kept_is_taken log fates read sifted short (inr (long, more)) = absurd (omega (arith, short, long))

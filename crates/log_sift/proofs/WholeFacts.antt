@@ -17,13 +17,13 @@ use Rattle.log_sift.specs.Taken.{AreSame}
 use Rattle.log_sift.proofs.SameFacts.{line_same}
 
 -- no line is left out
-abbrev AllStay : List Fate → Type 0
+abbrev pub AllStay : List Fate → Type 0
 AllStay [] = ⊤
 AllStay (Blank ∷ fates) = AllStay fates
 AllStay (Stays ∷ fates) = AllStay fates
 AllStay (Left cause ∷ fates) = ⊥
 
-record SiftsWhole (kept : List Event) (lines : List (List ℕ)) : Type 0 where
+pub record SiftsWhole (kept : List Event) (lines : List (List ℕ)) : Type 0 where
   pub fates : List Fate
   pub after : List Event
   pub sifts : SiftsLines kept lines fates after

@@ -7,7 +7,7 @@ pub fn one_sifting_law()
     ensures { OneSifting }
 {}
 
-/// What stays of a log, up to 2^40 bytes, reads as the kept events, whatever their numbers, unless there are too many.
+/// What stays of a log reads as the kept events, whatever their numbers, unless there are too many or it is too long.
 pub fn taken_law()
     ensures { KeptIsTaken }
 {}

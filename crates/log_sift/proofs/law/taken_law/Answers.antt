@@ -1,4 +1,4 @@
-use Rattle.log_sift.proofs.TakenFacts.{kept_is_taken}
+use Rattle.log_sift.proofs.LongFacts.{kept_is_taken}
 use Rattle.log_sift.proofs.law.taken_law.Goals as goal
 
 pub returns : goal.returns

@@ -1,0 +1,3 @@
+pub mod EndingFacts
+pub mod ReportedFacts
+pub mod RunFacts

@@ -1,0 +1,5 @@
+pub mod Command
+pub mod Endings
+pub mod Program
+pub mod Reported
+pub mod Sifted
