@@ -143,7 +143,8 @@ there too, ask who may write to it.
 
 /// `M11`
 pub const M11: &str =
-    "M11: `responseStatus` isn't an object whose `code` is a whole number from 0 to 999.
+    "M11: `responseStatus` is there and isn't an object, or has a `code` that isn't a whole number
+from 0 to 999; null is none.
 
 How it comes about: An API server writes no such event: it was edited, or a program on the
 log's way rewrote it.

@@ -140,13 +140,13 @@ pub const S12: &str =
     "S12: `snapshot` isn't of its form, or one of its objects isn't one of a tracked resource.
 
 How it comes about: An item of a list was put in as it was, without its group and resource;
-or `kind` and `apiVersion` stand in an object and aren't those of its entry.
+or the `kind` of an object isn't that of its entry.
 
 Look at: `metadata` of each object: a name, a uid, a revision and, exactly where its
 resource is namespaced, a namespace.
 
 What to do: Give each object as the member `object` beside its `group` and its `resource`,
-with `kind` and `apiVersion` of the entry or with neither.
+with the `kind` of the entry or with none.
 ";
 
 /// `S13`

@@ -157,8 +157,8 @@ snapshot's lists.
 
 /// `U13`
 pub const U13: &str =
-    "U13: the event is a list that lacks an object, shows one that wasn't there, or shows another
-version of it; or a checkpoint that does.
+    "U13: the event is a list that lacks an object, shows one that wasn't there, twice, or against
+its selector, or shows another version of it; or a checkpoint that does.
 
 How it comes about: A write isn't in the log, as after a body in YAML; of a checkpoint: the
 backup is of another cluster or another time.
