@@ -1,12 +1,8 @@
 -- Reasons, where want of memory tells nothing.
-use Rattle.std.proofs.Common.{◌≡◌, ℕ, ◌≤◌, ◌<◌, List, length, take, Some, None, Bool, true, inl, inr, refl, sym, ap, subst, ◌∙◌, arith}
-use Rattle.std.proofs.lemmas.List.{take_all}
-use Rattle.json_tree.specs.Meaning.{Meaning}
-use Rattle.setup_file.specs.declared.fault.SetupRule.{SetupRule}
+use Rattle.std.proofs.Common.{◌≡◌, ℕ, zero, suc, ◌+◌, ◌⊎◌, ◌<◌, inl, inr, refl, sym, ap, subst, arith}
 use Rattle.cluster_setup.specs.declared.fault.SetupRefusal.{SetupRefusal}
 use Rattle.cluster_setup.specs.declared.fault.SetupRefusal.TheVariants.{Time, Policy, Empty, Rule, File, OutOfMemory}
-use Rattle.cluster_setup.specs.Answers.{OrMemory, IsBlamed, IsAccepted, Breaks, blamed}
-use Rattle.cluster_setup.specs.Making.{setup_tree}
+use Rattle.cluster_setup.specs.Answers.{OrMemory}
 
 pub or_memory : (Is : SetupRefusal → Type 0) (refusal : SetupRefusal) → Is refusal → OrMemory Is refusal
 or_memory Is Time is = is
@@ -24,16 +20,20 @@ weaker Is Was gives (Rule rule) was = gives (Rule rule) was
 weaker Is Was gives (File number code) was = gives (File number code) was
 weaker Is Was gives OutOfMemory was = tt
 
--- a rule that is broken with the objects of all files, and none with those of fewer
-pub blamed_last : (revision time : List ℕ) (policy : Meaning) (trees : List Meaning) (authorize : Bool) (rule : SetupRule) (refusal : SetupRefusal)
-    → Breaks (setup_tree revision time policy trees trees authorize) rule
-    → ((fewer : ℕ) → fewer < length trees → IsAccepted (setup_tree revision time policy trees (take fewer trees) authorize))
-    → refusal ≡ blamed (length trees) rule → IsBlamed revision time policy trees authorize refusal
-blamed_last revision time policy trees authorize rule refusal broken before is = record {
-  number = length trees;
-  rule = rule;
-  within = omega arith;
-  broken = subst (λ shown. Breaks (setup_tree revision time policy trees shown authorize) rule) (sym (take_all (length trees) trees (omega arith))) broken;
-  before = before;
-  is = is;
-}
+split : (k n : ℕ) → k < n + 1 → (k < n) ⊎ (k ≡ n)
+split zero zero lt = inr refl
+split zero (suc n) lt = inl (omega arith)
+split (suc k) zero lt = absurd (omega arith)
+split (suc k) (suc n) lt =
+    elim (split k n (omega arith)) [
+      | inl below ↦ inl (omega (arith, below))
+      | inr same ↦ inr (ap (λ m. suc m) same)
+    ]
+
+-- what holds of all numbers below one, and of that one
+pub one_more : (P : ℕ → Type 0) (n : ℕ) → ((k : ℕ) → k < n → P k) → P n → (k : ℕ) → k < n + 1 → P k
+one_more P n before here k lt =
+    elim (split k n lt) [
+      | inl below ↦ before k below
+      | inr same ↦ subst P (sym same) here
+    ]

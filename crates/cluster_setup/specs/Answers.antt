@@ -74,22 +74,31 @@ IsRefused time policy trees authorize refusal =
     ⊎ (((first_refused trees trees ≡ None) × (start_word trees ≡ None) × (refusal ≡ Empty))
     ⊎ BreaksRules time policy trees authorize refusal)
 
+-- the text of the setup of these files
+pub record IsReadOut (time : List ℕ) (policy : Meaning) (files : List (List ℕ)) (authorize : Bool) (text : List ℕ) : Type 0 where
+  pub trees : List Meaning
+  pub read : AreTrees files trees
+  pub made : IsSetupText time policy trees authorize text
+
+-- some file is no JSON text, or no setup is made of the trees of the files
+abbrev pub IsUnread : List ℕ → Meaning → List (List ℕ) → Bool → SetupRefusal → Type 0
+IsUnread time policy files authorize refusal =
+    ((number : ℕ) × IsFirstBroken files number × (refusal ≡ File number Json))
+    ⊎ ((trees : List Meaning) × AreTrees files trees × IsRefused time policy trees authorize refusal)
+
 -- the text of the setup of these bytes
 pub record IsMade (time policy : List ℕ) (files : List (List ℕ)) (authorize : Bool) (text : List ℕ) : Type 0 where
   pub timed : is_some (moment_of time) ≡ true
   pub given : Meaning
   pub governed : IsPolicy policy given
-  pub trees : List Meaning
-  pub read : AreTrees files trees
-  pub made : IsSetupText time given trees authorize text
+  pub made : IsReadOut time given files authorize text
 
 -- time and policy are as they should be, and a file isn't
 pub record FilesRefused (time policy : List ℕ) (files : List (List ℕ)) (authorize : Bool) (refusal : SetupRefusal) : Type 0 where
   pub timed : is_some (moment_of time) ≡ true
   pub given : Meaning
   pub governed : IsPolicy policy given
-  pub cause : ((number : ℕ) × IsFirstBroken files number × (refusal ≡ File number Json))
-      ⊎ ((trees : List Meaning) × AreTrees files trees × IsRefused time given trees authorize refusal)
+  pub cause : IsUnread time given files authorize refusal
 
 -- the time is the first reason, the policy the second, and then a file
 abbrev pub Refuses : List ℕ → List ℕ → List (List ℕ) → Bool → SetupRefusal → Type 0

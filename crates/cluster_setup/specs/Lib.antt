@@ -4,3 +4,4 @@ pub mod Found
 pub mod Making
 pub mod Refusing
 pub mod Table
+pub mod Telling

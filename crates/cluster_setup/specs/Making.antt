@@ -1,5 +1,5 @@
 -- The setup that is made.
-use Rattle.std.specs.Prelude.{ℕ, pos, ◌++◌, Bool, List, [], ◌∷◌, Option, Some, None, map, is_some, bytes_eq, codes, if◌then◌else◌}
+use Rattle.std.specs.Prelude.{ℕ, pos, ◌++◌, Bool, false, List, [], ◌∷◌, Option, Some, None, map, is_some, bytes_eq, codes, if◌then◌else◌}
 use Rattle.std.specs.List.{flat_map, list_any}
 use Rattle.base_types.specs.Matching.{combined}
 use Rattle.json_tree.specs.Edits.{put}
@@ -82,7 +82,7 @@ subresources_of document resource form =
     (with_status document resource form []))))))
 
 abbrev pub is_true : Option Bool → Bool
-is_true None = Rattle.std.specs.Prelude.false
+is_true None = false
 is_true (Some given) = given
 
 abbrev pub is_namespaced : Meaning → Bool

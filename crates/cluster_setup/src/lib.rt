@@ -13,7 +13,9 @@ mod making;
 mod objects;
 mod refusing;
 mod table;
+mod telling;
 mod words;
 
 pub use fault::{FileFault, SetupRefusal};
 pub use making::make_setup;
+pub use telling::refusal_words;
