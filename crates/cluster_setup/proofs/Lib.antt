@@ -1,3 +1,4 @@
+pub mod Added
 pub mod Causes
 pub mod Left
 pub mod ListKinds

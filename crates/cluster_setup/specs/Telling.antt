@@ -43,5 +43,5 @@ refusal_words Time = codes "time"
 refusal_words Policy = codes "policy"
 refusal_words Empty = codes "empty"
 refusal_words (Rule rule) = codes "resources " ++ rule_word rule
-refusal_words (File number code) = codes "file " ++ decimal number ++ codes " " ++ code_word code
+refusal_words (File number code) = codes "file " ++ (decimal number ++ (codes " " ++ code_word code))
 refusal_words OutOfMemory = codes "memory"

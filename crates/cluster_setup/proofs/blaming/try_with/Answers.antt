@@ -12,5 +12,5 @@ accept-requires c =
     (setup_in_range g.revision.now g.time.now g.policy.now g.trees.now (take c.args.number g.trees.now) g.authorize c.requires.policy c.requires.trees
     (All-take InRange c.args.number g.trees.now c.requires.trees))
 
-pub fault_blamed-requires-broken : goal.fault_blamed-requires-broken
-fault_blamed-requires-broken c = λ rule e. subst (λ t. Breaks t rule) c.in_ok-tree.ensures (c.in-Err.ensures.broken rule (ap (λ fault. Err fault) e))
+pub fault_blamed-requires-clause-broken : goal.fault_blamed-requires-clause-broken
+fault_blamed-requires-clause-broken c = λ rule e. subst (λ t. Breaks t rule) c.in_ok-tree.ensures (c.in-Err.ensures.broken rule (ap (λ fault. Err fault) e))

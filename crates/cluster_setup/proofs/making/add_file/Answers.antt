@@ -10,14 +10,14 @@ use Rattle.cluster_setup.proofs.Causes.{weaker}
 use Rattle.cluster_setup.proofs.Zips.{zip_more, first_broken}
 use Rattle.cluster_setup.proofs.making.add_file.Goals as goal
 
-pub returns-in-Ok-clause-read : goal.returns-in-Ok-clause-read
-returns-in-Ok-clause-read c =
-    rw c.in_ok-push.ensures.items
+pub returns-in_ok-push-in-Ok-clause-read : goal.returns-in_ok-push-in-Ok-clause-read
+returns-in_ok-push-in-Ok-clause-read c =
+    rw c.in_ok-push-in-Ok.ensures.items
     (zip_more IsTreeOf c.args.files.now c.args.trees.now.items c.args.number c.index-files-number.result c.in-Ok.tree c.requires.within c.index-files-number.is c.requires.read c.in-Ok.ensures.read)
 
-pub returns-in-Ok-clause-range : goal.returns-in-Ok-clause-range
-returns-in-Ok-clause-range c =
-    rw c.in_ok-push.ensures.items
+pub returns-in_ok-push-in-Ok-clause-range : goal.returns-in_ok-push-in-Ok-clause-range
+returns-in_ok-push-in-Ok-clause-range c =
+    rw c.in_ok-push-in-Ok.ensures.items
     (All-append InRange c.args.trees.now.items (c.in-Ok.tree ∷ []) c.requires.range (All-cons InRange c.in-Ok.tree [] c.in-Ok.ensures.range (All-nil InRange)))
 
 pub returns-in-Err-clause-cause : goal.returns-in-Err-clause-cause

@@ -10,5 +10,5 @@ accept-requires c =
     subst InRange (sym c.in_ok-tree.ensures)
     (setup_in_range g.revision.now g.time.now g.policy.now g.trees.now g.trees.now g.authorize c.requires.policy c.requires.trees c.requires.trees)
 
-pub refuse-requires-broken : goal.refuse-requires-broken
-refuse-requires-broken c = λ rule e. subst (λ t. Breaks t rule) c.in_ok-tree.ensures (c.in-Err.ensures.broken rule (ap (λ fault. Err fault) e))
+pub refuse-requires-clause-broken : goal.refuse-requires-clause-broken
+refuse-requires-clause-broken c = λ rule e. subst (λ t. Breaks t rule) c.in_ok-tree.ensures (c.in-Err.ensures.broken rule (ap (λ fault. Err fault) e))
