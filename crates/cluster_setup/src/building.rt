@@ -131,12 +131,7 @@ pub fn two(alloc: Global, first: Tree, second: Tree) -> Result<Tree, OutOfMemory
 }
 
 /// The list of three items.
-pub fn three(
-    alloc: Global,
-    first: Tree,
-    second: Tree,
-    third: Tree,
-) -> Result<Tree, OutOfMemory>
+pub fn three(alloc: Global, first: Tree, second: Tree, third: Tree) -> Result<Tree, OutOfMemory>
     ensures { IfOk result (λ tree. tree ≡ three first second third) }
 {
     let mut all = Vec::new(alloc);

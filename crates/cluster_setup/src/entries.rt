@@ -3,7 +3,9 @@ ghost use Rattle.std.specs.List.{flat_map};
 ghost use Rattle.json_tree.specs.Meaning.{items, kids_of};
 ghost use Rattle.cluster_setup.specs.Making.{usual_shapes, shapes_of, status_shapes_of, same_subresource, idle_subresource, is_named, is_served, with_status, with_idle, subresources_of, is_namespaced, entry_with, entry_of, form_for, entries_from, entries_of};
 
-use crate::building::{asked, flag, items, no_members, none, object, one, put, say, shape, three, two};
+use crate::building::{
+    asked, flag, items, no_members, none, object, one, put, say, shape, three, two,
+};
 use crate::finding::{Found, found_for};
 use crate::table::{Form, form_of, patch_of};
 use crate::words::{group_of, listed, version_of, word};

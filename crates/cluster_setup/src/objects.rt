@@ -10,12 +10,7 @@ use base_types::OutOfMemory;
 use json_tree::{Node, Tree, copy};
 use std::alloc::Global;
 
-fn put_in(
-    alloc: Global,
-    tree: &mut Tree,
-    name: &str,
-    text: &str,
-) -> Result<(), OutOfMemory>
+fn put_in(alloc: Global, tree: &mut Tree, name: &str, text: &str) -> Result<(), OutOfMemory>
     ensures { OnOk result (tree.new ≡ put_in name.now text.now tree.old) }
 {
     if let Node::Members(list) = &mut tree.node {
@@ -35,12 +30,7 @@ fn fill(alloc: Global, tree: &mut Tree, name: &str, text: &str) -> Result<(), Ou
 }
 
 // The item of a list, with the kind and the version that the list leaves out.
-fn whole_item(
-    alloc: Global,
-    kind: &str,
-    version: &str,
-    item: &Tree,
-) -> Result<Tree, OutOfMemory>
+fn whole_item(alloc: Global, kind: &str, version: &str, item: &Tree) -> Result<Tree, OutOfMemory>
     ensures { IfOk result (λ made. made ≡ whole_item kind.now version.now item.now) }
 {
     let mut made = copy(alloc, item)?;
