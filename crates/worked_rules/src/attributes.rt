@@ -1,5 +1,5 @@
-use crate::given::{assert_count, assert_text, text};
-use base_types::{Pairs, RequestAttrs};
+use crate::given::{check, text};
+use base_types::{Pair, Pairs, RequestAttrs};
 use request_attrs::{UriFault, attrs_of};
 use std::process::Abort;
 
@@ -165,33 +165,31 @@ static REQUESTS: [(&str, &str, [&str; 6]); 33] = [
     ),
 ];
 
-// The attributes of a request for a resource.
-fn check_resource(rt: &impl Abort, attrs: &RequestAttrs, verb: &str, parts: &[&str; 6]) {
-    let [group, version, namespace, resource, name, subresource] = parts;
-    assert!(rt; attrs.is_resource);
-    assert_text(rt, &attrs.verb, verb);
-    assert_text(rt, &attrs.group, group);
-    assert_text(rt, &attrs.version, version);
-    assert_text(rt, &attrs.namespace, namespace);
-    assert_text(rt, &attrs.resource, resource);
-    assert_text(rt, &attrs.name, name);
-    assert_text(rt, &attrs.subresource, subresource);
+// The parts of a request for a resource, as the table has them.
+fn parts_of(attrs: &RequestAttrs) -> [&str; 6] {
+    [
+        attrs.group.as_str(),
+        attrs.version.as_str(),
+        attrs.namespace.as_str(),
+        attrs.resource.as_str(),
+        attrs.name.as_str(),
+        attrs.subresource.as_str(),
+    ]
+}
+
+fn is_request(rt: &(impl Abort + AllocGlobal), row: &(&str, &str, [&str; 6])) -> bool {
+    let attrs = read(rt, row.0, row.1).expect(rt, "attributes");
+    let is_verb = attrs.is_resource && attrs.verb.as_str() == row.0;
+    let is_request = is_verb && parts_of(&attrs) == row.2;
+    drop(attrs);
+    is_request
 }
 
 #[test]
 fn resource_requests(rt: HostRuntime) {
-    for (verb, uri, parts) in &REQUESTS {
-        let attrs = read(&rt, verb, uri).expect(&rt, "attributes");
-        check_resource(&rt, &attrs, verb, parts);
-        drop(attrs);
+    for row in &REQUESTS {
+        check(&rt, is_request(&rt, row), row.1);
     }
-}
-
-// The attributes of a request of a path.
-fn check_other(rt: &impl Abort, attrs: &RequestAttrs, path: &str) {
-    assert!(rt; !attrs.is_resource);
-    assert_text(rt, &attrs.path, path);
-    assert!(rt; attrs.resource.is_empty() && attrs.name.is_empty() && attrs.version.is_empty());
 }
 
 // A URI, and the path that it asks for.
@@ -208,12 +206,26 @@ static PATHS: [(&str, &str); 10] = [
     ("/logs/a+b%20c%25", "/logs/a+b c%"),
 ];
 
+// The request is of this path, and of no resource.
+fn is_of_path(attrs: &RequestAttrs, path: &str) -> bool {
+    !attrs.is_resource
+        && attrs.path.as_str() == path
+        && attrs.resource.is_empty()
+        && attrs.name.is_empty()
+        && attrs.version.is_empty()
+}
+
+fn is_path(rt: &(impl Abort + AllocGlobal), row: &(&str, &str)) -> bool {
+    let attrs = read(rt, "list", row.0).expect(rt, "attributes");
+    let is_path = is_of_path(&attrs, row.1);
+    drop(attrs);
+    is_path
+}
+
 #[test]
 fn other_paths(rt: HostRuntime) {
-    for (uri, path) in &PATHS {
-        let attrs = read(&rt, "list", uri).expect(&rt, "attributes");
-        check_other(&rt, &attrs, path);
-        drop(attrs);
+    for row in &PATHS {
+        check(&rt, is_path(&rt, row), row.0);
     }
 }
 
@@ -229,11 +241,14 @@ static MEMBERS: [(&str, &str); 8] = [
     ("%zz", "\u{e4}\u{fffd}?="),
 ];
 
+fn is_member(pair: &Pair, member: &(&str, &str)) -> bool {
+    pair.name.as_str() == member.0 && pair.value.as_str() == member.1
+}
+
 fn check_query(rt: &impl Abort, query: &Pairs) {
-    assert_count(rt, query.len(), MEMBERS.len());
-    for (pair, (name, value)) in query.iter().zip(&MEMBERS) {
-        assert_text(rt, &pair.name, name);
-        assert_text(rt, &pair.value, value);
+    check(rt, query.len() == MEMBERS.len(), "the count");
+    for (pair, member) in query.iter().zip(&MEMBERS) {
+        check(rt, is_member(pair, member), member.0);
     }
 }
 
@@ -243,11 +258,6 @@ fn queries(rt: HostRuntime) {
     let attrs = read(&rt, "get", uri).expect(&rt, "attributes");
     check_query(&rt, &attrs.query);
     drop(attrs);
-}
-
-// Why a request has no attributes.
-fn fault(rt: &(impl Abort + AllocGlobal), uri: &str) -> Option<UriFault> {
-    read(rt, "get", uri).err()
 }
 
 // A URI, and why it has no attributes.
@@ -267,9 +277,20 @@ static REFUSALS: [(&str, UriFault); 13] = [
     ("/%C3", UriFault::NotText),
 ];
 
+// Whether a request has no attributes, for this reason.
+fn is_refused(rt: &(impl Abort + AllocGlobal), row: &(&str, UriFault)) -> bool {
+    match read(rt, "get", row.0) {
+        Ok(attrs) => {
+            drop(attrs);
+            false
+        }
+        Err(fault) => fault == row.1,
+    }
+}
+
 #[test]
 fn refusals(rt: HostRuntime) {
-    for (uri, wanted) in &REFUSALS {
-        assert!(rt; fault(&rt, uri) == Some(*wanted));
+    for row in &REFUSALS {
+        check(&rt, is_refused(&rt, row), row.0);
     }
 }

@@ -30,10 +30,9 @@ pub(crate) fn user(rt: &(impl Abort + AllocGlobal), name: &str, groups: &[&str])
     }
 }
 
-pub(crate) fn assert_text(rt: &impl Abort, found: &Text, wanted: &str) {
-    assert_eq!(rt; found.as_str(), wanted);
-}
-
-pub(crate) fn assert_count(rt: &impl Abort, found: usize, wanted: usize) {
-    assert_eq!(rt; found, wanted);
+/// Stops the test at this row, where it doesn't hold.
+pub(crate) fn check(rt: &impl Abort, holds: bool, row: &str) {
+    if !holds {
+        rt.panic(row)
+    }
 }

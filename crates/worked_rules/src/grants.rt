@@ -1,4 +1,4 @@
-use crate::given::{text, tree};
+use crate::given::{check, text, tree};
 use base_types::{Listed, RequestAttrs};
 use rbac_rules::{PolicyRules, grants, read_role};
 use std::process::Abort;
@@ -8,7 +8,7 @@ fn request(rt: &(impl Abort + AllocGlobal), parts: &[&str; 4]) -> RequestAttrs {
     let [verb, resource, subresource, name] = parts;
     RequestAttrs {
         verb: text(rt, verb),
-        path: text(rt, "/x"),
+        path: text(rt, "/healthz/ping"),
         is_resource: true,
         group: text(rt, "apps"),
         version: text(rt, "v1"),
@@ -20,10 +20,12 @@ fn request(rt: &(impl Abort + AllocGlobal), parts: &[&str; 4]) -> RequestAttrs {
     }
 }
 
-fn path_request(rt: &(impl Abort + AllocGlobal), path: &str) -> RequestAttrs {
+// A request of a pod, or of the path `/healthz/ping`.
+fn pod_or_path(rt: &(impl Abort + AllocGlobal), is_path: bool) -> RequestAttrs {
     let mut attrs = request(rt, &POD);
-    attrs.is_resource = false;
-    attrs.path = text(rt, path);
+    if is_path {
+        attrs.is_resource = false;
+    }
     attrs
 }
 
@@ -37,10 +39,11 @@ fn rules_of(rt: &(impl Abort + AllocGlobal), rules: &str) -> PolicyRules {
 }
 
 // A role of these rules grants the request.
-fn is_granted(rt: &(impl Abort + AllocGlobal), rules: &str, attrs: &RequestAttrs) -> bool {
+fn is_granted(rt: &(impl Abort + AllocGlobal), rules: &str, attrs: RequestAttrs) -> bool {
     let rules = rules_of(rt, rules);
-    let granted = grants(rules.as_slice(), attrs);
+    let granted = grants(rules.as_slice(), &attrs);
     drop(rules);
+    drop(attrs);
     granted
 }
 
@@ -82,97 +85,80 @@ static RESOURCES: [(&str, &str, [&str; 4], bool); 22] = [
     (r#""pods""#, r#""p""#, NAMELESS, false),
 ];
 
-fn is_granted_on(
-    rt: &(impl Abort + AllocGlobal),
-    resources: &str,
-    names: &str,
-    parts: &[&str; 4],
-) -> bool {
+fn is_right_on(rt: &(impl Abort + AllocGlobal), row: &(&str, &str, [&str; 4], bool)) -> bool {
+    let (resources, names, parts, granted) = row;
     let rule = format!(in rt.alloc();
         "{{\"apiGroups\":[\"*\"],\"verbs\":[\"*\"],\"resources\":[{resources}],\"resourceNames\":[{names}]}}"
     ).expect(rt, "memory");
-    let attrs = request(rt, parts);
-    let granted = is_granted(rt, rule.as_str(), &attrs);
-    drop(attrs);
-    granted
+    is_granted(rt, rule.as_str(), request(rt, parts)) == *granted
 }
 
 #[test]
 fn resources_and_names(rt: HostRuntime) {
-    for (resources, names, parts, granted) in &RESOURCES {
-        assert_eq!(rt; is_granted_on(&rt, resources, names, parts), *granted);
+    for row in &RESOURCES {
+        check(&rt, is_right_on(&rt, row), row.0);
     }
 }
 
-// The groups and the verbs of a rule for every resource, and whether it grants the request.
-static GROUPS: [(&str, &str, bool); 8] = [
-    (r#""apps""#, r#""get""#, true),
-    (r#""batch","apps""#, r#""list","get""#, true),
-    (r#""*""#, r#""*""#, true),
-    (r#""""#, r#""get""#, false),
-    (r#""apps""#, r#""list""#, false),
-    (r#""app*""#, r#""get""#, false),
-    (r#""apps""#, r#""g*""#, false),
-    ("", "", false),
+// Groups, verbs and paths of a rule for every resource, whether a get of `/healthz/ping` is asked for or one of a pod,
+// and whether the rule grants it.
+static RULES: [(&str, &str, &str, bool, bool); 16] = [
+    (r#""apps""#, r#""get""#, r#""*""#, false, true),
+    (
+        r#""batch","apps""#,
+        r#""list","get""#,
+        r#""*""#,
+        false,
+        true,
+    ),
+    (r#""*""#, r#""*""#, r#""*""#, false, true),
+    (r#""""#, r#""get""#, r#""*""#, false, false),
+    (r#""apps""#, r#""list""#, r#""*""#, false, false),
+    (r#""app*""#, r#""get""#, r#""*""#, false, false),
+    (r#""apps""#, r#""g*""#, r#""*""#, false, false),
+    ("", "", r#""*""#, false, false),
+    (r#""*""#, r#""get""#, r#""/healthz/ping""#, true, true),
+    (r#""*""#, r#""*""#, r#""/x","/healthz/*""#, true, true),
+    (r#""*""#, r#""*""#, r#""*""#, true, true),
+    (r#""*""#, r#""*""#, r#""/healthz""#, true, false),
+    (r#""*""#, r#""*""#, r#""/healthz/pin*g""#, true, false),
+    (r#""*""#, r#""*""#, r#""/healthz**""#, true, false),
+    (r#""*""#, r#""post""#, r#""*""#, true, false),
+    (r#""*""#, r#""*""#, "", true, false),
 ];
 
-// The verbs and the paths of a rule, and whether it grants a get of `/healthz/ping`.
-static PATHS: [(&str, &str, bool); 8] = [
-    (r#""get""#, r#""/healthz/ping""#, true),
-    (r#""*""#, r#""/x","/healthz/*""#, true),
-    (r#""*""#, r#""*""#, true),
-    (r#""*""#, r#""/healthz""#, false),
-    (r#""*""#, r#""/healthz/pin*g""#, false),
-    (r#""*""#, r#""/healthz**""#, false),
-    (r#""post""#, r#""*""#, false),
-    (r#""*""#, "", false),
-];
-
-fn is_granted_in(
-    rt: &(impl Abort + AllocGlobal),
-    groups: &str,
-    verbs: &str,
-    attrs: &RequestAttrs,
-) -> bool {
+fn is_right_for(rt: &(impl Abort + AllocGlobal), row: &(&str, &str, &str, bool, bool)) -> bool {
+    let (groups, verbs, paths, is_path, granted) = row;
     let rule = format!(in rt.alloc();
-        "{{\"apiGroups\":[{groups}],\"verbs\":[{verbs}],\"resources\":[\"*\"],\"nonResourceURLs\":[\"*\"]}}"
+        "{{\"apiGroups\":[{groups}],\"verbs\":[{verbs}],\"resources\":[\"*\"],\"nonResourceURLs\":[{paths}]}}"
     ).expect(rt, "memory");
-    is_granted(rt, rule.as_str(), attrs)
-}
-
-fn is_granted_at(
-    rt: &(impl Abort + AllocGlobal),
-    verbs: &str,
-    paths: &str,
-    attrs: &RequestAttrs,
-) -> bool {
-    let rule = format!(in rt.alloc();
-        "{{\"apiGroups\":[\"*\"],\"verbs\":[{verbs}],\"resources\":[\"*\"],\"nonResourceURLs\":[{paths}]}}"
-    ).expect(rt, "memory");
-    is_granted(rt, rule.as_str(), attrs)
+    is_granted(rt, rule.as_str(), pod_or_path(rt, *is_path)) == *granted
 }
 
 #[test]
 fn groups_verbs_and_paths(rt: HostRuntime) {
-    let pod = request(&rt, &POD);
-    for (groups, verbs, granted) in &GROUPS {
-        assert_eq!(rt; is_granted_in(&rt, groups, verbs, &pod), *granted);
+    for row in &RULES {
+        check(&rt, is_right_for(&rt, row), row.0);
     }
-    drop(pod);
-    let ping = path_request(&rt, "/healthz/ping");
-    for (verbs, paths, granted) in &PATHS {
-        assert_eq!(rt; is_granted_at(&rt, verbs, paths, &ping), *granted);
-    }
-    drop(ping);
 }
+
+// The rules of a role, of which one may grant the request.
+static ROLES: [(&str, bool); 3] = [
+    (
+        r#"{"apiGroups":["apps"],"verbs":["get"],"resources":["pods"]},{}"#,
+        true,
+    ),
+    (
+        r#"{},{"apiGroups":["apps"],"verbs":["get"],"resources":["pods"]}"#,
+        true,
+    ),
+    ("", false),
+];
 
 #[test]
 fn each_rule_may_grant(rt: HostRuntime) {
-    let attrs = request(&rt, &POD);
-    let first = r#"{"apiGroups":["apps"],"verbs":["get"],"resources":["pods"]},{}"#;
-    let last = r#"{},{"apiGroups":["apps"],"verbs":["get"],"resources":["pods"]}"#;
-    assert!(rt; is_granted(&rt, first, &attrs));
-    assert!(rt; is_granted(&rt, last, &attrs));
-    assert!(rt; !is_granted(&rt, "", &attrs));
-    drop(attrs);
+    for (rules, granted) in &ROLES {
+        let found = is_granted(&rt, rules, request(&rt, &POD));
+        check(&rt, found == *granted, rules);
+    }
 }

@@ -1,6 +1,6 @@
-use crate::given::{assert_count, assert_text, tree};
+use crate::given::{check, tree};
 use audit_policy::{AuditRule, GroupResources, Policy, PolicyFault, read_policy};
-use base_types::{Level, PolicyLevel};
+use base_types::{Level, PolicyLevel, StageSet};
 use std::process::Abort;
 
 // A policy, and the part of it that isn't in its form.
@@ -142,17 +142,20 @@ fn read(rt: &(impl Abort + AllocGlobal), text: &str) -> Result<Policy, PolicyFau
 }
 
 fn broken_part(rt: &(impl Abort + AllocGlobal), text: &str) -> Option<u32> {
-    match read(rt, text).err() {
-        None => None,
-        Some(PolicyFault::Form { rule }) => Some(rule),
-        Some(PolicyFault::OutOfMemory) => panic!(rt; "memory"),
+    match read(rt, text) {
+        Ok(policy) => {
+            drop(policy);
+            None
+        }
+        Err(PolicyFault::Form { rule }) => Some(rule),
+        Err(PolicyFault::OutOfMemory) => panic!(rt; "memory"),
     }
 }
 
 #[test]
 fn forms(rt: HostRuntime) {
     for (text, broken) in &POLICIES {
-        assert_eq!(rt; broken_part(&rt, text), *broken);
+        check(&rt, broken_part(&rt, text) == *broken, text);
     }
 }
 
@@ -162,29 +165,40 @@ const WHOLE: &str =
     \"resources\":[{\"group\":\"apps\",\"resources\":[\"r\"],\"resourceNames\":[\"a\",\"b\"]},{}],\
     \"omitStages\":[\"RequestReceived\",\"ResponseStarted\"]}]}";
 
-fn check_rule(rt: &impl Abort, rule: &AuditRule) {
-    assert!(rt; rule.level == PolicyLevel::Set(Level::RequestResponse));
-    assert!(rt; rule.omitted.received && rule.omitted.started && !rule.omitted.complete);
-    assert_count(rt, rule.users.len(), 1);
-    assert_count(rt, rule.user_groups.len(), 2);
-    assert_count(rt, rule.verbs.len(), 1);
-    assert_count(rt, rule.namespaces.len(), 1);
-    assert_count(rt, rule.non_resource_urls.len(), 0);
-    assert_count(rt, rule.resources.len(), 2);
+// How many items the lists of a rule have.
+fn counts_of(rule: &AuditRule) -> [usize; 6] {
+    [
+        rule.users.len(),
+        rule.user_groups.len(),
+        rule.verbs.len(),
+        rule.namespaces.len(),
+        rule.non_resource_urls.len(),
+        rule.resources.len(),
+    ]
 }
 
-fn check_item(rt: &impl Abort, item: &GroupResources) {
-    assert_text(rt, &item.group, "apps");
-    assert_count(rt, item.resources.len(), 1);
-    assert_count(rt, item.resource_names.len(), 2);
+fn has_stages(omitted: &StageSet) -> bool {
+    omitted.received && omitted.started && !omitted.complete
+}
+
+fn is_item(item: &GroupResources) -> bool {
+    item.group.as_str() == "apps" && item.resources.len() == 1 && item.resource_names.len() == 2
+}
+
+fn check_rule(rt: &impl Abort, rule: &AuditRule) {
+    let level = PolicyLevel::Set(Level::RequestResponse);
+    check(rt, rule.level == level, "the level");
+    check(rt, has_stages(&rule.omitted), "the stages");
+    check(rt, counts_of(rule) == [1, 2, 1, 1, 0, 2], "the counts");
+    let item = rule.resources.iter().next().expect(rt, "an item");
+    check(rt, is_item(item), "the item");
 }
 
 fn check_policy(rt: &impl Abort, policy: &Policy) {
-    assert!(rt; policy.omitted.complete && !policy.omitted.received);
-    assert_count(rt, policy.rules.len(), 1);
-    let rule = policy.rules.iter().next().expect(rt, "a rule");
-    check_rule(rt, rule);
-    check_item(rt, rule.resources.iter().next().expect(rt, "an item"));
+    let is_omitted = policy.omitted.complete && !policy.omitted.received;
+    check(rt, is_omitted, "the policy's stages");
+    check(rt, policy.rules.len() == 1, "one rule");
+    check_rule(rt, policy.rules.iter().next().expect(rt, "a rule"));
 }
 
 #[test]

@@ -1,4 +1,4 @@
-use crate::given::{text, tree, user};
+use crate::given::{check, text, tree, user};
 use audit_policy::{Policy, level_of, read_policy};
 use base_types::{Level, Listed, PolicyLevel, RequestAttrs, StageSet, User};
 use std::process::Abort;
@@ -50,16 +50,14 @@ fn path_request(rt: &(impl Abort + AllocGlobal), path: &str) -> RequestAttrs {
     attrs
 }
 
-// Whether the rule of these conditions takes the request.
-fn is_taken(
-    rt: &(impl Abort + AllocGlobal),
-    conditions: &str,
-    attrs: &RequestAttrs,
-    user: &User,
-) -> bool {
+// Whether the rule of these conditions takes the request of a user.
+fn is_taken(rt: &(impl Abort + AllocGlobal), conditions: &str, attrs: RequestAttrs) -> bool {
     let policy = policy_of_rule(rt, conditions);
-    let (level, _) = level_of(&policy, attrs, user);
+    let user = ann(rt);
+    let (level, _) = level_of(&policy, &attrs, &user);
+    drop(user);
     drop(policy);
+    drop(attrs);
     level == PolicyLevel::NoLevel
 }
 
@@ -203,13 +201,10 @@ static RESOURCE_ROWS: [(&str, [&str; 4], bool); 38] = [
 
 #[test]
 fn rules_and_resource_requests(rt: HostRuntime) {
-    let user = ann(&rt);
     for (conditions, parts, taken) in &RESOURCE_ROWS {
-        let attrs = request(&rt, parts);
-        assert_eq!(rt; is_taken(&rt, conditions, &attrs, &user), *taken);
-        drop(attrs);
+        let found = is_taken(&rt, conditions, request(&rt, parts));
+        check(&rt, found == *taken, conditions);
     }
-    drop(user);
 }
 
 // The conditions of a rule, a path, and whether the rule takes it.
@@ -228,13 +223,10 @@ static PATH_ROWS: [(&str, &str, bool); 10] = [
 
 #[test]
 fn rules_and_other_requests(rt: HostRuntime) {
-    let user = ann(&rt);
     for (conditions, path, taken) in &PATH_ROWS {
-        let attrs = path_request(&rt, path);
-        assert_eq!(rt; is_taken(&rt, conditions, &attrs, &user), *taken);
-        drop(attrs);
+        let found = is_taken(&rt, conditions, path_request(&rt, path));
+        check(&rt, found == *taken, conditions);
     }
-    drop(user);
 }
 
 const RULES: &str =
@@ -255,18 +247,35 @@ fn level(rt: &(impl Abort + AllocGlobal), verb: &str) -> (PolicyLevel, StageSet)
     level
 }
 
+// Verbs, the level of each, and the stages that are omitted.
+static VERBS: [(&str, Level, StageSet); 2] = [
+    (
+        "get",
+        Level::Metadata,
+        StageSet {
+            received: true,
+            started: false,
+            complete: false,
+            panic: true,
+        },
+    ),
+    (
+        "list",
+        Level::Request,
+        StageSet {
+            received: true,
+            started: true,
+            complete: false,
+            panic: false,
+        },
+    ),
+];
+
 #[test]
 fn the_first_rule_decides(rt: HostRuntime) {
-    let mut omitted = StageSet {
-        received: true,
-        started: false,
-        complete: false,
-        panic: true,
-    };
-    let metadata = PolicyLevel::Set(Level::Metadata);
-    assert!(rt; level(&rt, "get") == (metadata, omitted));
-    omitted.started = true;
-    omitted.panic = false;
-    let request = PolicyLevel::Set(Level::Request);
-    assert!(rt; level(&rt, "list") == (request, omitted));
+    for (verb, wanted, stages) in &VERBS {
+        let (found, omitted) = level(&rt, verb);
+        check(&rt, found == PolicyLevel::Set(*wanted), verb);
+        check(&rt, omitted == *stages, verb);
+    }
 }

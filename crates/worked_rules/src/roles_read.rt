@@ -1,4 +1,4 @@
-use crate::given::{assert_count, assert_text, text, tree};
+use crate::given::{check, tree};
 use rbac_rules::{Binding, PolicyRule, PolicyRules, RbacFault, Subject, read_binding, read_role};
 use std::process::Abort;
 
@@ -32,37 +32,45 @@ fn role(rt: &(impl Abort + AllocGlobal), text: &str) -> Result<PolicyRules, Rbac
     rules
 }
 
-// How many parts something has that was read, and none where it isn't in its form.
-fn count_of(rt: &impl Abort, count: Result<usize, RbacFault>) -> Option<usize> {
-    match count {
-        Ok(count) => Some(count),
+// How many rules a role has, and none where it isn't in its form.
+fn count_of_rules(rt: &(impl Abort + AllocGlobal), text: &str) -> Option<usize> {
+    match role(rt, text) {
+        Ok(rules) => {
+            let count = rules.len();
+            drop(rules);
+            Some(count)
+        }
         Err(RbacFault::Form) => None,
         Err(RbacFault::OutOfMemory) => panic!(rt; "memory"),
     }
 }
 
-fn count_of_rules(rt: &(impl Abort + AllocGlobal), text: &str) -> Option<usize> {
-    count_of(rt, role(rt, text).map(|rules| rules.len()))
-}
-
 const WHOLE: &str =
     r#"{"rules":[{"apiGroups":["g"],"resources":["r","s"],"verbs":["v"],"resourceNames":["n"],"nonResourceURLs":["/u"]}]}"#;
 
-fn check_rule(rt: &impl Abort, rule: &PolicyRule) {
-    assert_count(rt, rule.api_groups.len(), 1);
-    assert_count(rt, rule.resources.len(), 2);
-    assert_count(rt, rule.verbs.len(), 1);
-    assert_count(rt, rule.resource_names.len(), 1);
-    assert_count(rt, rule.non_resource_urls.len(), 1);
+// How many items the lists of a rule have.
+fn counts_of(rule: &PolicyRule) -> [usize; 5] {
+    [
+        rule.api_groups.len(),
+        rule.resources.len(),
+        rule.verbs.len(),
+        rule.resource_names.len(),
+        rule.non_resource_urls.len(),
+    ]
 }
 
 #[test]
 fn roles(rt: HostRuntime) {
     for (text, count) in &ROLES {
-        assert!(rt; count_of_rules(&rt, text) == *count);
+        check(&rt, count_of_rules(&rt, text) == *count, text);
     }
+}
+
+#[test]
+fn a_role_whole(rt: HostRuntime) {
     let rules = role(&rt, WHOLE).expect(&rt, "a role");
-    check_rule(&rt, rules.iter().next().expect(&rt, "a rule"));
+    let rule = rules.iter().next().expect(&rt, "a rule");
+    check(&rt, counts_of(rule) == [1, 2, 1, 1, 1], WHOLE);
     drop(rules);
 }
 
@@ -140,16 +148,21 @@ fn binding(rt: &(impl Abort + AllocGlobal), text: &str) -> Result<Binding, RbacF
 
 fn count_of_subjects(rt: &(impl Abort + AllocGlobal), members: &str) -> Option<usize> {
     let text = format!(in rt.alloc(); "{{\"metadata\":{{}},{members}}}").expect(rt, "memory");
-    count_of(
-        rt,
-        binding(rt, text.as_str()).map(|binding| binding.subjects.len()),
-    )
+    match binding(rt, text.as_str()) {
+        Ok(binding) => {
+            let count = binding.subjects.len();
+            drop(binding);
+            Some(count)
+        }
+        Err(RbacFault::Form) => None,
+        Err(RbacFault::OutOfMemory) => panic!(rt; "memory"),
+    }
 }
 
 #[test]
 fn bindings(rt: HostRuntime) {
     for (members, count) in &BINDINGS {
-        assert!(rt; count_of_subjects(&rt, members) == *count);
+        check(&rt, count_of_subjects(&rt, members) == *count, members);
     }
 }
 
@@ -174,22 +187,27 @@ fn account_binding(rt: &(impl Abort + AllocGlobal), metadata: &str, member: &str
     binding(rt, text.as_str()).expect(rt, "a binding")
 }
 
-fn check_binding(rt: &(impl Abort + AllocGlobal), binding: &Binding, namespace: &str) {
-    assert!(rt; binding.role_is_cluster);
-    assert_text(rt, &binding.role, "r");
-    let account = Subject::ServiceAccount {
-        namespace: text(rt, namespace),
-        name: text(rt, "a"),
-    };
-    assert!(rt; binding.subjects.iter().next() == Some(&account));
-    drop(account);
+// The first of the subjects is the service account `a` of this namespace.
+fn is_account(subjects: &[Subject], of: &str) -> bool {
+    match subjects {
+        [Subject::ServiceAccount { namespace, name }, ..] => {
+            namespace.as_str() == of && name.as_str() == "a"
+        }
+        _ => false,
+    }
+}
+
+fn is_bound(rt: &(impl Abort + AllocGlobal), row: &(&str, &str, &str)) -> bool {
+    let binding = account_binding(rt, row.0, row.1);
+    let is_cluster = binding.role_is_cluster && binding.role.as_str() == "r";
+    let is_bound = is_cluster && is_account(binding.subjects.as_slice(), row.2);
+    drop(binding);
+    is_bound
 }
 
 #[test]
 fn namespaces_of_accounts(rt: HostRuntime) {
-    for (metadata, member, namespace) in &HOMES {
-        let binding = account_binding(&rt, metadata, member);
-        check_binding(&rt, &binding, namespace);
-        drop(binding);
+    for row in &HOMES {
+        check(&rt, is_bound(&rt, row), row.0);
     }
 }

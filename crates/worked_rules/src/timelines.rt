@@ -2,10 +2,9 @@ ghost use Rattle.std.specs.Prelude.{◌≡◌, map};
 ghost use Rattle.rbac_timeline.specs.Examples.{example_ends, example_key, example_revisions};
 ghost use Rattle.rbac_timeline.specs.Known.{key_revision};
 
-use crate::given::{text, user};
+use crate::given::{check, text, user};
 use base_types::{
-    Cover, CoverName, Decision, ObjectKey, Pairs, Places, Possible, RequestAttrs, Revision, Texts,
-    User,
+    Cover, CoverName, Decision, ObjectKey, Pairs, Places, RequestAttrs, Revision, Texts, User,
 };
 use clouds::{OpaqueSpan, OpaqueSpans};
 use rbac_rules::{Binding, PolicyRule, PolicyRules, Subject, Subjects};
@@ -191,7 +190,7 @@ const ELSEWHERE: Asked = ("u", "e");
 const MASTER: Asked = ("system:masters", "e");
 
 // All caches at a place, and which decisions are possible: `b` is removed, then `r`, then an unnamed binding made.
-const DECISIONS: [(Asked, u64, bool, bool); 10] = [
+static DECISIONS: [(Asked, u64, bool, bool); 10] = [
     (U, 10, true, false),
     (U, 11, true, true),
     (U, 12, false, true),
@@ -205,7 +204,7 @@ const DECISIONS: [(Asked, u64, bool, bool); 10] = [
 ];
 
 // The place to begin at, and that of the bindings in the least places.
-const LEAST: [(Asked, u64, Decision, Option<u64>); 8] = [
+static LEAST: [(Asked, u64, Decision, Option<u64>); 8] = [
     (U, 10, Decision::Allow, Some(10)),
     (U, 12, Decision::Allow, Some(31)),
     (V, 10, Decision::Allow, Some(15)),
@@ -216,33 +215,17 @@ const LEAST: [(Asked, u64, Decision, Option<u64>); 8] = [
     (MASTER, 10, Decision::Forbid, None),
 ];
 
-fn decided(
+fn is_decided(
     rt: &(impl Abort + AllocGlobal),
     timeline: &Timeline,
-    asked: Asked,
-    place: u64,
-) -> Possible {
-    let who = who(rt, asked.0);
-    let attrs = get(rt, asked.1);
-    let possible = timeline.decide(&all_at(place), &who, &attrs);
+    row: &(Asked, u64, bool, bool),
+) -> bool {
+    let who = who(rt, row.0.0);
+    let attrs = get(rt, row.0.1);
+    let possible = timeline.decide(&all_at(row.1), &who, &attrs);
     drop(attrs);
     drop(who);
-    possible
-}
-
-fn least(
-    rt: &(impl Abort + AllocGlobal),
-    timeline: &Timeline,
-    asked: Asked,
-    low: u64,
-    wanted: Decision,
-) -> Option<Places> {
-    let who = who(rt, asked.0);
-    let attrs = get(rt, asked.1);
-    let places = timeline.find_decision(low, 40, &who, &attrs, wanted);
-    drop(attrs);
-    drop(who);
-    places
+    possible.allow == row.2 && possible.forbid == row.3
 }
 
 fn with_bindings(low: u64, bindings: Option<u64>) -> Option<Places> {
@@ -253,13 +236,24 @@ fn with_bindings(low: u64, bindings: Option<u64>) -> Option<Places> {
     })
 }
 
+fn is_least(
+    rt: &(impl Abort + AllocGlobal),
+    timeline: &Timeline,
+    row: &(Asked, u64, Decision, Option<u64>),
+) -> bool {
+    let who = who(rt, row.0.0);
+    let attrs = get(rt, row.0.1);
+    let places = timeline.find_decision(row.1, 40, &who, &attrs, row.2);
+    drop(attrs);
+    drop(who);
+    places == with_bindings(row.1, row.3)
+}
+
 #[test]
 fn decisions(rt: HostRuntime) {
     let timeline = example(&rt);
-    for (asked, place, allow, forbid) in &DECISIONS {
-        let possible = decided(&rt, &timeline, *asked, *place);
-        assert!(rt; possible.allow == *allow);
-        assert!(rt; possible.forbid == *forbid);
+    for row in &DECISIONS {
+        check(&rt, is_decided(&rt, &timeline, row), row.0.0);
     }
     drop(timeline);
 }
@@ -267,20 +261,22 @@ fn decisions(rt: HostRuntime) {
 #[test]
 fn least_places(rt: HostRuntime) {
     let timeline = example(&rt);
-    for (asked, low, wanted, bindings) in &LEAST {
-        let places = least(&rt, &timeline, *asked, *low, *wanted);
-        assert!(rt; places == with_bindings(*low, *bindings));
+    for row in &LEAST {
+        check(&rt, is_least(&rt, &timeline, row), row.0.0);
     }
     drop(timeline);
 }
 
+fn is_one(keys: &[ObjectKey], name: &str) -> bool {
+    match keys {
+        [only] => only.name.as_str() == name,
+        _ => false,
+    }
+}
+
 fn check_bindings(rt: &(impl Abort + AllocGlobal), timeline: &Timeline) {
     let user = Subject::User(text(rt, "u"));
-    let bindings = timeline.bindings_of(&user);
-    assert!(rt; bindings.len() == 1);
-    for binding in bindings {
-        assert!(rt; binding.name.as_str() == "b");
-    }
+    check(rt, is_one(timeline.bindings_of(&user), "b"), "the binding");
     drop(user);
 }
 
