@@ -1,5 +1,6 @@
+use crate::given::check;
 use case_maker::make_case;
-use std::test::Fail;
+use std::process::Abort;
 
 // Event 1 of the number 0: its draws are 63 and 0, so `c63` is created.
 const FIRST_OF_0: &str =
@@ -44,22 +45,32 @@ fn has_lines(bytes: &[u8], lines: &[&str]) -> bool {
     rest.is_empty()
 }
 
-#[test]
-fn a_case_without_events(rt: HostRuntime) -> Result<(), Fail> {
-    let case = make_case(rt.alloc(), 1, 0)?;
-    assert!(rt; has_lines(case.log.as_slice(), &[]));
-    let start =
-        br#"{"kind":"PastSetup","version":1,"start":{"revision":"10","time":"2024-05-01T10:00:00.000000Z"},"#;
-    assert!(rt; case.setup.as_slice().starts_with(start));
-    assert_eq!(rt; case.setup.len(), 373);
-    Ok(())
+// Whether the log of a case is these lines.
+fn is_log(rt: &(impl Abort + AllocGlobal), number: u64, count: u32, lines: &[&str]) -> bool {
+    let case = make_case(rt.alloc(), number, count).expect(rt, "memory");
+    let is_log = has_lines(case.log.as_slice(), lines);
+    drop(case);
+    is_log
+}
+
+const START: &[u8] =
+    br#"{"kind":"PastSetup","version":1,"start":{"revision":"10","time":"2024-05-01T10:00:00.000000Z"},"#;
+
+fn has_start(rt: &(impl Abort + AllocGlobal)) -> bool {
+    let case = make_case(rt.alloc(), 1, 0).expect(rt, "memory");
+    let has_start = case.setup.as_slice().starts_with(START) && case.setup.len() == 373;
+    drop(case);
+    has_start
 }
 
 #[test]
-fn the_first_lines_of_a_case(rt: HostRuntime) -> Result<(), Fail> {
-    let one = make_case(rt.alloc(), 0, 1)?;
-    assert!(rt; has_lines(one.log.as_slice(), &[FIRST_OF_0]));
-    let many = make_case(rt.alloc(), 1, 20)?;
-    assert!(rt; has_lines(many.log.as_slice(), &LINES_OF_1));
-    Ok(())
+fn a_case_without_events(rt: HostRuntime) {
+    check(&rt, is_log(&rt, 1, 0, &[]), "no line");
+    check(&rt, has_start(&rt), "the setup");
+}
+
+#[test]
+fn the_first_lines_of_a_case(rt: HostRuntime) {
+    check(&rt, is_log(&rt, 0, 1, &[FIRST_OF_0]), "one line");
+    check(&rt, is_log(&rt, 1, 20, &LINES_OF_1), "many lines");
 }

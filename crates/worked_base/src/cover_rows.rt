@@ -1,6 +1,6 @@
-use base_types::{Cover, CoverName, ObjectKey, OutOfMemory, Text, covers, exact_key};
-use std::alloc::Global;
-use std::test::Fail;
+use crate::given::{check, text};
+use base_types::{Cover, CoverName, ObjectKey, Text, covers, exact_key};
+use std::process::Abort;
 
 // The names that a cover is of.
 enum Pattern {
@@ -39,66 +39,66 @@ static COVERS: [(CoverParts, bool, Option<bool>); 11] = [
     (("", "nodes", None, Pattern::Any), false, None),
 ];
 
-fn cover_name(alloc: Global, pattern: &Pattern) -> Result<CoverName, OutOfMemory> {
+fn cover_name(rt: &(impl Abort + AllocGlobal), pattern: &Pattern) -> CoverName {
     match pattern {
-        Pattern::Exact(name) => Ok(CoverName::Exact(Text::from_str(alloc, name)?)),
-        Pattern::Prefix(front) => Ok(CoverName::Prefix(Text::from_str(alloc, front)?)),
-        Pattern::Any => Ok(CoverName::Any),
+        Pattern::Exact(name) => CoverName::Exact(text(rt, name)),
+        Pattern::Prefix(front) => CoverName::Prefix(text(rt, front)),
+        Pattern::Any => CoverName::Any,
     }
 }
 
-fn namespace(alloc: Global, name: Option<&str>) -> Result<Option<Text>, OutOfMemory> {
+fn namespace(rt: &(impl Abort + AllocGlobal), name: Option<&str>) -> Option<Text> {
     match name {
-        Some(name) => Ok(Some(Text::from_str(alloc, name)?)),
-        None => Ok(None),
+        Some(name) => Some(text(rt, name)),
+        None => None,
     }
 }
 
-fn cover(alloc: Global, parts: &CoverParts) -> Result<Cover, OutOfMemory> {
-    Ok(Cover {
-        group: Text::from_str(alloc, parts.0)?,
-        resource: Text::from_str(alloc, parts.1)?,
-        namespace: namespace(alloc, parts.2)?,
-        name: cover_name(alloc, &parts.3)?,
+fn cover(rt: &(impl Abort + AllocGlobal), parts: &CoverParts) -> Cover {
+    Cover {
+        group: text(rt, parts.0),
+        resource: text(rt, parts.1),
+        namespace: namespace(rt, parts.2),
+        name: cover_name(rt, &parts.3),
         creates: false,
-    })
+    }
 }
 
-fn pod(alloc: Global) -> Result<ObjectKey, OutOfMemory> {
-    Ok(ObjectKey {
-        group: Text::new(alloc),
-        resource: Text::from_str(alloc, "pods")?,
-        namespace: Text::from_str(alloc, "d")?,
-        name: Text::from_str(alloc, "web-1")?,
-    })
+fn pod(rt: &(impl Abort + AllocGlobal)) -> ObjectKey {
+    ObjectKey {
+        group: text(rt, ""),
+        resource: text(rt, "pods"),
+        namespace: text(rt, "d"),
+        name: text(rt, "web-1"),
+    }
 }
 
-fn told_of(
-    alloc: Global,
-    cover: &Cover,
-    pod: &ObjectKey,
-) -> Result<(bool, Option<bool>), OutOfMemory> {
-    let exact = exact_key(alloc, cover)?;
-    let is_pod = exact.as_ref().map(|key| key == pod);
-    Ok((covers(cover, pod), is_pod))
+// Whether the one key that the cover is of is the pod's, if it is of one.
+fn is_pod(rt: &(impl Abort + AllocGlobal), cover: &Cover, pod: &ObjectKey) -> Option<bool> {
+    match exact_key(rt.alloc(), cover).expect(rt, "memory") {
+        Some(key) => {
+            let is_pod = key == *pod;
+            drop(key);
+            Some(is_pod)
+        }
+        None => None,
+    }
 }
 
-// Whether the cover takes the pod, and whether the one key that it is of is the pod's.
-fn told(
-    alloc: Global,
-    parts: &CoverParts,
-    pod: &ObjectKey,
-) -> Result<(bool, Option<bool>), OutOfMemory> {
-    let cover = cover(alloc, parts)?;
-    told_of(alloc, &cover, pod)
+// Whether what is told of the cover of a row is right.
+fn is_right(rt: &(impl Abort + AllocGlobal), row: &(CoverParts, bool, Option<bool>)) -> bool {
+    let cover = cover(rt, &row.0);
+    let pod = pod(rt);
+    let taken = covers(&cover, &pod);
+    let is_pod = is_pod(rt, &cover, &pod);
+    drop(pod);
+    drop(cover);
+    taken == row.1 && is_pod == row.2
 }
 
 #[test]
-fn covers_take_keys(rt: HostRuntime) -> Result<(), Fail> {
-    let pod = pod(rt.alloc())?;
-    for (at, (parts, taken, is_pod)) in COVERS.iter().enumerate() {
-        let found = told(rt.alloc(), parts, &pod)?;
-        assert_eq!(rt; found, (*taken, *is_pod), "the row {at}");
+fn covers_take_keys(rt: HostRuntime) {
+    for row in &COVERS {
+        check(&rt, is_right(&rt, row), row.0.1);
     }
-    Ok(())
 }

@@ -1,15 +1,15 @@
-use base_types::{ObjectKey, OutOfMemory, Text, escape, key_text, read_key};
-use std::alloc::Global;
-use std::test::Fail;
+use crate::given::{check, text};
+use base_types::{ObjectKey, escape, key_text, read_key};
+use std::process::Abort;
 
-fn key(alloc: Global, parts: &[&str; 4]) -> Result<ObjectKey, OutOfMemory> {
+fn key(rt: &(impl Abort + AllocGlobal), parts: &[&str; 4]) -> ObjectKey {
     let [group, resource, namespace, name] = parts;
-    Ok(ObjectKey {
-        group: Text::from_str(alloc, group)?,
-        resource: Text::from_str(alloc, resource)?,
-        namespace: Text::from_str(alloc, namespace)?,
-        name: Text::from_str(alloc, name)?,
-    })
+    ObjectKey {
+        group: text(rt, group),
+        resource: text(rt, resource),
+        namespace: text(rt, namespace),
+        name: text(rt, name),
+    }
 }
 
 // Group, resource, namespace and name, and the key's text.
@@ -54,58 +54,69 @@ static NO_KEYS: [&str; 18] = [
     "/configmaps/d/a*",
 ];
 
-fn is_printed(alloc: Global, key: &ObjectKey, text: &str) -> Result<bool, OutOfMemory> {
-    let printed = key_text(alloc, key)?;
-    Ok(printed.as_str() == text)
+fn prints(rt: &(impl Abort + AllocGlobal), parts: &[&str; 4], text: &str) -> bool {
+    let key = key(rt, parts);
+    let printed = key_text(rt.alloc(), &key).expect(rt, "memory");
+    let is_so = printed.as_str() == text;
+    drop(printed);
+    drop(key);
+    is_so
 }
 
-fn prints(alloc: Global, parts: &[&str; 4], text: &str) -> Result<bool, OutOfMemory> {
-    let key = key(alloc, parts)?;
-    is_printed(alloc, &key, text)
+fn parts_of(key: &ObjectKey) -> [&str; 4] {
+    [
+        key.group.as_str(),
+        key.resource.as_str(),
+        key.namespace.as_str(),
+        key.name.as_str(),
+    ]
 }
 
-fn has_parts(key: &ObjectKey, parts: &[&str; 4]) -> bool {
-    let [group, resource, namespace, name] = parts;
-    key.group.as_str() == *group
-        && key.resource.as_str() == *resource
-        && key.namespace.as_str() == *namespace
-        && key.name.as_str() == *name
-}
-
-fn reads(alloc: Global, text: &str, parts: &[&str; 4]) -> Result<bool, OutOfMemory> {
-    let read = read_key(alloc, text)?;
-    Ok(match &read {
-        Some(key) => has_parts(key, parts),
+fn is_of(key: &ObjectKey, parts: Option<&[&str; 4]>) -> bool {
+    match parts {
+        Some(parts) => parts_of(key) == *parts,
         None => false,
-    })
+    }
 }
 
-fn is_no_key(alloc: Global, text: &str) -> Result<bool, OutOfMemory> {
-    let read = read_key(alloc, text)?;
-    Ok(read.is_none())
+// Whether a text is the key of these parts, or of none.
+fn reads(rt: &(impl Abort + AllocGlobal), text: &str, parts: Option<&[&str; 4]>) -> bool {
+    match read_key(rt.alloc(), text).expect(rt, "memory") {
+        Some(key) => {
+            let is_so = is_of(&key, parts);
+            drop(key);
+            is_so
+        }
+        None => parts.is_none(),
+    }
 }
 
 #[test]
-fn keys_and_their_texts(rt: HostRuntime) -> Result<(), Fail> {
+fn keys_and_their_texts(rt: HostRuntime) {
     for (parts, text) in &KEYS {
-        assert!(rt; prints(rt.alloc(), parts, text)?, "the text is {text}");
-        assert!(rt; reads(rt.alloc(), text, parts)?, "{text} is a key");
+        check(&rt, prints(&rt, parts, text), text);
+        check(&rt, reads(&rt, text, Some(parts)), text);
     }
-    Ok(())
 }
 
 #[test]
-fn texts_of_no_key(rt: HostRuntime) -> Result<(), Fail> {
+fn texts_of_no_key(rt: HostRuntime) {
     for text in &NO_KEYS {
-        assert!(rt; is_no_key(rt.alloc(), text)?, "{text} is no key");
+        check(&rt, reads(&rt, text, None), text);
     }
-    Ok(())
+}
+
+fn is_escaped(rt: &(impl Abort + AllocGlobal), plain: &str, wanted: &str) -> bool {
+    let plain = text(rt, plain);
+    let escaped = escape(rt.alloc(), &plain).expect(rt, "memory");
+    let is_so = escaped.as_str() == wanted;
+    drop(escaped);
+    drop(plain);
+    is_so
 }
 
 #[test]
-fn an_escaped_text(rt: HostRuntime) -> Result<(), Fail> {
-    let text = Text::from_str(rt.alloc(), "pages:12 /\u{e4}")?;
-    let escaped = escape(rt.alloc(), &text)?;
-    assert_eq!(rt; escaped.as_str(), "pages:12%20%2F%C3%A4");
-    Ok(())
+fn an_escaped_text(rt: HostRuntime) {
+    let wanted = "pages:12%20%2F%C3%A4";
+    check(&rt, is_escaped(&rt, "pages:12 /\u{e4}", wanted), wanted);
 }

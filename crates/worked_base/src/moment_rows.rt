@@ -1,15 +1,27 @@
 ghost use Rattle.std.specs.Prelude.{◌≡◌, ◌<◌, ◌≤◌, ◌≤ℤ◌, IfOk, All, AllPairs};
 
+use crate::given::check;
 use base_types::{Moment, OutOfMemory};
 use std::alloc::Global;
-use std::test::Fail;
+use std::process::Abort;
 use strict_order::{Moments, Thing, settle_moments};
 
 const NO_END: u128 = 73_786_976_294_838_206_464;
 
-const TEN: i128 = 1_714_557_600_000_000_000;
+// Seconds of one minute.
+const AT_1: i128 = 1_714_557_601_000_000_000;
 
-const SECOND: i128 = 1_000_000_000;
+const AT_2: i128 = 1_714_557_602_000_000_000;
+
+const AT_3: i128 = 1_714_557_603_000_000_000;
+
+const AT_4: i128 = 1_714_557_604_000_000_000;
+
+const AT_5: i128 = 1_714_557_605_000_000_000;
+
+const AT_6: i128 = 1_714_557_606_000_000_000;
+
+const AT_9: i128 = 1_714_557_609_000_000_000;
 
 fn thing(line: u64, lo: i128, hi: i128, least: u128, greatest: u128) -> Thing
     ensures { result ≡ record { line = line; lo = record { 0 = lo }; hi = record { 0 = hi }; least = least; greatest = greatest } }
@@ -23,66 +35,102 @@ fn thing(line: u64, lo: i128, hi: i128, least: u128, greatest: u128) -> Thing
     }
 }
 
-/// Revisions 11 and 12 are made, a list shows both, and a later one only the first.
-#[test]
-fn a_list_can_go_back(rt: HostRuntime) -> Result<(), Fail> {
-    let alloc = rt.alloc();
-    let things = [
-        thing(1, TEN + SECOND, TEN + 2 * SECOND, 22, 22),
-        thing(2, TEN + SECOND, TEN + 9 * SECOND, 24, 24),
-        thing(3, TEN + 3 * SECOND, TEN + 4 * SECOND, 25, 25),
-        thing(4, TEN + 5 * SECOND, TEN + 6 * SECOND, 23, 23),
-    ];
-    match settle_moments(alloc, &things)? {
-        Moments::Crossed { first, second } => assert_eq!(rt; (first, second), (4, 3)),
-        Moments::Found(_) => assert!(rt; false, "the second list shows less"),
-    }
-
-    // The same where the later list began before the other ended.
-    let things = [
-        thing(1, TEN + SECOND, TEN + 2 * SECOND, 22, 22),
-        thing(2, TEN + SECOND, TEN + 9 * SECOND, 24, 24),
-        thing(3, TEN + 3 * SECOND, TEN + 4 * SECOND, 25, 25),
-        thing(4, TEN + 3 * SECOND, TEN + 6 * SECOND, 23, 23),
-    ];
-    match settle_moments(alloc, &things)? {
-        Moments::Found(moments) => {
-            let third = Moment(TEN + 3 * SECOND);
-            let expected = [Moment(TEN + SECOND), third, third, third];
-            assert!(rt; moments.as_slice() == expected.as_slice());
+// Whether two things of these lines cross.
+fn cross(moments: Moments, lines: (u64, u64)) -> bool {
+    match moments {
+        Moments::Crossed { first, second } => first == lines.0 && second == lines.1,
+        Moments::Found(found) => {
+            drop(found);
+            false
         }
-        Moments::Crossed { .. } => assert!(rt; false, "the lists overlap"),
     }
-    Ok(())
 }
 
-/// No thing, one without an end, a read that a write crosses though no list does, and ties of lines.
-#[test]
-fn edges(rt: HostRuntime) -> Result<(), Fail> {
-    let alloc = rt.alloc();
-    let found = |moments: Moments, count: usize| match moments {
-        Moments::Found(moments) => moments.len() == count,
+fn are_found(moments: Moments, wanted: &[Moment]) -> bool {
+    match moments {
         Moments::Crossed { .. } => false,
-    };
-    assert!(rt; found(settle_moments(alloc, &[])?, 0));
-    let open = [thing(1, 5, 5, 23, NO_END), thing(2, 1, 1, 30, 30)];
-    assert!(rt; found(settle_moments(alloc, &open)?, 2));
-    let write_too_late = [thing(1, 3, 4, 23, 25), thing(2, 5, 6, 22, 22)];
-    match settle_moments(alloc, &write_too_late)? {
-        Moments::Crossed { first, second } => assert_eq!(rt; (first, second), (2, 1)),
-        Moments::Found(_) => assert!(rt; false, "the revision was seen before it was made"),
+        Moments::Found(found) => {
+            let are_so = found.as_slice() == wanted;
+            drop(found);
+            are_so
+        }
     }
-    let twice = [
+}
+
+fn count_of(moments: Moments) -> Option<usize> {
+    match moments {
+        Moments::Crossed { .. } => None,
+        Moments::Found(found) => {
+            let count = found.len();
+            drop(found);
+            Some(count)
+        }
+    }
+}
+
+fn lists_apart(rt: &(impl Abort + AllocGlobal)) -> Moments {
+    let things = [
+        thing(1, AT_1, AT_2, 22, 22),
+        thing(2, AT_1, AT_9, 24, 24),
+        thing(3, AT_3, AT_4, 25, 25),
+        thing(4, AT_5, AT_6, 23, 23),
+    ];
+    settle_moments(rt.alloc(), &things).expect(rt, "memory")
+}
+
+// The same where the later list began before the other ended.
+fn lists_overlapping(rt: &(impl Abort + AllocGlobal)) -> Moments {
+    let things = [
+        thing(1, AT_1, AT_2, 22, 22),
+        thing(2, AT_1, AT_9, 24, 24),
+        thing(3, AT_3, AT_4, 25, 25),
+        thing(4, AT_3, AT_6, 23, 23),
+    ];
+    settle_moments(rt.alloc(), &things).expect(rt, "memory")
+}
+
+static OVERLAPPING: [Moment; 4] = [Moment(AT_1), Moment(AT_3), Moment(AT_3), Moment(AT_3)];
+
+/// Revisions 11 and 12 are made, a list shows both, and a later one only the first.
+#[test]
+fn a_list_can_go_back(rt: HostRuntime) {
+    check(&rt, cross(lists_apart(&rt), (4, 3)), "it shows less");
+    let are_found = are_found(lists_overlapping(&rt), &OVERLAPPING);
+    check(&rt, are_found, "the lists overlap");
+}
+
+fn open(rt: &(impl Abort + AllocGlobal)) -> Moments {
+    let things = [thing(1, 5, 5, 23, NO_END), thing(2, 1, 1, 30, 30)];
+    settle_moments(rt.alloc(), &things).expect(rt, "memory")
+}
+
+fn write_too_late(rt: &(impl Abort + AllocGlobal)) -> Moments {
+    let things = [thing(1, 3, 4, 23, 25), thing(2, 5, 6, 22, 22)];
+    settle_moments(rt.alloc(), &things).expect(rt, "memory")
+}
+
+fn twice(rt: &(impl Abort + AllocGlobal)) -> Moments {
+    let things = [
         thing(1, 9, 9, 2, 2),
         thing(2, 9, 9, 2, 2),
         thing(3, 1, 1, 3, 3),
         thing(4, 1, 1, 3, 3),
     ];
-    match settle_moments(alloc, &twice)? {
-        Moments::Crossed { first, second } => assert_eq!(rt; (first, second), (1, 3)),
-        Moments::Found(_) => assert!(rt; false, "both writes come after both reads"),
-    }
-    Ok(())
+    settle_moments(rt.alloc(), &things).expect(rt, "memory")
+}
+
+/// No thing, one without an end, a read that a write crosses though no list does, and ties of lines.
+#[test]
+fn edges(rt: HostRuntime) {
+    let nothing = settle_moments(rt.alloc(), &[]).expect(&rt, "memory");
+    check(&rt, count_of(nothing) == Some(0), "nothing");
+    check(&rt, count_of(open(&rt)) == Some(2), "no end");
+    check(
+        &rt,
+        cross(write_too_late(&rt), (2, 1)),
+        "seen before it was made",
+    );
+    check(&rt, cross(twice(&rt), (1, 3)), "both come after both");
 }
 
 /// Things with small bounds, so that many of them meet.
@@ -134,29 +182,42 @@ fn compared_lines(things: &[Thing]) -> Option<(u64, u64)> {
     least.map(|(second, first)| (first.1, second.1))
 }
 
-#[test]
-fn all_compared_with_all_give_the_same(rt: HostRuntime) -> Result<(), Fail> {
-    let alloc = rt.alloc();
-    let mut found = 0u32;
-    for seed in 0..300u64 {
-        let things = drawn(alloc, seed, seed % 9)?;
-        match settle_moments(alloc, &things)? {
-            Moments::Found(moments) => {
-                found = found.saturating_add(1);
-                assert_eq!(rt; moments.len(), things.len());
-                for (thing, moment) in things.iter().zip(moments.as_slice()) {
-                    assert!(rt; *moment == compared(&things, thing), "at {seed}");
-                }
-                assert!(rt; compared_lines(&things).is_none(), "at {seed}");
-            }
-            Moments::Crossed { first, second } => {
-                assert!(rt;
-                    compared_lines(&things) == Some((first, second)),
-                    "at {seed}"
-                );
-            }
+// The first moments of all things are these.
+fn are_compared(things: &[Thing], moments: &[Moment]) -> bool {
+    for (thing, moment) in things.iter().zip(moments) {
+        if *moment != compared(things, thing) {
+            return false;
         }
     }
-    assert!(rt; 50 < found && found < 250, "{found}");
-    Ok(())
+    things.len() == moments.len()
+}
+
+// Comparing all with all gives the same.
+fn are_right(things: &[Thing], moments: &Moments) -> bool {
+    match moments {
+        Moments::Found(moments) => {
+            are_compared(things, moments.as_slice()) && compared_lines(things).is_none()
+        }
+        Moments::Crossed { first, second } => compared_lines(things) == Some((*first, *second)),
+    }
+}
+
+// Whether there are moments of the things that are drawn from this number.
+fn is_strict(rt: &(impl Abort + AllocGlobal), seed: u64) -> bool {
+    let things = drawn(rt.alloc(), seed, seed % 9).expect(rt, "memory");
+    let moments = settle_moments(rt.alloc(), &things).expect(rt, "memory");
+    check(rt, are_right(&things, &moments), "all compared with all");
+    drop(things);
+    count_of(moments).is_some()
+}
+
+#[test]
+fn all_compared_with_all_give_the_same(rt: HostRuntime) {
+    let mut found = 0u32;
+    for seed in 0..300u64 {
+        if is_strict(&rt, seed) {
+            found = found.saturating_add(1);
+        }
+    }
+    check(&rt, 50 < found && found < 250, "some are strict");
 }

@@ -1,6 +1,7 @@
+use crate::given::check;
 use base_types::Outcome;
 use std::alloc::Global;
-use std::test::Fail;
+use std::process::Abort;
 use verdict_text::{PlacementFault, print_outcome, read_placement};
 
 // The last one is a removal that two reads bound, and after it the greatest numbers.
@@ -14,18 +15,21 @@ static PRINTED: [&str; 6] = [
 ];
 
 // What the placement that a text says is printed as.
-fn prints_the_same(alloc: Global, text: &str) -> Result<bool, Fail> {
-    let outcome = Outcome::Explained(read_placement(alloc, text.as_bytes())?);
-    let printed = print_outcome(alloc, &outcome)?;
-    Ok(printed.as_slice() == text.as_bytes())
+fn prints_the_same(rt: &(impl Abort + AllocGlobal), text: &str) -> bool {
+    let placement = read_placement(rt.alloc(), text.as_bytes()).expect(rt, "a placement");
+    let outcome = Outcome::Explained(placement);
+    let printed = print_outcome(rt.alloc(), &outcome).expect(rt, "memory");
+    let is_same = printed.as_slice() == text.as_bytes();
+    drop(printed);
+    drop(outcome);
+    is_same
 }
 
 #[test]
-fn what_was_read_prints_the_same(rt: HostRuntime) -> Result<(), Fail> {
+fn what_was_read_prints_the_same(rt: HostRuntime) {
     for text in &PRINTED {
-        assert!(rt; prints_the_same(rt.alloc(), text)?, "{text}");
+        check(&rt, prints_the_same(&rt, text), text);
     }
-    Ok(())
 }
 
 // Texts, and the line at which each isn't a placement's.
@@ -101,7 +105,7 @@ fn fault_line(alloc: Global, bytes: &[u8]) -> Option<u64> {
 fn the_first_line_that_stops(rt: HostRuntime) {
     for (text, number) in &REFUSED {
         let found = fault_line(rt.alloc(), text.as_bytes());
-        assert_eq!(rt; found, Some(*number), "{text}");
+        check(&rt, found == Some(*number), text);
     }
 }
 
@@ -114,6 +118,7 @@ static NO_TEXTS: [(&[u8], u64); 2] = [
 #[test]
 fn bytes_that_are_no_text(rt: HostRuntime) {
     for (bytes, number) in &NO_TEXTS {
-        assert_eq!(rt; fault_line(rt.alloc(), bytes), Some(*number));
+        let found = fault_line(rt.alloc(), bytes);
+        check(&rt, found == Some(*number), "no text");
     }
 }

@@ -1,3 +1,4 @@
+use crate::given::check;
 use base_types::read_revision;
 
 // A text and its number.
@@ -19,10 +20,13 @@ static TEXTS: [(&[u8], Option<u64>); 15] = [
     (b"1\xFF", None),
 ];
 
+fn number_of(text: &[u8]) -> Option<u64> {
+    Some(read_revision(text)?.get())
+}
+
 #[test]
 fn revisions(rt: HostRuntime) {
     for (text, number) in &TEXTS {
-        let read = read_revision(text).map(|revision| revision.get());
-        assert_eq!(rt; read, *number);
+        check(&rt, number_of(text) == *number, "a revision");
     }
 }

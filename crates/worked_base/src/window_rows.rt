@@ -1,5 +1,6 @@
 ghost use Rattle.std.specs.Prelude.{◌≡◌, ◌<◌, IfOk, All, AllPairs};
 
+use crate::given::check;
 use base_types::{Moment, Revision};
 use std::alloc::Global;
 use std::marker::{Send, Sync};
@@ -33,26 +34,52 @@ fn mark(at: i128, revision: u64) -> Mark {
 
 fn shared<T: Send + Sync>(_value: &T) {}
 
-/// Revision 12 begins after revision 11 and ends before it.
+// Revision 12 begins after revision 11 and ends before it.
+fn nested(alloc: Global) -> Result<Windows, Fail> {
+    let spans = [span(11, 1, 4)?, span(12, 2, 3)?];
+    Ok(Windows::build(alloc, revision(10)?, &spans)?)
+}
+
+fn are(marks: &[Mark], first: Mark, second: Mark) -> bool {
+    match marks {
+        [one, other] => *one == first && *other == second,
+        _ => false,
+    }
+}
+
+// Moments, with the lowest and the highest revision of each.
+static PLACES: [(i128, u64, u64); 6] = [
+    (0, 10, 10),
+    (1, 10, 11),
+    (2, 10, MAX),
+    (3, 10, MAX),
+    (4, 12, MAX),
+    (5, 12, MAX),
+];
+
+// The lowest and the highest revision at a moment.
+fn ends_at(windows: &Windows, at: i128) -> (u64, u64) {
+    let at = Moment(at);
+    (windows.lowest(at), windows.highest(at))
+}
+
+fn are_nested(windows: &Windows) -> bool {
+    are(windows.by_hi(), mark(3, 12), mark(4, 12)) && are(windows.by_lo(), mark(1, 11), mark(2, 12))
+}
+
 #[test]
 fn one_span_in_another(rt: HostRuntime) -> Result<(), Fail> {
-    let spans = [span(11, 1, 4)?, span(12, 2, 3)?];
-    let windows = Windows::build(rt.alloc(), revision(10)?, &spans)?;
-    assert!(rt; windows.by_hi() == [mark(3, 12), mark(4, 12)].as_slice());
-    assert!(rt; windows.by_lo() == [mark(1, 11), mark(2, 12)].as_slice());
-    let places = [
-        (0, 10, 10),
-        (1, 10, 11),
-        (2, 10, MAX),
-        (3, 10, MAX),
-        (4, 12, MAX),
-        (5, 12, MAX),
-    ];
-    for (at, lowest, highest) in places {
-        assert_eq!(rt; windows.lowest(Moment(at)), lowest, "at {at}");
-        assert_eq!(rt; windows.highest(Moment(at)), highest, "at {at}");
+    let windows = nested(rt.alloc())?;
+    check(&rt, are_nested(&windows), "the marks");
+    for (at, lowest, highest) in &PLACES {
+        check(
+            &rt,
+            ends_at(&windows, *at) == (*lowest, *highest),
+            "a place",
+        );
     }
     shared(&windows);
+    drop(windows);
     Ok(())
 }
 
@@ -68,30 +95,40 @@ fn ends(
     let (number, lo, hi) = write;
     let spans = [span(number, lo, hi)?];
     let windows = Windows::build(alloc, revision(start)?, &spans)?;
-    let (first, last) = moments;
-    Ok((windows.lowest(Moment(first)), windows.highest(Moment(last))))
+    let ends = (
+        windows.lowest(Moment(moments.0)),
+        windows.highest(Moment(moments.1)),
+    );
+    drop(windows);
+    Ok(ends)
 }
 
 /// A write in [1, 2] and a read in [3, 4]; and the greatest revision with the widest moments.
 #[test]
 fn ends_of_all_numbers(rt: HostRuntime) -> Result<(), Fail> {
     let alloc = rt.alloc();
-    assert_eq!(rt; ends(alloc, 10, (11, 1, 2), (3, 4))?, (11, MAX));
-    assert_eq!(rt; ends(alloc, 10, (11, 1, 2), (1, 2))?, (10, MAX));
+    let behind = ends(alloc, 10, (11, 1, 2), (3, 4))?;
+    check(&rt, behind == (11, MAX), "a read behind a write");
+    let beside = ends(alloc, 10, (11, 1, 2), (1, 2))?;
+    check(&rt, beside == (10, MAX), "a read beside a write");
     let widest = (MAX - 1, i128::MIN, i128::MAX);
-    let found = ends(alloc, 1, widest, (i128::MAX, i128::MIN))?;
-    assert_eq!(rt; found, (1, MAX));
+    let widest = ends(alloc, 1, widest, (i128::MAX, i128::MIN))?;
+    check(&rt, widest == (1, MAX), "the widest moments");
     let greatest = ends(alloc, 1, (MAX - 1, 5, 5), (6, 4))?;
-    assert_eq!(rt; greatest, (MAX - 1, MAX - 2));
+    check(&rt, greatest == (MAX - 1, MAX - 2), "the greatest revision");
     Ok(())
+}
+
+fn has_no_marks(windows: &Windows) -> bool {
+    windows.by_hi().is_empty() && windows.by_lo().is_empty()
 }
 
 #[test]
 fn without_writes(rt: HostRuntime) -> Result<(), Fail> {
     let none = Windows::build(rt.alloc(), revision(10)?, &[])?;
-    let ends = (none.lowest(Moment(0)), none.highest(Moment(0)));
-    assert_eq!(rt; ends, (10, MAX));
-    assert!(rt; none.by_hi().is_empty() && none.by_lo().is_empty());
+    check(&rt, ends_at(&none, 0) == (10, MAX), "the ends");
+    check(&rt, has_no_marks(&none), "no marks");
+    drop(none);
     Ok(())
 }
 
@@ -137,17 +174,31 @@ fn scanned(spans: &[Span], at: Moment) -> (u64, u64) {
     )
 }
 
+// At each moment the windows' ends are what looking at every span gives.
+fn are_scanned(windows: &Windows, spans: &[Span]) -> bool {
+    for at in 0..18u64 {
+        let at = i128::from(at);
+        if ends_at(windows, at) != scanned(spans, Moment(at)) {
+            return false;
+        }
+    }
+    true
+}
+
+fn agree(alloc: Global, seed: u64) -> Result<bool, Fail> {
+    let start = revision(10)?;
+    let spans = drawn(alloc, seed, seed % 13)?;
+    let windows = Windows::build(alloc, start, &spans)?;
+    let is_so = are_scanned(&windows, &spans);
+    drop(windows);
+    drop(spans);
+    Ok(is_so)
+}
+
 #[test]
 fn scanning_gives_the_same(rt: HostRuntime) -> Result<(), Fail> {
-    let alloc = rt.alloc();
     for seed in 0..60u64 {
-        let spans = drawn(alloc, seed, seed % 13)?;
-        let windows = Windows::build(alloc, revision(10)?, &spans)?;
-        for at in 0..18u64 {
-            let at = Moment(i128::from(at));
-            let found = (windows.lowest(at), windows.highest(at));
-            assert!(rt; found == scanned(&spans, at), "{seed}");
-        }
+        check(&rt, agree(rt.alloc(), seed)?, "all spans");
     }
     Ok(())
 }

@@ -1,5 +1,5 @@
 use Rattle.std.proofs.Common.{◌∷◌, [], refl, arith}
-use Rattle.worked_base.proofs.settled_rows.one_removal_serves_all_readers.Goals as goal
+use Rattle.worked_base.proofs.settled_rows.absent_and_present.Goals as goal
 
 pub settle-requires-clause-order : goal.settle-requires-clause-order
 settle-requires-clause-order g c = record { moves = (3, 4) ∷ (2, 3) ∷ (1, 2) ∷ []; below = search arith; is = refl }
