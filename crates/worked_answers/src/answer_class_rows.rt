@@ -1,6 +1,7 @@
-use crate::given::{event_of, setup_of, tree};
+use crate::given::{check, event_of, setup_of, tree};
 use answer_class::{Answer, class_of, conditions_of, listable};
 use audit_event::Event;
+use base_types::Revision;
 use setup_file::Setup;
 use std::process::Abort;
 
@@ -199,23 +200,10 @@ static CLASSES: [((&str, &str, &str), (&str, &str), u16, &str, &str); 50] = [
     (("list", MAPS, NOTHING), WITHIN, 403, NOTHING, "free"),
 ];
 
-fn class_word(rt: &(impl Abort + AllocGlobal), setup: &Setup, event: &Event) -> &'static str {
-    let answer = class_of(rt.alloc(), setup, event).expect(rt, "memory");
+fn class_word(rt: &(impl Abort + AllocGlobal), setup: &Setup, event: Event) -> &'static str {
+    let answer = class_of(rt.alloc(), setup, &event).expect(rt, "memory");
     let told = word(&answer);
     drop(answer);
-    told
-}
-
-fn told(
-    rt: &(impl Abort + AllocGlobal),
-    setup: &Setup,
-    request: (&str, &str, &str),
-    times: (&str, &str),
-    code: u16,
-    answer: &str,
-) -> &'static str {
-    let event = event(rt, request, times, code, answer);
-    let told = class_word(rt, setup, &event);
     drop(event);
     told
 }
@@ -224,8 +212,8 @@ fn told(
 fn each_class_is_told(rt: HostRuntime) {
     let setup = setup_of(&rt, SETUP);
     for (request, times, code, answer, class) in &CLASSES {
-        let found = told(&rt, &setup, *request, *times, *code, answer);
-        assert_eq!(rt; found, *class, "of {answer}");
+        let event = event(&rt, *request, *times, *code, answer);
+        check(&rt, class_word(&rt, &setup, event) == *class, answer);
     }
     drop(setup);
 }
@@ -242,23 +230,17 @@ static CONDITIONS: [((&str, &str, &str), Option<u64>, bool); 7] = [
 ];
 
 // The revision that an event's request asks for, and whether it asks for a uid.
-fn asked(rt: &(impl Abort + AllocGlobal), setup: &Setup, event: &Event) -> (Option<u64>, bool) {
-    let found = conditions_of(rt.alloc(), setup, event).expect(rt, "memory");
-    let revision = found.revision.map(|revision| revision.get());
+fn asked(rt: &(impl Abort + AllocGlobal), setup: &Setup, event: Event) -> (Option<u64>, bool) {
+    let found = conditions_of(rt.alloc(), setup, &event).expect(rt, "memory");
     let has_uid = found.uid.is_some();
+    let revision = found.revision;
     drop(found);
-    (revision, has_uid)
+    drop(event);
+    (number_of(revision), has_uid)
 }
 
-fn asked_by(
-    rt: &(impl Abort + AllocGlobal),
-    setup: &Setup,
-    request: (&str, &str, &str),
-) -> (Option<u64>, bool) {
-    let event = event(rt, request, WITHIN, 200, NOTHING);
-    let asked = asked(rt, setup, &event);
-    drop(event);
-    asked
+fn number_of(revision: Option<Revision>) -> Option<u64> {
+    Some(revision?.get())
 }
 
 /// The conditions of an update, of a merge patch and of a delete, and of no other request.
@@ -266,9 +248,9 @@ fn asked_by(
 fn conditions_are_read(rt: HostRuntime) {
     let setup = setup_of(&rt, SETUP);
     for (request, revision, has_uid) in &CONDITIONS {
-        let (found, asks_uid) = asked_by(&rt, &setup, *request);
-        assert_eq!(rt; found, *revision);
-        assert_eq!(rt; asks_uid, *has_uid);
+        let event = event(&rt, *request, WITHIN, 200, NOTHING);
+        let found = asked(&rt, &setup, event);
+        check(&rt, found == (*revision, *has_uid), request.2);
     }
     drop(setup);
 }
@@ -302,7 +284,7 @@ fn is_selected(rt: &(impl Abort + AllocGlobal), answer: &Answer, text: &str) -> 
 fn labels_are_selected(rt: HostRuntime) {
     let answer = selected_list(&rt);
     for (text, is_listed) in &LABELLED {
-        assert_eq!(rt; is_selected(&rt, &answer, text), *is_listed);
+        check(&rt, is_selected(&rt, &answer, text) == *is_listed, text);
     }
     drop(answer);
 }

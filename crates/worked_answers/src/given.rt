@@ -1,6 +1,5 @@
 // What the tests are given: trees, events and setups of JSON texts.
 use audit_event::{Event, read_item};
-use base_types::Text;
 use json_tree::{Tree, from_value};
 use serde_json::Value;
 use setup_file::{Setup, read_setup};
@@ -29,10 +28,9 @@ pub(crate) fn push(rt: &impl Abort, text: &mut String, more: &str) {
     text.push_str(more).expect(rt, "memory");
 }
 
-pub(crate) fn assert_text(rt: &impl Abort, found: &Text, wanted: &str) {
-    assert_eq!(rt; found.as_str(), wanted);
-}
-
-pub(crate) fn assert_count(rt: &impl Abort, found: usize, wanted: usize) {
-    assert_eq!(rt; found, wanted);
+/// Stops the test at this row, where it doesn't hold.
+pub(crate) fn check(rt: &impl Abort, holds: bool, row: &str) {
+    if !holds {
+        rt.panic(row)
+    }
 }

@@ -1,4 +1,4 @@
-use crate::given::{assert_text, event_of, push, setup_of};
+use crate::given::{check, event_of, push, setup_of};
 use audit_event::{Event, Events};
 use page_chains::chains;
 use setup_file::{Checkpoint, Checkpoints};
@@ -188,32 +188,33 @@ fn told(rt: &(impl Abort + AllocGlobal), found: &Checkpoints) -> String {
     text
 }
 
-fn told_of(rt: &(impl Abort + AllocGlobal), lists: &[(&str, &str, &str)]) -> String {
-    let found = chains_of(rt, lists, 1, 1);
+fn is_told(rt: &(impl Abort + AllocGlobal), row: &(&str, &[(&str, &str, &str)])) -> bool {
+    let found = chains_of(rt, row.1, 1, 1);
     let text = told(rt, &found);
+    let is_told = text.as_str() == row.0;
+    drop(text);
     drop(found);
-    text
+    is_told
 }
 
 #[test]
 fn pages_make_chains(rt: HostRuntime) {
-    for (wanted, lists) in &LOGS {
-        let text = told_of(&rt, *lists);
-        assert_eq!(rt; text.as_str(), *wanted, "of {lists:?}");
+    for row in &LOGS {
+        check(&rt, is_told(&rt, row), row.0);
     }
 }
 
-fn check_chain(rt: &impl Abort, chain: &Checkpoint) {
-    assert_text(rt, &chain.name, "pages:3");
-    assert_text(rt, &chain.resource, "configmaps");
-    assert_text(rt, &chain.namespace, "d");
-    assert_eq!(rt; chain.revision.get(), 10);
+fn is_chain(chain: &Checkpoint) -> bool {
+    chain.name.as_str() == "pages:3"
+        && chain.resource.as_str() == "configmaps"
+        && chain.namespace.as_str() == "d"
+        && chain.revision.get() == 10
 }
 
-fn check_chains(rt: &impl Abort, found: &Checkpoints) {
-    assert_eq!(rt; found.len(), 1);
-    for chain in found {
-        check_chain(rt, chain);
+fn is_one_chain(found: &[Checkpoint]) -> bool {
+    match found {
+        [only] => is_chain(only),
+        _ => false,
     }
 }
 
@@ -221,6 +222,6 @@ fn check_chains(rt: &impl Abort, found: &Checkpoints) {
 fn a_chain_is_a_list_of_its_scope(rt: HostRuntime) {
     let lists = [(FIRST, "02", A_THEN_T1), (NEXT, "04", B)];
     let found = chains_of(&rt, &lists, 3, 2);
-    check_chains(&rt, &found);
+    check(&rt, is_one_chain(found.as_slice()), "the chain");
     drop(found);
 }

@@ -1,4 +1,4 @@
-use crate::given::{event_of, setup_of, tree};
+use crate::given::{check, event_of, setup_of, tree};
 use audit_event::Event;
 use json_tree::Tree;
 use request_bodies::is_body_right;
@@ -114,28 +114,15 @@ fn is_right(
 fn judged(
     rt: &(impl Abort + AllocGlobal),
     setup: &Setup,
-    event: &Event,
+    event: Event,
     before: &str,
     answered: &str,
 ) -> bool {
     let before = tree(rt, before);
     let answered = tree(rt, answered);
-    let right = is_right(rt, setup, event, &before, &answered);
+    let right = is_right(rt, setup, &event, &before, &answered);
     drop(answered);
     drop(before);
-    right
-}
-
-fn judged_request(
-    rt: &(impl Abort + AllocGlobal),
-    setup: &Setup,
-    asked: ((&str, &str, &str), u16),
-    before: &str,
-    answered: &str,
-) -> bool {
-    let (request, code) = asked;
-    let event = event(rt, request, code);
-    let right = judged(rt, setup, &event, before, answered);
     drop(event);
     right
 }
@@ -144,9 +131,9 @@ fn judged_request(
 fn bodies_are_judged(rt: HostRuntime) {
     let setup = setup_of(&rt, SETUP);
     for (request, code, before, answered, right) in &BODIES {
-        let asked = (*request, *code);
-        let found = judged_request(&rt, &setup, asked, before, answered);
-        assert_eq!(rt; found, *right, "of {before}");
+        let event = event(&rt, *request, *code);
+        let found = judged(&rt, &setup, event, before, answered);
+        check(&rt, found == *right, before);
     }
     drop(setup);
 }

@@ -1,5 +1,6 @@
-use crate::given::{assert_count, assert_text, push, setup_of};
+use crate::given::{check, push, setup_of};
 use SetupRule::{S1, S2, S3, S4, S5, S6, S7, S8, S9, S10, S11, S12, S13, S14, S15};
+use base_types::Text;
 use setup_file::{Setup, SetupFault, SetupRule, read_setup};
 use std::process::Abort;
 
@@ -151,9 +152,12 @@ static CASES: [(&str, &str, Option<SetupRule>); 45] = [
     ),
 ];
 
-fn write_member(rt: &(impl Abort + AllocGlobal), text: &mut String, name: &str, value: &str) {
-    let member = format!(in rt.alloc(); "\"{name}\":{value},").expect(rt, "memory");
-    push(rt, text, member.as_str());
+fn write_member(rt: &impl Abort, text: &mut String, name: &str, value: &str) {
+    push(rt, text, "\"");
+    push(rt, text, name);
+    push(rt, text, "\":");
+    push(rt, text, value);
+    push(rt, text, ",");
 }
 
 fn text_with(rt: &(impl Abort + AllocGlobal), member: &str, value: &str) -> String {
@@ -173,51 +177,60 @@ fn text_with(rt: &(impl Abort + AllocGlobal), member: &str, value: &str) -> Stri
 }
 
 fn broken_rule(rt: &(impl Abort + AllocGlobal), text: &str) -> Option<SetupRule> {
-    match read_setup(rt.alloc(), text.as_bytes()).err() {
-        None => None,
-        Some(SetupFault::Rule(rule)) => Some(rule),
-        Some(SetupFault::OutOfMemory) => panic!(rt; "memory"),
+    match read_setup(rt.alloc(), text.as_bytes()) {
+        Ok(setup) => {
+            drop(setup);
+            None
+        }
+        Err(SetupFault::Rule(rule)) => Some(rule),
+        Err(SetupFault::OutOfMemory) => panic!(rt; "memory"),
     }
 }
 
 fn broken_with(rt: &(impl Abort + AllocGlobal), member: &str, value: &str) -> Option<SetupRule> {
     let text = text_with(rt, member, value);
-    broken_rule(rt, text.as_str())
+    let rule = broken_rule(rt, text.as_str());
+    drop(text);
+    rule
 }
 
 #[test]
 fn first_broken_rules(rt: HostRuntime) {
     for (member, value, rule) in &CASES {
-        let found = broken_with(&rt, member, value);
-        assert_eq!(rt; found, *rule, "{member}: {value}");
+        check(&rt, broken_with(&rt, member, value) == *rule, value);
     }
-    assert_eq!(rt; broken_rule(&rt, "{\"kind\":"), Some(S1));
+    let half = "{\"kind\":";
+    check(&rt, broken_rule(&rt, half) == Some(S1), half);
 }
 
-fn check_times(rt: &impl Abort, setup: &Setup) {
-    assert_eq!(rt; setup.start.get(), 10);
-    assert_eq!(rt; setup.start_time.0, 1_714_557_600_000_000_000);
-    assert_eq!(rt; setup.slack, 0);
-    assert_eq!(rt; setup.lag, 0);
+fn has_times(setup: &Setup) -> bool {
+    setup.start.get() == 10
+        && setup.start_time.0 == 1_714_557_600_000_000_000
+        && setup.slack == 0
+        && setup.lag == 0
+        && setup.until.is_none()
 }
 
-fn check_groups(rt: &impl Abort, setup: &Setup) {
-    assert!(rt; setup.until.is_none() && !setup.authorize);
-    assert_count(rt, setup.bypass.len(), 1);
-    assert_count(rt, setup.skip.len(), 1);
-    assert_text(
-        rt,
-        setup.skip.iter().next().expect(rt, "a group"),
-        "system:nodes",
-    );
-    assert_count(rt, setup.checkpoints.len(), 0);
+fn is_one(texts: &[Text], only: &str) -> bool {
+    match texts {
+        [text] => text.as_str() == only,
+        _ => false,
+    }
+}
+
+fn has_groups(setup: &Setup) -> bool {
+    !setup.authorize
+        && setup.bypass.len() == 1
+        && is_one(setup.skip.as_slice(), "system:nodes")
+        && setup.checkpoints.is_empty()
 }
 
 #[test]
 fn usual_members(rt: HostRuntime) {
     let text = text_with(&rt, "", "");
     let setup = setup_of(&rt, text.as_str());
-    check_times(&rt, &setup);
-    check_groups(&rt, &setup);
+    check(&rt, has_times(&setup), "the times");
+    check(&rt, has_groups(&setup), "the groups");
     drop(setup);
+    drop(text);
 }
