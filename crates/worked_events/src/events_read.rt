@@ -1,9 +1,10 @@
+use crate::given::{check, push};
 use audit_event::{Body, Event, EventFault, Malformed, Status, read_event, read_item, read_value};
-use base_types::{Bytes, Decision, OutOfMemory};
+use base_types::{Bytes, Decision};
 use line_reader::Line;
 use serde_json::Value;
-use std::alloc::{AllocError, Global};
-use std::test::Fail;
+use std::process::Abort;
+
 // The members of an event that breaks no rule.
 static MEMBERS: [(&str, &str); 12] = [
     ("kind", r#""Event""#),
@@ -28,37 +29,55 @@ static MEMBERS: [(&str, &str); 12] = [
 
 // Such an event without one member and with further ones, of which those that come twice take the place of
 // the earlier ones.
-fn event_text(alloc: Global, without: &str, more: &str) -> Result<String, AllocError> {
-    let mut text = String::from_str(alloc, "{")?;
+fn event_text(rt: &(impl Abort + AllocGlobal), without: &str, more: &str) -> String {
+    let mut text = String::new(rt.alloc());
+    push(rt, &mut text, "{");
     for (name, value) in &MEMBERS {
         if *name != without {
-            text.push_str("\"")?;
-            text.push_str(name)?;
-            text.push_str("\":")?;
-            text.push_str(value)?;
-            text.push_str(",")?;
+            push_member(rt, &mut text, name, value);
         }
     }
-    text.push_str(more)?;
-    text.push_str("\"x\":null}")?;
-    Ok(text)
+    push(rt, &mut text, more);
+    push(rt, &mut text, "\"x\":null}");
+    text
 }
 
-fn read_text(alloc: Global, text: &str) -> Result<Event, EventFault> {
-    let mut bytes = Bytes::new(alloc);
-    for byte in text.as_bytes() {
-        bytes.push(*byte)?;
-    }
-    read_event(alloc, &Line { number: 7, bytes })
+fn push_member(rt: &impl Abort, text: &mut String, name: &str, value: &str) {
+    push(rt, text, "\"");
+    push(rt, text, name);
+    push(rt, text, "\":");
+    push(rt, text, value);
+    push(rt, text, ",");
+}
+
+fn read_bytes(rt: &(impl Abort + AllocGlobal), bytes: &[u8]) -> Result<Event, EventFault> {
+    let line = Line {
+        number: 7,
+        bytes: Bytes::from_vec(bytes.to_vec(rt.alloc()).expect(rt, "memory")),
+    };
+    let event = read_event(rt.alloc(), &line);
+    drop(line);
+    event
 }
 
 // The rule that a line breaks.
-fn broken_by(alloc: Global, text: &str) -> Result<Option<Malformed>, EventFault> {
-    match read_text(alloc, text) {
-        Ok(_) => Ok(None),
-        Err(EventFault::Malformed(code)) => Ok(Some(code)),
-        Err(fault) => Err(fault),
+fn broken_by(rt: &(impl Abort + AllocGlobal), line: &[u8]) -> Option<Malformed> {
+    match read_bytes(rt, line) {
+        Ok(event) => {
+            drop(event);
+            None
+        }
+        Err(EventFault::Malformed(code)) => Some(code),
+        Err(_) => panic!(rt; "memory"),
     }
+}
+
+// The rule that an event breaks without one member and with further ones.
+fn broken_with(rt: &(impl Abort + AllocGlobal), without: &str, more: &str) -> Option<Malformed> {
+    let text = event_text(rt, without, more);
+    let code = broken_by(rt, text.as_str().as_bytes());
+    drop(text);
+    code
 }
 
 // A member left out, members put in, and the rule that is then broken.
@@ -181,63 +200,51 @@ static EVENTS: [(&str, &str, Option<Malformed>); 63] = [
 ];
 
 #[test]
-fn first_broken_rules(rt: HostRuntime) -> Result<(), Fail> {
+fn first_broken_rules(rt: HostRuntime) {
     for (without, more, code) in &EVENTS {
-        let text = event_text(rt.alloc(), without, more)?;
-        assert_eq!(rt; broken_by(rt.alloc(), text.as_str())?, *code, "{more}");
+        check(&rt, broken_with(&rt, without, more) == *code, more);
     }
-    Ok(())
 }
 
 // Lines that aren't built of members.
-static LINES: [(&str, Malformed); 7] = [
-    ("", Malformed::M1),
-    ("{", Malformed::M1),
-    ("{}{}", Malformed::M1),
-    ("\u{FEFF}{}", Malformed::M1),
-    ("null", Malformed::M2),
-    ("[{}]", Malformed::M2),
-    ("{}", Malformed::M2),
+static LINES: [(&[u8], Malformed); 8] = [
+    (b"", Malformed::M1),
+    (b"{", Malformed::M1),
+    (b"{}{}", Malformed::M1),
+    (b"\xEF\xBB\xBF{}", Malformed::M1),
+    (b"\"\xFF\"", Malformed::M1),
+    (b"null", Malformed::M2),
+    (b"[{}]", Malformed::M2),
+    (b"{}", Malformed::M2),
 ];
 
-// So many lists, one inside another.
-fn nested(alloc: Global, depth: usize) -> Result<String, AllocError> {
-    let mut text = String::new(alloc);
-    for _ in 0..depth {
-        text.push_str("[")?;
-    }
-    for _ in 0..depth {
-        text.push_str("]")?;
-    }
-    Ok(text)
-}
-
-// Whether a line of these bytes is no event.
-fn is_refused(alloc: Global, bytes: &[u8]) -> Result<bool, Fail> {
-    let bytes = Bytes::from_vec(bytes.to_vec(alloc)?);
-    let line = Line { number: 1, bytes };
-    Ok(read_event(alloc, &line).is_err())
-}
-
 #[test]
-fn other_lines(rt: HostRuntime) -> Result<(), Fail> {
+fn other_lines(rt: HostRuntime) {
     for (line, code) in &LINES {
-        assert_eq!(rt; broken_by(rt.alloc(), line)?, Some(*code), "{line}");
+        check(&rt, broken_by(&rt, line) == Some(*code), "a line");
     }
-    assert!(rt; is_refused(rt.alloc(), b"\"\xFF\"")?);
-    Ok(())
+}
+
+// The rule that an event breaks with a body of so many lists, one inside another.
+fn broken_at(rt: &(impl Abort + AllocGlobal), depth: usize) -> Option<Malformed> {
+    let mut more = String::new(rt.alloc());
+    push(rt, &mut more, "\"requestObject\":");
+    for _ in 0..depth {
+        push(rt, &mut more, "[");
+    }
+    for _ in 0..depth {
+        push(rt, &mut more, "]");
+    }
+    push(rt, &mut more, ",");
+    let code = broken_with(rt, "", more.as_str());
+    drop(more);
+    code
 }
 
 #[test]
-fn nesting(rt: HostRuntime) -> Result<(), Fail> {
-    let body = nested(rt.alloc(), 126)?;
-    let more = format!(in rt.alloc(); "\"requestObject\":{body},")?;
-    let text = event_text(rt.alloc(), "", more.as_str())?;
-    assert_eq!(rt; broken_by(rt.alloc(), text.as_str())?, None);
-    let more = format!(in rt.alloc(); "\"requestObject\":[{body}],")?;
-    let text = event_text(rt.alloc(), "", more.as_str())?;
-    assert_eq!(rt; broken_by(rt.alloc(), text.as_str())?, Some(Malformed::M1));
-    Ok(())
+fn nesting(rt: HostRuntime) {
+    check(&rt, broken_at(&rt, 126).is_none(), "126 lists");
+    check(&rt, broken_at(&rt, 127) == Some(Malformed::M1), "127 lists");
 }
 
 // Receipt and stage, and their moments.
@@ -279,76 +286,66 @@ static TIMES: [(&str, &str, Option<(i128, i128)>); 11] = [
     ("2024-05-01T10:00:00Z", " 2024-05-01T10:00:00Z", None),
 ];
 
+fn read_with(rt: &(impl Abort + AllocGlobal), more: &str) -> Result<Event, EventFault> {
+    let text = event_text(rt, "", more);
+    let event = read_bytes(rt, text.as_str().as_bytes());
+    drop(text);
+    event
+}
+
 // The moments of an event of these times, if it is one.
-fn moments(
-    alloc: Global,
-    received: &str,
-    staged: &str,
-) -> Result<Option<(i128, i128)>, OutOfMemory> {
-    let more = format!(in alloc;
+fn moments(rt: &(impl Abort + AllocGlobal), received: &str, staged: &str) -> Option<(i128, i128)> {
+    let more = format!(in rt.alloc();
         "\"requestReceivedTimestamp\":\"{received}\",\"stageTimestamp\":\"{staged}\","
-    )?;
-    let text = event_text(alloc, "", more.as_str())?;
-    match read_text(alloc, text.as_str()) {
-        Ok(event) => Ok(Some((event.received.0, event.staged.0))),
-        Err(_) => Ok(None),
+    ).expect(rt, "memory");
+    match read_with(rt, more.as_str()) {
+        Ok(event) => {
+            let moments = (event.received.0, event.staged.0);
+            drop(event);
+            Some(moments)
+        }
+        Err(_) => None,
     }
 }
 
 #[test]
-fn times(rt: HostRuntime) -> Result<(), Fail> {
+fn times(rt: HostRuntime) {
     for (received, staged, read) in &TIMES {
-        assert_eq!(rt;
-            moments(rt.alloc(), received, staged)?,
-            *read,
-            "{received} {staged}"
-        );
+        check(&rt, moments(&rt, received, staged) == *read, received);
     }
-    Ok(())
 }
 
-fn event_with(alloc: Global, more: &str) -> Result<Event, Fail> {
-    let text = event_text(alloc, "", more)?;
-    Ok(read_text(alloc, text.as_str())?)
+fn event_with(rt: &(impl Abort + AllocGlobal), more: &str) -> Event {
+    read_with(rt, more).expect(rt, "an event")
 }
 
-// What else is read of an event, in one line.
-fn fields_text(alloc: Global, event: &Event) -> Result<String, Fail> {
-    let id = event.audit_id.as_str();
-    let name = event.attrs.name.as_str();
-    Ok(format!(in alloc;
-        "{} {id} {name} {} {} {} {}",
-        event.line,
-        event.user.groups.len(),
-        event.impersonated.is_some(),
-        matches!(event.request, Body::Absent),
-        matches!(event.response, Body::Kept(_))
-    )?)
+fn has_names(event: &Event) -> bool {
+    event.line == 7 && event.audit_id.as_str() == "a1" && event.attrs.name.as_str() == "a"
 }
 
-fn fields_of(alloc: Global) -> Result<String, Fail> {
-    let event = event_with(alloc, r#""impersonatedUser":{"username":"v"},"#)?;
-    fields_text(alloc, &event)
+fn has_parts(event: &Event) -> bool {
+    event.user.groups.len() == 2
+        && event.impersonated.is_some()
+        && matches!(event.request, Body::Absent)
+        && matches!(event.response, Body::Kept(_))
 }
 
 #[test]
-fn fields(rt: HostRuntime) -> Result<(), Fail> {
-    let text = fields_of(rt.alloc())?;
-    assert_eq!(rt; text.as_str(), "7 a1 a 2 true true true");
-    Ok(())
+fn fields(rt: HostRuntime) {
+    let event = event_with(&rt, r#""impersonatedUser":{"username":"v"},"#);
+    check(&rt, has_names(&event), "the names");
+    check(&rt, has_parts(&event), "the parts");
+    drop(event);
 }
 
 // A status in one line.
-fn status_text(alloc: Global, status: &Status) -> Result<String, Fail> {
+fn status_text(rt: &(impl Abort + AllocGlobal), status: &Status) -> String {
     let reason = status.reason.as_str();
     let uid = status.uid.as_str();
     let name = status.name.as_str();
     let kind = status.kind.as_str();
-    Ok(format!(in alloc;
-        "{} {} {reason}/{uid}/{name}/{kind}",
-        status.code.unwrap_or(0),
-        status.success
-    )?)
+    let (code, success) = (status.code.unwrap_or(0), status.success);
+    format!(in rt.alloc(); "{code} {success} {reason}/{uid}/{name}/{kind}").expect(rt, "memory")
 }
 
 // Members, and the status of the event.
@@ -382,18 +379,20 @@ static STATUSES: [(&str, &str); 9] = [
     ),
 ];
 
-fn status_of(alloc: Global, more: &str) -> Result<String, Fail> {
-    let event = event_with(alloc, more)?;
-    status_text(alloc, &event.status)
+fn is_status(rt: &(impl Abort + AllocGlobal), row: &(&str, &str)) -> bool {
+    let event = event_with(rt, row.0);
+    let text = status_text(rt, &event.status);
+    let is_status = text.as_str() == row.1;
+    drop(text);
+    drop(event);
+    is_status
 }
 
 #[test]
-fn statuses(rt: HostRuntime) -> Result<(), Fail> {
-    for (more, status) in &STATUSES {
-        let text = status_of(rt.alloc(), more)?;
-        assert_eq!(rt; text.as_str(), *status, "{more}");
+fn statuses(rt: HostRuntime) {
+    for row in &STATUSES {
+        check(&rt, is_status(&rt, row), row.0);
     }
-    Ok(())
 }
 
 // Annotations, and the decision that they record.
@@ -417,18 +416,18 @@ static DECISIONS: [(&str, Option<Decision>); 5] = [
     (r#""annotations":"allow","#, None),
 ];
 
-fn decision_of(alloc: Global, more: &str) -> Result<Option<Decision>, Fail> {
-    let event = event_with(alloc, more)?;
-    Ok(event.decision)
+fn decision_of(rt: &(impl Abort + AllocGlobal), more: &str) -> Option<Decision> {
+    let event = event_with(rt, more);
+    let decision = event.decision;
+    drop(event);
+    decision
 }
 
 #[test]
-fn decisions(rt: HostRuntime) -> Result<(), Fail> {
+fn decisions(rt: HostRuntime) {
     for (more, decision) in &DECISIONS {
-        let read = decision_of(rt.alloc(), more)?;
-        assert_eq!(rt; read, *decision, "{more}");
+        check(&rt, decision_of(&rt, more) == *decision, more);
     }
-    Ok(())
 }
 
 // Items, and whether they are taken for events in a list, and by themselves.
@@ -451,20 +450,28 @@ static ITEMS: [(&str, bool, bool); 4] = [
     ("null", false, false),
 ];
 
+fn is_taken(event: Result<Event, EventFault>) -> bool {
+    match event {
+        Ok(event) => {
+            drop(event);
+            true
+        }
+        Err(_) => false,
+    }
+}
+
 // Whether a value is taken for an event in a list, and by itself.
-fn taken(alloc: Global, text: &str) -> Result<(bool, bool), Fail> {
-    let value = Value::from_str(alloc, text)?;
-    let in_list = read_item(alloc, &value, 0).is_ok();
-    let by_itself = read_value(alloc, &value, 0).is_ok();
-    Ok((in_list, by_itself))
+fn taken(rt: &(impl Abort + AllocGlobal), text: &str) -> (bool, bool) {
+    let value = Value::from_str(rt.alloc(), text).expect(rt, "JSON");
+    let in_list = is_taken(read_item(rt.alloc(), &value, 0));
+    let by_itself = is_taken(read_value(rt.alloc(), &value, 0));
+    drop(value);
+    (in_list, by_itself)
 }
 
 #[test]
-fn items(rt: HostRuntime) -> Result<(), Fail> {
+fn items(rt: HostRuntime) {
     for (text, is_item, is_event) in &ITEMS {
-        let (in_list, by_itself) = taken(rt.alloc(), text)?;
-        assert_eq!(rt; in_list, *is_item, "{text}");
-        assert_eq!(rt; by_itself, *is_event, "{text}");
+        check(&rt, taken(&rt, text) == (*is_item, *is_event), text);
     }
-    Ok(())
 }

@@ -1,9 +1,11 @@
 ghost use Rattle.std.specs.Prelude.{◌≡◌, ◌+◌, ◌≤◌, ◌<◌, ◌^◌, ◌-◌, All, length, IfOk};
 
+use crate::given::check;
 use audit_event::{Admitted, Event, Seen, SeenFault, read_event};
 use base_types::Bytes;
 use line_reader::Line;
 use std::alloc::Global;
+use std::process::Abort;
 use std::test::Fail;
 
 const EVENT: &str =
@@ -38,28 +40,51 @@ fn admit_at(
     Ok(seen.admit(event))
 }
 
-#[test]
-fn repeats_and_differences(rt: HostRuntime) -> Result<(), Fail> {
-    let mut seen = Seen::new(rt.alloc())?;
-    let fresh = admit_at(rt.alloc(), &mut seen, 1, "")?;
-    assert_eq!(rt; fresh, Ok(Admitted::Fresh));
-    let repeated = admit_at(rt.alloc(), &mut seen, 2, r#""x":1,"#)?;
-    assert_eq!(rt; repeated, Ok(Admitted::Repeat));
-    let differs = admit_at(rt.alloc(), &mut seen, 3, r#""responseObject":[1.5],"#)?;
-    assert_eq!(rt; differs, Err(SeenFault::Differs { line: 1 }));
-    let other_stage = admit_at(rt.alloc(), &mut seen, 4, r#""stage":"Panic","#)?;
-    assert_eq!(rt; other_stage, Ok(Admitted::Fresh));
-    assert_eq!(rt; seen.count(), 2);
-    Ok(())
+// The event is admitted so.
+fn admits(
+    rt: &(impl Abort + AllocGlobal),
+    seen: &mut Seen,
+    number: u64,
+    more: &str,
+    wanted: Result<Admitted, SeenFault>,
+)
+    requires lines { All (λ other. other.line < number) seen.old }
+    requires room { length seen.old < 2 ^ 32 - 1 }
+    ensures lines { All (λ other. other.line < number + 1) seen.new }
+    ensures room { length seen.new ≤ length seen.old + 1 }
+{
+    match admit_at(rt.alloc(), seen, number, more) {
+        Ok(found) => check(rt, found == wanted, more),
+        Err(_) => panic!(rt; "no event"),
+    }
 }
 
 #[test]
-fn unread_bodies_repeat(rt: HostRuntime) -> Result<(), Fail> {
-    let mut seen = Seen::new(rt.alloc())?;
-    let fresh = admit_at(rt.alloc(), &mut seen, 1, r#""responseObject":[1.5],"#)?;
-    assert_eq!(rt; fresh, Ok(Admitted::Fresh));
-    let repeated = admit_at(rt.alloc(), &mut seen, 2, r#""responseObject":{"a":-0},"#)?;
-    assert_eq!(rt; repeated, Ok(Admitted::Repeat));
-    assert_eq!(rt; seen.finish().len(), 1);
-    Ok(())
+fn repeats_and_differences(rt: HostRuntime) {
+    let mut seen = Seen::new(rt.alloc()).expect(&rt, "memory");
+    admits(&rt, &mut seen, 1, "", Ok(Admitted::Fresh));
+    admits(&rt, &mut seen, 2, r#""x":1,"#, Ok(Admitted::Repeat));
+    let differs = Err(SeenFault::Differs { line: 1 });
+    admits(&rt, &mut seen, 3, r#""responseObject":[1.5],"#, differs);
+    admits(
+        &rt,
+        &mut seen,
+        4,
+        r#""stage":"Panic","#,
+        Ok(Admitted::Fresh),
+    );
+    check(&rt, seen.count() == 2, "the count");
+    drop(seen);
+}
+
+#[test]
+fn unread_bodies_repeat(rt: HostRuntime) {
+    let mut seen = Seen::new(rt.alloc()).expect(&rt, "memory");
+    let fresh = Ok(Admitted::Fresh);
+    admits(&rt, &mut seen, 1, r#""responseObject":[1.5],"#, fresh);
+    let repeat = Ok(Admitted::Repeat);
+    admits(&rt, &mut seen, 2, r#""responseObject":{"a":-0},"#, repeat);
+    let events = seen.finish();
+    check(&rt, events.len() == 1, "the events");
+    drop(events);
 }
