@@ -1,4 +1,5 @@
 use crate::patching::{fault_of, nulls};
+use crate::reading::check;
 use json_patch::{ApplyCause, ApplyFault};
 use json_tree::{Node, Tree, Trees};
 use std::process::Abort;
@@ -73,10 +74,10 @@ fn is_done_deepest(
 fn depth_is_limited(rt: HostRuntime) {
     let deep = nested(&rt, 127);
     let absent = r#"[{"op": "test", "path": "/0/1", "value": 1}]"#;
-    assert!(rt; !is_done(&rt, &deep, absent));
+    check(&rt, !is_done(&rt, &deep, absent), absent);
     for (start, end, allowed) in &DEEP {
         let is_done = is_done_deepest(&rt, &deep, start, end);
-        assert_eq!(rt; is_done, *allowed, "{start}");
+        check(&rt, is_done == *allowed, start);
     }
     drop(deep);
 }
@@ -93,13 +94,16 @@ static TOO_DEEP: [(&str, bool); 4] = [
 fn what_is_too_deep_can_be_mended(rt: HostRuntime) {
     let too_deep = nested(&rt, 128);
     for (patch, done) in &TOO_DEEP {
-        assert_eq!(rt; is_done(&rt, &too_deep, patch), *done, "{patch}");
+        check(&rt, is_done(&rt, &too_deep, patch) == *done, patch);
     }
     let further = r#"[{"op": "add", "path": "/-", "value": 1}]"#;
     let fault = fault_of(&rt, &too_deep, further);
-    let cause = ApplyCause::Deep;
-    assert!(rt; fault == Some(ApplyFault::Operation { index: 0, cause }));
+    check(&rt, is_fault(fault, 0, ApplyCause::Deep), further);
     drop(too_deep);
+}
+
+fn is_fault(fault: Option<ApplyFault>, index: u32, cause: ApplyCause) -> bool {
+    fault == Some(ApplyFault::Operation { index, cause })
 }
 
 /// 1,000,000 values are allowed, the document itself among them.
@@ -107,16 +111,15 @@ fn what_is_too_deep_can_be_mended(rt: HostRuntime) {
 fn size_is_limited(rt: HostRuntime) {
     let document = nulls(&rt, 999_998);
     let one = r#"[{"op": "add", "path": "/-", "value": 1}]"#;
-    assert!(rt; is_done(&rt, &document, one));
+    check(&rt, is_done(&rt, &document, one), one);
     let two =
         r#"[{"op": "add", "path": "/-", "value": 1}, {"op": "add", "path": "/0", "value": 1}]"#;
     let fault = fault_of(&rt, &document, two);
-    let cause = ApplyCause::Large;
-    assert!(rt; fault == Some(ApplyFault::Operation { index: 1, cause }));
+    check(&rt, is_fault(fault, 1, ApplyCause::Large), two);
     let exchanged =
         r#"[{"op": "add", "path": "/-", "value": 1}, {"op": "replace", "path": "/0", "value": []},
         {"op": "move", "from": "/1", "path": "/0/-"}, {"op": "remove", "path": "/0"},
         {"op": "add", "path": "/0", "value": [0]}]"#;
-    assert!(rt; is_done(&rt, &document, exchanged));
+    check(&rt, is_done(&rt, &document, exchanged), exchanged);
     drop(document);
 }

@@ -1,5 +1,5 @@
 use crate::patching::{fault_of, nulls};
-use crate::reading::read;
+use crate::reading::{check, read};
 use json_patch::{ApplyCause, ApplyFault, PatchFault, read_patch};
 use json_tree::Tree;
 use std::process::Abort;
@@ -140,21 +140,19 @@ static REFUSED: [(&str, &str, u32, ApplyCause); 22] = [
     ),
 ];
 
-fn fault(rt: &(impl Abort + AllocGlobal), document: &str, patch: &str) -> Option<ApplyFault> {
-    let document = read(rt, document);
-    let fault = fault_of(rt, &document, patch);
+// Whether an operation can't be done, with this cause.
+fn is_refused(rt: &(impl Abort + AllocGlobal), row: &(&str, &str, u32, ApplyCause)) -> bool {
+    let document = read(rt, row.0);
+    let fault = fault_of(rt, &document, row.1);
     drop(document);
-    fault
+    let (index, cause) = (row.2, row.3);
+    fault == Some(ApplyFault::Operation { index, cause })
 }
 
 #[test]
 fn refused_operations(rt: HostRuntime) {
-    for (document, patch, index, cause) in &REFUSED {
-        let wanted = ApplyFault::Operation {
-            index: *index,
-            cause: *cause,
-        };
-        assert!(rt; fault(&rt, document, patch) == Some(wanted), "of {patch}");
+    for row in &REFUSED {
+        check(&rt, is_refused(&rt, row), row.1);
     }
 }
 
@@ -200,10 +198,11 @@ fn why_unread(rt: &(impl Abort + AllocGlobal), tree: Tree) -> Option<PatchFault>
 fn refused_patches(rt: HostRuntime) {
     for (patch, fault) in &UNREAD {
         let found = why_unread(&rt, read(&rt, patch));
-        assert!(rt; found == Some(*fault), "of {patch}");
+        check(&rt, found == Some(*fault), patch);
     }
     let many = why_unread(&rt, nulls(&rt, 10_001));
-    assert!(rt; many == Some(PatchFault::TooMany));
+    check(&rt, many == Some(PatchFault::TooMany), "10,001 operations");
     let most = why_unread(&rt, nulls(&rt, 10_000));
-    assert!(rt; most == Some(PatchFault::BadOperation { index: 0 }));
+    let first = PatchFault::BadOperation { index: 0 };
+    check(&rt, most == Some(first), "10,000 operations");
 }

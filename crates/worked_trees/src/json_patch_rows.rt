@@ -1,5 +1,5 @@
 use crate::patching::patched;
-use crate::reading::{is_tree, read};
+use crate::reading::{check, is_tree, read};
 use std::process::Abort;
 
 /// Document, patch and what comes of it: RFC 6902 appendix A, the empty pointer, a member without a name,
@@ -135,6 +135,6 @@ fn makes(rt: &(impl Abort + AllocGlobal), document: &str, patch: &str, made: &st
 #[test]
 fn patches_apply(rt: HostRuntime) {
     for (document, patch, made) in &APPLIED {
-        assert!(rt; makes(&rt, document, patch, made), "of {patch}");
+        check(&rt, makes(&rt, document, patch, made), patch);
     }
 }

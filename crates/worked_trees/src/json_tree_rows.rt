@@ -1,4 +1,4 @@
-use crate::reading::{is_tree, read};
+use crate::reading::{check, is_tree, read};
 use base_types::Text;
 use json_tree::{
     MemberList, Node, PointerFault, Tree, TreeFault, copy, equal, from_value, get, read_pointer,
@@ -20,22 +20,21 @@ static PRINTED: [(&str, &str); 7] = [
     (r#"{"a": 1, "b": 2, "a": 3}"#, r#"{"a":3,"b":2}"#),
 ];
 
-fn printed(rt: &(impl Abort + AllocGlobal), text: &str) -> String {
-    let value = Value::from_str(rt.alloc(), text).expect(rt, "JSON");
-    let tree = from_value(rt.alloc(), &value).expect(rt, "a tree");
-    drop(value);
+fn is_printed(rt: &(impl Abort + AllocGlobal), text: &str, wanted: &str) -> bool {
+    let tree = read(rt, text);
     let again = to_value(rt.alloc(), &tree).expect(rt, "memory");
     drop(tree);
     let text = again.to_string(rt.alloc()).expect(rt, "memory");
     drop(again);
-    text
+    let is_printed = text.as_str() == wanted;
+    drop(text);
+    is_printed
 }
 
 #[test]
 fn values_come_back(rt: HostRuntime) {
     for (text, wanted) in &PRINTED {
-        let found = printed(&rt, text);
-        assert_eq!(rt; found.as_str(), *wanted, "of {text}");
+        check(&rt, is_printed(&rt, text, wanted), text);
     }
 }
 
@@ -48,18 +47,23 @@ static FRACTIONS: [&str; 6] = [
     r#"[1, {"a": 2.5}]"#,
 ];
 
-fn tree_fault(rt: &(impl Abort + AllocGlobal), text: &str) -> Option<TreeFault> {
+fn is_fraction(rt: &(impl Abort + AllocGlobal), text: &str) -> bool {
     let value = Value::from_str(rt.alloc(), text).expect(rt, "JSON");
-    let fault = from_value(rt.alloc(), &value).err();
+    let tree = from_value(rt.alloc(), &value);
     drop(value);
-    fault
+    match tree {
+        Ok(tree) => {
+            drop(tree);
+            false
+        }
+        Err(fault) => fault == TreeFault::Fraction,
+    }
 }
 
 #[test]
 fn fractions_have_no_tree(rt: HostRuntime) {
     for text in &FRACTIONS {
-        let fault = tree_fault(&rt, text);
-        assert!(rt; fault == Some(TreeFault::Fraction), "of {text}");
+        check(&rt, is_fraction(&rt, text), text);
     }
 }
 
@@ -111,10 +115,10 @@ fn leads_to(rt: &(impl Abort + AllocGlobal), document: &Tree, at: &str, value: &
 fn pointers_lead_to_values(rt: HostRuntime) {
     let document = read(&rt, DOCUMENT);
     for (text, value) in &POINTERS {
-        assert!(rt; leads_to(&rt, &document, text, value), "at {text}");
+        check(&rt, leads_to(&rt, &document, text, value), text);
     }
     for text in &LEADING_NOWHERE {
-        assert!(rt; pointed(&rt, &document, text).is_none(), "at {text}");
+        check(&rt, pointed(&rt, &document, text).is_none(), text);
     }
     drop(document);
 }
@@ -131,31 +135,41 @@ static TOKENS: [(&str, &str); 4] = [
 
 fn is_one_token(rt: &(impl Abort + AllocGlobal), text: &str, token: &str) -> bool {
     let pointer = read_pointer(rt.alloc(), text).expect(rt, "a pointer");
-    match pointer.as_slice() {
+    let is_so = match pointer.as_slice() {
         [only] => only.as_str() == token,
         _ => false,
+    };
+    drop(pointer);
+    is_so
+}
+
+fn is_no_pointer(alloc: Global, text: &str) -> bool {
+    match read_pointer(alloc, text) {
+        Ok(pointer) => {
+            drop(pointer);
+            false
+        }
+        Err(fault) => fault == PointerFault::Form,
     }
 }
 
-fn pointer_fault(alloc: Global, text: &str) -> Option<PointerFault> {
-    read_pointer(alloc, text).err()
-}
-
 fn count_of_tokens(rt: &(impl Abort + AllocGlobal), text: &str) -> usize {
-    read_pointer(rt.alloc(), text).expect(rt, "a pointer").len()
+    let pointer = read_pointer(rt.alloc(), text).expect(rt, "a pointer");
+    let count = pointer.len();
+    drop(pointer);
+    count
 }
 
 /// A text without `/` at its front, or with a `~` of no meaning, is no pointer. `~01` is `~1`.
 #[test]
 fn pointers_have_one_spelling(rt: HostRuntime) {
     for text in &NO_POINTERS {
-        let fault = pointer_fault(rt.alloc(), text);
-        assert!(rt; fault == Some(PointerFault::Form), "of {text}");
+        check(&rt, is_no_pointer(rt.alloc(), text), text);
     }
     for (text, token) in &TOKENS {
-        assert!(rt; is_one_token(&rt, text, token), "of {text}");
+        check(&rt, is_one_token(&rt, text, token), text);
     }
-    assert_eq!(rt; count_of_tokens(&rt, "/a//b"), 3);
+    check(&rt, count_of_tokens(&rt, "/a//b") == 3, "/a//b");
 }
 
 static DISTINCT: [&str; 12] = [
@@ -189,14 +203,19 @@ fn are_equal(rt: &(impl Abort + AllocGlobal), text: &str, other: &str) -> bool {
     is_same
 }
 
+// A text is equal to itself alone.
+fn check_equals(rt: &(impl Abort + AllocGlobal), text: &str) {
+    for other in &DISTINCT {
+        let is_same = text == *other;
+        check(rt, are_equal(rt, text, other) == is_same, other);
+    }
+}
+
 #[test]
 fn trees_are_told_apart(rt: HostRuntime) {
-    for (i, text) in DISTINCT.iter().enumerate() {
-        assert!(rt; is_its_copy(&rt, text), "a copy of {text}");
-        for (j, other) in DISTINCT.iter().enumerate() {
-            let same = are_equal(&rt, text, other);
-            assert_eq!(rt; same, i == j, "{text} and {other}");
-        }
+    for text in &DISTINCT {
+        check(&rt, is_its_copy(&rt, text), text);
+        check_equals(&rt, text);
     }
 }
 
@@ -223,7 +242,7 @@ fn is_stored_as(rt: &(impl Abort + AllocGlobal), object: &str, stored: &str) -> 
 #[test]
 fn stored_forms(rt: HostRuntime) {
     for (object, stored) in &STORED {
-        assert!(rt; is_stored_as(&rt, object, stored), "of {object}");
+        check(&rt, is_stored_as(&rt, object, stored), object);
     }
 }
 
@@ -235,14 +254,33 @@ fn length_of(tree: Option<&Tree>) -> Option<usize> {
     Some(tree?.as_items()?.all.len())
 }
 
+fn flag_of(tree: Option<&Tree>) -> Option<bool> {
+    tree?.as_flag()
+}
+
+fn whole_of(tree: Option<&Tree>) -> Option<i128> {
+    tree?.as_whole()
+}
+
+fn count_of(tree: &Tree) -> Option<usize> {
+    Some(tree.as_members()?.all.len())
+}
+
+fn is_null(tree: Option<&Tree>) -> bool {
+    match tree {
+        Some(tree) => tree.is_null(),
+        None => false,
+    }
+}
+
 fn check_members(rt: &impl Abort, tree: &Tree) {
-    assert!(rt; tree.member("f").and_then(|flag| flag.as_flag()) == Some(true));
-    assert!(rt; tree.member("w").and_then(|whole| whole.as_whole()) == Some(-7));
-    assert!(rt; text_of(tree.member("t")) == Some("x"));
-    assert!(rt; length_of(tree.member("i")) == Some(1));
-    assert!(rt; tree.as_members().map(|members| members.all.len()) == Some(5));
-    assert!(rt; tree.member("n").is_some_and(|null| null.is_null()));
-    assert!(rt; tree.member("m").is_none());
+    check(rt, flag_of(tree.member("f")) == Some(true), "f");
+    check(rt, whole_of(tree.member("w")) == Some(-7), "w");
+    check(rt, text_of(tree.member("t")) == Some("x"), "t");
+    check(rt, length_of(tree.member("i")) == Some(1), "i");
+    check(rt, count_of(tree) == Some(5), "five members");
+    check(rt, is_null(tree.member("n")), "n");
+    check(rt, tree.member("m").is_none(), "m");
 }
 
 #[test]
@@ -284,7 +322,13 @@ fn put_in(rt: &(impl Abort + AllocGlobal), text: &str) -> MemberList {
 }
 
 fn takes(list: &mut MemberList, name: &str) -> bool {
-    list.take(name).is_some()
+    match list.take(name) {
+        Some(was) => {
+            drop(was);
+            true
+        }
+        None => false,
+    }
 }
 
 fn is_object(rt: &(impl Abort + AllocGlobal), list: MemberList, text: &str) -> bool {
@@ -299,8 +343,9 @@ fn is_object(rt: &(impl Abort + AllocGlobal), list: MemberList, text: &str) -> b
 #[test]
 fn members_are_put_and_taken(rt: HostRuntime) {
     let mut list = put_in(&rt, r#"{"b": 1, "d": 2}"#);
-    assert_eq!(rt; list.all.len(), 5);
-    assert!(rt; takes(&mut list, "d") && !takes(&mut list, "d"));
+    check(&rt, list.all.len() == 5, "five members");
+    check(&rt, takes(&mut list, "d"), "it was there");
+    check(&rt, !takes(&mut list, "d"), "it was taken");
     let wanted = r#"{"a": 3, "b": 1, "c": 3, "e": 3}"#;
-    assert!(rt; is_object(&rt, list, wanted));
+    check(&rt, is_object(&rt, list, wanted), wanted);
 }

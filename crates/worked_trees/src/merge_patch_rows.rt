@@ -1,4 +1,4 @@
-use crate::reading::{is_tree, read};
+use crate::reading::{check, is_tree, read};
 use json_tree::Tree;
 use merge_patch::merge;
 use std::process::Abort;
@@ -76,7 +76,7 @@ fn makes_alone(rt: &(impl Abort + AllocGlobal), patch: &str, made: &str) -> bool
 #[test]
 fn patches_merge(rt: HostRuntime) {
     for (target, patch, made) in &MERGES {
-        assert!(rt; makes(&rt, target, patch, made), "of {patch}");
+        check(&rt, makes(&rt, target, patch, made), patch);
     }
 }
 
@@ -89,6 +89,6 @@ static MADE: [(&str, &str); 2] = [
 #[test]
 fn without_a_target(rt: HostRuntime) {
     for (patch, made) in &MADE {
-        assert!(rt; makes_alone(&rt, patch, made), "of {patch}");
+        check(&rt, makes_alone(&rt, patch, made), patch);
     }
 }

@@ -1,6 +1,6 @@
 ghost use Rattle.std.specs.Prelude.{◌<◌, IfSome, length};
 
-use crate::reading::{is_tree, read};
+use crate::reading::{check, is_tree, read};
 use json_tree::read_pointer;
 use node_pool::{NodeId, Pool, PoolFault};
 use std::marker::{Send, Sync};
@@ -26,7 +26,7 @@ fn number(rt: &(impl Abort + AllocGlobal), pool: &mut Pool, text: &str) -> Optio
     match interned {
         Ok(node) => Some(node.0),
         Err(PoolFault::Full) => None,
-        Err(fault) => panic!(rt; "{fault}"),
+        Err(_) => panic!(rt; "memory"),
     }
 }
 
@@ -36,8 +36,7 @@ fn a_tree_has_one_number(rt: HostRuntime) {
     shared(&pool);
     for (text, wanted, len) in &NUMBERS {
         let found = number(&rt, &mut pool, text);
-        assert_eq!(rt; found, *wanted, "of {text}");
-        assert_eq!(rt; pool.len(), *len, "after {text}");
+        check(&rt, found == *wanted && pool.len() == *len, text);
     }
     drop(pool);
 }
@@ -101,10 +100,11 @@ fn comes_back(rt: &(impl Abort + AllocGlobal), pool: &Pool, node: NodeId, text: 
 fn check_parts(rt: &(impl Abort + AllocGlobal), pool: &Pool, node: NodeId)
     requires { node.0 < length pool.now.trees }
 {
-    assert!(rt; pool.same(node, node) && equals(rt, pool, node, OBJECT));
-    assert!(rt; comes_back(rt, pool, node, OBJECT));
+    check(rt, pool.same(node, node), "the same");
+    check(rt, equals(rt, pool, node, OBJECT), "the object");
+    check(rt, comes_back(rt, pool, node, OBJECT), "it comes back");
     for (at, part) in &PARTS {
-        assert!(rt; is_there(rt, pool, node, at, *part), "at {at}");
+        check(rt, is_there(rt, pool, node, at, *part), at);
     }
 }
 
@@ -114,7 +114,7 @@ fn parts_are_found(rt: HostRuntime) {
     let mut pool = Pool::new(rt.alloc(), 100).expect(&rt, "memory");
     let node = pool.intern(&object).expect(&rt, "room");
     drop(object);
-    assert_eq!(rt; pool.len(), 7);
+    check(&rt, pool.len() == 7, "seven values");
     check_parts(&rt, &pool, node);
     drop(pool);
 }

@@ -17,3 +17,10 @@ pub(crate) fn is_tree(rt: &(impl Abort + AllocGlobal), tree: &Tree, text: &str) 
     drop(wanted);
     is_same
 }
+
+/// Stops the test at this row, where it doesn't hold.
+pub(crate) fn check(rt: &impl Abort, holds: bool, row: &str) {
+    if !holds {
+        rt.panic(row)
+    }
+}
