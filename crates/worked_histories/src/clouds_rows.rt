@@ -1,4 +1,4 @@
-use crate::parts::{key, revision, text};
+use crate::parts::{check, key, revision, text};
 use base_types::{Cover, CoverName, ObjectKey, Text, covers};
 use clouds::{Clouds, KeyRevision, OpaqueSpan};
 use std::marker::{Send, Sync};
@@ -94,13 +94,14 @@ static MAKES: [(u64, bool); 4] = [(10, false), (11, true), (14, true), (15, fals
 
 fn check_pod(rt: &impl Abort, clouds: &Clouds, pod: &ObjectKey) {
     for (place, hidden) in &PLACES {
-        assert!(rt; clouds.clouded(pod, *place) == *hidden);
+        check(rt, clouds.clouded(pod, *place) == *hidden, "a place");
     }
     for (low, high, first) in &RANGES {
-        assert!(rt; clouds.meets(pod, *low, *high) == *first);
+        check(rt, clouds.meets(pod, *low, *high) == *first, "a range");
     }
     for (number, may) in &MAKES {
-        assert!(rt; clouds.may_make(pod, revision(rt, *number)) == *may);
+        let found = clouds.may_make(pod, revision(rt, *number));
+        check(rt, found == *may, "a revision");
     }
 }
 
@@ -142,7 +143,8 @@ static COVERS: [(&str, &str, bool); 10] = [
 fn covers_of_all_forms(rt: HostRuntime) {
     for (namespace, pattern, covered) in &COVERS {
         let expected = if *covered { Some(4) } else { None };
-        assert!(rt; hidden_from(&rt, namespace, pattern) == expected);
+        let found = hidden_from(&rt, namespace, pattern);
+        check(&rt, found == expected, pattern);
     }
 }
 
@@ -219,6 +221,6 @@ fn agrees(rt: &(impl Abort + AllocGlobal), seed: u64) -> bool {
 #[test]
 fn scanning_gives_the_same(rt: HostRuntime) {
     for seed in 0..200u64 {
-        assert!(rt; agrees(&rt, seed), "{seed}");
+        check(&rt, agrees(&rt, seed), "a number");
     }
 }

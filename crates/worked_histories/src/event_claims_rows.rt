@@ -1,6 +1,6 @@
 ghost use Rattle.std.specs.Prelude.{◌≡◌, ◌<◌, length};
 
-use crate::parts::{item, key, revision, text};
+use crate::parts::{check, item, key, revision, text};
 use base_types::{
     Cover, CoverName, Decision, Moment, OutOfMemory, PlacedAnswer, Places, Reason, Revision,
 };
@@ -57,7 +57,7 @@ enum Told {
     Allowed,
 }
 
-const CASES: [(Told, Option<Reason>); 11] = [
+static CASES: [(Told, Option<Reason>); 11] = [
     (Told::Absent, None),
     (Told::Present, Some(Reason::U12)),
     (Told::Seen, Some(Reason::U10)),
@@ -222,13 +222,16 @@ fn judged(rt: &(impl Abort + AllocGlobal), told: Told) -> (Option<Reason>, Optio
     judged
 }
 
+fn is_right(rt: &(impl Abort + AllocGlobal), told: Told, wanted: Option<Reason>) -> bool {
+    let (fails, answer) = judged(rt, told);
+    fails == wanted && answer.is_some() == wanted.is_none()
+}
+
 #[test]
 fn claims_of_one_event(rt: HostRuntime) {
     for (told, wanted) in &CASES {
-        let (fails, answer) = judged(&rt, *told);
-        assert!(rt; fails == *wanted);
-        assert!(rt; answer.is_some() == wanted.is_none());
+        check(&rt, is_right(&rt, *told, *wanted), "an event");
     }
     let (_, answer) = judged(&rt, Told::Absent);
-    assert!(rt; answer == Some(PlacedAnswer::At(10)));
+    check(&rt, answer == Some(PlacedAnswer::At(10)), "absent");
 }

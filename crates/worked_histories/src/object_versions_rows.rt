@@ -1,10 +1,10 @@
 ghost use Rattle.std.specs.Prelude.{◌≡◌, ◌<◌, ◌^◌, true, length, AllPairs};
 
-use crate::parts::{event_of, key, made, push, revision, text};
+use crate::parts::{check, event_of, key, made, push, revision, text};
 use base_types::{OutOfMemory, Reason, Revision};
 use node_pool::NodeId;
-use object_past::{Maker, Version};
-use object_versions::{Bodies, LogPast, past_of};
+use object_past::{Maker, Removal, Version};
+use object_versions::{Bodies, Judged, LogPast, past_of};
 use std::alloc::Global;
 use std::process::Abort;
 use write_groups::{LogEvent, Reading, Shown};
@@ -22,7 +22,7 @@ enum Told {
 // Revision 12 has two answers: one replaced revision 11, the other, which ended first, found what that had left. The
 // object `a1` is removed, `a2` takes its place, and then `a1` comes back, which no API server does; its second removal
 // isn't looked for. `b2` is created over `b1`, which was never removed.
-const LOG: [(Told, i128, i128); 9] = [
+static LOG: [(Told, i128, i128); 9] = [
     (Told::Created("a", "a1", 11), 10, 20),
     (Told::Replaced("a", "a1", 12), 30, 50),
     (Told::Updated("a", "a1", 12), 30, 40),
@@ -103,24 +103,24 @@ static VERSIONS: [(&str, &str, u64, Maker, bool); 6] = [
     ("a", "a1", 19, Maker::Event(7), false),
 ];
 
-fn check_version(rt: &impl Abort, version: &Version, row: &(&str, &str, u64, Maker, bool)) {
-    let (name, uid, number, maker, _) = row;
-    assert!(rt; version.key.name.as_str() == *name && version.uid.as_str() == *uid);
-    assert_eq!(rt; version.revision.get(), *number);
-    assert_eq!(rt; version.maker, *maker, "maker of {number}");
+fn is_version(version: &Version, row: &(&str, &str, u64, Maker, bool)) -> bool {
+    version.key.name.as_str() == row.0
+        && version.uid.as_str() == row.1
+        && version.revision.get() == row.2
+        && version.maker == row.3
 }
 
 fn check_versions(rt: &impl Abort, past: &LogPast) {
-    assert_eq!(rt; past.versions.len(), 6);
+    check(rt, past.versions.len() == 6, "six versions");
     for (version, row) in past.versions.iter().zip(&VERSIONS) {
-        check_version(rt, version, row);
+        check(rt, is_version(version, row), row.1);
     }
 }
 
 fn check_firsts(rt: &impl Abort, past: &LogPast) {
-    assert_eq!(rt; past.firsts.len(), 6);
-    for (is_first, (_, _, number, _, first)) in past.firsts.iter().zip(&VERSIONS) {
-        assert_eq!(rt; *is_first, *first, "first of {number}");
+    check(rt, past.firsts.len() == 6, "six versions");
+    for (is_first, row) in past.firsts.iter().zip(&VERSIONS) {
+        check(rt, *is_first == row.4, row.1);
     }
 }
 
@@ -135,20 +135,29 @@ static JUDGED: [(u32, Option<Reason>, Option<Reason>); 7] = [
     (7, Some(Reason::U4), Some(Reason::U4)),
 ];
 
+fn is_judged(one: &Judged, row: &(u32, Option<Reason>, Option<Reason>)) -> bool {
+    one.number == row.0 && one.making == row.1 && one.finding == row.2
+}
+
 fn check_judged(rt: &impl Abort, past: &LogPast) {
-    assert_eq!(rt; past.judged.len(), 7);
-    for (one, (number, making, finding)) in past.judged.iter().zip(&JUDGED) {
-        assert_eq!(rt; one.number, *number);
-        assert!(rt; one.making == *making, "making of {number}");
-        assert!(rt; one.finding == *finding, "finding of {number}");
+    check(rt, past.judged.len() == 7, "seven writes");
+    for (one, row) in past.judged.iter().zip(&JUDGED) {
+        check(rt, is_judged(one, row), "a write");
     }
 }
 
-fn check_removals(rt: &impl Abort, past: &LogPast) {
-    assert_eq!(rt; past.removals.len(), 1);
-    for removal in past.removals.iter() {
-        assert_eq!(rt; (removal.range.event, removal.last.get()), (3, 12));
-        assert_eq!(rt; (removal.range.low, removal.range.high), (13, 13));
+// The removal by event 3 of the version 12.
+fn is_removal(removal: &Removal) -> bool {
+    removal.range.event == 3
+        && removal.last.get() == 12
+        && removal.range.low == 13
+        && removal.range.high == 13
+}
+
+fn are_removals(removals: &[Removal]) -> bool {
+    match removals {
+        [only] => is_removal(only),
+        _ => false,
     }
 }
 
@@ -165,6 +174,6 @@ fn past_of_a_log(rt: HostRuntime) {
     check_versions(&rt, &past);
     check_firsts(&rt, &past);
     check_judged(&rt, &past);
-    check_removals(&rt, &past);
+    check(&rt, are_removals(past.removals.as_slice()), "removals");
     drop(past);
 }

@@ -81,3 +81,10 @@ pub fn push(rt: &impl Abort, events: &mut Vec<LogEvent>, event: LogEvent)
 {
     events.push(event).expect(rt, "memory");
 }
+
+/// Stops the test at this row, where it doesn't hold.
+pub fn check(rt: &impl Abort, holds: bool, row: &str) {
+    if !holds {
+        rt.panic(row)
+    }
+}

@@ -1,6 +1,6 @@
 ghost use Rattle.std.specs.Prelude.{◌≡◌, ◌<◌, ◌^◌, length, AllPairs};
 
-use crate::parts::{event_of, key, made, push, revision, text};
+use crate::parts::{check, event_of, key, made, push, revision, text};
 use base_types::{Cover, CoverName, Moment, Revision};
 use std::process::Abort;
 use time_windows::{Span, Windows};
@@ -22,7 +22,7 @@ enum Told {
 
 // Revision 11 belongs to `a`, whose unrecorded write may have begun before; `b` was answered with it too. Revision 12
 // was created, and revision 13 replaced 12. Three ends are equal. The checkpoints have no time.
-const LOG: [(Told, i128, i128); 10] = [
+static LOG: [(Told, i128, i128); 10] = [
     (Told::Updated("a", 11), 100, 130),
     (Told::Unseen("a"), 50, 500),
     (Told::Created("b", 12), 120, 140),
@@ -95,37 +95,41 @@ fn log(rt: &(impl Abort + AllocGlobal)) -> Vec<LogEvent>
 // Revisions, each with the object's name and the events of its group.
 static GROUPS: [(u64, &str, &[u32]); 3] = [(11, "a", &[0, 4]), (12, "b", &[2]), (13, "b", &[7])];
 
-fn check_group(rt: &impl Abort, group: &Group, row: &(u64, &str, &[u32])) {
-    let (number, name, members) = row;
-    assert_eq!(rt; group.revision.get(), *number);
-    assert!(rt; group.key.name.as_str() == *name);
-    assert!(rt; group.members.as_slice() == *members, "members of {number}");
+fn is_group(group: &Group, row: &(u64, &str, &[u32])) -> bool {
+    group.revision.get() == row.0
+        && group.key.name.as_str() == row.1
+        && group.members.as_slice() == row.2
 }
 
 fn check_groups(rt: &impl Abort, groups: &[Group]) {
-    assert_eq!(rt; groups.len(), 3);
+    check(rt, groups.len() == 3, "three groups");
     for (group, row) in groups.iter().zip(&GROUPS) {
-        check_group(rt, group, row);
+        check(rt, is_group(group, row), row.1);
     }
 }
 
 // Revisions, each with the moments between which it was written.
 static TIMES: [(u64, i128, i128); 3] = [(11, 50, 130), (12, 120, 140), (13, 150, 170)];
 
+fn is_span(span: &Span, row: &(u64, i128, i128)) -> bool {
+    span.revision.get() == row.0 && span.lo.0 == row.1 && span.hi.0 == row.2
+}
+
 fn check_spans(rt: &impl Abort, spans: &[Span]) {
-    assert_eq!(rt; spans.len(), 3);
-    for (span, (number, lo, hi)) in spans.iter().zip(&TIMES) {
-        assert_eq!(rt; span.revision.get(), *number);
-        assert_eq!(rt; (span.lo.0, span.hi.0), (*lo, *hi), "times of {number}");
+    check(rt, spans.len() == 3, "three spans");
+    for (span, row) in spans.iter().zip(&TIMES) {
+        check(rt, is_span(span, row), "times");
     }
 }
+
+static ORDER: [u32; 10] = [6, 0, 2, 3, 5, 4, 7, 1, 8, 9];
 
 /// The events in the order of judgement, the groups of the revisions, and when each was written.
 #[test]
 fn groups_of_a_log(rt: HostRuntime) {
     let events = log(&rt);
     let order = order_of(rt.alloc(), &events).expect(&rt, "memory");
-    assert!(rt; order.as_slice() == [6u32, 0, 2, 3, 5, 4, 7, 1, 8, 9].as_slice());
+    check(&rt, order.as_slice() == ORDER.as_slice(), "the order");
     let start = revision(&rt, 10);
     let groups = groups_of(rt.alloc(), start, &events, &order).expect(&rt, "memory");
     check_groups(&rt, groups.as_slice());
@@ -153,7 +157,7 @@ fn unrecorded_writes(rt: HostRuntime) {
     let events = log(&rt);
     let hidden = Hidden::build(rt.alloc(), &events).expect(&rt, "memory");
     for (name, wanted) in &SINCE {
-        assert!(rt; since(&rt, &hidden, name) == *wanted, "since of {name}");
+        check(&rt, since(&rt, &hidden, name) == *wanted, name);
     }
     drop(hidden);
 }
@@ -231,12 +235,9 @@ fn windows_of_readings(rt: HostRuntime) {
             low: *low,
             high: *high,
         };
-        assert!(rt; found == wanted, "{low} to {high}");
+        check(&rt, found == wanted, "a window");
     }
-    let (low, high) = (
-        lowest(&windows, Moment(130)),
-        highest(&windows, Moment(150)),
-    );
-    assert_eq!(rt; (low, high), (10, u64::MAX));
+    check(&rt, lowest(&windows, Moment(130)) == 10, "lowest");
+    check(&rt, highest(&windows, Moment(150)) == u64::MAX, "highest");
     drop(windows);
 }
