@@ -2,7 +2,10 @@
 #![tactic(auto)]
 
 mod ending;
+mod gathering;
+mod making;
 mod reading;
+mod refusing;
 mod report;
 mod reporting;
 mod run;

@@ -1,7 +1,8 @@
-ghost use Rattle.std.specs.Prelude.{◌≡◌};
-ghost use Rattle.companion.specs.Command.{Explain, Sift, command_asked};
+ghost use Rattle.std.specs.Prelude.{◌≡◌, ◌∷◌, true, map, string_bytes};
+ghost use Rattle.companion.specs.Command.{Explain, IsSpelled, Setup, Sift, are_distinct, command_asked};
 ghost use Rattle.companion.specs.Reported.{IsReported};
 
+use crate::making::make_named;
 use crate::report::{Body, Report, Status};
 use crate::sifting::sift_named;
 use crate::stop::Stop;
@@ -10,12 +11,23 @@ use edge_io::Desk;
 use std::alloc::Global;
 
 /// What a command comes to, as a status and a text.
-pub fn report_of<D: Desk>(alloc: Global, command: Command<'_>, desk: &mut D) -> Result<Report, Stop>
+pub fn report_of<D: Desk>(
+    alloc: Global,
+    command: Command<'_>,
+    desk: &mut D,
+) -> Result<Report, Stop>
+    requires { IsSpelled (command_asked command) }
     ensures { IsReported (command_asked command.entry) (D.left desk.old) (D.left desk.new) (desk.new ≡ desk.old) (D.faults desk.old) (D.faults desk.new) result }
 {
     match command {
         Command::Explain { text } => explained(desk, text),
         Command::Sift { left, log } => sifted(alloc, desk, log, left),
+        Command::Setup {
+            authorize,
+            time,
+            policy,
+            files,
+        } => made(alloc, desk, authorize, time, policy, files),
     }
 }
 
@@ -34,4 +46,19 @@ fn sifted<D: Desk>(alloc: Global, desk: &mut D, log: &str, left: bool) -> Result
     ensures { IsReported (Sift left log.now) (D.left desk.old) (D.left desk.new) (desk.new ≡ desk.old) (D.faults desk.old) (D.faults desk.new) result }
 {
     sift_named(alloc, desk, log, left)
+}
+
+// The setup of a policy and files, each by its name.
+fn made<D: Desk>(
+    alloc: Global,
+    desk: &mut D,
+    authorize: bool,
+    time: &str,
+    policy: &str,
+    files: &[String],
+) -> Result<Report, Stop>
+    requires { are_distinct (policy.now ∷ map string_bytes files.now) ≡ true }
+    ensures { IsReported (Setup authorize time.now policy.now (map string_bytes files.now)) (D.left desk.old) (D.left desk.new) (desk.new ≡ desk.old) (D.faults desk.old) (D.faults desk.new) result }
+{
+    make_named(alloc, desk, authorize, time, policy, files)
 }

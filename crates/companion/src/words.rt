@@ -1,5 +1,6 @@
-ghost use Rattle.std.specs.Prelude.{◌≡◌, ◌∷◌, [], map, string_bytes, codes};
-ghost use Rattle.companion.specs.Command.{IsRead};
+ghost use Rattle.std.specs.Prelude.{◌≡◌, ◌∷◌, [], true, bytes_eq, map, string_bytes, codes};
+ghost use Rattle.std.specs.List.{list_any};
+ghost use Rattle.companion.specs.Command.{IsRead, IsSetupRead, are_distinct};
 
 use code_guide::explain;
 
@@ -10,6 +11,13 @@ pub enum Command<'a> {
     Explain { text: &'static str },
     /// `sift LOG`, or `sift --left LOG`
     Sift { left: bool, log: &'a str },
+    /// `setup TIME POLICY FILE...`, or `setup --authorize TIME POLICY FILE...`
+    Setup {
+        authorize: bool,
+        time: &'a str,
+        policy: &'a str,
+        files: &'a [String],
+    },
 }
 
 /// Reads the words behind the program's name: none where they are no command.
@@ -30,6 +38,9 @@ fn read_verb<'a>(verb: &str, rest: &'a [String]) -> Option<Command<'a>>
     }
     if verb == "sift" {
         return sift_words(rest);
+    }
+    if verb == "setup" {
+        return setup_words(rest);
     }
     None
 }
@@ -60,4 +71,83 @@ fn left_words<'a>(mode: &str, log: &'a str) -> Option<Command<'a>>
         return Some(Command::Sift { left: true, log });
     }
     None
+}
+
+fn setup_words<'a>(rest: &'a [String]) -> Option<Command<'a>>
+    ensures { IsRead (codes "setup" ∷ map string_bytes rest.entry.now) result }
+{
+    match rest {
+        [first, second, others @ ..] => mode_words(first, second, others),
+        _ => None,
+    }
+}
+
+fn mode_words<'a>(
+    first: &'a str,
+    second: &'a str,
+    others: &'a [String],
+) -> Option<Command<'a>>
+    ensures { IsRead (codes "setup" ∷ first.entry.now ∷ second.entry.now ∷ map string_bytes others.entry.now) result }
+{
+    if first == "--authorize" {
+        return authorized_words(second, others);
+    }
+    named_words(false, first, second, others)
+}
+
+fn authorized_words<'a>(time: &'a str, others: &'a [String]) -> Option<Command<'a>>
+    ensures { IsSetupRead true (time.entry.now ∷ map string_bytes others.entry.now) result }
+{
+    match others {
+        [policy, files @ ..] => named_words(true, time, policy, files),
+        [] => None,
+    }
+}
+
+fn named_words<'a>(
+    authorize: bool,
+    time: &'a str,
+    policy: &'a str,
+    files: &'a [String],
+) -> Option<Command<'a>>
+    ensures { IsSetupRead authorize (time.entry.now ∷ policy.entry.now ∷ map string_bytes files.entry.now) result }
+{
+    if time == "--authorize" {
+        return None;
+    }
+    if files.is_empty() {
+        return None;
+    }
+    if is_among(policy, files) {
+        return None;
+    }
+    if !are_distinct(files) {
+        return None;
+    }
+    Some(Command::Setup {
+        authorize,
+        time,
+        policy,
+        files,
+    })
+}
+
+// Whether a name is one of these.
+fn is_among(name: &str, names: &[String]) -> bool
+    ensures { result ≡ list_any (bytes_eq name.now) (map string_bytes names.now) }
+{
+    match names {
+        [first, others @ ..] => name == first.as_str() || is_among(name, others),
+        [] => false,
+    }
+}
+
+// Whether no two names are equal.
+fn are_distinct(names: &[String]) -> bool
+    ensures { result ≡ are_distinct (map string_bytes names.now) }
+{
+    match names {
+        [first, others @ ..] => !is_among(first, others) && are_distinct(others),
+        [] => true,
+    }
 }

@@ -1,0 +1,79 @@
+ghost use Rattle.std.specs.Prelude.{◌≡◌, ◌∷◌, ℕ, ⊥, List, true, Contains, IfOk, IsErrOf, map, string_bytes, codes, decimal};
+ghost use Rattle.edge_io.specs.Faults.{Rose};
+ghost use Rattle.companion.specs.Command.{are_distinct};
+ghost use Rattle.companion.specs.Endings.{line_of};
+ghost use Rattle.companion.specs.Making.{IsMadeAnswer, IsSetupAnswer, TellsAll, refused_answer, rule_number};
+ghost use Rattle.companion.specs.Reported.{IsCutWithin, report_answer};
+ghost use Rattle.companion.specs.Sifted.{answer};
+
+use crate::gathering::{Given, read_given};
+use crate::refusing::refused_report;
+use crate::report::{Body, Report, Status};
+use crate::stop::Stop;
+use base_types::{Bytes, OutOfMemory};
+use cluster_setup::make_setup;
+use edge_io::{Desk, WholeStop};
+use std::alloc::Global;
+
+/// Reads a policy and files from a desk, each by its name, and makes a setup of them that begins at this time.
+pub fn make_named<D: Desk>(
+    alloc: Global,
+    desk: &mut D,
+    authorize: bool,
+    time: &str,
+    policy: &str,
+    files: &[String],
+) -> Result<Report, Stop>
+    requires { are_distinct (policy.now ∷ map string_bytes files.now) ≡ true }
+    ensures answered { IfOk result (λ report. (told : List ℕ → List ℕ) → TellsAll (policy.now ∷ map string_bytes files.now) (D.left desk.old) told
+        → IsSetupAnswer authorize time.now (told policy.now) (map told (map string_bytes files.now)) (report_answer report)) }
+    ensures within { IfOk result (λ report. IsCutWithin report.body) }
+    ensures fault { IsErrOf result Stop.ReadFault → Rose (D.faults desk.old) (D.faults desk.new) }
+    ensures others { (other : List ℕ) → (Contains (policy.now ∷ map string_bytes files.now) other → ⊥) → D.left desk.new other ≡ D.left desk.old other }
+{
+    match read_given(alloc, desk, policy, files) {
+        Ok(given) => Ok(made_report(alloc, authorize, time, &given)?),
+        Err(WholeStop::TooLong) => Ok(limit_report()),
+        Err(WholeStop::ReadFault) => Err(Stop::ReadFault),
+        Err(WholeStop::OutOfMemory) => Err(Stop::OutOfMemory),
+    }
+}
+
+fn limit_report() -> Report
+    ensures answer { report_answer result ≡ answer 7 (line_of (codes "limit file")) }
+    ensures within { IsCutWithin result.body }
+{
+    Report {
+        status: Status::LimitPassed,
+        body: Body::Fixed("limit file\n"),
+    }
+}
+
+// The setup, or why none is made.
+fn made_report(
+    alloc: Global,
+    authorize: bool,
+    time: &str,
+    given: &Given,
+) -> Result<Report, OutOfMemory>
+    ensures answer { IfOk result (λ report. IsMadeAnswer authorize time.now given.now.policy given.now.files.items (report_answer report)) }
+    ensures within { IfOk result (λ report. IsCutWithin report.body) }
+{
+    match make_setup(alloc, time, given.policy.as_slice(), &given.files, authorize) {
+        Ok(text) => text_report(text),
+        Err(refusal) => refused_report(alloc, refusal),
+    }
+}
+
+// The setup as a line.
+fn text_report(text: String) -> Result<Report, OutOfMemory>
+    ensures answer { IfOk result (λ report. report_answer report ≡ answer 0 (line_of (string_bytes text))) }
+    ensures within { IfOk result (λ report. IsCutWithin report.body) }
+{
+    let mut line = text;
+    line.push('\n')?;
+    Ok(Report {
+        status: Status::Done,
+        body: Body::Made(Bytes::from_vec(line.into_bytes())),
+    })
+}
