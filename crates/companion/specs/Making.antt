@@ -1,5 +1,5 @@
 -- What a time, a policy and files come to as a setup, of their bytes alone.
-use Rattle.std.specs.Prelude.{◌≡◌, ◌<◌, ◌⊎◌, ℕ, ⊥, Bool, List, [], ◌∷◌, ◌++◌, length, Contains, Option, Some, codes, decimal}
+use Rattle.std.specs.Prelude.{◌≡◌, ◌<◌, ◌⊎◌, ℕ, Bool, List, [], ◌∷◌, ◌++◌, length, Contains, Option, Some, codes, decimal}
 use Rattle.cluster_setup.specs.Answers.{IsMade, Refuses}
 use Rattle.cluster_setup.specs.declared.fault.FileFault.{FileFault}
 use Rattle.cluster_setup.specs.declared.fault.FileFault.TheVariants as file

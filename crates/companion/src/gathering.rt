@@ -1,4 +1,4 @@
-ghost use Rattle.std.specs.Prelude.{◌≡◌, ◌≤◌, ◌++◌, ◌∷◌, ℕ, ⊥, List, true, Contains, IfOk, IsErrOf, OnOk, map, string_bytes};
+ghost use Rattle.std.specs.Prelude.{◌≡◌, ◌≤◌, ◌++◌, ◌∷◌, ℕ, List, true, Contains, IfOk, IsErrOf, OnOk, map, string_bytes};
 ghost use Rattle.edge_io.specs.Faults.{Rose};
 ghost use Rattle.companion.specs.Command.{are_distinct};
 ghost use Rattle.companion.specs.Making.{SomeLong, TellsAll};

@@ -1,4 +1,4 @@
-ghost use Rattle.std.specs.Prelude.{◌≡◌, ◌∷◌, ℕ, ⊥, List, true, Contains, IfOk, IsErrOf, map, string_bytes, codes, decimal};
+ghost use Rattle.std.specs.Prelude.{◌≡◌, ◌∷◌, ℕ, List, true, Contains, IfOk, IsErrOf, map, string_bytes, codes, decimal};
 ghost use Rattle.edge_io.specs.Faults.{Rose};
 ghost use Rattle.companion.specs.Command.{are_distinct};
 ghost use Rattle.companion.specs.Endings.{line_of};
@@ -59,7 +59,13 @@ fn made_report(
     ensures answer { IfOk result (λ report. IsMadeAnswer authorize time.now given.now.policy given.now.files.items (report_answer report)) }
     ensures within { IfOk result (λ report. IsCutWithin report.body) }
 {
-    match make_setup(alloc, time, given.policy.as_slice(), &given.files, authorize) {
+    match make_setup(
+        alloc,
+        time,
+        given.policy.as_slice(),
+        &given.files,
+        authorize,
+    ) {
         Ok(text) => text_report(text),
         Err(refusal) => refused_report(alloc, refusal),
     }

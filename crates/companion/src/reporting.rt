@@ -11,11 +11,7 @@ use edge_io::Desk;
 use std::alloc::Global;
 
 /// What a command comes to, as a status and a text.
-pub fn report_of<D: Desk>(
-    alloc: Global,
-    command: Command<'_>,
-    desk: &mut D,
-) -> Result<Report, Stop>
+pub fn report_of<D: Desk>(alloc: Global, command: Command<'_>, desk: &mut D) -> Result<Report, Stop>
     requires { IsSpelled (command_asked command) }
     ensures { IsReported (command_asked command.entry) (D.left desk.old) (D.left desk.new) (desk.new ≡ desk.old) (D.faults desk.old) (D.faults desk.new) result }
 {

@@ -8,9 +8,14 @@ use code_guide::explain;
 #[derive(Drop)]
 pub enum Command<'a> {
     /// `explain CODE`, and the text of the code
-    Explain { text: &'static str },
+    Explain {
+        text: &'static str,
+    },
     /// `sift LOG`, or `sift --left LOG`
-    Sift { left: bool, log: &'a str },
+    Sift {
+        left: bool,
+        log: &'a str,
+    },
     /// `setup TIME POLICY FILE...`, or `setup --authorize TIME POLICY FILE...`
     Setup {
         authorize: bool,
@@ -82,11 +87,7 @@ fn setup_words<'a>(rest: &'a [String]) -> Option<Command<'a>>
     }
 }
 
-fn mode_words<'a>(
-    first: &'a str,
-    second: &'a str,
-    others: &'a [String],
-) -> Option<Command<'a>>
+fn mode_words<'a>(first: &'a str, second: &'a str, others: &'a [String]) -> Option<Command<'a>>
     ensures { IsRead (codes "setup" ∷ first.entry.now ∷ second.entry.now ∷ map string_bytes others.entry.now) result }
 {
     if first == "--authorize" {
