@@ -19,11 +19,11 @@ rest_is : (word : List ℕ) (words : List (List ℕ)) → rest_of (word ∷ word
 unfolding rest_of
 rest_is word words = refl
 
-same_head : (a b : List ℕ) (as bs : List (List ℕ)) → a ∷ as ≡ b ∷ bs → a ≡ b
-same_head a b as bs same = sym (head_is a as) ∙ ap head_of same ∙ head_is b bs
+same_head : (a b : List ℕ) (later behind : List (List ℕ)) → a ∷ later ≡ b ∷ behind → a ≡ b
+same_head a b later behind same = sym (head_is a later) ∙ ap head_of same ∙ head_is b behind
 
-same_rest : (a b : List ℕ) (as bs : List (List ℕ)) → a ∷ as ≡ b ∷ bs → as ≡ bs
-same_rest a b as bs same = sym (rest_is a as) ∙ ap rest_of same ∙ rest_is b bs
+same_rest : (a b : List ℕ) (later behind : List (List ℕ)) → a ∷ later ≡ b ∷ behind → later ≡ behind
+same_rest a b later behind same = sym (rest_is a later) ∙ ap rest_of same ∙ rest_is b behind
 
 no_explain : (words code : List (List ℕ)) → codes "setup" ∷ words ≡ codes "explain" ∷ code → ⊥
 no_explain words code same = let long : 5 ≡ 7 = ap length (same_head (codes "setup") (codes "explain") words code same) in omega (arith, long)
