@@ -1,2 +1,0 @@
-pub mod FoundTexts
-pub mod CodeFacts

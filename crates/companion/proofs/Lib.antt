@@ -1,3 +1,0 @@
-pub mod EndingFacts
-pub mod ReportedFacts
-pub mod RunFacts

@@ -1,5 +1,0 @@
-pub mod Command
-pub mod Endings
-pub mod Program
-pub mod Reported
-pub mod Sifted
