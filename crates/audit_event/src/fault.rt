@@ -43,6 +43,31 @@ pub enum Malformed {
     M12,
 }
 
+impl Malformed {
+    ghost use Rattle.audit_event.specs.Rules.{rank};
+    ghost use Rattle.std.specs.Prelude.{◌≡◌};
+
+    /// The number in the rule's name, from 1.
+    pub fn number(self) -> u8
+        ensures { result ≡ rank self }
+    {
+        match self {
+            Malformed::M1 => 1,
+            Malformed::M2 => 2,
+            Malformed::M3 => 3,
+            Malformed::M4 => 4,
+            Malformed::M5 => 5,
+            Malformed::M6 => 6,
+            Malformed::M7 => 7,
+            Malformed::M8 => 8,
+            Malformed::M9 => 9,
+            Malformed::M10 => 10,
+            Malformed::M11 => 11,
+            Malformed::M12 => 12,
+        }
+    }
+}
+
 /// Why a line or a JSON value is no event.
 #[derive(Clone, Copy, Debug, PartialEq, Eq, Error)]
 pub enum EventFault {

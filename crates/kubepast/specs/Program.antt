@@ -10,7 +10,9 @@ use Rattle.kubepast.specs.Answering.{IsHistory}
 use Rattle.kubepast.specs.Command.{Ask, Asked, Judge, Make, Strict, Verify, IsAsked}
 use Rattle.kubepast.specs.Endings.{Answer, Ends, line_of}
 use Rattle.kubepast.specs.Judging.{IsJudged}
-use Rattle.context_intake.specs.Refusals.{event_rule_number, limit_word, setup_rule_number}
+use Rattle.audit_event.specs.Rules.{rank}
+use Rattle.context_intake.specs.Refusals.{limit_word}
+use Rattle.setup_file.specs.Rules.{rule_number}
 use Rattle.kubepast.specs.Summary.{summary_text}
 use Rattle.kubepast.specs.declared.asking.Answered.{Answered}
 use Rattle.kubepast.specs.declared.asking.Answered.TheVariants as answered
@@ -44,9 +46,9 @@ usage_answer = answer 2 (ended (codes "usage"))
 
 -- `setup CODE`, `malformed LINE CODE` or `limit NAME`
 abbrev pub refusal_answer : Refusal → Answer
-refusal_answer (BrokenSetup rule) = answer 3 (ended (spaced (codes "setup" ∷ (codes "S" ++ decimal (setup_rule_number rule)) ∷ [])))
+refusal_answer (BrokenSetup rule) = answer 3 (ended (spaced (codes "setup" ∷ (codes "S" ++ decimal (rule_number rule)) ∷ [])))
 refusal_answer (MalformedLog line code) =
-    answer 4 (ended (spaced (codes "malformed" ∷ decimal line ∷ (codes "M" ++ decimal (event_rule_number code)) ∷ [])))
+    answer 4 (ended (spaced (codes "malformed" ∷ decimal line ∷ (codes "M" ++ decimal (rank code)) ∷ [])))
 refusal_answer (PastLimit limit) = answer 7 (ended (spaced (codes "limit" ∷ limit_word limit ∷ [])))
 
 abbrev pub outcome_status : Outcome → ℕ

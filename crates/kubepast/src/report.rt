@@ -1,19 +1,17 @@
 ghost use Rattle.std.specs.Prelude.{◌≡◌, ◌++◌, IfOk, string_bytes};
 ghost use Rattle.kubepast.specs.Program.{answer, checked_status, history_answer, judged_answer, made_answer, outcome_status, refusal_answer, report_answer, settled_answer, status_number, strictly_answer, verified_answer};
 ghost use Rattle.kubepast.specs.Reported.{IsPlacementText};
-ghost use Rattle.context_intake.specs.Refusals.{event_rule_number, limit_word, setup_rule_number};
+ghost use Rattle.context_intake.specs.Refusals.{limit_word};
 
 use crate::asking::Answered;
 use crate::judged::Judged;
 use crate::strictly::StrictlyJudged;
 use crate::summary::summary;
 use crate::verified::Verified;
-use audit_event::Malformed;
 use base_types::{Bytes, OutOfMemory, Outcome};
 use context_intake::{Limit, Refusal};
 use log_moments::{StrictAnswer, print_strict};
 use serial_machine::{Checked, print_checked};
-use setup_file::SetupRule;
 use std::alloc::Global;
 use verdict_text::print_outcome;
 
@@ -182,12 +180,12 @@ fn refusal_report(alloc: Global, refusal: Refusal) -> Result<Report, OutOfMemory
 {
     match refusal {
         Refusal::BrokenSetup(rule) => {
-            let number = setup_rule_number(rule);
+            let number = rule.number();
             let text = format!(in alloc; "setup S{number}\n")?;
             Ok(reported(Status::SetupRefused, text))
         }
         Refusal::MalformedLog { line, code } => {
-            let number = event_rule_number(code);
+            let number = code.number();
             let text = format!(in alloc; "malformed {line} M{number}\n")?;
             Ok(reported(Status::LogRefused, text))
         }
@@ -205,47 +203,6 @@ fn reported(status: Status, text: String) -> Report
     Report {
         status,
         text: Bytes::from_vec(text.into_bytes()),
-    }
-}
-
-fn setup_rule_number(rule: SetupRule) -> u8
-    ensures { result ≡ setup_rule_number rule }
-{
-    match rule {
-        SetupRule::S1 => 1,
-        SetupRule::S2 => 2,
-        SetupRule::S3 => 3,
-        SetupRule::S4 => 4,
-        SetupRule::S5 => 5,
-        SetupRule::S6 => 6,
-        SetupRule::S7 => 7,
-        SetupRule::S8 => 8,
-        SetupRule::S9 => 9,
-        SetupRule::S10 => 10,
-        SetupRule::S11 => 11,
-        SetupRule::S12 => 12,
-        SetupRule::S13 => 13,
-        SetupRule::S14 => 14,
-        SetupRule::S15 => 15,
-    }
-}
-
-fn event_rule_number(rule: Malformed) -> u8
-    ensures { result ≡ event_rule_number rule }
-{
-    match rule {
-        Malformed::M1 => 1,
-        Malformed::M2 => 2,
-        Malformed::M3 => 3,
-        Malformed::M4 => 4,
-        Malformed::M5 => 5,
-        Malformed::M6 => 6,
-        Malformed::M7 => 7,
-        Malformed::M8 => 8,
-        Malformed::M9 => 9,
-        Malformed::M10 => 10,
-        Malformed::M11 => 11,
-        Malformed::M12 => 12,
     }
 }
 

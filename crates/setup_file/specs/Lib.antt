@@ -8,6 +8,7 @@ pub mod Objects
 pub mod Reading
 pub mod Requests
 pub mod Resources
+pub mod Rules
 pub mod Snapshots
 pub mod Sound
 pub mod Steps

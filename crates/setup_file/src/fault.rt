@@ -36,6 +36,34 @@ pub enum SetupRule {
     S15,
 }
 
+impl SetupRule {
+    ghost use Rattle.setup_file.specs.Rules.{rule_number};
+    ghost use Rattle.std.specs.Prelude.{◌≡◌};
+
+    /// The number in the rule's name, from 1.
+    pub fn number(self) -> u8
+        ensures { result ≡ rule_number self }
+    {
+        match self {
+            SetupRule::S1 => 1,
+            SetupRule::S2 => 2,
+            SetupRule::S3 => 3,
+            SetupRule::S4 => 4,
+            SetupRule::S5 => 5,
+            SetupRule::S6 => 6,
+            SetupRule::S7 => 7,
+            SetupRule::S8 => 8,
+            SetupRule::S9 => 9,
+            SetupRule::S10 => 10,
+            SetupRule::S11 => 11,
+            SetupRule::S12 => 12,
+            SetupRule::S13 => 13,
+            SetupRule::S14 => 14,
+            SetupRule::S15 => 15,
+        }
+    }
+}
+
 /// Why bytes are no setup.
 #[derive(Clone, Copy, Debug, PartialEq, Eq, Error)]
 pub enum SetupFault {

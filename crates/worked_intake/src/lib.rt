@@ -1,4 +1,4 @@
-//! Worked lines and logs: what is decoded of lines, and what is read of logs and setups.
+//! Worked lines and logs: what is decoded of lines, what is read of logs and setups, and which lines of a log stay.
 #![tactic(auto)]
 
 #[cfg(test)]
@@ -9,3 +9,5 @@ mod decoded_batches;
 mod judged_claims;
 #[cfg(test)]
 mod log_intake_rows;
+#[cfg(test)]
+mod log_sift_rows;

@@ -1,0 +1,26 @@
+-- Bytes are the text of one tree at most, and what a setup's text is read as tells of its tree.
+use Rattle.std.proofs.Common.{◌≡◌, ℕ, ◌⊎◌, inl, inr, List, Some, Ok, Err, sym, ap, ◌∙◌}
+use Rattle.serde_json.specs.Data.{Data}
+use Rattle.serde_json.specs.Read.{read}
+use Rattle.json_tree.specs.Meaning.{Meaning}
+use Rattle.json_tree.specs.Values.{of_data}
+use Rattle.setup_file.specs.declared.fault.SetupRule.{SetupRule}
+use Rattle.setup_file.specs.Reading.{IsTreeOf, ReadsAs, setup_of}
+use Rattle.setup_file.proofs.Chains.{same_some}
+use Rattle.cluster_setup.specs.Answers.{json_text, IsAccepted, Breaks}
+
+same_data : (bytes : List ℕ) (d e : Data) → read bytes ≡ Some d → read bytes ≡ Some e → d ≡ e
+same_data bytes d e p q = same_some d e (sym p ∙ q)
+
+same_of : (d e : Data) (t u : Meaning) → d ≡ e → of_data d ≡ Some t → of_data e ≡ Some u → t ≡ u
+same_of d e t u same p q = same_some t u (sym p ∙ ap of_data same ∙ q)
+
+pub same_tree : (bytes : List ℕ) (t u : Meaning) → IsTreeOf bytes t → IsTreeOf bytes u → t ≡ u
+same_tree bytes t u p q = same_of p.1.0 q.1.0 t u (same_data bytes p.1.0 q.1.0 p.1.1 q.1.1) p.1.2 q.1.2
+
+pub broken_from : (bytes : List ℕ) (tree : Meaning) (rule : SetupRule) → IsTreeOf bytes tree → ReadsAs bytes (Err rule) → Breaks tree rule
+broken_from bytes tree rule own (inl found) = inl (ap setup_of (same_tree bytes tree found.0 own found.1) ∙ found.2)
+broken_from bytes tree rule own (inr none) = absurd (none.0 tree own)
+
+pub reads_as : (tree : Meaning) → (accepted : IsAccepted tree) → ReadsAs (json_text tree) (Ok accepted.setup)
+reads_as tree accepted = inl (tree, accepted.read, accepted.is)

@@ -1,0 +1,142 @@
+ghost use Rattle.std.specs.Prelude.{◌≡◌, ◌++◌, [], ◌∷◌, IfOk, OnOk};
+ghost use Rattle.json_tree.specs.Edits.{put};
+ghost use Rattle.json_tree.specs.Meaning.{words, items, members, kid, no_kids, kids_of, fields_of, flag, whole};
+ghost use Rattle.cluster_setup.specs.Making.{say, shape, one, two, three, asked};
+
+use base_types::{OutOfMemory, Text};
+use json_tree::{MemberList, Node, Tree, Trees};
+use std::alloc::Global;
+
+/// The tree of a text.
+pub fn words(alloc: Global, text: &str) -> Result<Tree, OutOfMemory>
+    ensures { IfOk result (λ tree. tree ≡ words text.now) }
+{
+    Ok(Tree {
+        node: Node::Words(Text::from_str(alloc, text)?),
+    })
+}
+
+/// The tree of true or false.
+pub fn flag(given: bool) -> Tree
+    ensures { result ≡ flag given }
+{
+    Tree {
+        node: Node::Flag(given),
+    }
+}
+
+/// The tree of a number.
+pub fn whole(number: i128) -> Tree
+    ensures { result ≡ whole number }
+{
+    Tree {
+        node: Node::Whole(number),
+    }
+}
+
+/// The tree of a list.
+pub fn items(all: Vec<Tree>) -> Tree
+    ensures { result ≡ items (kids_of all.items) }
+{
+    Tree {
+        node: Node::Items(Trees { all }),
+    }
+}
+
+/// The tree of an object.
+pub fn object(fields: MemberList) -> Tree
+    ensures { result ≡ members (fields_of fields) }
+{
+    Tree {
+        node: Node::Members(fields),
+    }
+}
+
+/// The object without members.
+pub fn no_members(alloc: Global) -> MemberList
+    ensures { result ≡ [] }
+{
+    MemberList {
+        all: Vec::new(alloc),
+    }
+}
+
+/// Puts a value at a name.
+pub fn put(
+    alloc: Global,
+    fields: &mut MemberList,
+    name: &str,
+    value: Tree,
+) -> Result<(), OutOfMemory>
+    ensures { OnOk result (fields_of fields.new ≡ put name.now value (fields_of fields.old)) }
+{
+    let name = Text::from_str(alloc, name)?;
+    fields.put(name, value)?;
+    Ok(())
+}
+
+/// Puts a text at a name.
+pub fn say(
+    alloc: Global,
+    fields: &mut MemberList,
+    name: &str,
+    text: &str,
+) -> Result<(), OutOfMemory>
+    ensures { OnOk result (fields_of fields.new ≡ say name.now text.now (fields_of fields.old)) }
+{
+    put(alloc, fields, name, words(alloc, text)?)
+}
+
+/// An entry of `shapes`.
+pub fn shape(alloc: Global, path: &str, class: &str) -> Result<Tree, OutOfMemory>
+    ensures { IfOk result (λ tree. tree ≡ shape path.now class.now) }
+{
+    let mut fields = no_members(alloc);
+    say(alloc, &mut fields, "path", path)?;
+    say(alloc, &mut fields, "class", class)?;
+    Ok(object(fields))
+}
+
+/// The entry of what is as it was asked.
+pub fn asked(alloc: Global, path: &str) -> Result<Tree, OutOfMemory>
+    ensures { IfOk result (λ tree. tree ≡ asked path.now) }
+{
+    shape(alloc, path, "Asked")
+}
+
+/// The list without items.
+pub fn none(alloc: Global) -> Tree
+    ensures { result ≡ items no_kids }
+{
+    items(Vec::new(alloc))
+}
+
+/// The list of one item.
+pub fn one(alloc: Global, first: Tree) -> Result<Tree, OutOfMemory>
+    ensures { IfOk result (λ tree. tree ≡ one first) }
+{
+    let mut all = Vec::new(alloc);
+    all.push(first)?;
+    Ok(items(all))
+}
+
+/// The list of two items.
+pub fn two(alloc: Global, first: Tree, second: Tree) -> Result<Tree, OutOfMemory>
+    ensures { IfOk result (λ tree. tree ≡ two first second) }
+{
+    let mut all = Vec::new(alloc);
+    all.push(first)?;
+    all.push(second)?;
+    Ok(items(all))
+}
+
+/// The list of three items.
+pub fn three(alloc: Global, first: Tree, second: Tree, third: Tree) -> Result<Tree, OutOfMemory>
+    ensures { IfOk result (λ tree. tree ≡ three first second third) }
+{
+    let mut all = Vec::new(alloc);
+    all.push(first)?;
+    all.push(second)?;
+    all.push(third)?;
+    Ok(items(all))
+}

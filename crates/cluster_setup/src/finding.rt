@@ -1,0 +1,104 @@
+ghost use Rattle.std.specs.Prelude.{◌≡◌, option_map};
+ghost use Rattle.cluster_setup.specs.Found.{is_list_of, is_entry_for, entry_in, has_entry, is_source, source_of, is_of_group, is_elsewhere, is_same_resource, is_listed_again, found_in, found_for};
+
+use crate::files::{is_discovery, is_listing};
+use crate::words::{group_of, is_whole_name, listed, word};
+use json_tree::Tree;
+
+/// The `APIResourceList` that has a resource, and its entry there.
+#[derive(Clone, Copy)]
+pub struct Found<'a> {
+    pub document: &'a Tree,
+    pub entry: &'a Tree,
+}
+
+// Whether the kind of lists is the kind with `List` behind it.
+fn is_list_of(kind: &str, list_kind: &str) -> bool
+    ensures { result ≡ is_list_of kind.now list_kind.now }
+{
+    match list_kind.strip_prefix(kind) {
+        Some(rest) => rest == "List",
+        None => false,
+    }
+}
+
+// Whether an entry is that of the resource whose list this is.
+fn is_entry_for(list: &Tree, entry: &Tree) -> bool
+    ensures { result ≡ is_entry_for list.now entry.now }
+{
+    is_whole_name(word(entry, "name")) && is_list_of(word(entry, "kind"), word(list, "kind"))
+}
+
+fn entry_in<'a>(list: &Tree, document: &'a Tree) -> Option<&'a Tree>
+    ensures { option_map (λ entry. entry.now) result ≡ entry_in list.now document.now }
+{
+    listed(document, "resources")
+        .iter()
+        .find(|entry| is_entry_for(list, entry))
+}
+
+fn has_entry(list: &Tree, document: &Tree) -> bool
+    ensures { result ≡ has_entry list.now document.now }
+{
+    is_discovery(document) && entry_in(list, document).is_some()
+}
+
+// Whether a document has the list's resource in the list's version.
+fn is_source(list: &Tree, document: &Tree) -> bool
+    ensures { result ≡ is_source list.now document.now }
+{
+    has_entry(list, document) && word(document, "groupVersion") == word(list, "apiVersion")
+}
+
+/// The document that has the list's resource in the list's version.
+pub fn source_of<'a>(trees: &'a [Tree], list: &Tree) -> Option<&'a Tree>
+    ensures { option_map (λ document. document.now) result ≡ source_of trees.now list.now }
+{
+    trees.iter().find(|document| is_source(list, document))
+}
+
+fn is_of_group(list: &Tree, document: &Tree) -> bool
+    ensures { result ≡ is_of_group list.now document.now }
+{
+    has_entry(list, document)
+        && group_of(word(document, "groupVersion")) == group_of(word(list, "apiVersion"))
+}
+
+/// Whether a document has the list's resource in some version.
+pub fn is_elsewhere(trees: &[Tree], list: &Tree) -> bool
+    ensures { result ≡ is_elsewhere trees.now list.now }
+{
+    trees.iter().any(|document| is_of_group(list, document))
+}
+
+fn is_same_resource(list: &Tree, other: &Tree) -> bool
+    ensures { result ≡ is_same_resource list.now other.now }
+{
+    is_listing(other)
+        && word(other, "kind") == word(list, "kind")
+        && group_of(word(other, "apiVersion")) == group_of(word(list, "apiVersion"))
+}
+
+/// Whether a later file is a list of the same resource.
+pub fn is_listed_again(later: &[Tree], list: &Tree) -> bool
+    ensures { result ≡ is_listed_again later.now list.now }
+{
+    later.iter().any(|other| is_same_resource(list, other))
+}
+
+fn found_in<'a>(list: &Tree, document: &'a Tree) -> Option<Found<'a>>
+    ensures { option_map (λ found. (found.document.now, found.entry.now)) result ≡ found_in list.now document.now }
+{
+    let entry = entry_in(list, document)?;
+    Some(Found { document, entry })
+}
+
+/// The document and its entry of the resource whose list a file is.
+pub fn found_for<'a>(trees: &'a [Tree], list: &Tree) -> Option<Found<'a>>
+    ensures { option_map (λ found. (found.document.now, found.entry.now)) result ≡ found_for trees.now list.now }
+{
+    if !is_listing(list) {
+        return None;
+    }
+    found_in(list, source_of(trees, list)?)
+}

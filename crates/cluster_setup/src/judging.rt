@@ -1,0 +1,67 @@
+ghost use Rattle.std.specs.Prelude.{◌≡◌, ◌↔◌, Err, IfOk, IfSome, IfNone, IsTrue, string_bytes};
+ghost use Rattle.json_tree.specs.Meaning.{Meaning};
+ghost use Rattle.json_tree.specs.Values.{InRange};
+ghost use Rattle.setup_file.specs.Reading.{IsTreeOf};
+ghost use Rattle.setup_file.specs.declared.fault.SetupRule.{SetupRule as AnyRule};
+ghost use Rattle.setup_file.specs.declared.fault.SetupFault.TheVariants.{Rule};
+ghost use Rattle.cluster_setup.specs.Answers.{json_text, IsAccepted, Breaks};
+
+use base_types::OutOfMemory;
+use json_tree::{Tree, TreeFault, equal, from_value, to_value};
+use serde_json::Value;
+use setup_file::{SetupFault, SetupRule, read_setup};
+use std::alloc::Global;
+
+/// The tree of a JSON text whose numbers are whole.
+pub fn read_tree(alloc: Global, bytes: &[u8]) -> Result<Option<Tree>, OutOfMemory>
+    ensures some { IfOk result (λ found. IfSome found (IsTreeOf bytes.now)) }
+    ensures none { IfOk result (λ found. IfNone found ((tree : Meaning) → IsTreeOf bytes.now tree → ⊥)) }
+    ensures range { IfOk result (λ found. IfSome found InRange) }
+{
+    let value = match Value::from_slice(alloc, bytes) {
+        Ok(value) => value,
+        Err(fault) if fault.is_memory() => return Err(OutOfMemory),
+        Err(_) => return Ok(None),
+    };
+    match from_value(alloc, &value) {
+        Ok(tree) => Ok(Some(tree)),
+        Err(TreeFault::Fraction) => Ok(None),
+        Err(TreeFault::OutOfMemory) => Err(OutOfMemory),
+    }
+}
+
+// Whether bytes are the JSON text of a tree.
+fn is_tree_of(alloc: Global, bytes: &[u8], tree: &Tree) -> Result<bool, OutOfMemory>
+    ensures { IfOk result (λ is. IsTrue is ↔ IsTreeOf bytes.now tree.now) }
+{
+    match read_tree(alloc, bytes)? {
+        Some(found) => Ok(equal(&found, tree)),
+        None => Ok(false),
+    }
+}
+
+// The compact JSON text of a tree.
+#[tactic(auto, using(crate::proofs::NoFloats::has_no_float))]
+fn print(alloc: Global, tree: &Tree) -> Result<String, OutOfMemory>
+    requires { InRange tree.now }
+    ensures { IfOk result (λ text. string_bytes text ≡ json_text tree.now) }
+{
+    Ok(to_value(alloc, tree)?.to_string(alloc)?)
+}
+
+/// The text of a setup's tree, or the rule that it breaks.
+pub fn accept(alloc: Global, tree: &Tree) -> Result<String, SetupFault>
+    requires { InRange tree.now }
+    ensures text { IfOk result (λ text. string_bytes text ≡ json_text tree.now) }
+    ensures accepted { IfOk result (λ text. IsAccepted tree.now) }
+    ensures broken { (rule : AnyRule) → result ≡ Err (Rule rule) → Breaks tree.now rule }
+{
+    let text = print(alloc, tree)?;
+    if !is_tree_of(alloc, text.as_bytes(), tree)? {
+        return Err(SetupFault::Rule(SetupRule::S1));
+    }
+    match read_setup(alloc, text.as_bytes()) {
+        Ok(_) => Ok(text),
+        Err(fault) => Err(fault),
+    }
+}

@@ -1,0 +1,118 @@
+ghost use Rattle.std.specs.Prelude.{◌≡◌, ◌++◌, IfOk, OnOk, map};
+ghost use Rattle.std.specs.List.{flat_map};
+ghost use Rattle.json_tree.specs.Meaning.{items, kids_of};
+ghost use Rattle.cluster_setup.specs.Making.{put_in, filled, whole_item, object_entry, objects_of};
+
+use crate::building::{items, no_members, object, put, say};
+use crate::finding::found_for;
+use crate::words::{group_of, listed, word};
+use base_types::OutOfMemory;
+use json_tree::{Node, Tree, copy};
+use std::alloc::Global;
+
+fn put_in(alloc: Global, tree: &mut Tree, name: &str, text: &str) -> Result<(), OutOfMemory>
+    ensures { OnOk result (tree.new ≡ put_in name.now text.now tree.old) }
+{
+    if let Node::Members(list) = &mut tree.node {
+        say(alloc, list, name, text)?;
+    }
+    Ok(())
+}
+
+// Puts a text at a name, where the object has nothing there.
+fn fill(alloc: Global, tree: &mut Tree, name: &str, text: &str) -> Result<(), OutOfMemory>
+    ensures { OnOk result (tree.new ≡ filled name.now text.now tree.old) }
+{
+    if tree.member(name).is_some() {
+        return Ok(());
+    }
+    put_in(alloc, tree, name, text)
+}
+
+// The item of a list, with the kind and the version that the list leaves out.
+fn whole_item(alloc: Global, kind: &str, version: &str, item: &Tree) -> Result<Tree, OutOfMemory>
+    ensures { IfOk result (λ made. made ≡ whole_item kind.now version.now item.now) }
+{
+    let mut made = copy(alloc, item)?;
+    fill(alloc, &mut made, "kind", kind)?;
+    fill(alloc, &mut made, "apiVersion", version)?;
+    Ok(made)
+}
+
+fn object_entry(
+    alloc: Global,
+    group: &str,
+    name: &str,
+    kind: &str,
+    version: &str,
+    item: &Tree,
+) -> Result<Tree, OutOfMemory>
+    ensures { IfOk result (λ made. made ≡ object_entry group.now name.now kind.now version.now item.now) }
+{
+    let mut fields = no_members(alloc);
+    say(alloc, &mut fields, "group", group)?;
+    say(alloc, &mut fields, "resource", name)?;
+    put(
+        alloc,
+        &mut fields,
+        "object",
+        whole_item(alloc, kind, version, item)?,
+    )?;
+    Ok(object(fields))
+}
+
+// Puts items of a list behind others, as objects of the snapshot.
+fn add_items(
+    alloc: Global,
+    objects: &mut Vec<Tree>,
+    group: &str,
+    name: &str,
+    kind: &str,
+    version: &str,
+    list: &[Tree],
+) -> Result<(), OutOfMemory>
+    ensures { OnOk result (objects.new.items
+        ≡ objects.old.items ++ map (object_entry group.now name.now kind.now version.now) list.now) }
+{
+    for item in list {
+        objects.push(object_entry(alloc, group, name, kind, version, item)?)?;
+    }
+    Ok(())
+}
+
+// Puts the objects of a file that is a list behind others.
+fn add_objects(
+    alloc: Global,
+    objects: &mut Vec<Tree>,
+    trees: &[Tree],
+    list: &Tree,
+) -> Result<(), OutOfMemory>
+    ensures { OnOk result (objects.new.items ≡ objects.old.items ++ objects_of trees.now list.now) }
+{
+    let Some(found) = found_for(trees, list) else {
+        return Ok(());
+    };
+    let version = word(found.document, "groupVersion");
+    let name = word(found.entry, "name");
+    let kind = word(found.entry, "kind");
+    add_items(
+        alloc,
+        objects,
+        group_of(version),
+        name,
+        kind,
+        version,
+        listed(list, "items"),
+    )
+}
+
+/// The objects of these files that are lists, of resources that all files tell.
+pub fn objects_in(alloc: Global, trees: &[Tree], shown: &[Tree]) -> Result<Tree, OutOfMemory>
+    ensures { IfOk result (λ objects. objects ≡ items (kids_of (flat_map (objects_of trees.now) shown.now))) }
+{
+    let mut objects = Vec::new(alloc);
+    for list in shown {
+        add_objects(alloc, &mut objects, trees, list)?;
+    }
+    Ok(items(objects))
+}

@@ -1,0 +1,2 @@
+pub mod FoundTexts
+pub mod CodeFacts

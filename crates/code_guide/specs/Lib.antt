@@ -1,0 +1,10 @@
+pub mod Texts
+pub mod LogGuides
+pub mod SetupGuides
+pub mod VerdictGuides
+pub mod StatusGuides
+pub mod LimitGuides
+pub mod MakingGuides
+pub mod FileGuides
+pub mod Guides
+pub mod Names

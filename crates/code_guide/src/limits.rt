@@ -1,0 +1,95 @@
+ghost use Rattle.std.specs.Prelude.{◌≡◌, option_map};
+ghost use Rattle.code_guide.specs.Texts.{text_in};
+ghost use Rattle.code_guide.specs.LimitGuides.{limit_guides};
+
+/// `limit setup`
+pub const LIMIT_SETUP: &str = "limit setup: the setup has more than 268,435,456 bytes.
+
+How it comes about: Its snapshot has very many objects.
+
+Look at: which resources have the most.
+
+What to do: Track fewer resources. It is read whole.
+";
+
+/// `limit line`
+pub const LIMIT_LINE: &str = "limit line: a line of the log has more than 16,777,216 bytes.
+
+How it comes about: In a large cluster one list of everything can have that size.
+
+Look at: the longest line of the log.
+
+What to do: Record lists of resources that aren't judged at a lower level, or leave that
+line out with `kubepast sift`, and say so beside the verdict.
+";
+
+/// `limit events`
+pub const LIMIT_EVENTS: &str = "limit events: the log has more than 4,194,304 events, repeats aside.
+
+How it comes about: It is long, or records stages and resources that aren't judged.
+
+Look at: how many events each resource and stage has.
+
+What to do: Judge it in parts, each with a setup of its own, or leave out what isn't
+tracked.
+";
+
+/// `limit input`
+pub const LIMIT_INPUT: &str = "limit input: the log has more than 2^40 bytes.
+
+How it comes about: It is very long, or what is read never ends.
+
+Look at: what LOG names.
+
+What to do: Judge it in parts, each with a setup of its own.
+";
+
+/// `limit file`
+pub const LIMIT_FILE: &str =
+    "limit file: a policy or a file that is given to `setup` has more than 268,435,456 bytes.
+
+How it comes about: A list of everything in a large cluster can have that size.
+
+Look at: the sizes of the files.
+
+What to do: Take lists of fewer resources.
+";
+
+/// `limit placement`
+pub const LIMIT_PLACEMENT: &str = "limit placement: the placement has more than 1,073,741,824 bytes.
+
+How it comes about: It isn't what `judge` printed: no text of an explained log reaches that
+size.
+
+Look at: what PLACEMENT names.
+
+What to do: Give the text that `judge` printed.
+";
+
+/// `limit pool`
+pub const LIMIT_POOL: &str =
+    "limit pool: the objects of setup and log have more than 50,000,000 distinct values.
+
+How it comes about: Very many large objects, each different, were written.
+
+Look at: which resources have the largest bodies.
+
+What to do: Track fewer resources, or judge the log in parts.
+";
+
+/// The text of the name of a limit, or none where there is no such code.
+#[tactic(auto, unfolding(crate::specs::LimitGuides::limit_guides))]
+pub fn limit_text(name: &str) -> Option<&'static str>
+    ensures { option_map (λ text. text.now) result ≡ text_in limit_guides name.now }
+{
+    match name {
+        "setup" => Some(LIMIT_SETUP),
+        "line" => Some(LIMIT_LINE),
+        "events" => Some(LIMIT_EVENTS),
+        "input" => Some(LIMIT_INPUT),
+        "file" => Some(LIMIT_FILE),
+        "placement" => Some(LIMIT_PLACEMENT),
+        "pool" => Some(LIMIT_POOL),
+        _ => None,
+    }
+}

@@ -1,0 +1,13 @@
+pub mod CompareFacts
+pub mod CutFacts
+pub mod DistinctFacts
+pub mod FrontFacts
+pub mod HomeFacts
+pub mod KeepingFacts
+pub mod LongFacts
+pub mod LoopFacts
+pub mod OneFacts
+pub mod SameFacts
+pub mod StayFacts
+pub mod TakenFacts
+pub mod WholeFacts

@@ -1,0 +1,81 @@
+ghost use Rattle.std.specs.Prelude.{◌≡◌, ◌<◌, ◌+◌, IfOk, OnOk, List};
+ghost use Rattle.log_sift.specs.declared.answer.Fate.{Fate as Became};
+ghost use Rattle.log_sift.specs.Sifted.{IsSifting, noted, stays_from, with_stretch};
+
+use crate::answer::{Fate, LeftLine, LeftLines, Sifting, Stretch, Stretches};
+use crate::cutting::cut_line;
+use crate::keeping::sift_line;
+use crate::recalling::Homes;
+use base_types::OutOfMemory;
+use std::alloc::Global;
+
+// Puts the bytes between two indexes behind the stretches that stay, where there are any.
+fn add_stretch(stays: &mut Stretches, start: usize, end: usize) -> Result<(), OutOfMemory>
+    ensures { OnOk result (stays.new ≡ with_stretch stays.old start end) }
+{
+    if start < end {
+        stays.push(Stretch { start, end })?;
+    }
+    Ok(())
+}
+
+// Notes what becomes of a line, before which all lines from an index on stay.
+fn note(
+    sifting: &mut Sifting,
+    from: usize,
+    start: usize,
+    number: u64,
+    fate: Fate,
+) -> Result<(), OutOfMemory>
+    requires { sifting.old.kept < number }
+    ensures { OnOk result (sifting.new ≡ noted sifting.old from start number fate) }
+{
+    match fate {
+        Fate::Blank => {}
+        Fate::Stays => sifting.kept += 1,
+        Fate::Left(cause) => {
+            add_stretch(&mut sifting.stays, from, start)?;
+            sifting.left.push(LeftLine {
+                line: number,
+                cause,
+            })?;
+        }
+    }
+    Ok(())
+}
+
+// From where on all lines stay, behind a line of which this becomes.
+fn stays_from(from: usize, next: usize, fate: Fate) -> usize
+    ensures { result ≡ stays_from from next fate }
+{
+    match fate {
+        Fate::Blank | Fate::Stays => from,
+        Fate::Left(_) => next,
+    }
+}
+
+/// What becomes of each line of a log: a line stays where its events can be taken behind those of the lines before it that
+/// stay. No event of a line that is left out is kept.
+pub fn sift(alloc: Global, log: &[u8]) -> Result<Sifting, OutOfMemory>
+    ensures { IfOk result (λ sifting. (fates : List Became) × IsSifting log.now fates sifting) }
+{
+    let mut homes = Homes::new(alloc);
+    let mut sifting = Sifting {
+        stays: Stretches::new(alloc),
+        left: LeftLines::new(alloc),
+        kept: 0,
+    };
+    let mut number = 0;
+    let mut from = 0;
+    let mut start = 0;
+    'lines: while start < log.len() {
+        let cut = cut_line(log, start);
+        let fate = sift_line(alloc, log, &mut homes, start, cut.end)?;
+        number += 1;
+        note(&mut sifting, from, start, number, fate)?;
+        from = stays_from(from, cut.next, fate);
+        start = cut.next;
+    }
+    add_stretch(&mut sifting.stays, from, start)?;
+    Ok(sifting)
+}
