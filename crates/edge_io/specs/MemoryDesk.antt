@@ -16,3 +16,11 @@ held_of file = record { name = file.name; left = file.bytes }
 -- before the first call
 abbrev pub new_desk : List InputFile → ℕ → List ℕ → DeskState
 new_desk files cut failing = record { files = map held_of files; cut = cut; failing = failing; calls = 0; faults = 0 }
+
+-- a desk in memory whose reads never fail
+pub record SteadyState : Type 0 where
+  pub files : List HeldFile
+  pub cut : ℕ
+
+abbrev pub new_steady : List InputFile → ℕ → SteadyState
+new_steady files cut = record { files = map held_of files; cut = cut }

@@ -1,4 +1,4 @@
-ghost use Rattle.std.specs.Prelude.{◌≡◌, ◌≢◌, ◌↔◌, ℕ, ◌<◌, ◌≤◌, ◌+◌, ◌-◌, ◌^◌, List, Some, length, min, ◌⊎◌, IfOk, IsErr, Contains, vec_len, vec_capacity};
+ghost use Rattle.std.specs.Prelude.{◌≡◌, ◌≢◌, ◌↔◌, ℕ, ◌<◌, ◌≤◌, ◌+◌, ◌-◌, ◌^◌, List, Some, length, min, ◌⊎◌, IfOk, IsErr, IsOk, OnOk, Contains, vec_len, vec_capacity};
 ghost use Rattle.std.specs.Io.{ReadsAtMost};
 ghost use Rattle.std.specs.Io.KnownBytes.{ReadConsumes, WriteAppends};
 ghost use Rattle.edge_io.specs.Faults.{HasCause};
@@ -71,6 +71,8 @@ impl Desk for MemoryDesk {
         ensures cut { IfOk result (λ n. n ≤ self.old.cut) }
         ensures calls { self.new.calls ≡ min (self.old.calls + 1) (2 ^ 64 - 1) }
         ensures fails { IsErr result ↔ Contains self.old.failing self.new.calls }
+        ensures spared { OnOk result (self.new.faults ≡ self.old.faults) }
+        ensures settings { (self.new.cut ≡ self.old.cut) × (self.new.failing ≡ self.old.failing) }
     {
         self.calls = self.calls.saturating_add(1);
         if self.failing.contains(&self.calls) {
@@ -89,24 +91,23 @@ pub struct SteadyDesk {
 }
 
 impl Model for SteadyDesk {
-    ghost use Rattle.std.specs.Prelude.{List, ◌<◌};
-    ghost use Rattle.edge_io.specs.Files.{HeldFile};
+    ghost use Rattle.std.specs.Prelude.{◌<◌};
+    ghost use Rattle.edge_io.specs.MemoryDesk.{SteadyState};
 
-    ghost Value = { List HeldFile };
+    ghost Value = { SteadyState };
 
-    ghost view = { λ d. d.files.items };
+    ghost view = { λ d. record { files = d.files.items; cut = d.cut } };
 
     ghost invariant = { λ d. 0 < d.cut };
 }
 
 impl SteadyDesk {
-    ghost use Rattle.std.specs.Prelude.{map};
-    ghost use Rattle.edge_io.specs.MemoryDesk.{held_of};
+    ghost use Rattle.edge_io.specs.MemoryDesk.{new_steady};
 
     /// A desk of these files, of which a read gives at most `cut` bytes.
     pub fn new(alloc: Global, files: InputFiles, cut: usize) -> Result<SteadyDesk, OutOfMemory>
         requires { 0 < cut }
-        ensures { IfOk result (λ desk. desk ≡ map held_of files) }
+        ensures { IfOk result (λ desk. desk ≡ new_steady files cut) }
     {
         Ok(SteadyDesk {
             files: open_files(alloc, files)?,
@@ -116,11 +117,20 @@ impl SteadyDesk {
 }
 
 impl Desk for SteadyDesk {
-    ghost left = { λ desk name. Some (left_of desk name) };
+    ghost left = { λ desk name. Some (left_of desk.files name) };
 
     ghost faults = { λ _. 0 };
 
-    fn read(&mut self, name: &str, into: &mut [u8]) -> Result<usize, DeskFailed> {
+    fn read(&mut self, name: &str, into: &mut [u8]) -> Result<usize, DeskFailed>
+        requires { 0 < length into.old }
+        ensures bound { ReadsAtMost result into.new }
+        ensures bytes { ReadConsumes (Some (left_of self.old.files name.now)) (Some (left_of self.new.files name.now)) result into.new }
+        ensures others { (other : List ℕ) → other ≢ name.now → left_of self.new.files other ≡ left_of self.old.files other }
+        ensures cause { HasCause 0 0 result }
+        ensures cut { IfOk result (λ n. n ≤ self.old.cut) }
+        ensures works { IsOk result }
+        ensures settings { self.new.cut ≡ self.old.cut }
+    {
         Ok(give_named(&mut self.files, name, self.cut, into))
     }
 }
@@ -186,6 +196,8 @@ impl Sink for MemorySink {
         ensures cut { IfOk result (λ n. n ≤ self.old.cut) }
         ensures calls { self.new.calls ≡ min (self.old.calls + 1) (2 ^ 64 - 1) }
         ensures fails { IsErr result ↔ (Contains self.old.failing self.new.calls ⊎ (SINK_ROOM ≤ length self.old.bytes)) }
+        ensures spared { OnOk result (self.new.faults ≡ self.old.faults) }
+        ensures settings { (self.new.cut ≡ self.old.cut) × (self.new.failing ≡ self.old.failing) }
     {
         self.calls = self.calls.saturating_add(1);
         if self.failing.contains(&self.calls) {
