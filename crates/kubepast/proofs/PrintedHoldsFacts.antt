@@ -1,33 +1,19 @@
 -- What `judge` printed of an explained log is verified.
-use Rattle.std.proofs.Common.{◌≡◌, ℕ, ◌≤◌, List, length, refl, sym, subst, arith}
-use Rattle.base_types.specs.Choices.{IsChoice}
+use Rattle.std.proofs.Common.{◌≡◌, ℕ, ◌≤◌, List, length, refl, sym, ap, subst, arith}
 use Rattle.base_types.specs.declared.placed.Outcome.TheVariants.{Explained, Unexplained}
 use Rattle.base_types.specs.declared.placed.PlacedLine.{PlacedLine}
-use Rattle.context_intake.specs.Contexts.{IsContextOf}
-use Rattle.history_model.specs.Checking as checking
-use Rattle.history_model.specs.Histories.{History, ranges}
+use Rattle.context_laws.specs.Placing.{ExplainedAreRight}
 use Rattle.history_model.specs.Outcomes as model
-use Rattle.history_model.specs.Placed.{ArePlacedLines, IsPlacedDecision}
-use Rattle.history_model.specs.Readable.{IsReadable}
+use Rattle.log_verdict.specs.Judging.{IsPrinted}
+use Rattle.log_verdict.specs.Verifying.{most_placement}
+use Rattle.log_verdict.specs.declared.verified.Verified.TheVariants.{Judged}
 use Rattle.serial_machine.specs.declared.checked.Checked.TheVariants.{Holds}
 use Rattle.verdict_text.specs.Outcome.{explained_text}
-use Rattle.verdict_text.specs.Reading.{IsPlacement}
-use Rattle.verdict_text.specs.Words.{IsNumber}
 use Rattle.version_store.specs.Histories.{history_of}
 use Rattle.version_store.specs.Known.{Known}
-use Rattle.kubepast.proofs.PlacedNumbers.{event_at, fits_at, placement_is}
-use Rattle.kubepast.proofs.PlacedTexts.{AreShort, explained_short}
-use Rattle.kubepast.proofs.ToldNumbers.{told_few, told_lines, told_numbers, told_undecided}
-use Rattle.kubepast.specs.Judging.{IsPrinted}
 use Rattle.kubepast.specs.PrintedHolds.{PrintedHolds}
-use Rattle.kubepast.specs.Verifying.{most_placement}
-use Rattle.kubepast.specs.declared.verified.Verified.TheVariants.{Judged}
 
--- what the model of history knows of printed placements
-abbrev pub PrintedVerified : Type 0
-PrintedVerified = (h : History) (choice : List ℕ) (lines : List PlacedLine) → IsReadable h → model.IsLeastOfRuns h choice → ArePlacedLines h choice lines → checking.IsVerified h lines
-
-explained : (known : Known) (found : model.Outcome) (lines : List PlacedLine) → model.IsOutcome (history_of known) found → IsPrinted known found (Explained lines) → model.IsExplanation (history_of known) lines
+explained : (known : Known) (found : model.Outcome) (lines : List PlacedLine) → model.IsOutcome (history_of known) found → IsPrinted known found (Explained lines) → model.IsOutcome (history_of known) (model.Explained lines)
 explained known (model.Explained others) lines is printed =
     let told : Explained lines ≡ Explained others = printed in
     let same : lines ≡ others = cc in
@@ -35,42 +21,10 @@ explained known (model.Explained others) lines is printed =
 explained known (model.Unexplained number reason low high writes) lines is (event, name, known_is, named, told) =
     absurd (let no : Explained lines ≡ Unexplained event.line name reason low high _ = told in cc)
 
--- the choice of a run is one place for each removal
-chosen : (h : History) (choice : List ℕ) → model.IsLeastOfRuns h choice → IsChoice (ranges h) choice
-chosen h choice least = subst (IsChoice (ranges h)) least.chosen least.run.placed.chosen
-
--- the lines of an explained log can be written and read, and their text isn't too long
-module _ (setup log : List ℕ) (known : Known) (is : IsContextOf setup log known) (lines : List PlacedLine) (e : model.IsExplanation (history_of known) lines) where
-  short : AreShort (length known.events) lines
-  short k placed at =
-      let h = history_of known in
-      let numbers = told_numbers setup log known is in
-      let places = chosen h e.choice e.least in
-      let found = event_at h e.choice is.told.readable numbers places lines e.placed k placed at in (
-        fits_at h e.choice is.told.readable numbers places lines e.placed k placed at,
-        λ behind. subst (λ d. IsPlacedDecision h k found.0 d placed.decision) (told_undecided setup log known is k found.0 found.1 behind) found.2.decision,
-      )
-
-  few : IsNumber (length (history_of known).events)
-  few =
-      let events = told_few setup log known is in
-      let all = told_lines setup log known is in
-      omega (arith, events, all)
-
-  is_placement : IsPlacement lines
-  is_placement = placement_is (history_of known) e.choice is.told.readable (told_numbers setup log known is) (chosen (history_of known) e.choice e.least) lines e.placed few
-
-  short_text : length (explained_text lines) ≤ most_placement
-  short_text =
-      let text = explained_short (length known.events) lines is_placement.counted short in
-      let events = told_few setup log known is in
-      let all = told_lines setup log known is in
-      let same = e.placed.all in
-      omega (arith, text, events, all, same)
-
-pub printed_holds : PrintedVerified → PrintedHolds
+pub printed_holds : ExplainedAreRight → PrintedHolds
 printed_holds law files setup log placement lines (known, context, outcome) same =
-    let e = explained known outcome.found lines outcome.is outcome.printed in
-    let fits = is_placement (files setup) (files log) known context lines e in
-    let short = subst (λ text. length text ≤ most_placement) (sym same) (short_text (files setup) (files log) known context lines e) in
-    (Judged Holds, (known, context, (short, (lines, record { lines_are = fits; spelled = sym same }, law (history_of known) e.choice lines context.told.readable e.least e.placed))), refl)
+    let right = law (files setup) (files log) known lines context (explained known outcome.found lines outcome.is outcome.printed) in
+    let most = right.short in
+    let long : length (files placement) ≡ length (explained_text lines) = ap length same in
+    let short : length (files placement) ≤ most_placement = omega (arith, most, long) in
+    (Judged Holds, (known, context, (short, (lines, record { lines_are = right.readable; spelled = sym same }, right.verified))), refl)

@@ -14,26 +14,26 @@ use Rattle.log_intake.specs.Setup.{TakesSetup}
 use Rattle.log_intake.specs.Taking.{TakesLog}
 use Rattle.history_query.specs.declared.question.Question.{Question}
 use Rattle.serial_machine.specs.declared.checked.Checked.{Checked}
-use Rattle.kubepast.specs.Answering.{IsHistory}
-use Rattle.kubepast.specs.Command.{Ask, Judge, Make, Strict, Tells, Verify}
-use Rattle.kubepast.specs.Endings.{Answer}
-use Rattle.kubepast.specs.Judging.{IsJudged}
-use Rattle.kubepast.specs.Program.{IsAnswerTo, history_answer, judged_answer, refusal_answer, report_answer, strictly_answer, verified_answer}
+use Rattle.log_verdict.specs.Answering.{IsHistory}
+use Rattle.command_words.specs.Command.{Ask, Judge, Make, Strict, Tells, Verify}
+use Rattle.log_verdict.specs.Answers.{Answer, history_answer, judged_answer, refusal_answer, report_answer, strictly_answer, verified_answer}
+use Rattle.log_verdict.specs.Judging.{IsJudged}
+use Rattle.kubepast.specs.Program.{IsAnswerTo}
 use Rattle.context_intake.specs.Refusals.{IsSetupRefused}
 use Rattle.kubepast.specs.Reported.{IsPrinted, IsReported, IsVerdict}
-use Rattle.kubepast.specs.Strictly as strict
-use Rattle.kubepast.specs.Strictly.{IsStrictlyJudged}
-use Rattle.kubepast.specs.Verifying.{IsReadLast, IsVerified, most_placement}
-use Rattle.kubepast.specs.declared.asking.Answered.{Answered}
-use Rattle.kubepast.specs.declared.asking.Answered.TheVariants as answered
-use Rattle.kubepast.specs.declared.judged.Judged.{Judged}
-use Rattle.kubepast.specs.declared.judged.Judged.TheVariants.{Refused, Verdict}
-use Rattle.kubepast.specs.declared.report.Report.{Report}
-use Rattle.kubepast.specs.declared.strictly.StrictlyJudged.{StrictlyJudged}
-use Rattle.kubepast.specs.declared.strictly.StrictlyJudged.TheVariants.{Plain, Settled}
-use Rattle.kubepast.specs.declared.verified.Verified.{Verified}
-use Rattle.kubepast.specs.declared.verified.Verified.TheVariants as verified
-use Rattle.kubepast.proofs.VerifyingFacts.{whole_from}
+use Rattle.log_verdict.specs.Strictly as strict
+use Rattle.log_verdict.specs.Strictly.{IsStrictlyJudged}
+use Rattle.log_verdict.specs.Verifying.{IsReadLast, IsVerified, most_placement}
+use Rattle.log_verdict.specs.declared.asking.Answered.{Answered}
+use Rattle.log_verdict.specs.declared.asking.Answered.TheVariants as answered
+use Rattle.log_verdict.specs.declared.judged.Judged.{Judged}
+use Rattle.log_verdict.specs.declared.judged.Judged.TheVariants.{Refused, Verdict}
+use Rattle.log_verdict.specs.declared.report.Report.{Report}
+use Rattle.log_verdict.specs.declared.strictly.StrictlyJudged.{StrictlyJudged}
+use Rattle.log_verdict.specs.declared.strictly.StrictlyJudged.TheVariants.{Plain, Settled}
+use Rattle.log_verdict.specs.declared.verified.Verified.{Verified}
+use Rattle.log_verdict.specs.declared.verified.Verified.TheVariants as verified
+use Rattle.log_verdict.proofs.VerifyingFacts.{whole_from}
 
 -- what is found is passed on as its answer, or memory wants
 abbrev pub IsPassed : {X : Type 0} → (X → Answer) → Result X Stop → Result Report Stop → Type 0

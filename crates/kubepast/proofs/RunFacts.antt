@@ -8,18 +8,19 @@ use Rattle.edge_io.specs.Faults.{Rose}
 use Rattle.edge_io.specs.Whole.{TakesWhole}
 use Rattle.log_intake.specs.Setup.{TakesSetup}
 use Rattle.log_intake.specs.Taking.{TakesLog}
-use Rattle.kubepast.specs.Command.{Ask, Asked, AsksOf, IsAsked, IsOfNames, Judge, Make, Reads, Spells, Strict, Tells, TellsWords, Verify}
-use Rattle.kubepast.specs.Endings.{Answer, IsAnswered}
-use Rattle.kubepast.specs.Program.{Concludes, IsAnswer, IsAnswerTo, report_answer, status_number}
+use Rattle.command_words.specs.Command.{Ask, Asked, AsksOf, IsAsked, IsOfNames, Judge, Make, Reads, Spells, Strict, Tells, TellsWords, Verify}
+use Rattle.kubepast.specs.Endings.{IsAnswered}
+use Rattle.kubepast.specs.Program.{Concludes, IsAnswer, IsAnswerTo}
+use Rattle.log_verdict.specs.Answers.{Answer, IsPlacementText, report_answer, status_number}
 use Rattle.context_intake.specs.Refusals.{IsSetupRefused}
 use Rattle.std.specs.Io.KnownBytes.{Appends}
-use Rattle.kubepast.specs.Reported.{IsPlacementText, IsPrinted, IsReported, Takes, TakesNames, TakesPlacement}
-use Rattle.kubepast.specs.Verifying.{IsReadLast, most_placement}
-use Rattle.kubepast.proofs.AskedFacts.{one_command}
-use Rattle.kubepast.proofs.VerifyingFacts.{whole_from}
-use Rattle.kubepast.specs.declared.report.Report.{Report}
-use Rattle.kubepast.specs.declared.report.Status.{Status}
-use Rattle.kubepast.specs.declared.report.Status.TheVariants.{Explained, Unexplained, SetupRefused, LogRefused, LimitPassed}
+use Rattle.kubepast.specs.Reported.{IsPrinted, IsReported, Takes, TakesNames, TakesPlacement}
+use Rattle.log_verdict.specs.Verifying.{IsReadLast, most_placement}
+use Rattle.command_words.proofs.AskedFacts.{one_command}
+use Rattle.log_verdict.proofs.VerifyingFacts.{whole_from}
+use Rattle.log_verdict.specs.declared.report.Report.{Report}
+use Rattle.log_verdict.specs.declared.report.Status.{Status}
+use Rattle.log_verdict.specs.declared.report.Status.TheVariants.{Explained, Unexplained, SetupRefused, LogRefused, LimitPassed}
 use Rattle.context_intake.specs.declared.stop.Stop.{Stop}
 use Rattle.context_intake.specs.declared.stop.Stop.TheVariants.{OutOfMemory, ReadFault}
 

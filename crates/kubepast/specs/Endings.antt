@@ -3,11 +3,7 @@ use Rattle.std.specs.Prelude.{◌≡◌, ℕ, ◌<◌, ◌⊎◌, List, Option, 
 use Rattle.std.specs.Io.KnownBytes.{Appends, Keeps}
 use Rattle.edge_io.specs.Faults.{Rose}
 use Rattle.line_reader.specs.Lines.{newline}
-
--- a status and the text that goes with it
-pub record Answer : Type 0 where
-  pub status : ℕ
-  pub text : List ℕ
+use Rattle.log_verdict.specs.Answers.{Answer}
 
 -- a text of one line
 abbrev pub line_of : List ℕ → List ℕ

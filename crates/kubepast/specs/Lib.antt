@@ -1,14 +1,6 @@
-pub mod Answering
-pub mod Asking
-pub mod Command
 pub mod Endings
-pub mod Findings
-pub mod Judging
 pub mod OneAnswer
 pub mod PrintedHolds
 pub mod Program
 pub mod Reported
-pub mod Strictly
 pub mod Summary
-pub mod Verifying
-pub mod Deciding

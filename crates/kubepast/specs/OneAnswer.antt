@@ -1,6 +1,6 @@
 -- The answer is a function of the words and of the bytes of each name.
 use Rattle.std.specs.Prelude.{◌≡◌, ℕ, List}
-use Rattle.kubepast.specs.Endings.{Answer}
+use Rattle.log_verdict.specs.Answers.{Answer}
 use Rattle.kubepast.specs.Program.{IsAnswer}
 
 abbrev pub OneAnswer : Type 0

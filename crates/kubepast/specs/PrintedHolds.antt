@@ -4,10 +4,11 @@ use Rattle.base_types.specs.declared.placed.Outcome.TheVariants.{Explained}
 use Rattle.base_types.specs.declared.placed.PlacedLine.{PlacedLine}
 use Rattle.verdict_text.specs.Outcome.{outcome_text}
 use Rattle.verdict_text.specs.Words.{ended}
-use Rattle.kubepast.specs.Command.{Verify}
-use Rattle.kubepast.specs.Judging.{IsJudged}
-use Rattle.kubepast.specs.Program.{IsAnswerTo, answer}
-use Rattle.kubepast.specs.declared.judged.Judged.TheVariants.{Verdict}
+use Rattle.command_words.specs.Command.{Verify}
+use Rattle.log_verdict.specs.Answers.{answer}
+use Rattle.log_verdict.specs.Judging.{IsJudged}
+use Rattle.kubepast.specs.Program.{IsAnswerTo}
+use Rattle.log_verdict.specs.declared.judged.Judged.TheVariants.{Verdict}
 
 -- an explained log's text holds as its placement
 abbrev pub PrintedHolds : Type 0

@@ -1,7 +1,6 @@
 -- What a command comes to before it is written: its report, and what was taken of the names.
 use Rattle.std.specs.Prelude.{◌≡◌, ◌⊎◌, ℕ, List, Option, Some, Result, IfOk, IsErrOf}
 use Rattle.std.specs.Io.KnownBytes.{IsAtEnd}
-use Rattle.base_types.specs.declared.placed.PlacedLine.{PlacedLine}
 use Rattle.context_intake.specs.Contexts.{IsRefused}
 use Rattle.context_intake.specs.Refusals.{IsSetupRefused}
 use Rattle.context_intake.specs.declared.refusal.Refusal.{Refusal}
@@ -11,12 +10,11 @@ use Rattle.edge_io.specs.Faults.{Rose}
 use Rattle.edge_io.specs.Whole.{TakesWhole}
 use Rattle.log_intake.specs.Setup.{TakesSetup}
 use Rattle.log_intake.specs.Taking.{TakesLog}
-use Rattle.kubepast.specs.Command.{Ask, Asked, Judge, Make, Reads, Spells, Strict, Tells, Verify}
-use Rattle.kubepast.specs.Program.{IsAnswerTo, report_answer, status_number}
-use Rattle.kubepast.specs.Verifying.{IsReadLast, most_placement}
-use Rattle.kubepast.specs.declared.report.Report.{Report}
-use Rattle.verdict_text.specs.Outcome.{explained_text}
-use Rattle.verdict_text.specs.Reading.{IsPlacement}
+use Rattle.command_words.specs.Command.{Ask, Asked, Judge, Make, Reads, Spells, Strict, Tells, Verify}
+use Rattle.kubepast.specs.Program.{IsAnswerTo}
+use Rattle.log_verdict.specs.Answers.{IsPlacementText, report_answer, status_number}
+use Rattle.log_verdict.specs.Verifying.{IsReadLast, most_placement}
+use Rattle.log_verdict.specs.declared.report.Report.{Report}
 
 -- some words ask for the command
 abbrev pub IsSpelled : Asked → Type 0
@@ -47,12 +45,6 @@ Takes (Strict setup log) old now untouched found = TakesNames setup log old now 
 Takes (Verify setup log placement) old now untouched found = TakesNames setup log old now found × TakesPlacement setup log placement old now found
 Takes (Ask setup log question) old now untouched found = TakesNames setup log old now found
 Takes (Make number events) old now untouched found = untouched
-
--- the report of an explained log is a placement's text, which can be read
-pub record IsPlacementText (text : List ℕ) : Type 0 where
-  pub lines : List PlacedLine
-  pub placement : IsPlacement lines
-  pub spelled : text ≡ explained_text lines
 
 abbrev pub IsPrinted : Asked → Report → Type 0
 IsPrinted (Judge setup log) report = status_number report.status ≡ 0 → IsPlacementText report.text

@@ -1,4 +1,3 @@
-ghost use Rattle.kubepast.specs.Deciding.{DecidesByChoice};
 ghost use Rattle.kubepast.specs.OneAnswer.{OneAnswer};
 ghost use Rattle.kubepast.specs.PrintedHolds.{PrintedHolds};
 
@@ -14,13 +13,5 @@ pub fn one_answer_law()
 pub fn printed_holds_law()
     ensures { PrintedHolds }
 {
-    history_model::printed_law();
-}
-
-/// The history of a log takes a judged decision as possible exactly where one possible state for each role and each
-/// binding makes an authoriser give it.
-pub fn deciding_law()
-    ensures { DecidesByChoice }
-{
-    rbac_timeline::deciding_law();
+    context_laws::placement_law();
 }

@@ -1,14 +1,16 @@
 ghost use Rattle.std.specs.Prelude.{◌≡◌, ◌≤◌, ◌∷◌, [], IfOk, codes};
 ghost use Rattle.case_maker.specs.Case.{log_text, setup_text};
-ghost use Rattle.kubepast.specs.Judging.{IsJudged};
+ghost use Rattle.log_verdict.specs.Answers.{report_answer};
+ghost use Rattle.log_verdict.specs.Judging.{IsJudged};
+ghost use Rattle.kubepast.specs.Program.{made_answer};
 
-use crate::judged::Judged;
-use crate::judging::{Gates, judge};
+use crate::summary::summary;
 use base_types::{Bytes, OutOfMemory, Text};
 use case_maker::{Case, make_case};
 use context_intake::Stop;
 use edge_io::{InputFile, InputFiles, SteadyDesk};
 use judge_pool::Gate;
+use log_verdict::{Gates, Judged, Report, judge, refusal_report, status_of};
 use std::alloc::Global;
 use std::marker::Sync;
 use std::thread::Threads;
@@ -38,6 +40,24 @@ pub fn judge_made<R: Threads + Sync, G: Gate, H: Gate>(
         // A steady desk has no faults.
         Err(Stop::ReadFault) => unreachable!(),
         Err(Stop::OutOfMemory) => Err(OutOfMemory),
+    }
+}
+
+/// The report of what a made case comes to.
+pub fn made_report(
+    alloc: Global,
+    number: u64,
+    events: u32,
+    judged: &Judged,
+) -> Result<Report, OutOfMemory>
+    ensures { IfOk result (λ report. report_answer report ≡ made_answer number events judged.now) }
+{
+    match judged {
+        Judged::Refused(refusal) => refusal_report(alloc, *refusal),
+        Judged::Verdict(outcome) => Ok(Report {
+            status: status_of(outcome),
+            text: summary(alloc, number, events, outcome)?,
+        }),
     }
 }
 

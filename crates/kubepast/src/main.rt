@@ -1,24 +1,12 @@
 //! kubepast judges whether a Kubernetes audit log can be true.
 #![tactic(auto)]
 
-mod asking;
 mod ending;
-mod finding;
-mod judged;
-mod judging;
 mod law;
 mod made;
-mod outcome;
-mod questions;
-mod report;
 mod reporting;
 mod run;
-mod source;
-mod strictly;
 mod summary;
-mod verified;
-mod verifying;
-mod words;
 
 use edge_io::{FileDesk, StdSink};
 use judge_pool::FreeGate;

@@ -1,21 +1,19 @@
 ghost use Rattle.std.specs.Prelude.{◌≡◌, ◌≢◌, ◌≤◌, ℕ, List, Some, IfOk, IsErrOf};
-ghost use Rattle.kubepast.specs.Command.{Ask, Judge, Make, Strict, Verify, command_asked, most_made};
-ghost use Rattle.kubepast.specs.Program.{IsAnswerTo, report_answer};
+ghost use Rattle.command_words.specs.Command.{Ask, Judge, Make, Strict, Verify, command_asked, most_made};
+ghost use Rattle.log_verdict.specs.Answers.{report_answer};
+ghost use Rattle.kubepast.specs.Program.{IsAnswerTo};
 ghost use Rattle.kubepast.specs.Reported.{IsReported, IsSpelled};
 
-use crate::asking::ask;
-use crate::judging::{Gates, judge};
-use crate::made::judge_made;
-use crate::report::{
-    Report, history_report, judged_report, made_report, strictly_report, verified_report,
-};
-use crate::strictly::judge_strictly;
-use crate::verifying::verify;
-use crate::words::Command;
+use crate::made::{judge_made, made_report};
+use command_words::Command;
 use context_intake::Stop;
 use edge_io::Desk;
 use history_query::Question;
 use judge_pool::Gate;
+use log_verdict::{
+    Gates, Report, ask, history_report, judge, judge_strictly, judged_report, strictly_report,
+    verified_report, verify,
+};
 use std::alloc::Global;
 use std::marker::Sync;
 use std::thread::Threads;

@@ -1,7 +1,7 @@
 use Rattle.std.proofs.Common.{List, ℕ, codes, ◌∙◌, subst, refl}
 use Rattle.edge_io.specs.Files.{left_of}
 use Rattle.case_maker.specs.Case.{setup_text}
-use Rattle.kubepast.specs.Judging.{IsJudged}
+use Rattle.log_verdict.specs.Judging.{IsJudged}
 use Rattle.kubepast.proofs.MadeFacts.{bytes_named}
 use Rattle.kubepast.proofs.made.judge_made.Goals as goal
 

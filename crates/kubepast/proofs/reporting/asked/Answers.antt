@@ -1,5 +1,5 @@
 use Rattle.std.proofs.Common.{◌≡◌, Ok, rules}
-use Rattle.kubepast.specs.Program.{history_answer}
+use Rattle.log_verdict.specs.Answers.{history_answer}
 use Rattle.kubepast.proofs.ReportedFacts.{passed_report, passed_stop, passed_want, ask_reported}
 use Rattle.kubepast.proofs.reporting.asked.Goals as goal
 

@@ -1,5 +1,5 @@
 use Rattle.std.proofs.Common.{◌≡◌, Ok, rules}
-use Rattle.kubepast.specs.Program.{judged_answer}
+use Rattle.log_verdict.specs.Answers.{judged_answer}
 use Rattle.kubepast.proofs.ReportedFacts.{passed_report, passed_stop, passed_want, judge_reported}
 use Rattle.kubepast.proofs.reporting.judged.Goals as goal
 

@@ -1,5 +1,5 @@
 use Rattle.std.proofs.Common.{◌≡◌, Ok, rules}
-use Rattle.kubepast.specs.Program.{strictly_answer}
+use Rattle.log_verdict.specs.Answers.{strictly_answer}
 use Rattle.kubepast.proofs.ReportedFacts.{passed_report, passed_stop, passed_want, strictly_reported}
 use Rattle.kubepast.proofs.reporting.strictly.Goals as goal
 

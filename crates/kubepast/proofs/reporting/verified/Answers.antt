@@ -1,5 +1,5 @@
 use Rattle.std.proofs.Common.{◌≡◌, Ok, rules}
-use Rattle.kubepast.specs.Program.{verified_answer}
+use Rattle.log_verdict.specs.Answers.{verified_answer}
 use Rattle.kubepast.proofs.ReportedFacts.{passed_report, passed_stop, passed_want, verify_reported}
 use Rattle.kubepast.proofs.reporting.verified.Goals as goal
 

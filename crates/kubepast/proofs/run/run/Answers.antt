@@ -1,11 +1,11 @@
 use Rattle.std.proofs.Common.{◌≡◌, None, map, string_bytes, Global, inl, inr, refl, subst}
 use Rattle.context_intake.proofs.ReadingFacts.{log_untouched}
 use Rattle.log_intake.specs.Setup.{most_setup}
-use Rattle.kubepast.specs.Command.{IsRead, Judge, Verify, command_asked}
+use Rattle.command_words.specs.Command.{IsRead, Judge, Verify, command_asked}
 use Rattle.kubepast.specs.Program.{usage_answer}
-use Rattle.kubepast.specs.Verifying.{most_placement}
+use Rattle.log_verdict.specs.Verifying.{most_placement}
 use Rattle.kubepast.proofs.RunFacts.{HasRun, keeps_same, run_answer, run_desk_left, run_log_left, run_log_taken, run_others_left, run_placement_after, run_placement_left, run_placement_taken, run_printed, run_setup_taken}
-use Rattle.kubepast.proofs.VerifyingFacts.{whole_untouched}
+use Rattle.log_verdict.proofs.VerifyingFacts.{whole_untouched}
 use Rattle.kubepast.proofs.run.run.Given.{Over}
 use Rattle.kubepast.proofs.run.run.Goals as goal
 

@@ -1,0 +1,2 @@
+pub mod AskedFacts
+mod QuestionFacts

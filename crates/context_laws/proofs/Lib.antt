@@ -1,0 +1,8 @@
+mod PlacedTexts
+mod PlacedNumbers
+mod LogBounds
+mod AnsweredRevisions
+mod CheckpointRevisions
+mod ToldNumbers
+mod PlacingFacts
+mod DecidingFacts

@@ -1,0 +1,18 @@
+ghost use Rattle.context_laws.specs.Deciding.{DecidesByChoice};
+ghost use Rattle.context_laws.specs.Placing.{ExplainedAreRight};
+
+/// The history of a log takes a judged decision as possible exactly where one possible state for each role and each
+/// binding makes an authoriser give it.
+pub fn deciding_law()
+    ensures { DecidesByChoice }
+{
+    rbac_timeline::deciding_law();
+}
+
+/// The placement of an explained log can be written and read, isn't longer than 822,633,615 bytes, and the machine runs
+/// through it.
+pub fn placement_law()
+    ensures { ExplainedAreRight }
+{
+    history_model::printed_law();
+}

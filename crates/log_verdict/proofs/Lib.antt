@@ -1,0 +1,12 @@
+mod OutcomeOrder
+mod OutcomeClaims
+mod OutcomePlacing
+mod OutcomeTrees
+mod OutcomeSharing
+mod FindingShown
+mod JudgingFacts
+mod StrictlyFacts
+mod AskingFacts
+pub mod VerifyingFacts
+mod ReportFacts
+pub mod OnceFacts

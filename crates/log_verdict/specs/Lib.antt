@@ -1,0 +1,6 @@
+pub mod Answering
+pub mod Answers
+pub mod Findings
+pub mod Judging
+pub mod Strictly
+pub mod Verifying

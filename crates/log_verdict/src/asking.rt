@@ -1,0 +1,64 @@
+ghost use Rattle.std.specs.Prelude.{◌≡◌, ◌≢◌, ◌≤◌, ℕ, List, Some, IfOk, IsErrOf};
+ghost use Rattle.std.specs.Io.KnownBytes.{IsAtEnd};
+ghost use Rattle.context_intake.specs.Refusals.{IsSetupRefused};
+ghost use Rattle.edge_io.specs.Faults.{Rose};
+ghost use Rattle.log_intake.specs.Setup.{TakesSetup};
+ghost use Rattle.log_intake.specs.Taking.{TakesLog};
+ghost use Rattle.log_verdict.specs.Answering.{IsHistory, IsHistoryFrom};
+
+use base_types::{Bytes, OutOfMemory};
+use context_intake::{Refusal, Stop, Told, read_context};
+use edge_io::Desk;
+use history_query::{Question, answer};
+use judge_pool::Gate;
+use std::alloc::Global;
+use std::marker::Sync;
+use std::mem::ManuallyDrop;
+use std::thread::Threads;
+
+/// What a question comes to by a setup and a log.
+#[derive(Drop)]
+pub enum Answered {
+    Refused(Refusal),
+    /// The text that answers it.
+    History(Bytes),
+}
+
+/// Reads a setup and then a log from a desk, each by its name, and answers a question of the history that they tell. What
+/// they tell isn't freed: the program ends soon after.
+pub fn ask<R: Threads + Sync, D: Desk, H: Gate>(
+    rt: &R,
+    alloc: Global,
+    desk: &mut D,
+    setup: &str,
+    log: &str,
+    question: &Question,
+    lines: &H,
+) -> Result<Answered, Stop>
+    requires { setup.now ≢ log.now }
+    ensures answered { IfOk result (λ found. (of_setup of_log : List ℕ) → D.left desk.old setup.now ≡ Some of_setup → D.left desk.old log.now ≡ Some of_log
+        → IsHistory of_setup of_log question.now found) }
+    ensures whole { IfOk result (λ found. (text : List ℕ) → found ≡ Answered.History text → IsAtEnd (D.left desk.new setup.now) × IsAtEnd (D.left desk.new log.now)) }
+    ensures fault { IsErrOf result Stop.ReadFault → Rose (D.faults desk.old) (D.faults desk.new) }
+    ensures counted { D.faults desk.old ≤ D.faults desk.new }
+    ensures setup_taken { TakesSetup (D.left desk.old setup.now) (D.left desk.new setup.now) (IsErrOf result Stop.ReadFault) }
+    ensures log_taken { TakesLog (D.left desk.old log.now) (D.left desk.new log.now) (IsErrOf result Stop.ReadFault) }
+    ensures log_left { (of_setup : List ℕ) (refusal : Refusal) → D.left desk.old setup.now ≡ Some of_setup → IsSetupRefused of_setup refusal
+        → D.left desk.new log.now ≡ D.left desk.old log.now }
+    ensures others { (other : List ℕ) → other ≢ setup.now → other ≢ log.now → D.left desk.new other ≡ D.left desk.old other }
+{
+    let found = read_context(rt, alloc, desk, setup, log, lines)?;
+    let told = ManuallyDrop::new(found);
+    let answered = answered_of(alloc, &told, question)?;
+    Ok(answered)
+}
+
+// What the question comes to, of what the setup and the log tell.
+fn answered_of(alloc: Global, told: &Told, question: &Question) -> Result<Answered, OutOfMemory>
+    ensures { IfOk result (IsHistoryFrom told.now question.now) }
+{
+    match told {
+        Told::Refused(refusal) => Ok(Answered::Refused(*refusal)),
+        Told::Context(context) => Ok(Answered::History(answer(alloc, context, question)?)),
+    }
+}

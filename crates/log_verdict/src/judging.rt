@@ -1,0 +1,69 @@
+ghost use Rattle.std.specs.Prelude.{◌≡◌, ◌≢◌, ◌≤◌, ℕ, List, Some, IfOk, IsErrOf};
+ghost use Rattle.std.specs.Io.KnownBytes.{IsAtEnd};
+ghost use Rattle.base_types.specs.declared.placed.Outcome.{Outcome};
+ghost use Rattle.context_intake.specs.Refusals.{IsSetupRefused};
+ghost use Rattle.edge_io.specs.Faults.{Rose};
+ghost use Rattle.log_intake.specs.Setup.{TakesSetup};
+ghost use Rattle.log_intake.specs.Taking.{TakesLog};
+ghost use Rattle.log_verdict.specs.Judging.{IsJudged, IsJudgedFrom};
+
+use crate::judged::Judged;
+use crate::outcome::outcome_of;
+use base_types::OutOfMemory;
+use context_intake::{Refusal, Stop, Told, read_context};
+use edge_io::Desk;
+use judge_pool::Gate;
+use std::alloc::Global;
+use std::marker::Sync;
+use std::mem::ManuallyDrop;
+use std::thread::Threads;
+
+/// The gates of the work that threads share: of the lines of a batch, and of the events.
+#[derive(Clone, Copy)]
+pub struct Gates<'a, G, H> {
+    pub events: &'a G,
+    pub lines: &'a H,
+}
+
+/// Reads a setup and then a log from a desk, each by its name, and judges the log. What they tell isn't freed: the
+/// program ends soon after.
+pub fn judge<R: Threads + Sync, D: Desk, G: Gate, H: Gate>(
+    rt: &R,
+    alloc: Global,
+    desk: &mut D,
+    setup: &str,
+    log: &str,
+    gates: Gates<'_, G, H>,
+) -> Result<Judged, Stop>
+    requires { setup.now ≢ log.now }
+    ensures judged { IfOk result (λ judged. (of_setup of_log : List ℕ) → D.left desk.old setup.now ≡ Some of_setup → D.left desk.old log.now ≡ Some of_log
+        → IsJudged of_setup of_log judged) }
+    ensures whole { IfOk result (λ judged. (outcome : Outcome) → judged ≡ Judged.Verdict outcome → IsAtEnd (D.left desk.new setup.now) × IsAtEnd (D.left desk.new log.now)) }
+    ensures fault { IsErrOf result Stop.ReadFault → Rose (D.faults desk.old) (D.faults desk.new) }
+    ensures counted { D.faults desk.old ≤ D.faults desk.new }
+    ensures setup_taken { TakesSetup (D.left desk.old setup.now) (D.left desk.new setup.now) (IsErrOf result Stop.ReadFault) }
+    ensures log_taken { TakesLog (D.left desk.old log.now) (D.left desk.new log.now) (IsErrOf result Stop.ReadFault) }
+    ensures log_left { (of_setup : List ℕ) (refusal : Refusal) → D.left desk.old setup.now ≡ Some of_setup → IsSetupRefused of_setup refusal
+        → D.left desk.new log.now ≡ D.left desk.old log.now }
+    ensures others { (other : List ℕ) → other ≢ setup.now → other ≢ log.now → D.left desk.new other ≡ D.left desk.old other }
+{
+    let found = read_context(rt, alloc, desk, setup, log, gates.lines)?;
+    let told = ManuallyDrop::new(found);
+    let judged = judged_of(rt, alloc, &told, gates.events)?;
+    Ok(judged)
+}
+
+// What a setup and a log come to, of what they tell.
+fn judged_of<R: Threads + Sync, G: Gate>(
+    rt: &R,
+    alloc: Global,
+    told: &Told,
+    gate: &G,
+) -> Result<Judged, OutOfMemory>
+    ensures { IfOk result (IsJudgedFrom told.now) }
+{
+    match told {
+        Told::Refused(refusal) => Ok(Judged::Refused(*refusal)),
+        Told::Context(context) => Ok(Judged::Verdict(outcome_of(rt, alloc, context, gate)?)),
+    }
+}
