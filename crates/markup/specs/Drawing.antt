@@ -1,5 +1,5 @@
 -- Where something stands in a drawing.
-use Rattle.std.specs.Prelude.{◌≡◌, refl, ℕ, ◌+◌, ◌-◌, ◌*◌, ◌/◌, min, max}
+use Rattle.std.specs.Prelude.{ℕ, ◌+◌, ◌-◌, ◌*◌, ◌/◌, min, max}
 use Rattle.markup.specs.declared.drawing.Axis.{Axis}
 
 -- a place of the axis, or its nearer end

@@ -30,10 +30,14 @@ references = codes "&amp;" ∷ codes "&lt;" ∷ codes "&gt;" ∷ codes "&quot;" 
 abbrev pub begins_reference : List ℕ → Bool
 begins_reference text = list_any (starts_with nat_eq text) references
 
--- Each byte stands for itself or is a `&` that begins a reference. So no `<`, `>`, `"` or `'` is among them.
+-- the first byte stands for itself, or it is a `&` that begins a reference
+abbrev pub is_passed : ℕ → List ℕ → Bool
+is_passed b rest = if b == 38 then begins_reference (b ∷ rest) else is_none (reference_of b)
+
+-- So is each byte: no `<`, `>`, `"` or `'` is among them.
 abbrev pub is_inert : List ℕ → Bool
 is_inert [] = true
-is_inert (b ∷ rest) = (if b == 38 then begins_reference (b ∷ rest) else is_none (reference_of b)) && is_inert rest
+is_inert (b ∷ rest) = is_passed b rest && is_inert rest
 
 abbrev pub IsInert : List ℕ → Type 0
 IsInert text = is_inert text ≡ true

@@ -4,9 +4,9 @@ use Rattle.std.specs.List.{flat_map}
 use Rattle.markup.specs.Escaping.{escaped}
 
 pub data Piece : Type 0 where
-  fixed : List ℕ → Piece -- markup and words of the program's own
-  number : ℕ → Piece -- in decimal digits
-  told : List ℕ → Piece -- a text of the input, escaped
+  fixed : List ℕ → Piece  -- markup and words of the program's own
+  number : ℕ → Piece  -- in decimal digits
+  told : List ℕ → Piece  -- a text of the input, escaped
 
 abbrev pub shown_piece : Piece → List ℕ
 shown_piece (Piece.fixed markup) = markup

@@ -62,5 +62,4 @@ fn reference_of(c: char) -> Option<&'static str>
 /// No text, however it is chosen, puts markup into a page where it stands escaped.
 pub fn escaped_law()
     ensures { (text : List ℕ) → IsInert (escaped text) }
-{
-}
+{}
