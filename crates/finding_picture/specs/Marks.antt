@@ -1,0 +1,42 @@
+-- The axis of a drawing of places, and the marks on it.
+use Rattle.std.specs.Prelude.{ℕ, ◌-◌, ◌==◌, List, [], ◌∷◌, Option, Some, None, codes, length, max, slice_get, if◌then◌else◌}
+use Rattle.base_types.specs.declared.placed.WriteLine.{WriteLine}
+use Rattle.base_types.specs.declared.placed.WriteLine.TheVariants.{Made, Removed}
+use Rattle.markup.specs.Drawing.{position}
+use Rattle.markup.specs.Pieces.{fixed, number, told, shown}
+use Rattle.markup.specs.declared.drawing.Axis.{Axis}
+use Rattle.object_past.specs.declared.version.Version.{Version}
+
+abbrev pub revision_or_zero : Option Version → ℕ
+revision_or_zero None = 0
+revision_or_zero (Some version) = version.revision
+
+abbrev pub last_revision : List Version → ℕ
+last_revision versions = revision_or_zero (slice_get versions (length versions - 1))
+
+-- A window that ends behind all revisions is drawn up to the last one.
+abbrev pub drawn_high : List Version → ℕ → ℕ → ℕ
+drawn_high versions low high = if high == 18446744073709551615 then max (last_revision versions) low else high
+
+abbrev pub places_axis : List Version → ℕ → ℕ → Axis
+places_axis versions low high = record { low = low; high = drawn_high versions low high; left = 40; width = 880 }
+
+-- a bar that can be seen
+abbrev pub bar_width : Axis → ℕ → ℕ → ℕ
+bar_width axis low high = max (position axis high - position axis low) 4
+
+-- A write that made a revision is a tick there, a removal a bar over its range.
+abbrev pub mark_text : Axis → WriteLine → List ℕ
+mark_text axis (Made revision line key) = shown (
+    fixed (codes "<line class=\"tick\" x1=\"") ∷ number (position axis revision)
+    ∷ fixed (codes "\" y1=\"36\" x2=\"") ∷ number (position axis revision)
+    ∷ fixed (codes "\" y2=\"80\"><title>revision ") ∷ number revision
+    ∷ fixed (codes " by line ") ∷ number line
+    ∷ fixed (codes ": ") ∷ told key ∷ fixed (codes "</title></line>\n") ∷ [])
+mark_text axis (Removed low high line key) = shown (
+    fixed (codes "<rect class=\"bar\" x=\"") ∷ number (position axis low)
+    ∷ fixed (codes "\" y=\"50\" width=\"") ∷ number (bar_width axis low high)
+    ∷ fixed (codes "\" height=\"16\"><title>removal from ") ∷ number low
+    ∷ fixed (codes " to ") ∷ number high
+    ∷ fixed (codes " by line ") ∷ number line
+    ∷ fixed (codes ": ") ∷ told key ∷ fixed (codes "</title></rect>\n") ∷ [])

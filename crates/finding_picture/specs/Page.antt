@@ -1,0 +1,19 @@
+-- The page of an event that no placement explains.
+use Rattle.std.specs.Prelude.{List, ◌++◌, ℕ, codes}
+use Rattle.markup.specs.Frame.{begin_text, end_text}
+use Rattle.version_store.specs.Known.{Known}
+use Rattle.finding_picture.specs.Heading.{heading_text}
+use Rattle.finding_picture.specs.Looking.{event_on}
+use Rattle.finding_picture.specs.Places.{places_text}
+use Rattle.finding_picture.specs.Requests.{request_text}
+use Rattle.finding_picture.specs.Rows.{rows_text}
+use Rattle.finding_picture.specs.declared.finding.Finding.{Finding}
+
+abbrev pub page_text : Known → Finding → List ℕ
+page_text known finding =
+    begin_text (codes "unexplained")
+    ++ (heading_text finding
+    ++ (request_text (event_on known.events finding.line)
+    ++ (places_text known finding
+    ++ (rows_text known.events finding.writes.now
+    ++ end_text))))

@@ -1,0 +1,30 @@
+-- The window over the line of revisions, with the writes in it.
+use Rattle.std.specs.Prelude.{ℕ, List, [], ◌∷◌, ◌++◌, codes, length, take}
+use Rattle.std.specs.List.{flat_map}
+use Rattle.base_types.specs.declared.placed.WriteLine.{WriteLine}
+use Rattle.markup.specs.Pieces.{fixed, number, shown}
+use Rattle.markup.specs.declared.drawing.Axis.{Axis}
+use Rattle.version_store.specs.Known.{Known}
+use Rattle.finding_picture.specs.Limits.{most_marks, rest_text}
+use Rattle.finding_picture.specs.Marks.{mark_text, places_axis}
+use Rattle.finding_picture.specs.declared.finding.Finding.{Finding}
+use Rattle.finding_picture.specs.declared.places.TheConstants.{BEFORE_PLACES, BAND_AND_AXIS, BEHIND_PLACES}
+
+abbrev pub band_text : Finding → List ℕ
+band_text finding = shown (
+    fixed BEFORE_PLACES.now ∷ number (length finding.writes.now)
+    ∷ fixed (codes " writes, from place ") ∷ number finding.low
+    ∷ fixed (codes " to place ") ∷ number finding.high
+    ∷ fixed BAND_AND_AXIS.now ∷ number finding.low
+    ∷ fixed (codes "</text>\n<text x=\"920\" y=\"22\" text-anchor=\"end\">") ∷ number finding.high
+    ∷ fixed (codes "</text>\n") ∷ [])
+
+abbrev pub marks_text : Axis → List WriteLine → List ℕ
+marks_text axis writes = flat_map (mark_text axis) (take most_marks writes)
+
+abbrev pub places_text : Known → Finding → List ℕ
+places_text known finding =
+    band_text finding
+    ++ (marks_text (places_axis known.versions finding.low finding.high) finding.writes.now
+    ++ (shown (fixed BEHIND_PLACES.now ∷ [])
+    ++ rest_text (length finding.writes.now)))

@@ -1,0 +1,60 @@
+-- What the event asked and was answered.
+use Rattle.std.specs.Prelude.{ℕ, List, [], ◌∷◌, ◌++◌, Option, Some, None, codes}
+use Rattle.std.specs.List.{flat_map}
+use Rattle.audit_event.specs.declared.event.Event.{Event}
+use Rattle.audit_event.specs.declared.event.Status.{Status}
+use Rattle.base_types.specs.declared.request.Decision.{Decision}
+use Rattle.base_types.specs.declared.request.Decision.TheVariants.{Allow, Forbid}
+use Rattle.base_types.specs.declared.request.Pair.{Pair}
+use Rattle.base_types.specs.declared.request.User.{User}
+use Rattle.markup.specs.Pieces.{fixed, number, told, shown}
+
+-- a name of the program's own, and a text of the input
+abbrev pub entry_text : List ℕ → List ℕ → List ℕ
+entry_text name text = shown (fixed (codes "<dt>") ∷ fixed name ∷ fixed (codes "</dt><dd>") ∷ told text ∷ fixed (codes "</dd>\n") ∷ [])
+
+abbrev pub pair_text : Pair → List ℕ
+pair_text pair = shown (
+    fixed (codes "<dt>Query</dt><dd><code>") ∷ told pair.name ∷ fixed (codes "</code> is <code>") ∷ told pair.value ∷ fixed (codes "</code></dd>\n") ∷ [])
+
+abbrev pub group_text : List ℕ → List ℕ
+group_text group = entry_text (codes "Group") group
+
+-- a user under a name of the program's own, and the user's groups
+abbrev pub user_text : List ℕ → User → List ℕ
+user_text name user = entry_text name user.name ++ flat_map group_text user.groups
+
+abbrev pub impersonated_text : Option User → List ℕ
+impersonated_text None = []
+impersonated_text (Some user) = user_text (codes "Impersonated user") user
+
+abbrev pub status_text : Status → Option ℕ → List ℕ
+status_text status None = shown (fixed (codes "<dt>Answer</dt><dd>none: the request panicked</dd>\n") ∷ [])
+status_text status (Some code) = shown (fixed (codes "<dt>Answer</dt><dd>") ∷ number code ∷ fixed (codes " ") ∷ told status.reason ∷ fixed (codes "</dd>\n") ∷ [])
+
+abbrev pub decision_word : Option Decision → List ℕ
+decision_word None = codes "not recorded"
+decision_word (Some Allow) = codes "allow"
+decision_word (Some Forbid) = codes "forbid"
+
+abbrev pub decision_text : Option Decision → List ℕ
+decision_text decision = shown (fixed (codes "<dt>Decision</dt><dd>") ∷ fixed (decision_word decision) ∷ fixed (codes "</dd>\n") ∷ [])
+
+abbrev pub asked_text : Event → List ℕ
+asked_text event =
+    entry_text (codes "Verb") event.attrs.verb
+    ++ (entry_text (codes "Path") event.attrs.path
+    ++ (flat_map pair_text event.attrs.query
+    ++ (user_text (codes "User") event.user
+    ++ impersonated_text event.impersonated)))
+
+abbrev pub answered_text : Event → List ℕ
+answered_text event = status_text event.status event.status.code ++ decision_text event.decision
+
+abbrev pub request_text : Option Event → List ℕ
+request_text None = shown (fixed (codes "<h2>The event</h2>\n<p>This is a checkpoint of the setup: no line of the log has it.</p>\n") ∷ [])
+request_text (Some event) =
+    shown (fixed (codes "<h2>The event</h2>\n<dl>\n") ∷ [])
+    ++ (asked_text event
+    ++ (answered_text event
+    ++ shown (fixed (codes "</dl>\n") ∷ [])))

@@ -1,0 +1,37 @@
+ghost use Rattle.std.specs.Prelude.{◌≡◌, ◌==◌, ◌<◌, AllPairs, find, option_map};
+ghost use Rattle.finding_picture.specs.Looking.{event_on, user_name};
+
+use audit_event::Event;
+use version_store::Context;
+
+/// The event of the log with this line. That of a checkpoint has none.
+pub fn event_on(context: &Context, line: u64) -> Option<&Event>
+    ensures { option_map (λ event. event.now) result ≡ event_on context.now.events line }
+{
+    event_among(context.events(), line)
+}
+
+fn event_among(events: &[Event], line: u64) -> Option<&Event>
+    requires { AllPairs (λ a b. a.line < b.line) events.now }
+    ensures { option_map (λ event. event.now) result ≡ find (λ event. event.line == line) events.now }
+{
+    let upto = events.partition_point(|event| event.line <= line);
+    if upto == 0 {
+        return None;
+    }
+    let event = &events[upto - 1];
+    if event.line != line {
+        return None;
+    }
+    Some(event)
+}
+
+/// Who authenticated for the event of the log with this line, or `-`.
+pub fn user_name(context: &Context, line: u64) -> &str
+    ensures { result.now ≡ user_name (event_on context.now.events line) }
+{
+    match event_on(context, line) {
+        Some(event) => event.user.name.as_str(),
+        None => "-",
+    }
+}

@@ -1,0 +1,78 @@
+ghost use Rattle.std.specs.Prelude.{◌≡◌, ◌++◌, OnOk, string_bytes};
+ghost use Rattle.finding_picture.specs.Marks.{bar_width, drawn_high, last_revision, mark_text, places_axis};
+
+use base_types::{OutOfMemory, WriteLine};
+use markup::{Axis, Told};
+use object_past::Version;
+
+fn last_revision(versions: &[Version]) -> u64
+    ensures { result ≡ last_revision versions.now }
+{
+    match versions.get(versions.len().saturating_sub(1)) {
+        Some(version) => version.revision.get(),
+        None => 0,
+    }
+}
+
+// A window that ends behind all revisions is drawn up to the last one.
+fn drawn_high(versions: &[Version], low: u64, high: u64) -> u64
+    ensures { result ≡ drawn_high versions.now low high }
+{
+    if high == u64::MAX {
+        return last_revision(versions).max(low);
+    }
+    high
+}
+
+/// The axis on which the places from `low` to `high` are drawn.
+pub fn places_axis(versions: &[Version], low: u64, high: u64) -> Axis
+    ensures { result ≡ places_axis versions.now low high }
+{
+    Axis {
+        low,
+        high: drawn_high(versions, low, high),
+        left: 40,
+        width: 880,
+    }
+}
+
+fn bar_width(axis: &Axis, low: u64, high: u64) -> u64
+    ensures { result ≡ bar_width axis.now low high }
+{
+    axis.position(high).saturating_sub(axis.position(low)).max(4)
+}
+
+/// Appends the tick of a write that made a revision, or the bar of a removal.
+pub fn push_mark(text: &mut String, axis: &Axis, write: &WriteLine) -> Result<(), OutOfMemory>
+    ensures { OnOk result (string_bytes text.new ≡ string_bytes text.old ++ mark_text axis.now write.now) }
+{
+    match write {
+        WriteLine::Made {
+            revision,
+            line,
+            key,
+        } => {
+            let x = axis.position(*revision);
+            let object = Told(key.as_str());
+            writeln!(
+                text,
+                r#"<line class="tick" x1="{x}" y1="36" x2="{x}" y2="80"><title>revision {revision} by line {line}: {object}</title></line>"#
+            )?;
+        }
+        WriteLine::Removed {
+            low,
+            high,
+            line,
+            key,
+        } => {
+            let x = axis.position(*low);
+            let width = bar_width(axis, *low, *high);
+            let object = Told(key.as_str());
+            writeln!(
+                text,
+                r#"<rect class="bar" x="{x}" y="50" width="{width}" height="16"><title>removal from {low} to {high} by line {line}: {object}</title></rect>"#
+            )?;
+        }
+    }
+    Ok(())
+}

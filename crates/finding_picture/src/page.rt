@@ -1,0 +1,32 @@
+ghost use Rattle.std.specs.Prelude.{◌≡◌, ◌++◌, IfOk, string_bytes};
+ghost use Rattle.finding_picture.specs.Page.{page_text};
+
+use crate::finding::Finding;
+use crate::heading::push_heading;
+use crate::looking::event_on;
+use crate::places::push_places;
+use crate::request::push_request;
+use crate::rows::push_rows;
+use base_types::OutOfMemory;
+use markup::{push_begin, push_end};
+use std::alloc::Global;
+use version_store::Context;
+
+/// The page of an event that no placement explains: one document in HTML, with no script and nothing from elsewhere. Each
+/// text of the log stands in it escaped.
+pub fn finding_page(
+    alloc: Global,
+    context: &Context,
+    finding: &Finding<'_>,
+) -> Result<String, OutOfMemory>
+    ensures { IfOk result (λ page. string_bytes page ≡ page_text context.now finding.now) }
+{
+    let mut text = String::new(alloc);
+    push_begin(&mut text, "unexplained")?;
+    push_heading(alloc, &mut text, finding)?;
+    push_request(&mut text, event_on(context, finding.line))?;
+    push_places(&mut text, context, finding)?;
+    push_rows(&mut text, context, finding.writes)?;
+    push_end(&mut text)?;
+    Ok(text)
+}

@@ -1,0 +1,69 @@
+ghost use Rattle.std.specs.Prelude.{◌≡◌, ◌++◌, OnOk, string_bytes};
+ghost use Rattle.finding_picture.specs.Places.{band_text, marks_text, places_text};
+
+use crate::finding::Finding;
+use crate::limits::{drawn, push_rest};
+use crate::marks::{places_axis, push_mark};
+use base_types::{OutOfMemory, WriteLine};
+use markup::Axis;
+use version_store::Context;
+
+/// What stands before how many writes are drawn.
+pub const BEFORE_PLACES: &str = r#"<h2>Places</h2>
+<p>An answer of the event could be right at a place of the band: a place is a revision, and what the cluster held when it
+was the last one. A tick is a write that made a revision. A bar is the range in which a removal took place. Place
+18446744073709551615 stands behind all revisions.</p>
+<figure>
+<svg role="img" viewBox="0 0 960 150" aria-labelledby="places-title places-desc">
+<title id="places-title">The window of the event over the line of revisions</title>
+<desc id="places-desc">"#;
+
+/// The band and the axis, and what stands before the band's low end.
+pub const BAND_AND_AXIS: &str = r#". The table of the writes has each.</desc>
+<rect class="band" x="40" y="30" width="880" height="50"/>
+<line class="axis" x1="40" y1="80" x2="920" y2="80"/>
+<text x="40" y="22">"#;
+
+/// What stands behind the marks.
+pub const BEHIND_PLACES: &str = "</svg>\n</figure>\n";
+
+/// Appends the drawing of the window and of the writes in it.
+pub fn push_places(
+    text: &mut String,
+    context: &Context,
+    finding: &Finding<'_>,
+) -> Result<(), OutOfMemory>
+    ensures { OnOk result (string_bytes text.new ≡ string_bytes text.old ++ places_text context.now finding.now) }
+{
+    let axis = places_axis(context.versions(), finding.low, finding.high);
+    push_band(text, finding)?;
+    push_marks(text, &axis, finding.writes)?;
+    text.push_str(BEHIND_PLACES)?;
+    push_rest(text, finding.writes.len())?;
+    Ok(())
+}
+
+fn push_band(text: &mut String, finding: &Finding<'_>) -> Result<(), OutOfMemory>
+    ensures { OnOk result (string_bytes text.new ≡ string_bytes text.old ++ band_text finding.now) }
+{
+    let count = finding.writes.len();
+    let low = finding.low;
+    let high = finding.high;
+    text.push_str(BEFORE_PLACES)?;
+    write!(text, "{count} writes, from place {low} to place {high}")?;
+    text.push_str(BAND_AND_AXIS)?;
+    writeln!(
+        text,
+        "{low}</text>\n<text x=\"920\" y=\"22\" text-anchor=\"end\">{high}</text>"
+    )?;
+    Ok(())
+}
+
+fn push_marks(text: &mut String, axis: &Axis, writes: &[WriteLine]) -> Result<(), OutOfMemory>
+    ensures { OnOk result (string_bytes text.new ≡ string_bytes text.old ++ marks_text axis.now writes.now) }
+{
+    for write in drawn(writes) {
+        push_mark(text, axis, write)?;
+    }
+    Ok(())
+}

@@ -1,0 +1,132 @@
+ghost use Rattle.std.specs.Prelude.{◌≡◌, ◌++◌, OnOk, option_map, string_bytes};
+ghost use Rattle.std.specs.List.{flat_map};
+ghost use Rattle.finding_picture.specs.Requests.{answered_text, asked_text, decision_text, decision_word, entry_text, group_text, impersonated_text, pair_text, request_text, status_text, user_text};
+
+use audit_event::{Event, Status};
+use base_types::{Decision, OutOfMemory, Pair, Text, User};
+use markup::Told;
+
+/// Appends what the event asked and was answered; that it is a checkpoint, where there is none.
+pub fn push_request(text: &mut String, event: Option<&Event>) -> Result<(), OutOfMemory>
+    ensures { OnOk result (string_bytes text.new ≡ string_bytes text.old ++ request_text (option_map (λ event. event.now) event.entry)) }
+{
+    match event {
+        Some(event) => push_event(text, event)?,
+        None => text.push_str(
+            "<h2>The event</h2>\n<p>This is a checkpoint of the setup: no line of the log has it.</p>\n",
+        )?,
+    }
+    Ok(())
+}
+
+fn push_event(text: &mut String, event: &Event) -> Result<(), OutOfMemory>
+    ensures { OnOk result (string_bytes text.new ≡ string_bytes text.old ++ request_text (Some event.now)) }
+{
+    text.push_str("<h2>The event</h2>\n<dl>\n")?;
+    push_asked(text, event)?;
+    push_answered(text, event)?;
+    text.push_str("</dl>\n")?;
+    Ok(())
+}
+
+fn push_asked(text: &mut String, event: &Event) -> Result<(), OutOfMemory>
+    ensures { OnOk result (string_bytes text.new ≡ string_bytes text.old ++ asked_text event.now) }
+{
+    push_entry(text, "Verb", &event.attrs.verb)?;
+    push_entry(text, "Path", &event.attrs.path)?;
+    push_query(text, event.attrs.query.as_slice())?;
+    push_user(text, "User", &event.user)?;
+    push_impersonated(text, &event.impersonated)?;
+    Ok(())
+}
+
+fn push_answered(text: &mut String, event: &Event) -> Result<(), OutOfMemory>
+    ensures { OnOk result (string_bytes text.new ≡ string_bytes text.old ++ answered_text event.now) }
+{
+    push_status(text, &event.status)?;
+    push_decision(text, event.decision)?;
+    Ok(())
+}
+
+// A name of the program's own, and a text of the input.
+fn push_entry(text: &mut String, name: &str, told: &Text) -> Result<(), OutOfMemory>
+    ensures { OnOk result (string_bytes text.new ≡ string_bytes text.old ++ entry_text name.now told.now) }
+{
+    writeln!(text, "<dt>{name}</dt><dd>{}</dd>", Told(told.as_str()))?;
+    Ok(())
+}
+
+fn push_query(text: &mut String, query: &[Pair]) -> Result<(), OutOfMemory>
+    ensures { OnOk result (string_bytes text.new ≡ string_bytes text.old ++ flat_map pair_text query.now) }
+{
+    for pair in query {
+        push_pair(text, pair)?;
+    }
+    Ok(())
+}
+
+fn push_pair(text: &mut String, pair: &Pair) -> Result<(), OutOfMemory>
+    ensures { OnOk result (string_bytes text.new ≡ string_bytes text.old ++ pair_text pair.now) }
+{
+    let name = Told(pair.name.as_str());
+    let value = Told(pair.value.as_str());
+    writeln!(text, "<dt>Query</dt><dd><code>{name}</code> is <code>{value}</code></dd>")?;
+    Ok(())
+}
+
+fn push_user(text: &mut String, name: &str, user: &User) -> Result<(), OutOfMemory>
+    ensures { OnOk result (string_bytes text.new ≡ string_bytes text.old ++ user_text name.now user.now) }
+{
+    push_entry(text, name, &user.name)?;
+    push_groups(text, user.groups.as_slice())?;
+    Ok(())
+}
+
+fn push_groups(text: &mut String, groups: &[Text]) -> Result<(), OutOfMemory>
+    ensures { OnOk result (string_bytes text.new ≡ string_bytes text.old ++ flat_map group_text groups.now) }
+{
+    for group in groups {
+        push_entry(text, "Group", group)?;
+    }
+    Ok(())
+}
+
+fn push_impersonated(text: &mut String, user: &Option<User>) -> Result<(), OutOfMemory>
+    ensures { OnOk result (string_bytes text.new ≡ string_bytes text.old ++ impersonated_text user.now) }
+{
+    if let Some(user) = user {
+        push_user(text, "Impersonated user", user)?;
+    }
+    Ok(())
+}
+
+fn push_status(text: &mut String, status: &Status) -> Result<(), OutOfMemory>
+    ensures { OnOk result (string_bytes text.new ≡ string_bytes text.old ++ status_text status.now status.now.code) }
+{
+    match status.code {
+        Some(code) => {
+            let reason = Told(status.reason.as_str());
+            writeln!(text, "<dt>Answer</dt><dd>{code} {reason}</dd>")?;
+        }
+        None => text.push_str("<dt>Answer</dt><dd>none: the request panicked</dd>\n")?,
+    }
+    Ok(())
+}
+
+fn push_decision(text: &mut String, decision: Option<Decision>) -> Result<(), OutOfMemory>
+    ensures { OnOk result (string_bytes text.new ≡ string_bytes text.old ++ decision_text decision) }
+{
+    let word = decision_word(decision);
+    writeln!(text, "<dt>Decision</dt><dd>{word}</dd>")?;
+    Ok(())
+}
+
+fn decision_word(decision: Option<Decision>) -> &'static str
+    ensures { result.now ≡ decision_word decision }
+{
+    match decision {
+        None => "not recorded",
+        Some(Decision::Allow) => "allow",
+        Some(Decision::Forbid) => "forbid",
+    }
+}

@@ -1,0 +1,4 @@
+pub mod Drawing
+pub mod Escaping
+pub mod Frame
+pub mod Pieces
