@@ -6,4 +6,5 @@ pub mod NoFloats
 pub mod NoMembers
 pub mod Ranges
 pub mod Same
+pub mod ToldFacts
 pub mod Zips

@@ -1,5 +1,5 @@
 -- The numbers of a setup that is made are those of its policy and of its objects: each can be read.
-use Rattle.std.proofs.Common.{◌≡◌, ℕ, pos, ◌++◌, Bool, List, [], ◌∷◌, Option, Some, None, inl, refl, sym, subst, arith, codes, Ordering, Less, Equal, Greater}
+use Rattle.std.proofs.Common.{◌≡◌, ℕ, pos, ◌++◌, Bool, true, false, List, [], ◌∷◌, Option, Some, None, inl, refl, sym, subst, arith, codes, Ordering, Less, Equal, Greater}
 use Rattle.std.specs.Prelude.{map, is_some}
 use Rattle.std.specs.List.{All, flat_map}
 use Rattle.std.specs.Ordering.{nat_cmp, match_ordering}
@@ -18,7 +18,7 @@ use Rattle.cluster_setup.specs.declared.table.Form.TheVariants.{Merged, Plain, B
 use Rattle.cluster_setup.specs.Files.{word, or_no_items, listed, group_of, version_of}
 use Rattle.cluster_setup.specs.Found.{found_for}
 use Rattle.cluster_setup.specs.Table.{patch_of}
-use Rattle.cluster_setup.specs.Making.{say, shape, asked, shapes_of, status_shapes_of, same_subresource, idle_subresource, is_served, with_status, with_idle, subresources_of, is_namespaced, entry_with, entry_of, form_for, entries_from, entries_of, put_in, filled, whole_item, object_entry, objects_from, objects_of, start_tree, setup_with, setup_tree}
+use Rattle.cluster_setup.specs.Making.{say, shape, asked, shapes_of, status_shapes_of, same_subresource, idle_subresource, is_served, with_status, with_idle, subresources_of, is_namespaced, entry_with, entry_of, form_for, entries_from, entries_of, put_in, filled, whole_item, object_entry, objects_from, objects_of, start_tree, lag_of, with_lag, setup_with, setup_tree}
 
 -- members with one put in
 chosen : (o : Ordering) (a b c : Fields) → FieldsInRange a → FieldsInRange b → FieldsInRange c → FieldsInRange (match_ordering o a b c)
@@ -182,6 +182,13 @@ objects_in_range list (Some found) range =
 one_is_integer : IsInteger (pos 1)
 one_is_integer = inl (omega arith, omega arith)
 
+lag_is_integer : IsInteger (pos (lag_of true))
+lag_is_integer = inl (omega arith, omega arith)
+
+lag_in_range : (authorize : Bool) (fields : Fields) → FieldsInRange fields → FieldsInRange (with_lag authorize fields)
+lag_in_range true fields range = put_in_range (codes "lagNanos") (whole (pos (lag_of true))) fields lag_is_integer range
+lag_in_range false fields range = range
+
 setup_with_in_range : (revision time : List ℕ) (policy : Meaning) (resources objects : List Meaning) (authorize : Bool)
     → InRange policy → KidsInRange (kids_of resources) → KidsInRange (kids_of objects) → InRange (setup_with revision time policy resources objects authorize)
 setup_with_in_range revision time policy resources objects authorize governed tracked shown =
@@ -191,15 +198,17 @@ setup_with_in_range revision time policy resources objects authorize governed tr
     let f2 = put (codes "version") (whole (pos 1)) f1 in
     let f3 = put (codes "start") (start_tree revision time) f2 in
     let f4 = put (codes "authorize") (flag authorize) f3 in
-    let f5 = put (codes "policy") policy f4 in
-    let f6 = put (codes "resources") (items (kids_of resources)) f5 in
+    let f5 = with_lag authorize f4 in
+    let f6 = put (codes "policy") policy f5 in
+    let f7 = put (codes "resources") (items (kids_of resources)) f6 in
     let r1 = say_in_range (codes "kind") (codes "PastSetup") no_fields tt in
     let r2 = put_in_range (codes "version") (whole (pos 1)) f1 one_is_integer r1 in
     let r3 = put_in_range (codes "start") (start_tree revision time) f2 begun r2 in
     let r4 = put_in_range (codes "authorize") (flag authorize) f3 tt r3 in
-    let r5 = put_in_range (codes "policy") policy f4 governed r4 in
-    let r6 = put_in_range (codes "resources") (items (kids_of resources)) f5 tracked r5 in
-    put_in_range (codes "snapshot") (items (kids_of objects)) f6 shown r6
+    let r5 = lag_in_range authorize f4 r4 in
+    let r6 = put_in_range (codes "policy") policy f5 governed r5 in
+    let r7 = put_in_range (codes "resources") (items (kids_of resources)) f6 tracked r6 in
+    put_in_range (codes "snapshot") (items (kids_of objects)) f7 shown r7
 
 pub setup_in_range : (revision time : List ℕ) (policy : Meaning) (trees shown : List Meaning) (authorize : Bool)
     → InRange policy → All InRange trees → All InRange shown → InRange (setup_tree revision time policy trees shown authorize)

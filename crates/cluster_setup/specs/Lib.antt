@@ -5,3 +5,4 @@ pub mod Making
 pub mod Refusing
 pub mod Table
 pub mod Telling
+pub mod Told

@@ -1,5 +1,5 @@
 -- The setup that is made.
-use Rattle.std.specs.Prelude.{ℕ, pos, ◌++◌, Bool, false, List, [], ◌∷◌, Option, Some, None, map, is_some, bytes_eq, codes, if◌then◌else◌}
+use Rattle.std.specs.Prelude.{ℕ, pos, ◌++◌, Bool, true, false, List, [], ◌∷◌, Option, Some, None, map, is_some, bytes_eq, codes, if◌then◌else◌}
 use Rattle.std.specs.List.{flat_map, list_any}
 use Rattle.base_types.specs.Matching.{combined}
 use Rattle.json_tree.specs.Edits.{put}
@@ -152,15 +152,26 @@ objects_of trees list = objects_from list (found_for trees list)
 abbrev pub start_tree : List ℕ → List ℕ → Meaning
 start_tree revision time = members (say (codes "time") time (say (codes "revision") revision no_fields))
 
+-- by how many nanoseconds an authoriser's caches may be behind, where decisions are judged: a second
+abbrev pub lag_of : Bool → ℕ
+lag_of true = 1000000000
+lag_of false = 0
+
+-- a setup says nothing of a lag that is none
+abbrev pub with_lag : Bool → Fields → Fields
+with_lag true fields = put (codes "lagNanos") (whole (pos (lag_of true))) fields
+with_lag false fields = fields
+
 abbrev pub setup_with : List ℕ → List ℕ → Meaning → List Meaning → List Meaning → Bool → Meaning
 setup_with revision time policy resources objects authorize = members
     (put (codes "snapshot") (items (kids_of objects))
     (put (codes "resources") (items (kids_of resources))
     (put (codes "policy") policy
+    (with_lag authorize
     (put (codes "authorize") (flag authorize)
     (put (codes "start") (start_tree revision time)
     (put (codes "version") (whole (pos 1))
-    (say (codes "kind") (codes "PastSetup") no_fields)))))))
+    (say (codes "kind") (codes "PastSetup") no_fields))))))))
 
 -- the setup of all files' resources, with the objects of some of them
 abbrev pub setup_tree : List ℕ → List ℕ → Meaning → List Meaning → List Meaning → Bool → Meaning

@@ -1,5 +1,5 @@
 -- The words of refusals.
-use Rattle.std.specs.Prelude.{ℕ, ◌++◌, List, codes, decimal}
+use Rattle.std.specs.Prelude.{ℕ, ◌-◌, ◌++◌, List, [], codes, decimal, slice_get, unwrap_or}
 use Rattle.setup_file.specs.declared.fault.SetupRule.{SetupRule}
 use Rattle.setup_file.specs.Rules.{rule_number}
 use Rattle.cluster_setup.specs.declared.fault.FileFault.{FileFault}
@@ -21,10 +21,15 @@ code_word Twice = codes "twice"
 code_word Revision = codes "revision"
 code_word (BreaksRule rule) = rule_word rule
 
-abbrev pub refusal_words : SetupRefusal → List ℕ
-refusal_words Time = codes "time"
-refusal_words Policy = codes "policy"
-refusal_words Empty = codes "empty"
-refusal_words (Rule rule) = codes "resources " ++ rule_word rule
-refusal_words (File number code) = codes "file " ++ (decimal number ++ (codes " " ++ code_word code))
-refusal_words OutOfMemory = codes "memory"
+-- the name of the file of this number, counted from 1
+abbrev pub name_at : List (List ℕ) → ℕ → List ℕ
+name_at names number = unwrap_or (slice_get names (number - 1)) []
+
+-- of files with these names; for want of memory there are no words
+abbrev pub refusal_words : List (List ℕ) → SetupRefusal → List ℕ
+refusal_words names Time = codes "time"
+refusal_words names Policy = codes "policy"
+refusal_words names Empty = codes "empty"
+refusal_words names (Rule rule) = codes "resources " ++ rule_word rule
+refusal_words names (File number code) = codes "file " ++ (name_at names number ++ (codes " " ++ code_word code))
+refusal_words names OutOfMemory = []

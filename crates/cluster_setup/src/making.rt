@@ -1,12 +1,12 @@
-ghost use Rattle.std.specs.Prelude.{◌≡◌, ◌<◌, ◌+◌, ℕ, Ok, None, All, OnOk, length, take, IfOk, IfErr, IfSome, IfNone, string_bytes, is_some, true};
+ghost use Rattle.std.specs.Prelude.{◌≡◌, ◌<◌, ◌+◌, ℕ, None, All, OnOk, length, take, IfOk, IfErr, IfSome, IfNone, string_bytes, is_some, true};
 ghost use Rattle.json_tree.specs.Meaning.{Meaning};
 ghost use Rattle.json_tree.specs.Values.{InRange};
 ghost use Rattle.setup_file.specs.Forms.{moment_of};
-ghost use Rattle.setup_file.specs.Reading.{IsTreeOf, ReadsAs};
-ghost use Rattle.setup_file.specs.declared.setup.Setup.{Setup as AnySetup};
+ghost use Rattle.setup_file.specs.Reading.{IsTreeOf};
 ghost use Rattle.cluster_setup.specs.Answers.{IsTextOf, IsBlamed, IsPolicy, IsSetupText, IsRefused, IsMade, IsReadOut, IsUnread, Refuses, OrMemory};
 ghost use Rattle.cluster_setup.specs.Making.{setup_tree};
 ghost use Rattle.cluster_setup.specs.Refusing.{AreTrees, IsFirstBroken, first_refused};
+ghost use Rattle.cluster_setup.specs.Told.{Tells};
 
 use crate::assembling::{Given, setup_tree};
 use crate::blaming::refuse;
@@ -205,7 +205,7 @@ pub fn make_setup(
     authorize: bool,
 ) -> Result<String, SetupRefusal>
     ensures made { IfOk result (λ text. IsMade time.now policy.now files.now authorize (string_bytes text)) }
-    ensures accepted { IfOk result (λ text. (setup : AnySetup) × ReadsAs (string_bytes text) (Ok setup)) }
+    ensures told { IfOk result (λ text. Tells time.now policy.now files.now authorize (string_bytes text)) }
     ensures cause { IfErr result (OrMemory (Refuses time.now policy.now files.now authorize)) }
 {
     match moment(time) {

@@ -8,7 +8,7 @@ pub const FILE_JSON: &str = "file json: the file isn't one JSON text whose numbe
 How it comes about: It is YAML, an error message of `kubectl`, or was cut off; or an object
 in it holds a fraction.
 
-Look at: the file of this number, counted from 1 behind the policy.
+Look at: the file that the line names.
 
 What to do: Take it again with `kubectl get --raw PATH`. A resource whose objects hold
 fractions can't be tracked.

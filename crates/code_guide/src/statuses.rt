@@ -44,10 +44,11 @@ pub const STATUS_3: &str =
 
 How it comes about: It was written by hand, or its lists were taken at different moments.
 
-Look at: the code behind `setup`.
+Look at: the code: `judge` says `setup S12`; `setup` says `time`, or names a file as in
+`file pods.json pages`.
 
-What to do: Ask for that code: `kubepast explain S12`, `kubepast explain setup time` or,
-where it says `file 3 pages`, `kubepast explain file pages`.
+What to do: Ask for that code: `kubepast explain S12`, `kubepast explain setup time`,
+`kubepast explain file pages`.
 ";
 
 /// `status 4`

@@ -85,7 +85,10 @@ const MADE_PODS: &str =
     r#"{"authorize":false,"kind":"PastSetup","policy":{"apiVersion":"audit.k8s.io/v1","kind":"Policy","rules":[]},"resources":[{"group":"","kind":"Pod","listKind":"PodList","namespaced":true,"objectPatch":"recorded","resource":"pods","shapes":[{"class":"Defaulted","path":"/spec"},{"class":"Kept","path":"/status"}],"subresources":[{"effect":"same","name":"status","shapes":[{"class":"Asked","path":"/status"},{"class":"Asked","path":"/metadata/labels"},{"class":"Asked","path":"/metadata/annotations"}]},{"effect":"none","name":"log"}],"version":"v1"}],"snapshot":[{"group":"","object":{"apiVersion":"v1","kind":"Pod","metadata":{"name":"p","namespace":"d","resourceVersion":"8","uid":"P"}},"resource":"pods"}],"start":{"revision":"10","time":"2024-05-01T10:00:00Z"},"version":1}"#;
 
 const MADE_RBAC: &str =
-    r#"{"authorize":true,"kind":"PastSetup","policy":{"apiVersion":"audit.k8s.io/v1","kind":"Policy","rules":[]},"resources":[{"group":"rbac.authorization.k8s.io","kind":"Role","listKind":"RoleList","namespaced":true,"objectPatch":"recorded","resource":"roles","shapes":[],"subresources":[],"version":"v1"},{"group":"rbac.authorization.k8s.io","kind":"RoleBinding","listKind":"RoleBindingList","namespaced":true,"objectPatch":"recorded","resource":"rolebindings","shapes":[{"class":"Defaulted","path":"/subjects"},{"class":"Defaulted","path":"/roleRef"}],"subresources":[],"version":"v1"},{"group":"rbac.authorization.k8s.io","kind":"ClusterRole","listKind":"ClusterRoleList","namespaced":false,"objectPatch":"recorded","resource":"clusterroles","shapes":[],"subresources":[],"version":"v1"},{"group":"rbac.authorization.k8s.io","kind":"ClusterRoleBinding","listKind":"ClusterRoleBindingList","namespaced":false,"objectPatch":"recorded","resource":"clusterrolebindings","shapes":[{"class":"Defaulted","path":"/subjects"},{"class":"Defaulted","path":"/roleRef"}],"subresources":[],"version":"v1"}],"snapshot":[{"group":"rbac.authorization.k8s.io","object":{"apiVersion":"rbac.authorization.k8s.io/v1","kind":"Role","metadata":{"name":"r","namespace":"d","resourceVersion":"6","uid":"R"},"rules":null},"resource":"roles"}],"start":{"revision":"10","time":"2024-05-01T10:00:00Z"},"version":1}"#;
+    r#"{"authorize":true,"kind":"PastSetup","lagNanos":1000000000,"policy":{"apiVersion":"audit.k8s.io/v1","kind":"Policy","rules":[]},"resources":[{"group":"rbac.authorization.k8s.io","kind":"Role","listKind":"RoleList","namespaced":true,"objectPatch":"recorded","resource":"roles","shapes":[],"subresources":[],"version":"v1"},{"group":"rbac.authorization.k8s.io","kind":"RoleBinding","listKind":"RoleBindingList","namespaced":true,"objectPatch":"recorded","resource":"rolebindings","shapes":[{"class":"Defaulted","path":"/subjects"},{"class":"Defaulted","path":"/roleRef"}],"subresources":[],"version":"v1"},{"group":"rbac.authorization.k8s.io","kind":"ClusterRole","listKind":"ClusterRoleList","namespaced":false,"objectPatch":"recorded","resource":"clusterroles","shapes":[],"subresources":[],"version":"v1"},{"group":"rbac.authorization.k8s.io","kind":"ClusterRoleBinding","listKind":"ClusterRoleBindingList","namespaced":false,"objectPatch":"recorded","resource":"clusterrolebindings","shapes":[{"class":"Defaulted","path":"/subjects"},{"class":"Defaulted","path":"/roleRef"}],"subresources":[],"version":"v1"}],"snapshot":[{"group":"rbac.authorization.k8s.io","object":{"apiVersion":"rbac.authorization.k8s.io/v1","kind":"Role","metadata":{"name":"r","namespace":"d","resourceVersion":"6","uid":"R"},"rules":null},"resource":"roles"}],"start":{"revision":"10","time":"2024-05-01T10:00:00Z"},"version":1}"#;
+
+// The names of the files, in their order.
+static NAMES: [&str; 5] = ["a", "b", "c", "d", "e"];
 
 // The time, the policy, up to five files, and whether decisions are judged; and the setup's text, or the refusal.
 static CASES: [(&str, &str, [&str; 5], bool, &str); 24] = [
@@ -110,77 +113,77 @@ static CASES: [(&str, &str, [&str; 5], bool, &str); 24] = [
         POLICY,
         [ALONE, MAPS, "x", "", ""],
         false,
-        "file 3 json",
+        "file c json",
     ),
     (
         TIME,
         POLICY,
         [CORE, FRACTION, "", "", ""],
         false,
-        "file 2 json",
+        "file b json",
     ),
     (
         TIME,
         POLICY,
         [CORE, ALONE, PAGE, "", ""],
         false,
-        "file 2 kind",
+        "file b kind",
     ),
     (
         TIME,
         POLICY,
         [MAPS, CORE, PAGE, "", ""],
         false,
-        "file 3 pages",
+        "file c pages",
     ),
     (
         TIME,
         POLICY,
         [MAPS, CORE, FRONT, "", ""],
         false,
-        "file 3 pages",
+        "file c pages",
     ),
     (
         TIME,
         POLICY,
         [CORE, MAPS, SECRETS, "", ""],
         false,
-        "file 3 unknown",
+        "file c unknown",
     ),
     (
         TIME,
         POLICY,
         [RBAC, BETA, "", "", ""],
         false,
-        "file 2 version",
+        "file b version",
     ),
     (
         TIME,
         POLICY,
         [CORE, MAPS, PODS, MAPS, ""],
         false,
-        "file 2 twice",
+        "file b twice",
     ),
     (
         TIME,
         POLICY,
         [CORE, MAPS, LATER, "", ""],
         false,
-        "file 3 revision",
+        "file c revision",
     ),
     (
         TIME,
         POLICY,
         [CORE, MAPS, NO_UID, "", ""],
         false,
-        "file 3 S12",
+        "file c S12",
     ),
     (
         TIME,
         POLICY,
         [CORE, MAPS, SAME_UID, "", ""],
         false,
-        "file 3 S13",
+        "file c S13",
     ),
     (
         TIME,
@@ -194,14 +197,14 @@ static CASES: [(&str, &str, [&str; 5], bool, &str); 24] = [
         POLICY,
         [RBAC, BINDINGS, ODD_ROLES, CLUSTER_ROLES, CLUSTER_BINDINGS],
         true,
-        "file 3 S14",
+        "file c S14",
     ),
     (
         TIME,
         POLICY,
         [CORE, MAPS, r#"{"kind":"PodList"}"#, "", ""],
         false,
-        "file 3 kind",
+        "file c kind",
     ),
 ];
 
@@ -223,6 +226,16 @@ fn files_of(rt: &(impl Abort + AllocGlobal), texts: &[&str; 5]) -> Vec<Bytes> {
     files
 }
 
+fn names_of(rt: &(impl Abort + AllocGlobal)) -> Vec<String> {
+    let mut names = Vec::new(rt.alloc());
+    for name in &NAMES {
+        names
+            .push(String::from_str(rt.alloc(), *name).expect(rt, "memory"))
+            .expect(rt, "memory");
+    }
+    names
+}
+
 fn answer_of(
     rt: &(impl Abort + AllocGlobal),
     case: &(&str, &str, [&str; 5], bool, &str),
@@ -230,7 +243,10 @@ fn answer_of(
     let files = files_of(rt, &case.2);
     match make_setup(rt.alloc(), case.0, case.1.as_bytes(), &files, case.3) {
         Ok(text) => text,
-        Err(refusal) => refusal_words(rt.alloc(), refusal).expect(rt, "memory"),
+        Err(refusal) => {
+            let names = names_of(rt);
+            refusal_words(rt.alloc(), &names, refusal).expect(rt, "memory")
+        }
     }
 }
 

@@ -1,16 +1,26 @@
-use Rattle.std.proofs.Common.{◌≡◌, None, Ok, inl, refl, sym, ap, subst, ◌∙◌}
+use Rattle.std.proofs.Common.{◌≡◌, None, Ok, inl, sym, subst, refl, ap, ◌∙◌}
 use Rattle.std.proofs.lemmas.Result.{IfOk-weaker}
 use Rattle.setup_file.specs.Forms.{moment_of}
 use Rattle.setup_file.specs.Reading.{ReadsAs}
 use Rattle.cluster_setup.proofs.Same.{reads_as}
+use Rattle.cluster_setup.proofs.ToldFacts.{setup_told}
 use Rattle.cluster_setup.proofs.making.make_setup.Goals as goal
 
-pub returns-in-Some-clause-accepted : goal.returns-in-Some-clause-accepted
-returns-in-Some-clause-accepted c =
+pub returns-in-Some-clause-told : goal.returns-in-Some-clause-told
+returns-in-Some-clause-told c =
     IfOk-weaker c.governed.result _ _
     (λ text made.
-    let told = made.made.made.made in
-    (told.accepted.setup, subst (λ bytes. ReadsAs bytes (Ok told.accepted.setup)) (sym told.is) (reads_as _ told.accepted)))
+    let text_made = made.made.made in
+    let shown = text_made.made in
+    record {
+      given = made.given;
+      governed = made.governed;
+      trees = made.made.trees;
+      read = made.made.read;
+      setup = shown.accepted.setup;
+      accepted = subst (λ bytes. ReadsAs bytes (Ok shown.accepted.setup)) (sym shown.is) (reads_as _ shown.accepted);
+      told = setup_told text_made.revision c.args.time.now made.given made.made.trees c.args.authorize shown.accepted.setup text_made.start shown.accepted.is;
+    })
     c.governed.ensures.made
 
 pub returns-in-None-clause-cause : goal.returns-in-None-clause-cause

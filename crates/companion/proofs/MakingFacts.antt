@@ -1,0 +1,23 @@
+-- What a time, a policy and files come to.
+use Rattle.std.proofs.Common.{◌≡◌, ◌≢◌, ◌⊎◌, ℕ, Bool, List, ◌∷◌, map, inl, inr, refl, sym, ap, subst}
+use Rattle.cluster_setup.specs.Answers.{OrMemory}
+use Rattle.cluster_setup.specs.declared.fault.SetupRefusal.{SetupRefusal}
+use Rattle.cluster_setup.specs.declared.fault.SetupRefusal.TheVariants.{Time, Policy, Empty, Rule, File, OutOfMemory}
+use Rattle.companion.specs.Endings.{Answer}
+use Rattle.companion.specs.Making.{IsMadeAnswer, IsSetupAnswer, SomeLong}
+
+-- a refusal that isn't want of memory
+pub no_memory : (Is : SetupRefusal → Type 0) (refusal : SetupRefusal) → refusal ≢ OutOfMemory → OrMemory Is refusal → Is refusal
+no_memory Is Time apart is = is
+no_memory Is Policy apart is = is
+no_memory Is Empty apart is = is
+no_memory Is (Rule rule) apart is = is
+no_memory Is (File number code) apart is = is
+no_memory Is OutOfMemory apart is = absurd (apart refl)
+
+pub made_of_told : (authorize : Bool) (time policy : List ℕ) (names files : List (List ℕ)) (answered : Answer) (of_policy : List ℕ) (of_files : List (List ℕ))
+    → policy ≡ of_policy → files ≡ of_files → (SomeLong (policy ∷ files) → ⊥) → IsMadeAnswer authorize time policy names files answered
+    → IsSetupAnswer authorize time of_policy names of_files answered
+made_of_told authorize time policy names files answered of_policy of_files same_policy same_files short made =
+    subst (λ p. IsSetupAnswer authorize time p names of_files answered) same_policy
+    (subst (λ fs. IsSetupAnswer authorize time policy names fs answered) same_files (inr (short, made)))

@@ -1,0 +1,35 @@
+-- What a time, a policy and files come to as a setup, of their bytes alone.
+use Rattle.std.specs.Prelude.{◌≡◌, ◌<◌, ◌⊎◌, ℕ, Bool, List, [], ◌∷◌, length, Contains, Option, Some, codes}
+use Rattle.cluster_setup.specs.Answers.{IsMade, Refuses}
+use Rattle.cluster_setup.specs.Telling.{refusal_words}
+use Rattle.cluster_setup.specs.declared.fault.SetupRefusal.{SetupRefusal}
+use Rattle.companion.specs.Endings.{Answer, line_of}
+use Rattle.companion.specs.Sifted.{answer}
+
+-- a policy, and each file, has at most so many bytes
+abbrev pub most_file : ℕ
+most_file = 268435456
+
+-- one of these has more
+abbrev pub SomeLong : List (List ℕ) → Type 0
+SomeLong [] = ⊥
+SomeLong (bytes ∷ others) = (most_file < length bytes) ⊎ SomeLong others
+
+abbrev pub refused_answer : List (List ℕ) → SetupRefusal → Answer
+refused_answer names refusal = answer 3 (line_of (refusal_words names refusal))
+
+-- the setup, or why none is made of files with these names
+abbrev pub IsMadeAnswer : Bool → (time policy : List ℕ) → (names files : List (List ℕ)) → Answer → Type 0
+IsMadeAnswer authorize time policy names files answered =
+    ((text : List ℕ) × IsMade time policy files authorize text × (answered ≡ answer 0 (line_of text)))
+    ⊎ ((refusal : SetupRefusal) × Refuses time policy files authorize refusal × (answered ≡ refused_answer names refusal))
+
+-- the limit comes first
+abbrev pub IsSetupAnswer : Bool → (time policy : List ℕ) → (names files : List (List ℕ)) → Answer → Type 0
+IsSetupAnswer authorize time policy names files answered =
+    (SomeLong (policy ∷ files) × (answered ≡ answer 7 (line_of (codes "limit file"))))
+    ⊎ ((SomeLong (policy ∷ files) → ⊥) × IsMadeAnswer authorize time policy names files answered)
+
+-- of each of these names the bytes are told
+abbrev pub TellsAll : List (List ℕ) → (List ℕ → Option (List ℕ)) → (List ℕ → List ℕ) → Type 0
+TellsAll names left files = (name : List ℕ) → Contains names name → left name ≡ Some (files name)

@@ -1,0 +1,25 @@
+-- What a log comes to line by line, of its bytes alone.
+use Rattle.std.specs.Prelude.{◌≡◌, ◌<◌, ◌≤◌, ◌⊎◌, ℕ, Bool, true, false, List, length, codes}
+use Rattle.log_sift.specs.Sifted.{IsSifting, stretches_text}
+use Rattle.log_sift.specs.Telling.{left_text}
+use Rattle.log_sift.specs.declared.answer.Fate.{Fate}
+use Rattle.log_sift.specs.declared.answer.Sifting.{Sifting}
+use Rattle.companion.specs.Endings.{Answer, line_of}
+
+abbrev pub answer : ℕ → List ℕ → Answer
+answer status text = record { status = status; text = text }
+
+-- a log has at most so many bytes
+abbrev pub most_log : ℕ
+most_log = 1099511627776
+
+-- the lines that stay, or what is said of the others
+abbrev pub sifted_text : Bool → List ℕ → Sifting → List ℕ
+sifted_text true log sifting = left_text sifting
+sifted_text false log sifting = stretches_text log sifting.stays
+
+-- what the bytes of a log come to: the limit comes first
+abbrev pub IsSiftAnswer : Bool → List ℕ → Answer → Type 0
+IsSiftAnswer left log answered =
+    ((most_log < length log) × (answered ≡ answer 7 (line_of (codes "limit input"))))
+    ⊎ ((length log ≤ most_log) × ((fates : List Fate) × (sifting : Sifting) × IsSifting log fates sifting × (answered ≡ answer 0 (sifted_text left log sifting))))

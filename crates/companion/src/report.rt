@@ -1,0 +1,47 @@
+ghost use Rattle.std.specs.Prelude.{◌≡◌};
+ghost use Rattle.companion.specs.Reported.{status_number};
+
+use base_types::Bytes;
+use log_sift::Stretches;
+
+/// How a command was answered.
+#[derive(Clone, Copy)]
+pub enum Status {
+    /// It was done.
+    Done,
+    /// No setup can be made of what was given.
+    SetupRefused,
+    /// What was given is too large.
+    LimitPassed,
+}
+
+impl Status {
+    /// The exit status.
+    pub fn number(self) -> u8
+        ensures { result ≡ status_number self }
+    {
+        match self {
+            Status::Done => 0,
+            Status::SetupRefused => 3,
+            Status::LimitPassed => 7,
+        }
+    }
+}
+
+/// The text of an answer.
+#[derive(Drop)]
+pub enum Body {
+    /// A text that the program has.
+    Fixed(&'static str),
+    /// One that was made.
+    Made(Bytes),
+    /// The stretches of a log that stay, one behind another.
+    Cut { log: Bytes, stays: Stretches },
+}
+
+/// A status and the text that goes with it.
+#[derive(Drop)]
+pub struct Report {
+    pub status: Status,
+    pub body: Body,
+}
