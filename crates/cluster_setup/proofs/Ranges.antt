@@ -186,8 +186,8 @@ lag_is_integer : IsInteger (pos (lag_of true))
 lag_is_integer = inl (omega arith, omega arith)
 
 lag_in_range : (authorize : Bool) (fields : Fields) → FieldsInRange fields → FieldsInRange (with_lag authorize fields)
-lag_in_range true fields range = put_in_range (codes "lagNanos") (whole (pos (lag_of true))) fields lag_is_integer range
-lag_in_range false fields range = range
+lag_in_range true front range = put_in_range (codes "lagNanos") (whole (pos (lag_of true))) front lag_is_integer range
+lag_in_range false front range = range
 
 setup_with_in_range : (revision time : List ℕ) (policy : Meaning) (resources objects : List Meaning) (authorize : Bool)
     → InRange policy → KidsInRange (kids_of resources) → KidsInRange (kids_of objects) → InRange (setup_with revision time policy resources objects authorize)

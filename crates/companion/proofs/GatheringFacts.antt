@@ -1,8 +1,9 @@
 -- Files that are read one after another.
-use Rattle.std.proofs.Common.{◌≡◌, ◌≢◌, ◌⊎◌, ℕ, zero, suc, ◌+◌, ◌<◌, ◌≤◌, List, [], ◌∷◌, ◌++◌, length, map, Bool, true, false, Contains, Option, Some, Result, Ok, Err, OnOk, IsErrOf, bytes_eq, if◌then◌else◌, inl, inr, refl, sym, ◌∙◌, ap, subst, arith, append_assoc}
+use Rattle.std.proofs.Common.{◌≡◌, ◌≢◌, ◌⊎◌, ℕ, zero, suc, ◌+◌, ◌-◌, ◌<◌, ◌≤◌, List, [], ◌∷◌, ◌++◌, length, map, take, drop, get_or, Bool, true, false, Contains, Option, Some, Result, Ok, Err, OnOk, IsErrOf, bytes_eq, if◌then◌else◌, inl, inr, refl, sym, ◌∙◌, ap, subst, arith, append_assoc}
 use Rattle.std.specs.List.{list_any}
 use Rattle.std.proofs.lemmas.Cmp.{nat_list_eq_equiv}
 use Rattle.std.proofs.lemmas.List.{append-nil}
+use Rattle.std.proofs.Math.Seq.{take-length}
 use Rattle.std.proofs.lemmas.List.Elements.{Contains-append_right}
 use Rattle.std.proofs.lemmas.Map.Views.{list_any-from_Contains}
 use Rattle.edge_io.specs.Faults.{Rose}
@@ -13,6 +14,13 @@ use Rattle.companion.specs.Command.{are_distinct}
 use Rattle.companion.specs.Gathering.{AreGathered, AreGiven}
 use Rattle.companion.specs.Making.{SomeLong, TellsAll, most_file}
 use Rattle.companion.specs.declared.gathering.Given.{Given}
+
+-- a list, as its first item and what stands behind it
+pub first_in_front : {A B : Type 0} (f : A → B) (xs : List A) (first : A) → 1 ≤ length xs → first ≡ get_or xs 0 first → map f xs ≡ f first ∷ map f (take (length xs - 1) (drop 1 xs))
+first_in_front f [] first some is = absurd (omega arith)
+first_in_front f (x ∷ xs) first some is =
+    let e : suc (length xs) - 1 ≡ length xs = omega arith in
+    ap (λ y. f y ∷ map f xs) (sym is) ∙ ap (λ l. f first ∷ map f l) (sym (ap (λ n. take n xs) e ∙ take-length xs))
 
 first_of : (name : List ℕ) (names : List (List ℕ)) → Contains (name ∷ names) name
 first_of name names = (zero, omega arith, refl)

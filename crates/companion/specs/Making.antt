@@ -2,6 +2,7 @@
 use Rattle.std.specs.Prelude.{◌≡◌, ◌<◌, ◌⊎◌, ℕ, Bool, List, [], ◌∷◌, length, Contains, Option, Some, codes}
 use Rattle.cluster_setup.specs.Answers.{IsMade, Refuses}
 use Rattle.cluster_setup.specs.Telling.{refusal_words}
+use Rattle.cluster_setup.specs.Told.{Tells}
 use Rattle.cluster_setup.specs.declared.fault.SetupRefusal.{SetupRefusal}
 use Rattle.companion.specs.Endings.{Answer, line_of}
 use Rattle.companion.specs.Sifted.{answer}
@@ -18,10 +19,10 @@ SomeLong (bytes ∷ others) = (most_file < length bytes) ⊎ SomeLong others
 abbrev pub refused_answer : List (List ℕ) → SetupRefusal → Answer
 refused_answer names refusal = answer 3 (line_of (refusal_words names refusal))
 
--- the setup, or why none is made of files with these names
+-- the setup, which its readers take as one of these bytes and of nothing else; or why none is made of files with these names
 abbrev pub IsMadeAnswer : Bool → (time policy : List ℕ) → (names files : List (List ℕ)) → Answer → Type 0
 IsMadeAnswer authorize time policy names files answered =
-    ((text : List ℕ) × IsMade time policy files authorize text × (answered ≡ answer 0 (line_of text)))
+    ((text : List ℕ) × IsMade time policy files authorize text × Tells time policy files authorize text × (answered ≡ answer 0 (line_of text)))
     ⊎ ((refusal : SetupRefusal) × Refuses time policy files authorize refusal × (answered ≡ refused_answer names refusal))
 
 -- the limit comes first
