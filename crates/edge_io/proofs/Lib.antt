@@ -1,3 +1,4 @@
 mod NamedFiles
 pub mod TakenFacts
 pub mod WholeFacts
+pub mod WrittenFacts

@@ -1,5 +1,6 @@
-pub mod Files
+pub mod Endings
 pub mod Faults
+pub mod Files
 pub mod MemoryDesk
 pub mod MemorySink
 pub mod Whole

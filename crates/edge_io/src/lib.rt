@@ -6,9 +6,11 @@ mod files;
 mod memory;
 mod system;
 mod whole;
+mod writing;
 
 pub use edge::{Desk, DeskFailed, Sink, SinkFailed};
 pub use files::{InputFile, InputFiles};
 pub use memory::{MemoryDesk, MemorySink, SINK_ROOM, SteadyDesk};
 pub use system::{FileDesk, STANDARD_INPUT, StdSink};
 pub use whole::{WholeStop, read_whole};
+pub use writing::{end_with, write_whole};
