@@ -6,29 +6,7 @@ use Rattle.std.proofs.lemmas.List.{append-nil, take-append-drop, take-append-le}
 use Rattle.std.proofs.lemmas.List.Concat.{flat_map-cons}
 use Rattle.std.specs.List.{flat_map}
 use Rattle.std.specs.Io.KnownBytes.{Appends, Keeps}
-use Rattle.companion.specs.Endings.{AppendsPart}
-
-pub record IsWritten (before now : Option (List ℕ)) (faults_before faults_now : ℕ) (text : List ℕ) (at : ℕ) : Type 0 where
-  pub within : at ≤ length text
-  pub counted : faults_before ≤ faults_now
-  pub front : Appends before now (take at text)
-
-pub appends_nothing : (known : Option (List ℕ)) → Appends known known []
-appends_nothing None = tt
-appends_nothing (Some bytes) = sym (append-nil bytes)
-
-pub appends_more : (a b c : Option (List ℕ)) (text : List ℕ) (at n : ℕ) → Appends a b (take at text) → Appends b c (take n (drop at text)) → Appends a c (take (at + n) text)
-appends_more None b c text at n first second = tt
-appends_more (Some x) None c text at n first second = absurd first
-appends_more (Some x) (Some y) None text at n first second = absurd second
-appends_more (Some x) (Some y) (Some z) text at n first second =
-    second ∙ ap (λ b. b ++ take n (drop at text)) first ∙ append_assoc x (take at text) (take n (drop at text)) ∙ ap (λ b. x ++ b) (sym (take-add at n text))
-
-pub appends_kept : (a b c : Option (List ℕ)) (text : List ℕ) → Appends a b text → Keeps b c → Appends a c text
-appends_kept None b c text first second = tt
-appends_kept (Some x) None c text first second = absurd first
-appends_kept (Some x) (Some y) None text first second = absurd second
-appends_kept (Some x) (Some y) (Some z) text first second = second ∙ first
+use Rattle.edge_io.specs.Endings.{AppendsPart}
 
 -- what was written of a text, and of a text behind it
 pub appends_behind : (a b c : Option (List ℕ)) (front text : List ℕ) → Appends a b front → Appends b c text → Appends a c (front ++ text)

@@ -3,7 +3,7 @@ use Rattle.std.proofs.Common.{◌≡◌, ◌≢◌, ◌⊎◌, ℕ, Bool, List, 
 use Rattle.cluster_setup.specs.Answers.{OrMemory, Refuses}
 use Rattle.cluster_setup.specs.declared.fault.SetupRefusal.{SetupRefusal}
 use Rattle.cluster_setup.specs.declared.fault.SetupRefusal.TheVariants.{Time, Policy, Empty, Rule, File, OutOfMemory}
-use Rattle.companion.specs.Endings.{Answer}
+use Rattle.log_verdict.specs.Answers.{Answer}
 use Rattle.companion.specs.Making.{IsMadeAnswer, IsSetupAnswer, SomeLong, refused_answer}
 use Rattle.companion.specs.Reported.{report_answer}
 use Rattle.companion.specs.declared.report.Report.{Report}

@@ -1,36 +1,46 @@
 -- Answers that are passed on.
 use Rattle.std.proofs.Common.{◌≡◌, ℕ, List, Option, Some, None, Result, Ok, Err, IfOk, IsErrOf, inl, inr, refl, sym, ◌∙◌, subst, arith}
 use Rattle.std.specs.Io.KnownBytes.{Keeps}
+use Rattle.context_intake.specs.declared.stop.Stop.{Stop}
+use Rattle.context_intake.specs.declared.stop.Stop.TheVariants.{OutOfMemory, ReadFault}
+use Rattle.edge_io.specs.Endings.{Ends}
 use Rattle.edge_io.specs.Faults.{Rose}
+use Rattle.log_verdict.specs.Answers.{Answer}
+use Rattle.log_verdict.specs.Endings.{IsAnswered}
 use Rattle.companion.specs.Command.{Asked, IsAsked, Reads, ReadsWords, Spells, Tells, TellsWords}
-use Rattle.companion.specs.Endings.{Answer, Ends, IsAnswered}
 use Rattle.companion.specs.Program.{IsAnswer, IsAnswerTo, usage_answer}
 use Rattle.companion.specs.Reported.{Concludes, IsReported, report_answer, status_number}
 use Rattle.companion.specs.declared.report.Report.{Report}
 use Rattle.companion.specs.declared.report.Status.{Status}
-use Rattle.companion.specs.declared.report.Status.TheVariants.{Done, SetupRefused, LimitPassed}
-use Rattle.companion.specs.declared.stop.Stop.{Stop}
-use Rattle.companion.specs.declared.stop.Stop.TheVariants.{OutOfMemory, ReadFault}
+use Rattle.companion.specs.declared.report.Status.TheVariants.{Done, Unexplained, SetupRefused, LogRefused, LimitPassed}
 
 -- a report has other statuses than these
 apart_two : (status : Status) → status_number status ≡ 2 → ⊥
 apart_two Done is = omega (arith, is)
+apart_two Unexplained is = omega (arith, is)
 apart_two SetupRefused is = omega (arith, is)
+apart_two LogRefused is = omega (arith, is)
 apart_two LimitPassed is = omega (arith, is)
 
 apart_five : (status : Status) → status_number status ≡ 5 → ⊥
 apart_five Done is = omega (arith, is)
+apart_five Unexplained is = omega (arith, is)
 apart_five SetupRefused is = omega (arith, is)
+apart_five LogRefused is = omega (arith, is)
 apart_five LimitPassed is = omega (arith, is)
 
 apart_six : (status : Status) → status_number status ≡ 6 → ⊥
 apart_six Done is = omega (arith, is)
+apart_six Unexplained is = omega (arith, is)
 apart_six SetupRefused is = omega (arith, is)
+apart_six LogRefused is = omega (arith, is)
 apart_six LimitPassed is = omega (arith, is)
 
 apart_eight : (status : Status) → status_number status ≡ 8 → ⊥
 apart_eight Done is = omega (arith, is)
+apart_eight Unexplained is = omega (arith, is)
 apart_eight SetupRefused is = omega (arith, is)
+apart_eight LogRefused is = omega (arith, is)
 apart_eight LimitPassed is = omega (arith, is)
 
 module _ (faults_before faults_now : ℕ) (before now : Option (List ℕ)) (result : ℕ) where

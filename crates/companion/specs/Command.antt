@@ -12,6 +12,8 @@ pub data Asked : Type 0 where
   Sift : (left : Bool) (log : List ℕ) → Asked
   -- make a setup that begins at a time, of a policy and files, each by its name
   Setup : (authorize : Bool) (time policy : List ℕ) (files : List (List ℕ)) → Asked
+  -- show what a log comes to by a setup
+  Picture : (setup log : List ℕ) → Asked
 
 -- the words in front of a log
 abbrev pub sift_words : Bool → List ℕ → List (List ℕ)
@@ -39,6 +41,7 @@ abbrev pub Spells : Asked → List (List ℕ) → Type 0
 Spells (Explain text) words = (code : List (List ℕ)) × (words ≡ codes "explain" ∷ code) × (text_of code ≡ Some text)
 Spells (Sift left log) words = words ≡ sift_words left log
 Spells (Setup authorize time policy files) words = (words ≡ setup_words authorize (time ∷ policy ∷ files)) × AreInputs time policy files
+Spells (Picture setup log) words = (words ≡ codes "picture" ∷ setup ∷ log ∷ []) × (setup ≢ log)
 
 -- the words spell this command, or none
 abbrev pub IsAsked : List (List ℕ) → Option Asked → Type 0
@@ -50,6 +53,7 @@ abbrev pub Reads : Asked → List ℕ → Type 0
 Reads (Explain text) name = ⊥
 Reads (Sift left log) name = name ≡ log
 Reads (Setup authorize time policy files) name = Contains (policy ∷ files) name
+Reads (Picture setup log) name = (name ≡ setup) ⊎ (name ≡ log)
 
 -- a desk tells the bytes of each name that the command reads
 abbrev pub Tells : Asked → (List ℕ → Option (List ℕ)) → (List ℕ → List ℕ) → Type 0
@@ -67,6 +71,7 @@ abbrev pub command_asked : Command → Asked
 command_asked (word.Explain text) = Explain text.now
 command_asked (word.Sift left log) = Sift left log.now
 command_asked (word.Setup authorize time policy files) = Setup authorize time.now policy.now (map string_bytes files.now)
+command_asked (word.Picture setup log) = Picture setup.now log.now
 
 -- what the words ask for is read of them, or they ask for nothing
 abbrev pub IsRead : List (List ℕ) → Option Command → Type 0

@@ -1,5 +1,4 @@
 pub mod Command
-pub mod Endings
 pub mod Gathering
 pub mod Making
 pub mod Program

@@ -4,8 +4,8 @@ use Rattle.cluster_setup.specs.Answers.{IsMade, Refuses}
 use Rattle.cluster_setup.specs.Telling.{refusal_words}
 use Rattle.cluster_setup.specs.Told.{Tells}
 use Rattle.cluster_setup.specs.declared.fault.SetupRefusal.{SetupRefusal}
-use Rattle.companion.specs.Endings.{Answer, line_of}
-use Rattle.companion.specs.Sifted.{answer}
+use Rattle.log_verdict.specs.Answers.{Answer, answer}
+use Rattle.verdict_text.specs.Words.{ended}
 
 -- a policy, and each file, has at most so many bytes
 abbrev pub most_file : ℕ
@@ -17,18 +17,18 @@ SomeLong [] = ⊥
 SomeLong (bytes ∷ others) = (most_file < length bytes) ⊎ SomeLong others
 
 abbrev pub refused_answer : List (List ℕ) → SetupRefusal → Answer
-refused_answer names refusal = answer 3 (line_of (refusal_words names refusal))
+refused_answer names refusal = answer 3 (ended (refusal_words names refusal))
 
 -- the setup, which its readers take as one of these bytes and of nothing else; or why none is made of files with these names
 abbrev pub IsMadeAnswer : Bool → (time policy : List ℕ) → (names files : List (List ℕ)) → Answer → Type 0
 IsMadeAnswer authorize time policy names files answered =
-    ((text : List ℕ) × IsMade time policy files authorize text × Tells time policy files authorize text × (answered ≡ answer 0 (line_of text)))
+    ((text : List ℕ) × IsMade time policy files authorize text × Tells time policy files authorize text × (answered ≡ answer 0 (ended text)))
     ⊎ ((refusal : SetupRefusal) × Refuses time policy files authorize refusal × (answered ≡ refused_answer names refusal))
 
 -- the limit comes first
 abbrev pub IsSetupAnswer : Bool → (time policy : List ℕ) → (names files : List (List ℕ)) → Answer → Type 0
 IsSetupAnswer authorize time policy names files answered =
-    (SomeLong (policy ∷ files) × (answered ≡ answer 7 (line_of (codes "limit file"))))
+    (SomeLong (policy ∷ files) × (answered ≡ answer 7 (ended (codes "limit file"))))
     ⊎ ((SomeLong (policy ∷ files) → ⊥) × IsMadeAnswer authorize time policy names files answered)
 
 -- of each of these names the bytes are told

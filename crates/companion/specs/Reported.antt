@@ -1,23 +1,26 @@
 -- What a command comes to before it is written: its report, and what was done to the desk.
 use Rattle.std.specs.Prelude.{◌≡◌, ⊤, ℕ, List, All, Option, Some, Result, Ok, Err, IfOk, IsErrOf, codes}
 use Rattle.std.specs.Io.KnownBytes.{Keeps}
+use Rattle.context_intake.specs.declared.stop.Stop.{Stop}
+use Rattle.context_intake.specs.declared.stop.Stop.TheVariants.{OutOfMemory, ReadFault}
+use Rattle.edge_io.specs.Endings.{Ends}
 use Rattle.edge_io.specs.Faults.{Rose}
 use Rattle.log_sift.specs.Sifted.{IsWithin, stretches_text}
+use Rattle.log_verdict.specs.Answers.{Answer, answer}
+use Rattle.verdict_text.specs.Words.{ended}
 use Rattle.companion.specs.Command.{Asked, Reads, Tells}
-use Rattle.companion.specs.Endings.{Answer, Ends, line_of}
 use Rattle.companion.specs.Program.{IsAnswerTo}
-use Rattle.companion.specs.Sifted.{answer}
 use Rattle.companion.specs.declared.report.Body.{Body}
 use Rattle.companion.specs.declared.report.Body.TheVariants.{Fixed, Made, Cut}
 use Rattle.companion.specs.declared.report.Report.{Report}
 use Rattle.companion.specs.declared.report.Status.{Status}
-use Rattle.companion.specs.declared.report.Status.TheVariants.{Done, SetupRefused, LimitPassed}
-use Rattle.companion.specs.declared.stop.Stop.{Stop}
-use Rattle.companion.specs.declared.stop.Stop.TheVariants.{OutOfMemory, ReadFault}
+use Rattle.companion.specs.declared.report.Status.TheVariants.{Done, Unexplained, SetupRefused, LogRefused, LimitPassed}
 
 abbrev pub status_number : Status → ℕ
 status_number Done = 0
+status_number Unexplained = 1
 status_number SetupRefused = 3
+status_number LogRefused = 4
 status_number LimitPassed = 7
 
 abbrev pub body_text : Body → List ℕ
@@ -46,5 +49,5 @@ pub record IsReported (asked : Asked) (old now : List ℕ → Option (List ℕ))
 abbrev pub Concludes : Result Report Stop → ℕ → ℕ → Option (List ℕ) → Option (List ℕ) → ℕ → Type 0
 Concludes (Ok report) faults_before faults_now before now result =
     Ends (status_number report.status) (body_text report.body) faults_before faults_now before now result
-Concludes (Err ReadFault) faults_before faults_now before now result = Ends 5 (line_of (codes "read fault")) faults_before faults_now before now result
+Concludes (Err ReadFault) faults_before faults_now before now result = Ends 5 (ended (codes "read fault")) faults_before faults_now before now result
 Concludes (Err OutOfMemory) faults_before faults_now before now result = (result ≡ 8) × Keeps before now

@@ -4,10 +4,8 @@ use Rattle.log_sift.specs.Sifted.{IsSifting, stretches_text}
 use Rattle.log_sift.specs.Telling.{left_text}
 use Rattle.log_sift.specs.declared.answer.Fate.{Fate}
 use Rattle.log_sift.specs.declared.answer.Sifting.{Sifting}
-use Rattle.companion.specs.Endings.{Answer, line_of}
-
-abbrev pub answer : ℕ → List ℕ → Answer
-answer status text = record { status = status; text = text }
+use Rattle.log_verdict.specs.Answers.{Answer, answer}
+use Rattle.verdict_text.specs.Words.{ended}
 
 -- a log has at most so many bytes
 abbrev pub most_log : ℕ
@@ -21,5 +19,5 @@ sifted_text false log sifting = stretches_text log sifting.stays
 -- what the bytes of a log come to: the limit comes first
 abbrev pub IsSiftAnswer : Bool → List ℕ → Answer → Type 0
 IsSiftAnswer left log answered =
-    ((most_log < length log) × (answered ≡ answer 7 (line_of (codes "limit input"))))
+    ((most_log < length log) × (answered ≡ answer 7 (ended (codes "limit input"))))
     ⊎ ((length log ≤ most_log) × ((fates : List Fate) × (sifting : Sifting) × IsSifting log fates sifting × (answered ≡ answer 0 (sifted_text left log sifting))))

@@ -1,26 +1,13 @@
 ghost use Rattle.std.specs.Prelude.{◌≡◌, ◌≤◌, All, OnOk, OnErr};
 ghost use Rattle.std.specs.Io.KnownBytes.{Appends};
+ghost use Rattle.edge_io.specs.Endings.{AppendsPart, Ends};
 ghost use Rattle.edge_io.specs.Faults.{HasCause};
 ghost use Rattle.log_sift.specs.Sifted.{IsWithin, stretches_text};
-ghost use Rattle.companion.specs.Endings.{AppendsPart, Ends};
 ghost use Rattle.companion.specs.Reported.{IsCutWithin, body_text};
 
 use crate::report::Body;
-use edge_io::{Sink, SinkFailed};
+use edge_io::{Sink, SinkFailed, write_whole};
 use log_sift::Stretch;
-
-/// Writes a text to its end.
-fn write_text<K: Sink>(out: &mut K, text: &[u8]) -> Result<(), SinkFailed>
-    ensures whole { OnOk result (Appends (K.written out.old) (K.written out.new) text.now) }
-    ensures part { OnErr result (AppendsPart (K.written out.old) (K.written out.new) text.now) }
-    ensures cause { HasCause (K.faults out.old) (K.faults out.new) result }
-{
-    let mut at = 0;
-    'pieces: while at < text.len() {
-        at += out.write(&text[at..])?;
-    }
-    Ok(())
-}
 
 // Writes stretches of a log one behind another.
 fn write_stretches<K: Sink>(out: &mut K, log: &[u8], stays: &[Stretch]) -> Result<(), SinkFailed>
@@ -30,7 +17,7 @@ fn write_stretches<K: Sink>(out: &mut K, log: &[u8], stays: &[Stretch]) -> Resul
     ensures cause { HasCause (K.faults out.old) (K.faults out.new) result }
 {
     for stretch in stays {
-        write_text(out, &log[stretch.start..stretch.end])?;
+        write_whole(out, &log[stretch.start..stretch.end])?;
     }
     Ok(())
 }
@@ -42,24 +29,13 @@ fn write_body<K: Sink>(out: &mut K, body: &Body) -> Result<(), SinkFailed>
     ensures cause { HasCause (K.faults out.old) (K.faults out.new) result }
 {
     match body {
-        Body::Fixed(text) => write_text(out, text.as_bytes()),
-        Body::Made(text) => write_text(out, text.as_slice()),
+        Body::Fixed(text) => write_whole(out, text.as_bytes()),
+        Body::Made(text) => write_whole(out, text.as_slice()),
         Body::Cut { log, stays } => write_stretches(out, log.as_slice(), stays.as_slice()),
     }
 }
 
-/// Writes the text of an answer and gives its status, or 6 where a write failed.
-pub fn end_with<K: Sink>(out: &mut K, status: u8, text: &[u8]) -> u8
-    ensures ends { Ends status text.now (K.faults out.old) (K.faults out.new) (K.written out.old) (K.written out.new) result }
-    ensures counted { K.faults out.old ≤ K.faults out.new }
-{
-    match write_text(out, text) {
-        Ok(()) => status,
-        Err(SinkFailed) => 6,
-    }
-}
-
-/// The same of a text that may lie in a log.
+/// Writes the text of an answer and gives its exit status, or 6 where a write failed.
 pub fn end_with_body<K: Sink>(out: &mut K, status: u8, body: &Body) -> u8
     requires { IsCutWithin body.now }
     ensures ends { Ends status (body_text body.now) (K.faults out.old) (K.faults out.new) (K.written out.old) (K.written out.new) result }

@@ -9,10 +9,10 @@ mod report;
 mod reporting;
 mod run;
 mod sifting;
-mod stop;
 mod words;
 
 use edge_io::{FileDesk, StdSink};
+use judge_pool::FreeGate;
 use run::run;
 use std::alloc::Global;
 use std::env;
@@ -41,7 +41,15 @@ fn main(rt: HostRuntime) -> ExitCode {
         return ExitCode::from(NO_MEMORY);
     };
     let mut sink = StdSink::new(&rt);
-    let status = run(rt.alloc(), &words, &mut desk, &mut sink);
+    let status = run(
+        &rt,
+        rt.alloc(),
+        &words,
+        &mut desk,
+        &mut sink,
+        &FreeGate,
+        &FreeGate,
+    );
     ExitCode::from(status)
 }
 

@@ -1,16 +1,16 @@
 ghost use Rattle.std.specs.Prelude.{◌≡◌, ◌≢◌, ◌∷◌, ℕ, List, true, Contains, IfOk, IsErrOf, IsOk, map, string_bytes, codes};
 ghost use Rattle.edge_io.specs.Faults.{Rose};
 ghost use Rattle.companion.specs.Command.{are_distinct};
-ghost use Rattle.companion.specs.Endings.{line_of};
 ghost use Rattle.companion.specs.Making.{IsMadeAnswer, IsSetupAnswer, TellsAll, refused_answer};
 ghost use Rattle.companion.specs.Reported.{IsCutWithin, report_answer, status_number};
-ghost use Rattle.companion.specs.Sifted.{answer};
+ghost use Rattle.log_verdict.specs.Answers.{answer};
+ghost use Rattle.verdict_text.specs.Words.{ended};
 
 use crate::gathering::{Given, read_given};
 use crate::report::{Body, Report, Status};
-use crate::stop::Stop;
 use base_types::{Bytes, OutOfMemory};
 use cluster_setup::{SetupRefusal, make_setup, refusal_words};
+use context_intake::Stop;
 use edge_io::{Desk, WholeStop};
 use std::alloc::Global;
 
@@ -39,7 +39,7 @@ pub fn make_named<D: Desk>(
 }
 
 fn limit_report() -> Report
-    ensures answer { report_answer result ≡ answer 7 (line_of (codes "limit file")) }
+    ensures answer { report_answer result ≡ answer 7 (ended (codes "limit file")) }
     ensures within { IsCutWithin result.body }
 {
     Report {
@@ -82,7 +82,7 @@ fn refused_report(
 
 // A text as a line.
 fn line_report(status: Status, text: String) -> Result<Report, OutOfMemory>
-    ensures answer { IfOk result (λ report. report_answer report ≡ answer (status_number status) (line_of (string_bytes text))) }
+    ensures answer { IfOk result (λ report. report_answer report ≡ answer (status_number status) (ended (string_bytes text))) }
     ensures within { IfOk result (λ report. IsCutWithin report.body) }
 {
     let mut line = text;

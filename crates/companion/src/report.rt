@@ -7,10 +7,14 @@ use log_sift::Stretches;
 /// How a command was answered.
 #[derive(Clone, Copy)]
 pub enum Status {
-    /// It was done.
+    /// It was done; a log that is shown is explained.
     Done,
-    /// No setup can be made of what was given.
+    /// No placement explains the log that is shown.
+    Unexplained,
+    /// No setup can be made of what was given, or the setup breaks a rule.
     SetupRefused,
+    /// An event of the log that is to be shown breaks a rule.
+    LogRefused,
     /// What was given is too large.
     LimitPassed,
 }
@@ -22,7 +26,9 @@ impl Status {
     {
         match self {
             Status::Done => 0,
+            Status::Unexplained => 1,
             Status::SetupRefused => 3,
+            Status::LogRefused => 4,
             Status::LimitPassed => 7,
         }
     }

@@ -2,21 +2,35 @@ ghost use Rattle.std.specs.Prelude.{◌≡◌, ℕ, List, None, IfOk, map, strin
 ghost use Rattle.std.specs.Io.KnownBytes.{Keeps};
 ghost use Rattle.edge_io.specs.Faults.{Rose};
 ghost use Rattle.companion.specs.Command.{IsAsked, ReadsWords, TellsWords};
-ghost use Rattle.companion.specs.Endings.{Ends, IsAnswered};
+ghost use Rattle.edge_io.specs.Endings.{Ends};
+ghost use Rattle.log_verdict.specs.Endings.{IsAnswered};
 ghost use Rattle.companion.specs.Program.{IsAnswer, usage_answer};
 ghost use Rattle.companion.specs.Reported.{Concludes, IsCutWithin};
 
-use crate::ending::{end_with, end_with_body};
+use crate::ending::end_with_body;
 use crate::report::Report;
 use crate::reporting::report_of;
-use crate::stop::Stop;
 use crate::words::read_words;
-use edge_io::{Desk, Sink};
+use context_intake::Stop;
+use edge_io::{Desk, Sink, end_with};
+use judge_pool::Gate;
+use log_verdict::Gates;
 use std::alloc::Global;
+use std::marker::Sync;
+use std::thread::Threads;
 
 /// Does what the words of the command line ask for: reads the desk, writes the answer to the sink, and gives the exit status.
-/// The text is made whole before it is written.
-pub fn run<D: Desk, K: Sink>(alloc: Global, words: &[String], desk: &mut D, out: &mut K) -> u8
+/// The text is made whole before it is written. For a page several threads decode the lines of a batch and take the claims of
+/// the events; `gate` is told of each event, and `lines` of each line's index in its batch.
+pub fn run<R: Threads + Sync, D: Desk, K: Sink, G: Gate, H: Gate>(
+    rt: &R,
+    alloc: Global,
+    words: &[String],
+    desk: &mut D,
+    out: &mut K,
+    gate: &G,
+    lines: &H,
+) -> u8
     ensures answer { (files : List ℕ → List ℕ) → TellsWords (map string_bytes words.now) (D.left desk.old) files
         → IsAnswered (IsAnswer (map string_bytes words.now) files)
         (D.faults desk.old) (D.faults desk.new) (K.faults out.old) (K.faults out.new)
@@ -32,8 +46,12 @@ pub fn run<D: Desk, K: Sink>(alloc: Global, words: &[String], desk: &mut D, out:
     ensures desk_left { ((name : List ℕ) → ReadsWords (map string_bytes words.now) name → ⊥) → desk.new ≡ desk.old }
     ensures others_left { (name : List ℕ) → (ReadsWords (map string_bytes words.now) name → ⊥) → D.left desk.new name ≡ D.left desk.old name }
 {
+    let gates = Gates {
+        events: gate,
+        lines,
+    };
     match read_words(words) {
-        Some(command) => conclude(out, report_of(alloc, command, desk)),
+        Some(command) => conclude(out, report_of(rt, alloc, command, desk, gates)),
         None => end_with(out, 2, b"usage\n"),
     }
 }

@@ -1,14 +1,15 @@
 ghost use Rattle.std.specs.Prelude.{◌≡◌, ◌≢◌, ◌≤◌, ℕ, List, Some, All, IfOk, IsErrOf, codes, length, string_bytes};
 ghost use Rattle.edge_io.specs.Faults.{Rose};
 ghost use Rattle.log_sift.specs.Sifted.{IsWithin, stretches_text};
-ghost use Rattle.companion.specs.Endings.{line_of};
 ghost use Rattle.companion.specs.Reported.{IsCutWithin, report_answer};
-ghost use Rattle.companion.specs.Sifted.{IsSiftAnswer, answer, most_log};
+ghost use Rattle.companion.specs.Sifted.{IsSiftAnswer, most_log};
+ghost use Rattle.log_verdict.specs.Answers.{answer};
+ghost use Rattle.verdict_text.specs.Words.{ended};
 
 use crate::reading::read_input;
 use crate::report::{Body, Report, Status};
-use crate::stop::Stop;
 use base_types::{Bytes, OutOfMemory};
+use context_intake::Stop;
 use edge_io::{Desk, WholeStop};
 use log_sift::{Sifting, left_text, sift};
 use std::alloc::Global;
@@ -37,7 +38,7 @@ pub fn sift_named<D: Desk>(
 }
 
 fn limit_report() -> Report
-    ensures answer { report_answer result ≡ answer 7 (line_of (codes "limit input")) }
+    ensures answer { report_answer result ≡ answer 7 (ended (codes "limit input")) }
     ensures within { IsCutWithin result.body }
 {
     Report {

@@ -23,6 +23,11 @@ pub enum Command<'a> {
         policy: &'a str,
         files: &'a [String],
     },
+    /// `picture SETUP LOG`
+    Picture {
+        setup: &'a str,
+        log: &'a str,
+    },
 }
 
 /// Reads the words behind the program's name: none where they are no command.
@@ -46,6 +51,9 @@ fn read_verb<'a>(verb: &str, rest: &'a [String]) -> Option<Command<'a>>
     }
     if verb == "setup" {
         return setup_words(rest);
+    }
+    if verb == "picture" {
+        return picture_words(rest);
     }
     None
 }
@@ -131,6 +139,24 @@ fn named_words<'a>(
         policy,
         files,
     })
+}
+
+fn picture_words<'a>(rest: &'a [String]) -> Option<Command<'a>>
+    ensures { IsRead (codes "picture" ∷ map string_bytes rest.entry.now) result }
+{
+    match rest {
+        [setup, log] => pictured_words(setup, log),
+        _ => None,
+    }
+}
+
+fn pictured_words<'a>(setup: &'a str, log: &'a str) -> Option<Command<'a>>
+    ensures { IsRead (codes "picture" ∷ setup.entry.now ∷ log.entry.now ∷ []) result }
+{
+    if setup == log {
+        return None;
+    }
+    Some(Command::Picture { setup, log })
 }
 
 // Whether a name is one of these.

@@ -1,4 +1,3 @@
-pub mod EndingFacts
 pub mod OneAnswerFacts
 pub mod PrintedHoldsFacts
 pub mod ReportedFacts

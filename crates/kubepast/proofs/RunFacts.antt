@@ -9,7 +9,7 @@ use Rattle.edge_io.specs.Whole.{TakesWhole}
 use Rattle.log_intake.specs.Setup.{TakesSetup}
 use Rattle.log_intake.specs.Taking.{TakesLog}
 use Rattle.command_words.specs.Command.{Ask, Asked, AsksOf, IsAsked, IsOfNames, Judge, Make, Reads, Spells, Strict, Tells, TellsWords, Verify}
-use Rattle.kubepast.specs.Endings.{IsAnswered}
+use Rattle.log_verdict.specs.Endings.{IsAnswered}
 use Rattle.kubepast.specs.Program.{Concludes, IsAnswer, IsAnswerTo}
 use Rattle.log_verdict.specs.Answers.{Answer, IsPlacementText, report_answer, status_number}
 use Rattle.context_intake.specs.Refusals.{IsSetupRefused}

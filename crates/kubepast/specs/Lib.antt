@@ -1,4 +1,3 @@
-pub mod Endings
 pub mod OneAnswer
 pub mod PrintedHolds
 pub mod Program

@@ -5,6 +5,7 @@ use Rattle.case_maker.specs.Case.{log_text, setup_text}
 use Rattle.command_words.specs.Command.{Ask, Asked, Judge, Make, Strict, Verify, IsAsked}
 use Rattle.context_intake.specs.declared.stop.Stop.{Stop}
 use Rattle.context_intake.specs.declared.stop.Stop.TheVariants.{OutOfMemory, ReadFault}
+use Rattle.edge_io.specs.Endings.{Ends}
 use Rattle.log_verdict.specs.Answering.{IsHistory}
 use Rattle.log_verdict.specs.Answers.{Answer, answer, history_answer, judged_answer, outcome_status, refusal_answer, status_number, strictly_answer, verified_answer}
 use Rattle.log_verdict.specs.Judging.{IsJudged}
@@ -17,7 +18,6 @@ use Rattle.log_verdict.specs.declared.report.Report.{Report}
 use Rattle.log_verdict.specs.declared.strictly.StrictlyJudged.{StrictlyJudged}
 use Rattle.log_verdict.specs.declared.verified.Verified.{Verified}
 use Rattle.verdict_text.specs.Words.{ended}
-use Rattle.kubepast.specs.Endings.{Ends, line_of}
 use Rattle.kubepast.specs.Summary.{summary_text}
 
 abbrev pub usage_answer : Answer
@@ -47,5 +47,5 @@ IsAnswer words files answered = (asked : Option Asked) × IsAsked words asked ×
 abbrev pub Concludes : Result Report Stop → ℕ → ℕ → Option (List ℕ) → Option (List ℕ) → ℕ → Type 0
 Concludes (Ok report) faults_before faults_now before now result =
     Ends (status_number report.status) report.text faults_before faults_now before now result
-Concludes (Err ReadFault) faults_before faults_now before now result = Ends 5 (line_of (codes "read fault")) faults_before faults_now before now result
+Concludes (Err ReadFault) faults_before faults_now before now result = Ends 5 (ended (codes "read fault")) faults_before faults_now before now result
 Concludes (Err OutOfMemory) faults_before faults_now before now result = (result ≡ 8) × Keeps before now

@@ -1,7 +1,6 @@
 //! kubepast judges whether a Kubernetes audit log can be true.
 #![tactic(auto)]
 
-mod ending;
 mod law;
 mod made;
 mod reporting;

@@ -2,6 +2,7 @@ ghost use Rattle.std.specs.Prelude.{◌≡◌, ◌⊎◌, ℕ, List, Some, None,
 ghost use Rattle.std.specs.Io.KnownBytes.{Appends, IsAtEnd, Keeps};
 ghost use Rattle.context_intake.specs.Contexts.{IsRefused};
 ghost use Rattle.context_intake.specs.Refusals.{IsSetupRefused};
+ghost use Rattle.edge_io.specs.Endings.{Ends};
 ghost use Rattle.edge_io.specs.Faults.{Rose};
 ghost use Rattle.edge_io.specs.Whole.{TakesWhole};
 ghost use Rattle.log_intake.specs.Setup.{TakesSetup};
@@ -10,14 +11,13 @@ ghost use Rattle.command_words.specs.Asking.{BeginsQuestion};
 ghost use Rattle.command_words.specs.Command.{Asked, AsksOf, IsAsked, Judge, Reads, TellsWords, Verify};
 ghost use Rattle.log_verdict.specs.Answers.{IsPlacementText};
 ghost use Rattle.log_verdict.specs.Verifying.{IsReadLast, most_placement};
-ghost use Rattle.kubepast.specs.Endings.{IsAnswered, Ends};
+ghost use Rattle.log_verdict.specs.Endings.{IsAnswered};
 ghost use Rattle.kubepast.specs.Program.{Concludes, IsAnswer, usage_answer};
 
-use crate::ending::end_with;
 use crate::reporting::report_of;
 use command_words::read_words;
 use context_intake::{Refusal, Stop};
-use edge_io::{Desk, Sink};
+use edge_io::{Desk, Sink, end_with};
 use judge_pool::Gate;
 use log_verdict::{Gates, Report};
 use std::alloc::Global;

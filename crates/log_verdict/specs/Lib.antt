@@ -1,5 +1,6 @@
 pub mod Answering
 pub mod Answers
+pub mod Endings
 pub mod Findings
 pub mod Judging
 pub mod Strictly
