@@ -4,7 +4,7 @@ mod OutcomePlacing
 mod OutcomeTrees
 mod OutcomeSharing
 mod FindingShown
-mod JudgingFacts
+pub mod JudgingFacts
 mod StrictlyFacts
 mod AskingFacts
 pub mod VerifyingFacts
