@@ -122,10 +122,30 @@ pub record HasParts (revision time : List ℕ) (given : Meaning) (entries object
 has_parts : (revision time : List ℕ) (given : Meaning) (trees shown : List Meaning) (judged : Bool)
     → HasParts revision time given (flat_map (entries_of trees) trees) (flat_map (objects_of trees) shown) judged (setup_tree revision time given trees shown judged)
 has_parts revision time given trees shown true = record {
-  start = refl; until = refl; slack = refl; lag = refl; policy = refl; resources = refl; snapshot = refl; authorize = refl; bypass = refl; skip = refl; checkpoints = refl;
+  start = refl;
+  until = refl;
+  slack = refl;
+  lag = refl;
+  policy = refl;
+  resources = refl;
+  snapshot = refl;
+  authorize = refl;
+  bypass = refl;
+  skip = refl;
+  checkpoints = refl;
 }
 has_parts revision time given trees shown false = record {
-  start = refl; until = refl; slack = refl; lag = refl; policy = refl; resources = refl; snapshot = refl; authorize = refl; bypass = refl; skip = refl; checkpoints = refl;
+  start = refl;
+  until = refl;
+  slack = refl;
+  lag = refl;
+  policy = refl;
+  resources = refl;
+  snapshot = refl;
+  authorize = refl;
+  bypass = refl;
+  skip = refl;
+  checkpoints = refl;
 }
 
 -- the items of a list that was made of them

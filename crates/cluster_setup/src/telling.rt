@@ -41,7 +41,11 @@ fn name_at(names: &[String], number: usize) -> &str
 /// The words of a refusal of files with these names, as many as were given: `time`, `policy`, `empty`, `resources RULE`
 /// or `file FILE CODE`, where FILE is a name and CODE is `json`, `kind`, `pages`, `unknown`, `version`, `twice`,
 /// `revision` or a RULE, from `S1` to `S15`. Want of memory has no words, and stays what it is.
-pub fn refusal_words(alloc: Global, names: &[String], refusal: SetupRefusal) -> Result<String, OutOfMemory>
+pub fn refusal_words(
+    alloc: Global,
+    names: &[String],
+    refusal: SetupRefusal,
+) -> Result<String, OutOfMemory>
     ensures words { IfOk result (λ text. string_bytes text ≡ refusal_words (map string_bytes names.now) refusal) }
     ensures memory { IsOk result → refusal ≢ SetupRefusal.OutOfMemory }
 {

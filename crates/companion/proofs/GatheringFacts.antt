@@ -154,10 +154,12 @@ module _ (name : List ℕ) (names : List (List ℕ)) (old mid : List ℕ → Opt
       given_all given value policy files empty rest = record {
         read = λ told tells.
             let behind = rest.read told (tells_rest name names old mid told differ others tells) in
-            let items : now ≡ map told names = behind.0 ∙ ap (λ l. l ++ map told names) empty in
-            (policy ∙ is_told told tells, files ∙ items,
-            subst (λ b. SomeLong (b ∷ given.files.items) → ⊥) (sym policy)
-            (none_long bytes given.files.items short (subst (λ l. SomeLong l → ⊥) (sym (files ∙ items)) behind.1)));
+            let items : now ≡ map told names = behind.0 ∙ ap (λ l. l ++ map told names) empty in (
+              policy ∙ is_told told tells,
+              files ∙ items,
+              subst (λ b. SomeLong (b ∷ given.files.items) → ⊥) (sym policy)
+                  (none_long bytes given.files.items short (subst (λ l. SomeLong l → ⊥) (sym (files ∙ items)) behind.1)),
+            );
         long = λ is. absurd (no_stop given TooLong is);
         fault = λ is. absurd (no_stop given ReadFault is);
         others = left_behind name names old mid left others rest.others;

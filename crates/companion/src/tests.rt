@@ -4,22 +4,26 @@ use edge_io::{InputFile, InputFiles, MemoryDesk, MemorySink};
 use std::process::Abort;
 
 // An event, a line that isn't one, a blank line, the event again, and one of its audit ID that differs from it.
-const LOG: &str = r#"{"kind":"Event","apiVersion":"audit.k8s.io/v1","level":"Metadata","auditID":"a1","stage":"ResponseComplete","requestURI":"/readyz","verb":"get","user":{"username":"u"},"requestReceivedTimestamp":"2024-05-01T10:00:01Z","stageTimestamp":"2024-05-01T10:00:02Z"}
+const LOG: &str =
+    r#"{"kind":"Event","apiVersion":"audit.k8s.io/v1","level":"Metadata","auditID":"a1","stage":"ResponseComplete","requestURI":"/readyz","verb":"get","user":{"username":"u"},"requestReceivedTimestamp":"2024-05-01T10:00:01Z","stageTimestamp":"2024-05-01T10:00:02Z"}
 {
 
 {"kind":"Event","apiVersion":"audit.k8s.io/v1","level":"Metadata","auditID":"a1","stage":"ResponseComplete","requestURI":"/readyz","verb":"get","user":{"username":"u"},"requestReceivedTimestamp":"2024-05-01T10:00:01Z","stageTimestamp":"2024-05-01T10:00:02Z"}
 {"kind":"Event","apiVersion":"audit.k8s.io/v1","level":"Metadata","auditID":"a1","stage":"ResponseComplete","requestURI":"/livez","verb":"get","user":{"username":"u"},"requestReceivedTimestamp":"2024-05-01T10:00:01Z","stageTimestamp":"2024-05-01T10:00:02Z"}
 "#;
 
-const SIFTED: &str = r#"{"kind":"Event","apiVersion":"audit.k8s.io/v1","level":"Metadata","auditID":"a1","stage":"ResponseComplete","requestURI":"/readyz","verb":"get","user":{"username":"u"},"requestReceivedTimestamp":"2024-05-01T10:00:01Z","stageTimestamp":"2024-05-01T10:00:02Z"}
+const SIFTED: &str =
+    r#"{"kind":"Event","apiVersion":"audit.k8s.io/v1","level":"Metadata","auditID":"a1","stage":"ResponseComplete","requestURI":"/readyz","verb":"get","user":{"username":"u"},"requestReceivedTimestamp":"2024-05-01T10:00:01Z","stageTimestamp":"2024-05-01T10:00:02Z"}
 
 {"kind":"Event","apiVersion":"audit.k8s.io/v1","level":"Metadata","auditID":"a1","stage":"ResponseComplete","requestURI":"/readyz","verb":"get","user":{"username":"u"},"requestReceivedTimestamp":"2024-05-01T10:00:01Z","stageTimestamp":"2024-05-01T10:00:02Z"}
 "#;
 
-const MAPS: &str = r#"{"kind":"ConfigMapList","apiVersion":"v1","metadata":{"resourceVersion":"10"},"items":[
+const MAPS: &str =
+    r#"{"kind":"ConfigMapList","apiVersion":"v1","metadata":{"resourceVersion":"10"},"items":[
     {"metadata":{"name":"a","namespace":"d","uid":"A","resourceVersion":"9"}}]}"#;
 
-const MADE: &str = r#"{"authorize":false,"kind":"PastSetup","policy":{"apiVersion":"audit.k8s.io/v1","kind":"Policy","rules":[]},"resources":[{"group":"","kind":"ConfigMap","listKind":"ConfigMapList","namespaced":true,"objectPatch":"merge","resource":"configmaps","shapes":[],"subresources":[],"version":"v1"}],"snapshot":[{"group":"","object":{"apiVersion":"v1","kind":"ConfigMap","metadata":{"name":"a","namespace":"d","resourceVersion":"9","uid":"A"}},"resource":"configmaps"}],"start":{"revision":"10","time":"2024-05-01T10:00:00Z"},"version":1}
+const MADE: &str =
+    r#"{"authorize":false,"kind":"PastSetup","policy":{"apiVersion":"audit.k8s.io/v1","kind":"Policy","rules":[]},"resources":[{"group":"","kind":"ConfigMap","listKind":"ConfigMapList","namespaced":true,"objectPatch":"merge","resource":"configmaps","shapes":[],"subresources":[],"version":"v1"}],"snapshot":[{"group":"","object":{"apiVersion":"v1","kind":"ConfigMap","metadata":{"name":"a","namespace":"d","resourceVersion":"9","uid":"A"}},"resource":"configmaps"}],"start":{"revision":"10","time":"2024-05-01T10:00:00Z"},"version":1}
 "#;
 
 // The files of the desk.
@@ -86,19 +90,63 @@ static CASES: [(&str, u8, &str); 32] = [
     ("setup 10:00 policy core maps", 3, "time\n"),
     ("setup 2024-05-01T10:00:00Z core policy maps", 3, "policy\n"),
     ("setup 2024-05-01T10:00:00Z policy core", 3, "empty\n"),
-    ("setup --authorize 2024-05-01T10:00:00Z policy core maps", 3, "resources S14\n"),
-    ("setup 2024-05-01T10:00:00Z policy alone odd maps", 3, "file odd json\n"),
-    ("setup 2024-05-01T10:00:00Z policy core alone page", 3, "file alone kind\n"),
-    ("setup 2024-05-01T10:00:00Z policy core page maps", 3, "file page pages\n"),
-    ("setup 2024-05-01T10:00:00Z policy maps secrets core", 3, "file secrets unknown\n"),
-    ("setup 2024-05-01T10:00:00Z policy rbac beta", 3, "file beta version\n"),
-    ("setup 2024-05-01T10:00:00Z policy core maps again", 3, "file maps twice\n"),
-    ("setup 2024-05-01T10:00:00Z policy core maps later", 3, "file later revision\n"),
-    ("setup 2024-05-01T10:00:00Z policy core maps bare", 3, "file bare S12\n"),
+    (
+        "setup --authorize 2024-05-01T10:00:00Z policy core maps",
+        3,
+        "resources S14\n",
+    ),
+    (
+        "setup 2024-05-01T10:00:00Z policy alone odd maps",
+        3,
+        "file odd json\n",
+    ),
+    (
+        "setup 2024-05-01T10:00:00Z policy core alone page",
+        3,
+        "file alone kind\n",
+    ),
+    (
+        "setup 2024-05-01T10:00:00Z policy core page maps",
+        3,
+        "file page pages\n",
+    ),
+    (
+        "setup 2024-05-01T10:00:00Z policy maps secrets core",
+        3,
+        "file secrets unknown\n",
+    ),
+    (
+        "setup 2024-05-01T10:00:00Z policy rbac beta",
+        3,
+        "file beta version\n",
+    ),
+    (
+        "setup 2024-05-01T10:00:00Z policy core maps again",
+        3,
+        "file maps twice\n",
+    ),
+    (
+        "setup 2024-05-01T10:00:00Z policy core maps later",
+        3,
+        "file later revision\n",
+    ),
+    (
+        "setup 2024-05-01T10:00:00Z policy core maps bare",
+        3,
+        "file bare S12\n",
+    ),
     ("setup 2024-05-01T10:00:00Z policy", 2, "usage\n"),
-    ("setup --authorize 2024-05-01T10:00:00Z policy", 2, "usage\n"),
+    (
+        "setup --authorize 2024-05-01T10:00:00Z policy",
+        2,
+        "usage\n",
+    ),
     ("setup --authorize --authorize policy core", 2, "usage\n"),
-    ("setup 2024-05-01T10:00:00Z policy core maps core", 2, "usage\n"),
+    (
+        "setup 2024-05-01T10:00:00Z policy core maps core",
+        2,
+        "usage\n",
+    ),
     ("setup 2024-05-01T10:00:00Z policy policy", 2, "usage\n"),
 ];
 

@@ -10,7 +10,7 @@ returns-after-push g t c =
     let names = map (string_bytes {Z = Global}) (take (length c.args.names.now - 1) (drop 1 c.args.names.now)) in
     let named : string_bytes {Z = Global} c.name-item.result ≡ name = search (rules, c.deref.ensures) in
     let spelled : map (string_bytes {Z = Global}) c.args.names.now ≡ name ∷ names =
-        first_in_front (string_bytes {Z = Global}) c.args.names.now c.name-item.result c.in-len1-up.len_at_least c.name-item.is ∙ ap (λ n. n ∷ names) named in
+    first_in_front (string_bytes {Z = Global}) c.args.names.now c.name-item.result c.in-len1-up.len_at_least c.name-item.is ∙ ap (λ n. n ∷ names) named in
     let differ : are_distinct (name ∷ names) ≡ true = subst (λ ns. are_distinct ns ≡ true) spelled c.requires in
     let left = g.D.Desk.left in
     let faults = g.D.Desk.faults in
