@@ -1,3 +1,4 @@
+ghost use Rattle.context_laws.specs.Classes.{IsByTable};
 ghost use Rattle.context_laws.specs.Deciding.{DecidesByChoice};
 ghost use Rattle.context_laws.specs.Placing.{ExplainedAreRight};
 
@@ -8,6 +9,11 @@ pub fn deciding_law()
 {
     rbac_timeline::deciding_law();
 }
+
+/// The first row that applies of the table of classes gives the class that the history of a log is made by.
+pub fn class_law()
+    ensures { IsByTable }
+{}
 
 /// The placement of an explained log can be written and read, isn't longer than 822,633,615 bytes, and the machine runs
 /// through it.

@@ -4,4 +4,4 @@
 
 mod law;
 
-pub use law::{deciding_law, placement_law};
+pub use law::{class_law, deciding_law, placement_law};
