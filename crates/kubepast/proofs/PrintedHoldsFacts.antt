@@ -1,5 +1,5 @@
 -- What `judge` printed of an explained log is verified.
-use Rattle.std.proofs.Common.{◌≡◌, ℕ, ◌≤◌, List, length, refl, sym, ap, subst, arith}
+use Rattle.std.proofs.Common.{◌≡◌, ◌≤◌, List, length, refl, sym, ap, subst, arith}
 use Rattle.base_types.specs.declared.placed.Outcome.TheVariants.{Explained, Unexplained}
 use Rattle.base_types.specs.declared.placed.PlacedLine.{PlacedLine}
 use Rattle.context_laws.specs.Placing.{ExplainedAreRight}
