@@ -1,5 +1,5 @@
 -- The placement of an explained log can be written and read, and is verified.
-use Rattle.std.proofs.Common.{◌≡◌, ℕ, ◌≤◌, List, length, subst, arith}
+use Rattle.std.proofs.Common.{ℕ, ◌≤◌, List, length, subst, arith}
 use Rattle.base_types.specs.Choices.{IsChoice}
 use Rattle.base_types.specs.declared.placed.PlacedLine.{PlacedLine}
 use Rattle.context_intake.specs.Contexts.{IsContextOf}

@@ -1,5 +1,5 @@
 -- A setup and a log come to one thing.
-use Rattle.std.proofs.Common.{◌≡◌, ℕ, List, Some, map, slice_get, refl, sym, ◌∙◌, ap, subst, arith}
+use Rattle.std.proofs.Common.{◌≡◌, ℕ, List, map, slice_get, refl, sym, ◌∙◌, ap, subst, arith}
 use Rattle.std.proofs.lemmas.Option.{same_Some}
 use Rattle.base_types.specs.declared.placed.Outcome.{Outcome}
 use Rattle.base_types.specs.declared.placed.PlacedLine.{PlacedLine}
