@@ -1,7 +1,10 @@
 use crate::run::run;
 use base_types::{Bytes, Text};
 use edge_io::{InputFile, InputFiles, MemoryDesk, MemorySink};
+use judge_pool::FreeGate;
+use std::marker::Sync;
 use std::process::Abort;
+use std::thread::Threads;
 
 // An event, a line that isn't one, a blank line, the event again, and one of its audit ID that differs from it.
 const LOG: &str =
@@ -27,8 +30,11 @@ const MADE: &str =
 "#;
 
 // The files of the desk.
-static FILES: [(&str, &str); 13] = [
+static FILES: [(&str, &str); 16] = [
     ("log", LOG),
+    ("sifted", SIFTED),
+    ("blank", "\n"),
+    ("made", MADE),
     (
         "policy",
         r#"{"apiVersion":"audit.k8s.io/v1","kind":"Policy","rules":[]}"#,
@@ -71,7 +77,7 @@ static FILES: [(&str, &str); 13] = [
 
 // Words with a space between two, the status that is wanted, and the front of the text; or the whole text, where it ends
 // with a newline.
-static CASES: [(&str, u8, &str); 32] = [
+static CASES: [(&str, u8, &str); 38] = [
     ("explain M1", 0, "M1: the line isn't one JSON text"),
     ("explain S3", 0, "S3: "),
     ("explain U14", 0, "U14: the event records a decision"),
@@ -148,6 +154,12 @@ static CASES: [(&str, u8, &str); 32] = [
         "usage\n",
     ),
     ("setup 2024-05-01T10:00:00Z policy policy", 2, "usage\n"),
+    ("picture made blank", 0, "<!DOCTYPE html>"),
+    ("picture made sifted", 1, "<!DOCTYPE html>"),
+    ("picture odd sifted", 3, "setup S1\n"),
+    ("picture made log", 4, "malformed 2 M1\n"),
+    ("picture made made", 2, "usage\n"),
+    ("picture made", 2, "usage\n"),
 ];
 
 fn text_of(rt: &(impl Abort + AllocGlobal), text: &str) -> String {
@@ -175,8 +187,8 @@ fn words_of(rt: &(impl Abort + AllocGlobal), text: &str) -> Vec<String> {
 }
 
 // The status of the program for words, and what it writes, in pieces of 7 bytes.
-fn answer_of(
-    rt: &(impl Abort + AllocGlobal),
+fn answer_of<R: Threads + Sync + Abort + AllocGlobal>(
+    rt: &R,
     words: &str,
     failing_reads: &[u64],
     failing_writes: &[u64],
@@ -184,7 +196,15 @@ fn answer_of(
     let given = words_of(rt, words);
     let mut desk = desk_of(rt, failing_reads);
     let mut sink = MemorySink::new(rt.alloc(), 7, failing_writes).expect(rt, "memory");
-    let status = run(rt.alloc(), &given, &mut desk, &mut sink);
+    let status = run(
+        rt,
+        rt.alloc(),
+        &given,
+        &mut desk,
+        &mut sink,
+        &FreeGate,
+        &FreeGate,
+    );
     let text = sink.written().to_vec(rt.alloc()).expect(rt, "memory");
     (status, String::from_utf8(text).expect(rt, "text"))
 }
