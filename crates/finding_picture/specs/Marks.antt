@@ -26,7 +26,7 @@ abbrev pub bar_width : Axis → ℕ → ℕ → ℕ
 bar_width axis low high = max (position axis high - position axis low) 4
 
 -- A write that made a revision is a tick there, a removal a bar over its range.
-abbrev pub mark_text : Axis → WriteLine → List ℕ
+unfoldable pub mark_text : Axis → WriteLine → List ℕ
 mark_text axis (Made revision line key) = shown (
     fixed (codes "<line class=\"tick\" x1=\"") ∷ number (position axis revision)
     ∷ fixed (codes "\" y1=\"36\" x2=\"") ∷ number (position axis revision)

@@ -10,7 +10,7 @@ use Rattle.finding_picture.specs.Marks.{mark_text, places_axis}
 use Rattle.finding_picture.specs.declared.finding.Finding.{Finding}
 use Rattle.finding_picture.specs.declared.places.TheConstants.{BEFORE_PLACES, BAND_AND_AXIS, BEHIND_PLACES}
 
-abbrev pub band_text : Finding → List ℕ
+unfoldable pub band_text : Finding → List ℕ
 band_text finding = shown (
     fixed BEFORE_PLACES.now ∷ number (length finding.writes.now)
     ∷ fixed (codes " writes, from place ") ∷ number finding.low
@@ -22,7 +22,7 @@ band_text finding = shown (
 abbrev pub marks_text : Axis → List WriteLine → List ℕ
 marks_text axis writes = flat_map (mark_text axis) (take most_marks writes)
 
-abbrev pub places_text : Known → Finding → List ℕ
+unfoldable pub places_text : Known → Finding → List ℕ
 places_text known finding =
     band_text finding
     ++ (marks_text (places_axis known.versions finding.low finding.high) finding.writes.now

@@ -36,13 +36,15 @@ pub fn places_axis(versions: &[Version], low: u64, high: u64) -> Axis
     }
 }
 
-fn bar_width(axis: &Axis, low: u64, high: u64) -> u64
+/// How wide a bar of the axis from one number to another is drawn, so that it can be seen.
+pub fn bar_width(axis: &Axis, low: u64, high: u64) -> u64
     ensures { result ≡ bar_width axis.now low high }
 {
     axis.position(high).saturating_sub(axis.position(low)).max(4)
 }
 
 /// Appends the tick of a write that made a revision, or the bar of a removal.
+#[tactic(auto, unfolding(crate::specs::Marks::mark_text))]
 pub fn push_mark(text: &mut String, axis: &Axis, write: &WriteLine) -> Result<(), OutOfMemory>
     ensures { OnOk result (string_bytes text.new ≡ string_bytes text.old ++ mark_text axis.now write.now) }
 {

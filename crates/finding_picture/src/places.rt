@@ -28,6 +28,7 @@ pub const BAND_AND_AXIS: &str = r#". The table of the writes has each.</desc>
 pub const BEHIND_PLACES: &str = "</svg>\n</figure>\n";
 
 /// Appends the drawing of the window and of the writes in it.
+#[tactic(auto, unfolding(crate::specs::Places::places_text))]
 pub fn push_places(
     text: &mut String,
     context: &Context,
@@ -43,6 +44,7 @@ pub fn push_places(
     Ok(())
 }
 
+#[tactic(auto, unfolding(crate::specs::Places::band_text))]
 fn push_band(text: &mut String, finding: &Finding<'_>) -> Result<(), OutOfMemory>
     ensures { OnOk result (string_bytes text.new ≡ string_bytes text.old ++ band_text finding.now) }
 {
