@@ -24,8 +24,8 @@ may_have_gone low high removal = is_some (kind_of_key removal.key) && (nat_le re
 unfoldable pub come_row : List LogEvent → Version → List ℕ
 come_row log version =
     shown (
-        fixed (codes "<tr><td>revision ") ∷ number version.revision
-        ∷ fixed (codes "</td><td><code>") ∷ told (key_spelling version.key) ∷ fixed (codes "</code></td><td>") ∷ [])
+    fixed (codes "<tr><td>revision ") ∷ number version.revision
+    ∷ fixed (codes "</td><td><code>") ∷ told (key_spelling version.key) ∷ fixed (codes "</code></td><td>") ∷ [])
     ++ (maker_text log version.maker
     ++ shown (fixed (codes "</td></tr>\n") ∷ []))
 
@@ -40,7 +40,7 @@ gone_row log removal = shown (
 unfoldable pub caches_section : Known → ℕ → ℕ → List ℕ
 caches_section known low high =
     shown (
-        fixed BEFORE_CACHES.now ∷ number low ∷ fixed (codes " to ") ∷ number high ∷ fixed BEHIND_RANGE.now ∷ [])
+    fixed BEFORE_CACHES.now ∷ number low ∷ fixed (codes " to ") ∷ number high ∷ fixed BEHIND_RANGE.now ∷ [])
     ++ (flat_map (come_row known.log) (filter (has_come low high) known.versions)
     ++ (flat_map (gone_row known.log) (filter (may_have_gone low high) known.removals)
     ++ shown (fixed (codes "</table>\n") ∷ [])))

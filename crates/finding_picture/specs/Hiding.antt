@@ -28,10 +28,10 @@ name_text Any = shown (fixed (codes "any") ∷ [])
 unfoldable pub cover_row : ℕ → ℕ → Cover → List ℕ
 cover_row line low cover =
     shown (
-        fixed (codes "<tr><td>") ∷ number line
-        ∷ fixed (codes "</td><td>behind ") ∷ number low
-        ∷ fixed (codes "</td><td><code>") ∷ told cover.group
-        ∷ fixed (codes "</code></td><td><code>") ∷ told cover.resource ∷ fixed (codes "</code></td><td>") ∷ [])
+    fixed (codes "<tr><td>") ∷ number line
+    ∷ fixed (codes "</td><td>behind ") ∷ number low
+    ∷ fixed (codes "</td><td><code>") ∷ told cover.group
+    ∷ fixed (codes "</code></td><td><code>") ∷ told cover.resource ∷ fixed (codes "</code></td><td>") ∷ [])
     ++ (namespace_text cover.namespace
     ++ (shown (fixed (codes "</td><td>") ∷ [])
     ++ (name_text cover.name

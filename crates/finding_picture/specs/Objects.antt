@@ -51,9 +51,9 @@ maker_text log maker.Unknown = shown (fixed (codes "an unrecorded write") ∷ []
 unfoldable pub version_row : List LogEvent → Version → List ℕ
 version_row log version =
     shown (
-        fixed (codes "<tr><td>from ") ∷ number version.revision
-        ∷ fixed (codes " on</td><td>its revision ") ∷ number version.revision
-        ∷ fixed (codes "</td><td><code>") ∷ told version.uid ∷ fixed (codes "</code></td><td>") ∷ [])
+    fixed (codes "<tr><td>from ") ∷ number version.revision
+    ∷ fixed (codes " on</td><td>its revision ") ∷ number version.revision
+    ∷ fixed (codes "</td><td><code>") ∷ told version.uid ∷ fixed (codes "</code></td><td>") ∷ [])
     ++ (maker_text log version.maker
     ++ shown (fixed (codes "</td></tr>\n") ∷ []))
 

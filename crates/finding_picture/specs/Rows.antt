@@ -23,8 +23,8 @@ event_cells (Some event) =
 unfoldable pub author_text : List Event → ℕ → List ℕ → List ℕ
 author_text events line key =
     shown (
-        fixed (codes "</td><td>") ∷ number line
-        ∷ fixed (codes "</td><td><code>") ∷ told key ∷ fixed (codes "</code></td>") ∷ [])
+    fixed (codes "</td><td>") ∷ number line
+    ∷ fixed (codes "</td><td><code>") ∷ told key ∷ fixed (codes "</code></td>") ∷ [])
     ++ event_cells (event_on events line)
 
 unfoldable pub row_text : List Event → WriteLine → List ℕ

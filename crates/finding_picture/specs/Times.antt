@@ -42,10 +42,10 @@ unfoldable pub bar_text : Axis → ℕ → Option Event → List ℕ
 bar_text axis line None = []
 bar_text axis line (Some event) =
     shown (
-        fixed (codes "<rect class=\"hatched\" x=\"") ∷ number (position axis (instant event.received))
-        ∷ fixed (codes "\" y=\"") ∷ number (34 + line % 10 * 12)
-        ∷ fixed (codes "\" width=\"") ∷ number (bar_width axis (instant event.received) (instant event.staged))
-        ∷ fixed (codes "\" height=\"8\"><title>line ") ∷ number line ∷ fixed (codes ": ") ∷ [])
+    fixed (codes "<rect class=\"hatched\" x=\"") ∷ number (position axis (instant event.received))
+    ∷ fixed (codes "\" y=\"") ∷ number (34 + line % 10 * 12)
+    ∷ fixed (codes "\" width=\"") ∷ number (bar_width axis (instant event.received) (instant event.staged))
+    ∷ fixed (codes "\" height=\"8\"><title>line ") ∷ number line ∷ fixed (codes ": ") ∷ [])
     ++ (span_text event
     ++ shown (fixed (codes "</title></rect>\n") ∷ []))
 
@@ -57,9 +57,9 @@ times_band axis event =
     shown (fixed BEFORE_TIMES.now ∷ [])
     ++ (span_text event
     ++ shown (
-        fixed (codes "</desc>\n<rect class=\"band\" x=\"") ∷ number (position axis (instant event.received))
-        ∷ fixed (codes "\" y=\"30\" width=\"") ∷ number (bar_width axis (instant event.received) (instant event.staged))
-        ∷ fixed (codes "\" height=\"124\"><title>the event</title></rect>\n<text x=\"480\" y=\"22\" text-anchor=\"middle\">") ∷ []))
+    fixed (codes "</desc>\n<rect class=\"band\" x=\"") ∷ number (position axis (instant event.received))
+    ∷ fixed (codes "\" y=\"30\" width=\"") ∷ number (bar_width axis (instant event.received) (instant event.staged))
+    ∷ fixed (codes "\" height=\"124\"><title>the event</title></rect>\n<text x=\"480\" y=\"22\" text-anchor=\"middle\">") ∷ []))
 
 unfoldable pub times_section : List Event → Event → List WriteLine → List ℕ
 times_section events event writes =

@@ -19,7 +19,8 @@ pub const BEFORE_OBJECT: &str = "<h2>What an answer would have been</h2>
 <p>The object is <code>";
 
 /// What stands behind it, before the rows.
-pub const BEHIND_OBJECT: &str = "</code>. Before its first version it is absent. Each row holds up to the next one.</p>
+pub const BEHIND_OBJECT: &str =
+    "</code>. Before its first version it is absent. Each row holds up to the next one.</p>
 <table>
 <tr><th>At places</th><th>An answer shows</th><th>UID</th><th>Written by</th></tr>
 ";
@@ -126,11 +127,7 @@ fn push_removals(text: &mut String, context: &Context, key: &ObjectKey) -> Resul
 }
 
 #[tactic(auto, unfolding(crate::specs::Objects::version_row))]
-fn push_version(
-    text: &mut String,
-    log: &[LogEvent],
-    version: &Version,
-) -> Result<(), OutOfMemory>
+fn push_version(text: &mut String, log: &[LogEvent], version: &Version) -> Result<(), OutOfMemory>
     ensures { OnOk result (string_bytes text.new ≡ string_bytes text.old ++ version_row log.now version.now) }
 {
     let revision = version.revision.get();
@@ -158,11 +155,7 @@ pub fn push_maker(text: &mut String, log: &[LogEvent], maker: Maker) -> Result<(
 }
 
 #[tactic(auto, unfolding(crate::specs::Objects::removal_row))]
-fn push_removal(
-    text: &mut String,
-    log: &[LogEvent],
-    removal: &Removal,
-) -> Result<(), OutOfMemory>
+fn push_removal(text: &mut String, log: &[LogEvent], removal: &Removal) -> Result<(), OutOfMemory>
     ensures { OnOk result (string_bytes text.new ≡ string_bytes text.old ++ removal_row log.now removal.now) }
 {
     let range = removal.range;

@@ -89,7 +89,10 @@ fn push_pair(text: &mut String, pair: &Pair) -> Result<(), OutOfMemory>
 {
     let name = Told(pair.name.as_str());
     let value = Told(pair.value.as_str());
-    writeln!(text, "<dt>Query</dt><dd><code>{name}</code> is <code>{value}</code></dd>")?;
+    writeln!(
+        text,
+        "<dt>Query</dt><dd><code>{name}</code> is <code>{value}</code></dd>"
+    )?;
     Ok(())
 }
 

@@ -27,11 +27,7 @@ pub fn push_rows(
     Ok(())
 }
 
-fn push_each(
-    text: &mut String,
-    context: &Context,
-    writes: &[WriteLine],
-) -> Result<(), OutOfMemory>
+fn push_each(text: &mut String, context: &Context, writes: &[WriteLine]) -> Result<(), OutOfMemory>
     ensures { OnOk result (string_bytes text.new ≡ string_bytes text.old ++ flat_map (row_text context.now.events) (take most_marks writes.now)) }
 {
     for write in drawn(writes) {
@@ -76,7 +72,11 @@ fn push_author(
 ) -> Result<(), OutOfMemory>
     ensures { OnOk result (string_bytes text.new ≡ string_bytes text.old ++ author_text context.now.events line key.now) }
 {
-    write!(text, "</td><td>{line}</td><td><code>{}</code></td>", Told(key.as_str()))?;
+    write!(
+        text,
+        "</td><td>{line}</td><td><code>{}</code></td>",
+        Told(key.as_str())
+    )?;
     push_cells(text, event_on(context, line))?;
     Ok(())
 }

@@ -74,7 +74,9 @@ fn instant(at: Moment) -> u64
 fn margin(event: &Event) -> u64
     ensures { result ≡ margin event.now }
 {
-    instant(event.staged).saturating_sub(instant(event.received)).max(1_000_000)
+    instant(event.staged)
+        .saturating_sub(instant(event.received))
+        .max(1_000_000)
 }
 
 fn times_axis(event: &Event) -> Axis

@@ -4,7 +4,7 @@ use Rattle.std.proofs.lemmas.List.{length-take-le, take_min}
 use Rattle.finding_picture.proofs.limits.drawn.Goals as goal
 
 pub returns-then-writes-le-MOST_MARKS : goal.returns-then-writes-le-MOST_MARKS
-returns-then-writes-le-MOST_MARKS c = 
+returns-then-writes-le-MOST_MARKS c =
     let all = c.args.writes.now in
     let short : min 2000 (length all) ≡ length all = omega arith in
     sym (sym (take_min 2000 all) ∙ ap (λ n. take n all) short ∙ take-length all)
