@@ -1,5 +1,5 @@
 -- How much is drawn.
-use Rattle.std.specs.Prelude.{ℕ, ◌-◌, ◌==◌, List, [], ◌∷◌, codes, length, if◌then◌else◌}
+use Rattle.std.specs.Prelude.{ℕ, ◌-◌, ◌==◌, List, [], ◌∷◌, codes, if◌then◌else◌}
 use Rattle.markup.specs.Pieces.{fixed, number, shown}
 
 abbrev pub most_marks : ℕ
