@@ -9,4 +9,5 @@ pub mod Page
 pub mod Places
 pub mod Requests
 pub mod Rows
+pub mod Segments
 pub mod Times

@@ -7,6 +7,8 @@ use Rattle.markup.specs.declared.drawing.Axis.{Axis}
 use Rattle.version_store.specs.Known.{Known}
 use Rattle.finding_picture.specs.Limits.{most_marks, rest_text}
 use Rattle.finding_picture.specs.Marks.{mark_text, places_axis}
+use Rattle.finding_picture.specs.Objects.{key_on}
+use Rattle.finding_picture.specs.Segments.{segments_text}
 use Rattle.finding_picture.specs.declared.finding.Finding.{Finding}
 use Rattle.finding_picture.specs.declared.places.TheConstants.{BEFORE_PLACES, BAND_AND_AXIS, BEHIND_PLACES}
 
@@ -26,5 +28,6 @@ unfoldable pub places_text : Known → Finding → List ℕ
 places_text known finding =
     band_text finding
     ++ (marks_text (places_axis known.versions finding.low finding.high) finding.writes.now
+    ++ (segments_text (places_axis known.versions finding.low finding.high) known.versions (key_on known.log finding.line)
     ++ (shown (fixed BEHIND_PLACES.now ∷ [])
-    ++ rest_text (length finding.writes.now)))
+    ++ rest_text (length finding.writes.now))))

@@ -14,6 +14,7 @@ mod page;
 mod places;
 mod request;
 mod rows;
+mod segments;
 mod times;
 
 pub use finding::Finding;
