@@ -1,5 +1,5 @@
 -- What stands first: the verdict, and what the code means.
-use Rattle.std.specs.Prelude.{ℕ, List, [], ◌∷◌, ◌++◌, Option, codes, decimal, unwrap_or}
+use Rattle.std.specs.Prelude.{ℕ, List, [], ◌∷◌, ◌++◌, codes, decimal, unwrap_or}
 use Rattle.base_types.specs.Reasons.{code_number}
 use Rattle.base_types.specs.declared.claim.Reason.{Reason}
 use Rattle.code_guide.specs.Guides.{text_of}
@@ -14,7 +14,7 @@ code_name reason = codes "U" ++ decimal (code_number reason)
 abbrev pub guide_text : Reason → List ℕ
 guide_text reason = unwrap_or (text_of (code_name reason ∷ [])) []
 
-abbrev pub verdict_text : Finding → List ℕ
+unfoldable pub verdict_text : Finding → List ℕ
 verdict_text finding = shown (
     fixed (codes "<h1>unexplained</h1>\n<dl>\n<dt>Line</dt><dd>") ∷ number finding.line
     ∷ fixed (codes "</dd>\n<dt>Audit ID</dt><dd><code>") ∷ told finding.audit_id.now
@@ -23,8 +23,8 @@ verdict_text finding = shown (
     ∷ fixed (codes " to ") ∷ number finding.high
     ∷ fixed (codes "</dd>\n</dl>\n") ∷ [])
 
-abbrev pub guide_section : Reason → List ℕ
+unfoldable pub guide_section : Reason → List ℕ
 guide_section reason = shown (fixed (codes "<pre>") ∷ told (guide_text reason) ∷ fixed (codes "</pre>\n") ∷ [])
 
-abbrev pub heading_text : Finding → List ℕ
+unfoldable pub heading_text : Finding → List ℕ
 heading_text finding = verdict_text finding ++ guide_section finding.reason

@@ -1,8 +1,13 @@
+pub mod Caches
 pub mod Heading
+pub mod Hiding
 pub mod Limits
 pub mod Looking
 pub mod Marks
+pub mod Objects
 pub mod Page
 pub mod Places
 pub mod Requests
 pub mod Rows
+pub mod Segments
+pub mod Times

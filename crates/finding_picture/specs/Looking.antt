@@ -1,12 +1,7 @@
 -- What the line of an event leads to.
-use Rattle.std.specs.Prelude.{ℕ, ◌==◌, List, [], Option, Some, None, codes, find}
+use Rattle.std.specs.Prelude.{ℕ, ◌==◌, List, Option, find}
 use Rattle.audit_event.specs.declared.event.Event.{Event}
 
 -- the event of the log with this line
 abbrev pub event_on : List Event → ℕ → Option Event
 event_on events line = find (λ event. event.line == line) events
-
--- who authenticated for it
-abbrev pub user_name : Option Event → List ℕ
-user_name None = codes "-"
-user_name (Some event) = event.user.name

@@ -1,5 +1,5 @@
 -- The axis of a drawing of places, and the marks on it.
-use Rattle.std.specs.Prelude.{ℕ, ◌-◌, ◌==◌, List, [], ◌∷◌, Option, Some, None, codes, length, max, slice_get, if◌then◌else◌}
+use Rattle.std.specs.Prelude.{ℕ, ◌-◌, ◌==◌, List, [], ◌∷◌, ◌++◌, Option, Some, None, codes, length, max, slice_get, if◌then◌else◌}
 use Rattle.base_types.specs.declared.placed.WriteLine.{WriteLine}
 use Rattle.base_types.specs.declared.placed.WriteLine.TheVariants.{Made, Removed}
 use Rattle.markup.specs.Drawing.{position}
@@ -25,18 +25,27 @@ places_axis versions low high = record { low = low; high = drawn_high versions l
 abbrev pub bar_width : Axis → ℕ → ℕ → ℕ
 bar_width axis low high = max (position axis high - position axis low) 4
 
--- A write that made a revision is a tick there, a removal a bar over its range.
-abbrev pub mark_text : Axis → WriteLine → List ℕ
-mark_text axis (Made revision line key) = shown (
+-- of a write that made a revision: a tick there
+unfoldable pub tick_text : Axis → ℕ → ℕ → List ℕ → List ℕ
+tick_text axis revision line key = shown (
     fixed (codes "<line class=\"tick\" x1=\"") ∷ number (position axis revision)
     ∷ fixed (codes "\" y1=\"36\" x2=\"") ∷ number (position axis revision)
     ∷ fixed (codes "\" y2=\"80\"><title>revision ") ∷ number revision
     ∷ fixed (codes " by line ") ∷ number line
     ∷ fixed (codes ": ") ∷ told key ∷ fixed (codes "</title></line>\n") ∷ [])
-mark_text axis (Removed low high line key) = shown (
+
+-- of a removal: a bar over its range
+unfoldable pub range_text : Axis → ℕ → ℕ → ℕ → List ℕ → List ℕ
+range_text axis low high line key =
+    shown (
     fixed (codes "<rect class=\"bar\" x=\"") ∷ number (position axis low)
-    ∷ fixed (codes "\" y=\"50\" width=\"") ∷ number (bar_width axis low high)
-    ∷ fixed (codes "\" height=\"16\"><title>removal from ") ∷ number low
+    ∷ fixed (codes "\" y=\"50\" width=\"") ∷ number (bar_width axis low high) ∷ fixed (codes "\" height=\"16\"><title>") ∷ [])
+    ++ shown (
+    fixed (codes "removal from ") ∷ number low
     ∷ fixed (codes " to ") ∷ number high
     ∷ fixed (codes " by line ") ∷ number line
     ∷ fixed (codes ": ") ∷ told key ∷ fixed (codes "</title></rect>\n") ∷ [])
+
+unfoldable pub mark_text : Axis → WriteLine → List ℕ
+mark_text axis (Made revision line key) = tick_text axis revision line key
+mark_text axis (Removed low high line key) = range_text axis low high line key

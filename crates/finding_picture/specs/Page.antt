@@ -2,18 +2,26 @@
 use Rattle.std.specs.Prelude.{List, ◌++◌, ℕ, codes}
 use Rattle.markup.specs.Frame.{begin_text, end_text}
 use Rattle.version_store.specs.Known.{Known}
+use Rattle.finding_picture.specs.Caches.{caches_text}
 use Rattle.finding_picture.specs.Heading.{heading_text}
+use Rattle.finding_picture.specs.Hiding.{hiding_text}
 use Rattle.finding_picture.specs.Looking.{event_on}
+use Rattle.finding_picture.specs.Objects.{object_section}
 use Rattle.finding_picture.specs.Places.{places_text}
 use Rattle.finding_picture.specs.Requests.{request_text}
 use Rattle.finding_picture.specs.Rows.{rows_text}
+use Rattle.finding_picture.specs.Times.{times_text}
 use Rattle.finding_picture.specs.declared.finding.Finding.{Finding}
 
-abbrev pub page_text : Known → Finding → List ℕ
+unfoldable pub page_text : Known → Finding → List ℕ
 page_text known finding =
     begin_text (codes "unexplained")
     ++ (heading_text finding
     ++ (request_text (event_on known.events finding.line)
     ++ (places_text known finding
+    ++ (times_text known.events (event_on known.events finding.line) finding.writes.now
     ++ (rows_text known.events finding.writes.now
-    ++ end_text))))
+    ++ (object_section known finding.line
+    ++ (hiding_text known
+    ++ (caches_text known finding
+    ++ end_text))))))))

@@ -7,10 +7,12 @@ use Rattle.markup.specs.declared.drawing.Axis.{Axis}
 use Rattle.version_store.specs.Known.{Known}
 use Rattle.finding_picture.specs.Limits.{most_marks, rest_text}
 use Rattle.finding_picture.specs.Marks.{mark_text, places_axis}
+use Rattle.finding_picture.specs.Objects.{key_on}
+use Rattle.finding_picture.specs.Segments.{segments_text}
 use Rattle.finding_picture.specs.declared.finding.Finding.{Finding}
 use Rattle.finding_picture.specs.declared.places.TheConstants.{BEFORE_PLACES, BAND_AND_AXIS, BEHIND_PLACES}
 
-abbrev pub band_text : Finding → List ℕ
+unfoldable pub band_text : Finding → List ℕ
 band_text finding = shown (
     fixed BEFORE_PLACES.now ∷ number (length finding.writes.now)
     ∷ fixed (codes " writes, from place ") ∷ number finding.low
@@ -22,9 +24,10 @@ band_text finding = shown (
 abbrev pub marks_text : Axis → List WriteLine → List ℕ
 marks_text axis writes = flat_map (mark_text axis) (take most_marks writes)
 
-abbrev pub places_text : Known → Finding → List ℕ
+unfoldable pub places_text : Known → Finding → List ℕ
 places_text known finding =
     band_text finding
     ++ (marks_text (places_axis known.versions finding.low finding.high) finding.writes.now
+    ++ (segments_text (places_axis known.versions finding.low finding.high) known.versions (key_on known.log finding.line)
     ++ (shown (fixed BEHIND_PLACES.now ∷ [])
-    ++ rest_text (length finding.writes.now)))
+    ++ rest_text (length finding.writes.now))))

@@ -7,13 +7,15 @@ use Rattle.base_types.specs.declared.request.Decision.{Decision}
 use Rattle.base_types.specs.declared.request.Decision.TheVariants.{Allow, Forbid}
 use Rattle.base_types.specs.declared.request.Pair.{Pair}
 use Rattle.base_types.specs.declared.request.User.{User}
+use Rattle.base_types.specs.declared.revision.Moment.{Moment}
+use Rattle.markup.specs.Moments.{moment_text}
 use Rattle.markup.specs.Pieces.{fixed, number, told, shown}
 
 -- a name of the program's own, and a text of the input
-abbrev pub entry_text : List ℕ → List ℕ → List ℕ
+unfoldable pub entry_text : List ℕ → List ℕ → List ℕ
 entry_text name text = shown (fixed (codes "<dt>") ∷ fixed name ∷ fixed (codes "</dt><dd>") ∷ told text ∷ fixed (codes "</dd>\n") ∷ [])
 
-abbrev pub pair_text : Pair → List ℕ
+unfoldable pub pair_text : Pair → List ℕ
 pair_text pair = shown (
     fixed (codes "<dt>Query</dt><dd><code>") ∷ told pair.name ∷ fixed (codes "</code> is <code>") ∷ told pair.value ∷ fixed (codes "</code></dd>\n") ∷ [])
 
@@ -21,14 +23,14 @@ abbrev pub group_text : List ℕ → List ℕ
 group_text group = entry_text (codes "Group") group
 
 -- a user under a name of the program's own, and the user's groups
-abbrev pub user_text : List ℕ → User → List ℕ
+unfoldable pub user_text : List ℕ → User → List ℕ
 user_text name user = entry_text name user.name ++ flat_map group_text user.groups
 
-abbrev pub impersonated_text : Option User → List ℕ
+unfoldable pub impersonated_text : Option User → List ℕ
 impersonated_text None = []
 impersonated_text (Some user) = user_text (codes "Impersonated user") user
 
-abbrev pub status_text : Status → Option ℕ → List ℕ
+unfoldable pub status_text : Status → Option ℕ → List ℕ
 status_text status None = shown (fixed (codes "<dt>Answer</dt><dd>none: the request panicked</dd>\n") ∷ [])
 status_text status (Some code) = shown (fixed (codes "<dt>Answer</dt><dd>") ∷ number code ∷ fixed (codes " ") ∷ told status.reason ∷ fixed (codes "</dd>\n") ∷ [])
 
@@ -37,10 +39,10 @@ decision_word None = codes "not recorded"
 decision_word (Some Allow) = codes "allow"
 decision_word (Some Forbid) = codes "forbid"
 
-abbrev pub decision_text : Option Decision → List ℕ
+unfoldable pub decision_text : Option Decision → List ℕ
 decision_text decision = shown (fixed (codes "<dt>Decision</dt><dd>") ∷ fixed (decision_word decision) ∷ fixed (codes "</dd>\n") ∷ [])
 
-abbrev pub asked_text : Event → List ℕ
+unfoldable pub asked_text : Event → List ℕ
 asked_text event =
     entry_text (codes "Verb") event.attrs.verb
     ++ (entry_text (codes "Path") event.attrs.path
@@ -48,10 +50,18 @@ asked_text event =
     ++ (user_text (codes "User") event.user
     ++ impersonated_text event.impersonated)))
 
-abbrev pub answered_text : Event → List ℕ
-answered_text event = status_text event.status event.status.code ++ decision_text event.decision
+-- a name of the program's own, and a moment
+unfoldable pub time_entry : List ℕ → Moment → List ℕ
+time_entry name at = shown (fixed (codes "<dt>") ∷ fixed name ∷ fixed (codes "</dt><dd>") ∷ []) ++ (moment_text at ++ shown (fixed (codes "</dd>\n") ∷ []))
 
-abbrev pub request_text : Option Event → List ℕ
+unfoldable pub answered_text : Event → List ℕ
+answered_text event =
+    time_entry (codes "Received") event.received
+    ++ (time_entry (codes "Staged") event.staged
+    ++ (status_text event.status event.status.code
+    ++ decision_text event.decision))
+
+unfoldable pub request_text : Option Event → List ℕ
 request_text None = shown (fixed (codes "<h2>The event</h2>\n<p>This is a checkpoint of the setup: no line of the log has it.</p>\n") ∷ [])
 request_text (Some event) =
     shown (fixed (codes "<h2>The event</h2>\n<dl>\n") ∷ [])

@@ -1,29 +1,40 @@
 -- The writes in the window as a table.
-use Rattle.std.specs.Prelude.{ℕ, List, [], ◌∷◌, ◌++◌, codes, take}
+use Rattle.std.specs.Prelude.{ℕ, List, [], ◌∷◌, ◌++◌, Option, Some, None, codes, take}
 use Rattle.std.specs.List.{flat_map}
 use Rattle.audit_event.specs.declared.event.Event.{Event}
 use Rattle.base_types.specs.declared.placed.WriteLine.{WriteLine}
 use Rattle.base_types.specs.declared.placed.WriteLine.TheVariants.{Made, Removed}
+use Rattle.markup.specs.Moments.{moment_text}
 use Rattle.markup.specs.Pieces.{fixed, number, told, shown}
 use Rattle.finding_picture.specs.Limits.{most_marks}
-use Rattle.finding_picture.specs.Looking.{event_on, user_name}
+use Rattle.finding_picture.specs.Looking.{event_on}
 
--- line, object and user
-abbrev pub author_text : List Event → ℕ → List ℕ → List ℕ
-author_text events line key = shown (
+-- who wrote, and when it was received and answered
+unfoldable pub event_cells : Option Event → List ℕ
+event_cells None = shown (fixed (codes "<td>-</td><td>-</td><td>-</td></tr>\n") ∷ [])
+event_cells (Some event) =
+    shown (fixed (codes "<td>") ∷ told event.user.name ∷ fixed (codes "</td><td>") ∷ [])
+    ++ (moment_text event.received
+    ++ (shown (fixed (codes "</td><td>") ∷ [])
+    ++ (moment_text event.staged
+    ++ shown (fixed (codes "</td></tr>\n") ∷ []))))
+
+-- line, object, user and times
+unfoldable pub author_text : List Event → ℕ → List ℕ → List ℕ
+author_text events line key =
+    shown (
     fixed (codes "</td><td>") ∷ number line
-    ∷ fixed (codes "</td><td><code>") ∷ told key
-    ∷ fixed (codes "</code></td><td>") ∷ told (user_name (event_on events line))
-    ∷ fixed (codes "</td></tr>\n") ∷ [])
+    ∷ fixed (codes "</td><td><code>") ∷ told key ∷ fixed (codes "</code></td>") ∷ [])
+    ++ event_cells (event_on events line)
 
-abbrev pub row_text : List Event → WriteLine → List ℕ
+unfoldable pub row_text : List Event → WriteLine → List ℕ
 row_text events (Made revision line key) =
     shown (fixed (codes "<tr><td>made ") ∷ number revision ∷ fixed (codes " ") ∷ []) ++ author_text events line key
 row_text events (Removed low high line key) =
     shown (fixed (codes "<tr><td>removed from ") ∷ number low ∷ fixed (codes " to ") ∷ number high ∷ fixed (codes " ") ∷ []) ++ author_text events line key
 
-abbrev pub rows_text : List Event → List WriteLine → List ℕ
+unfoldable pub rows_text : List Event → List WriteLine → List ℕ
 rows_text events writes =
-    shown (fixed (codes "<h2>Writes in the window</h2>\n<table>\n<tr><th>Revision or range</th><th>Line</th><th>Object</th><th>User</th></tr>\n") ∷ [])
+    shown (fixed (codes "<h2>Writes in the window</h2>\n<table>\n<tr><th>Revision or range</th><th>Line</th><th>Object</th><th>User</th><th>Received</th><th>Staged</th></tr>\n") ∷ [])
     ++ (flat_map (row_text events) (take most_marks writes)
     ++ shown (fixed (codes "</table>\n") ∷ []))

@@ -8,6 +8,7 @@ use markup::Told;
 use std::alloc::Global;
 
 /// Appends the verdict, and what the code means.
+#[tactic(auto, unfolding(crate::specs::Heading::heading_text))]
 pub fn push_heading(
     alloc: Global,
     text: &mut String,
@@ -20,6 +21,7 @@ pub fn push_heading(
     Ok(())
 }
 
+#[tactic(auto, unfolding(crate::specs::Heading::verdict_text))]
 fn push_verdict(text: &mut String, finding: &Finding<'_>) -> Result<(), OutOfMemory>
     ensures { OnOk result (string_bytes text.new ≡ string_bytes text.old ++ verdict_text finding.now) }
 {
@@ -35,6 +37,7 @@ fn push_verdict(text: &mut String, finding: &Finding<'_>) -> Result<(), OutOfMem
     Ok(())
 }
 
+#[tactic(auto, unfolding(crate::specs::Heading::guide_section))]
 fn push_guide(alloc: Global, text: &mut String, reason: Reason) -> Result<(), OutOfMemory>
     ensures { OnOk result (string_bytes text.new ≡ string_bytes text.old ++ guide_section reason) }
 {

@@ -2,15 +2,20 @@
 //! what an answer would have been.
 #![tactic(auto)]
 
+mod caches;
 mod finding;
 mod heading;
+mod hiding;
 mod limits;
 mod looking;
 mod marks;
+mod objects;
 mod page;
 mod places;
 mod request;
 mod rows;
+mod segments;
+mod times;
 
 pub use finding::Finding;
 pub use page::finding_page;

@@ -17,6 +17,7 @@ pub fn drawn(writes: &[WriteLine]) -> &[WriteLine]
 }
 
 /// Appends how many of so many things aren't drawn, if some aren't.
+#[tactic(auto, unfolding(crate::specs::Limits::rest_text))]
 pub fn push_rest(text: &mut String, count: usize) -> Result<(), OutOfMemory>
     ensures { OnOk result (string_bytes text.new ≡ string_bytes text.old ++ rest_text count) }
 {

@@ -1,5 +1,5 @@
 ghost use Rattle.std.specs.Prelude.{◌≡◌, ◌==◌, ◌<◌, AllPairs, find, option_map};
-ghost use Rattle.finding_picture.specs.Looking.{event_on, user_name};
+ghost use Rattle.finding_picture.specs.Looking.{event_on};
 
 use audit_event::Event;
 use version_store::Context;
@@ -24,14 +24,4 @@ fn event_among(events: &[Event], line: u64) -> Option<&Event>
         return None;
     }
     Some(event)
-}
-
-/// Who authenticated for the event of the log with this line, or `-`.
-pub fn user_name(context: &Context, line: u64) -> &str
-    ensures { result.now ≡ user_name (event_on context.now.events line) }
-{
-    match event_on(context, line) {
-        Some(event) => event.user.name.as_str(),
-        None => "-",
-    }
 }

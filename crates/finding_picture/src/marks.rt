@@ -1,7 +1,7 @@
 ghost use Rattle.std.specs.Prelude.{◌≡◌, ◌++◌, OnOk, string_bytes};
-ghost use Rattle.finding_picture.specs.Marks.{bar_width, drawn_high, last_revision, mark_text, places_axis};
+ghost use Rattle.finding_picture.specs.Marks.{bar_width, drawn_high, last_revision, mark_text, places_axis, range_text, tick_text};
 
-use base_types::{OutOfMemory, WriteLine};
+use base_types::{OutOfMemory, Text, WriteLine};
 use markup::{Axis, Told};
 use object_past::Version;
 
@@ -36,13 +36,17 @@ pub fn places_axis(versions: &[Version], low: u64, high: u64) -> Axis
     }
 }
 
-fn bar_width(axis: &Axis, low: u64, high: u64) -> u64
+/// How wide a bar of the axis from one number to another is drawn, so that it can be seen.
+pub fn bar_width(axis: &Axis, low: u64, high: u64) -> u64
     ensures { result ≡ bar_width axis.now low high }
 {
-    axis.position(high).saturating_sub(axis.position(low)).max(4)
+    axis.position(high)
+        .saturating_sub(axis.position(low))
+        .max(4)
 }
 
 /// Appends the tick of a write that made a revision, or the bar of a removal.
+#[tactic(auto, unfolding(crate::specs::Marks::mark_text))]
 pub fn push_mark(text: &mut String, axis: &Axis, write: &WriteLine) -> Result<(), OutOfMemory>
     ensures { OnOk result (string_bytes text.new ≡ string_bytes text.old ++ mark_text axis.now write.now) }
 {
@@ -51,28 +55,57 @@ pub fn push_mark(text: &mut String, axis: &Axis, write: &WriteLine) -> Result<()
             revision,
             line,
             key,
-        } => {
-            let x = axis.position(*revision);
-            let object = Told(key.as_str());
-            writeln!(
-                text,
-                r#"<line class="tick" x1="{x}" y1="36" x2="{x}" y2="80"><title>revision {revision} by line {line}: {object}</title></line>"#
-            )?;
-        }
+        } => push_tick(text, axis, *revision, *line, key)?,
         WriteLine::Removed {
             low,
             high,
             line,
             key,
-        } => {
-            let x = axis.position(*low);
-            let width = bar_width(axis, *low, *high);
-            let object = Told(key.as_str());
-            writeln!(
-                text,
-                r#"<rect class="bar" x="{x}" y="50" width="{width}" height="16"><title>removal from {low} to {high} by line {line}: {object}</title></rect>"#
-            )?;
-        }
+        } => push_range(text, axis, *low, *high, *line, key)?,
     }
+    Ok(())
+}
+
+#[tactic(auto, unfolding(crate::specs::Marks::tick_text))]
+fn push_tick(
+    text: &mut String,
+    axis: &Axis,
+    revision: u64,
+    line: u64,
+    key: &Text,
+) -> Result<(), OutOfMemory>
+    ensures { OnOk result (string_bytes text.new ≡ string_bytes text.old ++ tick_text axis.now revision line key.now) }
+{
+    let x = axis.position(revision);
+    let object = Told(key.as_str());
+    writeln!(
+        text,
+        r#"<line class="tick" x1="{x}" y1="36" x2="{x}" y2="80"><title>revision {revision} by line {line}: {object}</title></line>"#
+    )?;
+    Ok(())
+}
+
+#[tactic(auto, unfolding(crate::specs::Marks::range_text))]
+fn push_range(
+    text: &mut String,
+    axis: &Axis,
+    low: u64,
+    high: u64,
+    line: u64,
+    key: &Text,
+) -> Result<(), OutOfMemory>
+    ensures { OnOk result (string_bytes text.new ≡ string_bytes text.old ++ range_text axis.now low high line key.now) }
+{
+    let x = axis.position(low);
+    let width = bar_width(axis, low, high);
+    let object = Told(key.as_str());
+    write!(
+        text,
+        r#"<rect class="bar" x="{x}" y="50" width="{width}" height="16"><title>"#
+    )?;
+    writeln!(
+        text,
+        "removal from {low} to {high} by line {line}: {object}</title></rect>"
+    )?;
     Ok(())
 }

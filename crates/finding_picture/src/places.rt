@@ -4,15 +4,17 @@ ghost use Rattle.finding_picture.specs.Places.{band_text, marks_text, places_tex
 use crate::finding::Finding;
 use crate::limits::{drawn, push_rest};
 use crate::marks::{places_axis, push_mark};
+use crate::objects::key_on;
+use crate::segments::push_segments;
 use base_types::{OutOfMemory, WriteLine};
 use markup::Axis;
 use version_store::Context;
 
 /// What stands before how many writes are drawn.
 pub const BEFORE_PLACES: &str = r#"<h2>Places</h2>
-<p>An answer of the event could be right at a place of the band: a place is a revision, and what the cluster held when it
-was the last one. A tick is a write that made a revision. A bar is the range in which a removal took place. Place
-18446744073709551615 stands behind all revisions.</p>
+<p>An answer of the event could be right at a place of the band: a place is a revision, and what the cluster held when
+it was the last one. A tick is a write that made a revision. A bar is the range in which a removal took place. The boxes below are
+the versions of the event's object, each from its revision on. Place 18446744073709551615 stands behind all revisions.</p>
 <figure>
 <svg role="img" viewBox="0 0 960 150" aria-labelledby="places-title places-desc">
 <title id="places-title">The window of the event over the line of revisions</title>
@@ -28,6 +30,7 @@ pub const BAND_AND_AXIS: &str = r#". The table of the writes has each.</desc>
 pub const BEHIND_PLACES: &str = "</svg>\n</figure>\n";
 
 /// Appends the drawing of the window and of the writes in it.
+#[tactic(auto, unfolding(crate::specs::Places::places_text))]
 pub fn push_places(
     text: &mut String,
     context: &Context,
@@ -35,14 +38,17 @@ pub fn push_places(
 ) -> Result<(), OutOfMemory>
     ensures { OnOk result (string_bytes text.new ≡ string_bytes text.old ++ places_text context.now finding.now) }
 {
-    let axis = places_axis(context.versions(), finding.low, finding.high);
+    let versions = context.versions();
+    let axis = places_axis(versions, finding.low, finding.high);
     push_band(text, finding)?;
     push_marks(text, &axis, finding.writes)?;
+    push_segments(text, &axis, versions, key_on(context.log(), finding.line))?;
     text.push_str(BEHIND_PLACES)?;
     push_rest(text, finding.writes.len())?;
     Ok(())
 }
 
+#[tactic(auto, unfolding(crate::specs::Places::band_text))]
 fn push_band(text: &mut String, finding: &Finding<'_>) -> Result<(), OutOfMemory>
     ensures { OnOk result (string_bytes text.new ≡ string_bytes text.old ++ band_text finding.now) }
 {

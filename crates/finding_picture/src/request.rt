@@ -1,12 +1,13 @@
-ghost use Rattle.std.specs.Prelude.{◌≡◌, ◌++◌, OnOk, option_map, string_bytes};
+ghost use Rattle.std.specs.Prelude.{◌≡◌, ◌++◌, OnOk, Some, option_map, string_bytes};
 ghost use Rattle.std.specs.List.{flat_map};
-ghost use Rattle.finding_picture.specs.Requests.{answered_text, asked_text, decision_text, decision_word, entry_text, group_text, impersonated_text, pair_text, request_text, status_text, user_text};
+ghost use Rattle.finding_picture.specs.Requests.{answered_text, asked_text, decision_text, decision_word, entry_text, group_text, impersonated_text, pair_text, request_text, status_text, time_entry, user_text};
 
 use audit_event::{Event, Status};
-use base_types::{Decision, OutOfMemory, Pair, Text, User};
-use markup::Told;
+use base_types::{Decision, Moment, OutOfMemory, Pair, Text, User};
+use markup::{Told, push_moment};
 
 /// Appends what the event asked and was answered; that it is a checkpoint, where there is none.
+#[tactic(auto, unfolding(crate::specs::Requests::request_text))]
 pub fn push_request(text: &mut String, event: Option<&Event>) -> Result<(), OutOfMemory>
     ensures { OnOk result (string_bytes text.new ≡ string_bytes text.old ++ request_text (option_map (λ event. event.now) event.entry)) }
 {
@@ -19,6 +20,7 @@ pub fn push_request(text: &mut String, event: Option<&Event>) -> Result<(), OutO
     Ok(())
 }
 
+#[tactic(auto, unfolding(crate::specs::Requests::request_text))]
 fn push_event(text: &mut String, event: &Event) -> Result<(), OutOfMemory>
     ensures { OnOk result (string_bytes text.new ≡ string_bytes text.old ++ request_text (Some event.now)) }
 {
@@ -29,6 +31,7 @@ fn push_event(text: &mut String, event: &Event) -> Result<(), OutOfMemory>
     Ok(())
 }
 
+#[tactic(auto, unfolding(crate::specs::Requests::asked_text))]
 fn push_asked(text: &mut String, event: &Event) -> Result<(), OutOfMemory>
     ensures { OnOk result (string_bytes text.new ≡ string_bytes text.old ++ asked_text event.now) }
 {
@@ -40,19 +43,34 @@ fn push_asked(text: &mut String, event: &Event) -> Result<(), OutOfMemory>
     Ok(())
 }
 
+#[tactic(auto, unfolding(crate::specs::Requests::answered_text))]
 fn push_answered(text: &mut String, event: &Event) -> Result<(), OutOfMemory>
     ensures { OnOk result (string_bytes text.new ≡ string_bytes text.old ++ answered_text event.now) }
 {
+    push_time(text, "Received", event.received)?;
+    push_time(text, "Staged", event.staged)?;
     push_status(text, &event.status)?;
     push_decision(text, event.decision)?;
     Ok(())
 }
 
 // A name of the program's own, and a text of the input.
+#[tactic(auto, unfolding(crate::specs::Requests::entry_text))]
 fn push_entry(text: &mut String, name: &str, told: &Text) -> Result<(), OutOfMemory>
     ensures { OnOk result (string_bytes text.new ≡ string_bytes text.old ++ entry_text name.now told.now) }
 {
     writeln!(text, "<dt>{name}</dt><dd>{}</dd>", Told(told.as_str()))?;
+    Ok(())
+}
+
+// A name of the program's own, and a moment.
+#[tactic(auto, unfolding(crate::specs::Requests::time_entry))]
+fn push_time(text: &mut String, name: &str, at: Moment) -> Result<(), OutOfMemory>
+    ensures { OnOk result (string_bytes text.new ≡ string_bytes text.old ++ time_entry name.now at) }
+{
+    write!(text, "<dt>{name}</dt><dd>")?;
+    push_moment(text, at)?;
+    text.push_str("</dd>\n")?;
     Ok(())
 }
 
@@ -65,15 +83,20 @@ fn push_query(text: &mut String, query: &[Pair]) -> Result<(), OutOfMemory>
     Ok(())
 }
 
+#[tactic(auto, unfolding(crate::specs::Requests::pair_text))]
 fn push_pair(text: &mut String, pair: &Pair) -> Result<(), OutOfMemory>
     ensures { OnOk result (string_bytes text.new ≡ string_bytes text.old ++ pair_text pair.now) }
 {
     let name = Told(pair.name.as_str());
     let value = Told(pair.value.as_str());
-    writeln!(text, "<dt>Query</dt><dd><code>{name}</code> is <code>{value}</code></dd>")?;
+    writeln!(
+        text,
+        "<dt>Query</dt><dd><code>{name}</code> is <code>{value}</code></dd>"
+    )?;
     Ok(())
 }
 
+#[tactic(auto, unfolding(crate::specs::Requests::user_text))]
 fn push_user(text: &mut String, name: &str, user: &User) -> Result<(), OutOfMemory>
     ensures { OnOk result (string_bytes text.new ≡ string_bytes text.old ++ user_text name.now user.now) }
 {
@@ -91,6 +114,7 @@ fn push_groups(text: &mut String, groups: &[Text]) -> Result<(), OutOfMemory>
     Ok(())
 }
 
+#[tactic(auto, unfolding(crate::specs::Requests::impersonated_text))]
 fn push_impersonated(text: &mut String, user: &Option<User>) -> Result<(), OutOfMemory>
     ensures { OnOk result (string_bytes text.new ≡ string_bytes text.old ++ impersonated_text user.now) }
 {
@@ -100,6 +124,7 @@ fn push_impersonated(text: &mut String, user: &Option<User>) -> Result<(), OutOf
     Ok(())
 }
 
+#[tactic(auto, unfolding(crate::specs::Requests::status_text))]
 fn push_status(text: &mut String, status: &Status) -> Result<(), OutOfMemory>
     ensures { OnOk result (string_bytes text.new ≡ string_bytes text.old ++ status_text status.now status.now.code) }
 {
@@ -113,6 +138,7 @@ fn push_status(text: &mut String, status: &Status) -> Result<(), OutOfMemory>
     Ok(())
 }
 
+#[tactic(auto, unfolding(crate::specs::Requests::decision_text))]
 fn push_decision(text: &mut String, decision: Option<Decision>) -> Result<(), OutOfMemory>
     ensures { OnOk result (string_bytes text.new ≡ string_bytes text.old ++ decision_text decision) }
 {

@@ -1,15 +1,17 @@
-ghost use Rattle.std.specs.Prelude.{◌≡◌, ◌++◌, OnOk, string_bytes, take};
+ghost use Rattle.std.specs.Prelude.{◌≡◌, ◌++◌, OnOk, Some, option_map, string_bytes, take};
 ghost use Rattle.std.specs.List.{flat_map};
 ghost use Rattle.finding_picture.specs.Limits.{most_marks};
-ghost use Rattle.finding_picture.specs.Rows.{author_text, row_text, rows_text};
+ghost use Rattle.finding_picture.specs.Rows.{author_text, event_cells, row_text, rows_text};
 
 use crate::limits::drawn;
-use crate::looking::user_name;
+use crate::looking::event_on;
+use audit_event::Event;
 use base_types::{OutOfMemory, Text, WriteLine};
-use markup::Told;
+use markup::{Told, push_moment};
 use version_store::Context;
 
 /// Appends the table of the writes in the window.
+#[tactic(auto, unfolding(crate::specs::Rows::rows_text))]
 pub fn push_rows(
     text: &mut String,
     context: &Context,
@@ -18,18 +20,14 @@ pub fn push_rows(
     ensures { OnOk result (string_bytes text.new ≡ string_bytes text.old ++ rows_text context.now.events writes.now) }
 {
     text.push_str(
-        "<h2>Writes in the window</h2>\n<table>\n<tr><th>Revision or range</th><th>Line</th><th>Object</th><th>User</th></tr>\n",
+        "<h2>Writes in the window</h2>\n<table>\n<tr><th>Revision or range</th><th>Line</th><th>Object</th><th>User</th><th>Received</th><th>Staged</th></tr>\n",
     )?;
     push_each(text, context, writes)?;
     text.push_str("</table>\n")?;
     Ok(())
 }
 
-fn push_each(
-    text: &mut String,
-    context: &Context,
-    writes: &[WriteLine],
-) -> Result<(), OutOfMemory>
+fn push_each(text: &mut String, context: &Context, writes: &[WriteLine]) -> Result<(), OutOfMemory>
     ensures { OnOk result (string_bytes text.new ≡ string_bytes text.old ++ flat_map (row_text context.now.events) (take most_marks writes.now)) }
 {
     for write in drawn(writes) {
@@ -38,6 +36,7 @@ fn push_each(
     Ok(())
 }
 
+#[tactic(auto, unfolding(crate::specs::Rows::row_text))]
 fn push_row(text: &mut String, context: &Context, write: &WriteLine) -> Result<(), OutOfMemory>
     ensures { OnOk result (string_bytes text.new ≡ string_bytes text.old ++ row_text context.now.events write.now) }
 {
@@ -63,7 +62,8 @@ fn push_row(text: &mut String, context: &Context, write: &WriteLine) -> Result<(
     Ok(())
 }
 
-// Line, object and user of a write.
+// Line, object, user and times of a write.
+#[tactic(auto, unfolding(crate::specs::Rows::author_text))]
 fn push_author(
     text: &mut String,
     context: &Context,
@@ -72,8 +72,35 @@ fn push_author(
 ) -> Result<(), OutOfMemory>
     ensures { OnOk result (string_bytes text.new ≡ string_bytes text.old ++ author_text context.now.events line key.now) }
 {
-    let object = Told(key.as_str());
-    let user = Told(user_name(context, line));
-    writeln!(text, "</td><td>{line}</td><td><code>{object}</code></td><td>{user}</td></tr>")?;
+    write!(
+        text,
+        "</td><td>{line}</td><td><code>{}</code></td>",
+        Told(key.as_str())
+    )?;
+    push_cells(text, event_on(context, line))?;
+    Ok(())
+}
+
+#[tactic(auto, unfolding(crate::specs::Rows::event_cells))]
+fn push_cells(text: &mut String, event: Option<&Event>) -> Result<(), OutOfMemory>
+    ensures { OnOk result (string_bytes text.new ≡ string_bytes text.old ++ event_cells (option_map (λ event. event.now) event.entry)) }
+{
+    match event {
+        Some(event) => push_event_cells(text, event)?,
+        None => text.push_str("<td>-</td><td>-</td><td>-</td></tr>\n")?,
+    }
+    Ok(())
+}
+
+// Who wrote, and when it was received and answered.
+#[tactic(auto, unfolding(crate::specs::Rows::event_cells))]
+fn push_event_cells(text: &mut String, event: &Event) -> Result<(), OutOfMemory>
+    ensures { OnOk result (string_bytes text.new ≡ string_bytes text.old ++ event_cells (Some event.now)) }
+{
+    write!(text, "<td>{}</td><td>", Told(event.user.name.as_str()))?;
+    push_moment(text, event.received)?;
+    text.push_str("</td><td>")?;
+    push_moment(text, event.staged)?;
+    text.push_str("</td></tr>\n")?;
     Ok(())
 }

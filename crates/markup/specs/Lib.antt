@@ -1,4 +1,6 @@
+pub mod Calendar
 pub mod Drawing
 pub mod Escaping
 pub mod Frame
+pub mod Moments
 pub mod Pieces

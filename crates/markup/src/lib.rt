@@ -1,10 +1,14 @@
-//! HTML pages of which each text that comes from the input stands escaped: the frame of a page, and places in its drawings.
+//! HTML pages of which each text that comes from the input stands escaped: the frame of a page, places in its drawings, and
+//! moments.
 #![tactic(auto)]
 
+mod calendar;
 mod drawing;
 mod escaping;
 mod frame;
+mod moments;
 
 pub use drawing::Axis;
 pub use escaping::{Told, escaped_law, push_escaped};
 pub use frame::{push_begin, push_end};
+pub use moments::push_moment;

@@ -13,13 +13,13 @@ returns-then-upto-eq0 c =
     sym (number_none (λ (e : Event). e.line) c.args.events.now c.args.line
     (λ g among is. let above = none_upto (λ (e : Event). e.line) c.args.events.now c.args.line _ parts c.if-upto-eq0.true g among in omega arith))
 
-pub returns-then-get : goal.returns-then-get
-returns-then-get c =
+pub returns-then-event-line : goal.returns-then-event-line
+returns-then-event-line c =
     let order = in_order (λ (e : Event). e.line) c.args.events.now c.requires in
     let parted = IsPartitionedBy-leb (λ (e : Event). e.line) c.args.events.now c.args.line order in
     let parts = IsPartitionPoint-from_clause (λ (e : Event). leb e.line c.args.line) _ _ c.partition_point-upto.ensures.partitioned parted (λ a r q k. search rules) in
-    let here : (get_or c.args.events.now (c.partition_point-upto.result - 1) c.index-events-upto.result).revision ≢ c.args.line =
-    λ is. c.if-get.true (c.get.ensures.value ∙ ap (λ (e : Event). e.line) c.index-events-upto.is ∙ is ∙ sym c.get-2.ensures.value) in
+    let here : (get_or c.args.events.now (c.partition_point-upto.result - 1) c.index-events-upto.result).line ≢ c.args.line =
+    λ is. c.if-event-line.true (ap (λ (e : Event). e.line) c.index-events-upto.is ∙ is) in
     sym (number_none (λ (e : Event). e.line) c.args.events.now c.args.line
     (unnumbered (λ (e : Event). e.line) c.args.events.now c.args.line _ _ order parts (omega arith) c.partition_point-upto.ensures.bound here))
 
@@ -27,5 +27,4 @@ pub returns : goal.returns
 returns c =
     let bound = c.partition_point-upto.ensures.bound in
     sym (number_found (λ (e : Event). e.line) c.args.events.now c.args.line c.index-events-upto.result c.requires
-    (c.partition_point-upto.result - 1, omega arith, sym c.index-events-upto.is)
-    (sym c.get.ensures.value ∙ c.if-get.false ∙ c.get-2.ensures.value))
+    (c.partition_point-upto.result - 1, omega arith, sym c.index-events-upto.is) c.if-event-line.false)

@@ -1,0 +1,7 @@
+use Rattle.std.proofs.Common.{append_assoc}
+use Rattle.finding_picture.specs.Caches.{caches_section}
+use Rattle.finding_picture.proofs.caches.push_caches_section.Goals as goal
+
+pub returns : goal.returns
+unfolding caches_section
+returns c = rw (c.in_ok-push_str-3.ensures.bytes, c.in_ok-push_all_gone.ensures, c.in_ok-push_all_come.ensures, c.in_ok-push_str-2.ensures.bytes, c.in_ok-write.ensures.bytes, c.in_ok-push_str.ensures.bytes) (simp append_assoc)

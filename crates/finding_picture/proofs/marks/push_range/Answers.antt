@@ -1,0 +1,7 @@
+use Rattle.std.proofs.Common.{append_assoc}
+use Rattle.finding_picture.specs.Marks.{range_text}
+use Rattle.finding_picture.proofs.marks.push_range.Goals as goal
+
+pub returns : goal.returns
+unfolding range_text
+returns c = rw (c.in_ok-writeln.ensures.bytes, c.in_ok-write.ensures.bytes, c.position-x.ensures.value, c.bar_width-width.ensures, c.as_str.ensures.value) (simp append_assoc)

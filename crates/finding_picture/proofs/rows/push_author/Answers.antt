@@ -1,0 +1,7 @@
+use Rattle.std.proofs.Common.{append_assoc}
+use Rattle.finding_picture.specs.Rows.{author_text}
+use Rattle.finding_picture.proofs.rows.push_author.Goals as goal
+
+pub returns : goal.returns
+unfolding author_text
+returns c = rw (c.in_ok-push_cells.ensures, c.event_on.ensures, c.in_ok-write.ensures.bytes, c.as_str.ensures.value) (simp append_assoc)

@@ -1,0 +1,60 @@
+-- The unrecorded writes, and from where on they hide which objects.
+use Rattle.std.specs.Prelude.{ℕ, List, [], ◌∷◌, ◌++◌, Option, Some, None, codes}
+use Rattle.std.specs.List.{flat_map}
+use Rattle.base_types.specs.declared.key.Cover.{Cover}
+use Rattle.base_types.specs.declared.key.CoverName.{CoverName}
+use Rattle.base_types.specs.declared.key.CoverName.TheVariants.{Exact, Prefix, Any}
+use Rattle.history_model.specs.Histories.{History}
+use Rattle.history_model.specs.Windows.{low_end}
+use Rattle.markup.specs.Pieces.{fixed, number, told, shown}
+use Rattle.version_store.specs.Histories.{history_of}
+use Rattle.version_store.specs.Known.{Known}
+use Rattle.write_groups.specs.Modelled.{event_of}
+use Rattle.write_groups.specs.declared.event.LogEvent.{LogEvent}
+use Rattle.write_groups.specs.declared.event.Shown.{Shown}
+use Rattle.write_groups.specs.declared.event.Shown.TheVariants.{Made, Removed, Opaque, Saw, SawNone, SawSome, SawOther, Listed, Free, Aside}
+use Rattle.finding_picture.specs.declared.hiding.TheConstants.{BEFORE_HIDING}
+
+unfoldable pub namespace_text : Option (List ℕ) → List ℕ
+namespace_text None = shown (fixed (codes "any") ∷ [])
+namespace_text (Some namespace) = shown (fixed (codes "<code>") ∷ told namespace ∷ fixed (codes "</code>") ∷ [])
+
+unfoldable pub name_text : CoverName → List ℕ
+name_text (Exact name) = shown (fixed (codes "<code>") ∷ told name ∷ fixed (codes "</code>") ∷ [])
+name_text (Prefix front) = shown (fixed (codes "each that begins with <code>") ∷ told front ∷ fixed (codes "</code>") ∷ [])
+name_text Any = shown (fixed (codes "any") ∷ [])
+
+-- the write of a line, which can't have come before the place `low`
+unfoldable pub cover_row : ℕ → ℕ → Cover → List ℕ
+cover_row line low cover =
+    shown (
+    fixed (codes "<tr><td>") ∷ number line
+    ∷ fixed (codes "</td><td>behind ") ∷ number low
+    ∷ fixed (codes "</td><td><code>") ∷ told cover.group
+    ∷ fixed (codes "</code></td><td><code>") ∷ told cover.resource ∷ fixed (codes "</code></td><td>") ∷ [])
+    ++ (namespace_text cover.namespace
+    ++ (shown (fixed (codes "</td><td>") ∷ [])
+    ++ (name_text cover.name
+    ++ shown (fixed (codes "</td></tr>\n") ∷ []))))
+
+-- a row of the answer of an unrecorded write
+abbrev pub hidden_row_of : ℕ → ℕ → Shown → List ℕ
+hidden_row_of line low (Made item created) = []
+hidden_row_of line low (Removed key uid) = []
+hidden_row_of line low (Opaque cover) = cover_row line low cover
+hidden_row_of line low (Saw item) = []
+hidden_row_of line low (SawNone key) = []
+hidden_row_of line low (SawSome key) = []
+hidden_row_of line low (SawOther key) = []
+hidden_row_of line low (Listed listing) = []
+hidden_row_of line low Free = []
+hidden_row_of line low Aside = []
+
+unfoldable pub hidden_row : History → LogEvent → List ℕ
+hidden_row h event = hidden_row_of event.line (low_end h (event_of event)) event.answer
+
+unfoldable pub hiding_text : Known → List ℕ
+hiding_text known =
+    shown (fixed BEFORE_HIDING.now ∷ [])
+    ++ (flat_map (hidden_row (history_of known)) known.log
+    ++ shown (fixed (codes "</table>\n") ∷ []))

@@ -1,0 +1,84 @@
+-- What an answer about the event's object would have been, place by place: the object's versions and its removals.
+use Rattle.std.specs.Prelude.{ℕ, ◌==◌, List, [], ◌∷◌, ◌++◌, Option, Some, None, codes, filter, find, option_and_then, slice_get}
+use Rattle.std.specs.List.{flat_map}
+use Rattle.base_types.specs.Keys.{key_spelling, same_key}
+use Rattle.base_types.specs.declared.key.ObjectKey.{ObjectKey}
+use Rattle.markup.specs.Pieces.{fixed, number, told, shown}
+use Rattle.object_past.specs.declared.removal.Removal.{Removal}
+use Rattle.object_past.specs.declared.version.Maker.{Maker}
+use Rattle.object_past.specs.declared.version.Maker.TheVariants as maker
+use Rattle.object_past.specs.declared.version.Version.{Version}
+use Rattle.version_store.specs.Known.{Known}
+use Rattle.write_groups.specs.declared.event.LogEvent.{LogEvent}
+use Rattle.write_groups.specs.declared.event.Shown.{Shown}
+use Rattle.write_groups.specs.declared.event.Shown.TheVariants.{Made, Removed, Opaque, Saw, SawNone, SawSome, SawOther, Listed, Free, Aside}
+use Rattle.finding_picture.specs.declared.objects.TheConstants.{BEFORE_OBJECT, BEHIND_OBJECT, NO_OBJECT}
+
+-- the object that an answer speaks of, where it is one
+abbrev pub answer_key : Shown → Option ObjectKey
+answer_key (Made item created) = Some item.key
+answer_key (Removed key uid) = Some key
+answer_key (Opaque cover) = None
+answer_key (Saw item) = Some item.key
+answer_key (SawNone key) = Some key
+answer_key (SawSome key) = Some key
+answer_key (SawOther key) = Some key
+answer_key (Listed listing) = None
+answer_key Free = None
+answer_key Aside = None
+
+-- the event or checkpoint with this line
+abbrev pub logged_on : List LogEvent → ℕ → Option LogEvent
+logged_on log line = find (λ event. event.line == line) log
+
+abbrev pub key_on : List LogEvent → ℕ → Option ObjectKey
+key_on log line = option_and_then (λ event. answer_key event.answer) (logged_on log line)
+
+abbrev pub line_or_zero : Option LogEvent → ℕ
+line_or_zero None = 0
+line_or_zero (Some event) = event.line
+
+-- the line of the event of this number
+abbrev pub line_at : List LogEvent → ℕ → ℕ
+line_at log position = line_or_zero (slice_get log position)
+
+-- who wrote a version
+unfoldable pub maker_text : List LogEvent → Maker → List ℕ
+maker_text log maker.Snapshot = shown (fixed (codes "the snapshot") ∷ [])
+maker_text log (maker.Event position) = shown (fixed (codes "line ") ∷ number (line_at log position) ∷ fixed (codes " ") ∷ [])
+maker_text log maker.Unknown = shown (fixed (codes "an unrecorded write") ∷ [])
+
+unfoldable pub version_row : List LogEvent → Version → List ℕ
+version_row log version =
+    shown (
+    fixed (codes "<tr><td>from ") ∷ number version.revision
+    ∷ fixed (codes " on</td><td>its revision ") ∷ number version.revision
+    ∷ fixed (codes "</td><td><code>") ∷ told version.uid ∷ fixed (codes "</code></td><td>") ∷ [])
+    ++ (maker_text log version.maker
+    ++ shown (fixed (codes "</td></tr>\n") ∷ []))
+
+unfoldable pub removal_row : List LogEvent → Removal → List ℕ
+removal_row log removal = shown (
+    fixed (codes "<tr><td>from a place of ") ∷ number removal.range.low
+    ∷ fixed (codes " to ") ∷ number removal.range.high
+    ∷ fixed (codes " on</td><td>that it is absent</td><td><code>") ∷ told removal.uid
+    ∷ fixed (codes "</code></td><td>line ") ∷ number (line_at log removal.range.event)
+    ∷ fixed (codes "</td></tr>\n") ∷ [])
+
+-- the key's versions, which come by revision
+abbrev pub versions_of : Known → ObjectKey → List Version
+versions_of known key = filter (λ v. same_key v.key key) known.versions
+
+abbrev pub removals_of : Known → ObjectKey → List Removal
+removals_of known key = filter (λ removal. same_key removal.key key) known.removals
+
+unfoldable pub object_text : Known → Option ObjectKey → List ℕ
+object_text known None = shown (fixed NO_OBJECT.now ∷ [])
+object_text known (Some key) =
+    shown (fixed BEFORE_OBJECT.now ∷ told (key_spelling key) ∷ fixed BEHIND_OBJECT.now ∷ [])
+    ++ (flat_map (version_row known.log) (versions_of known key)
+    ++ (flat_map (removal_row known.log) (removals_of known key)
+    ++ shown (fixed (codes "</table>\n") ∷ [])))
+
+unfoldable pub object_section : Known → ℕ → List ℕ
+object_section known line = object_text known (key_on known.log line)

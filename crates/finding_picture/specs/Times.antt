@@ -1,0 +1,75 @@
+-- The event over the line of time, with the writes of its window by their events' receipt and stage.
+use Rattle.std.specs.Prelude.{ℕ, pos, ◌+◌, ◌-◌, ◌*◌, ◌%◌, List, [], ◌∷◌, ◌++◌, Option, Some, None, codes, int_lt, max, min, take, unsigned_abs, if◌then◌else◌}
+use Rattle.std.specs.List.{flat_map}
+use Rattle.audit_event.specs.declared.event.Event.{Event}
+use Rattle.base_types.specs.declared.placed.WriteLine.{WriteLine}
+use Rattle.base_types.specs.declared.placed.WriteLine.TheVariants.{Made, Removed}
+use Rattle.base_types.specs.declared.revision.Moment.{Moment}
+use Rattle.markup.specs.Drawing.{position}
+use Rattle.markup.specs.Moments.{moment_text}
+use Rattle.markup.specs.Pieces.{fixed, number, shown}
+use Rattle.markup.specs.declared.drawing.Axis.{Axis}
+use Rattle.finding_picture.specs.Limits.{most_marks}
+use Rattle.finding_picture.specs.Looking.{event_on}
+use Rattle.finding_picture.specs.Marks.{bar_width}
+use Rattle.finding_picture.specs.declared.times.TheConstants.{BEFORE_TIMES, BEHIND_TIMES}
+
+-- in nanoseconds since 1970, as an axis has them
+abbrev pub instant : Moment → ℕ
+instant at = if int_lt at.0 (pos 0) then 0 else min (unsigned_abs at.0) 18446744073709551615
+
+-- On both sides of the event as much is drawn as it took, and a millisecond at least.
+abbrev pub margin : Event → ℕ
+margin event = max (instant event.staged - instant event.received) 1000000
+
+abbrev pub times_axis : Event → Axis
+times_axis event = record {
+  low = instant event.received - margin event;
+  high = min (instant event.staged + margin event) 18446744073709551615;
+  left = 40;
+  width = 880;
+}
+
+abbrev pub line_of : WriteLine → ℕ
+line_of (Made revision line key) = line
+line_of (Removed low high line key) = line
+
+unfoldable pub span_text : Event → List ℕ
+span_text event = moment_text event.received ++ (shown (fixed (codes " to ") ∷ []) ++ moment_text event.staged)
+
+-- The bars of ten lines behind one another stand below each other.
+unfoldable pub bar_text : Axis → ℕ → Option Event → List ℕ
+bar_text axis line None = []
+bar_text axis line (Some event) =
+    shown (
+    fixed (codes "<rect class=\"hatched\" x=\"") ∷ number (position axis (instant event.received))
+    ∷ fixed (codes "\" y=\"") ∷ number (34 + line % 10 * 12)
+    ∷ fixed (codes "\" width=\"") ∷ number (bar_width axis (instant event.received) (instant event.staged))
+    ∷ fixed (codes "\" height=\"8\"><title>line ") ∷ number line ∷ fixed (codes ": ") ∷ [])
+    ++ (span_text event
+    ++ shown (fixed (codes "</title></rect>\n") ∷ []))
+
+abbrev pub write_bar : List Event → Axis → WriteLine → List ℕ
+write_bar events axis write = bar_text axis (line_of write) (event_on events (line_of write))
+
+unfoldable pub times_band : Axis → Event → List ℕ
+times_band axis event =
+    shown (fixed BEFORE_TIMES.now ∷ [])
+    ++ (span_text event
+    ++ shown (
+    fixed (codes "</desc>\n<rect class=\"band\" x=\"") ∷ number (position axis (instant event.received))
+    ∷ fixed (codes "\" y=\"30\" width=\"") ∷ number (bar_width axis (instant event.received) (instant event.staged))
+    ∷ fixed (codes "\" height=\"124\"><title>the event</title></rect>\n<text x=\"480\" y=\"22\" text-anchor=\"middle\">") ∷ []))
+
+unfoldable pub times_section : List Event → Event → List WriteLine → List ℕ
+times_section events event writes =
+    times_band (times_axis event) event
+    ++ (span_text event
+    ++ (shown (fixed (codes "</text>\n") ∷ [])
+    ++ (flat_map (write_bar events (times_axis event)) (take most_marks writes)
+    ++ shown (fixed BEHIND_TIMES.now ∷ []))))
+
+-- A checkpoint has no times.
+unfoldable pub times_text : List Event → Option Event → List WriteLine → List ℕ
+times_text events None writes = []
+times_text events (Some event) writes = times_section events event writes

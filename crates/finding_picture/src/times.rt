@@ -1,0 +1,178 @@
+ghost use Rattle.std.specs.Prelude.{◌≡◌, ◌++◌, OnOk, Some, option_map, string_bytes, take};
+ghost use Rattle.std.specs.List.{flat_map};
+ghost use Rattle.finding_picture.specs.Limits.{most_marks};
+ghost use Rattle.finding_picture.specs.Times.{bar_text, instant, line_of, margin, span_text, times_axis, times_band, times_section, times_text, write_bar};
+
+use crate::limits::drawn;
+use crate::looking::event_on;
+use crate::marks::bar_width;
+use audit_event::Event;
+use base_types::{Moment, OutOfMemory, WriteLine};
+use markup::{Axis, push_moment};
+use version_store::Context;
+
+/// What stands before the event's span.
+pub const BEFORE_TIMES: &str = r#"<h2>Time</h2>
+<p>The band is the time from the event's receipt to its stage. Each dashed bar is that of a write in the window, cut at the
+ends of the drawing; the table below has its moments.</p>
+<figure>
+<svg role="img" viewBox="0 0 960 170" aria-labelledby="times-title times-desc">
+<title id="times-title">The event and the writes over the line of time</title>
+<desc id="times-desc">The event lasted from "#;
+
+/// What stands behind the bars.
+pub const BEHIND_TIMES: &str = r#"<line class="axis" x1="40" y1="154" x2="920" y2="154"/>
+</svg>
+</figure>
+"#;
+
+/// Appends the drawing of the event and of these writes over the line of time; nothing for a checkpoint.
+#[tactic(auto, unfolding(crate::specs::Times::times_text))]
+pub fn push_times(
+    text: &mut String,
+    context: &Context,
+    event: Option<&Event>,
+    writes: &[WriteLine],
+) -> Result<(), OutOfMemory>
+    ensures { OnOk result (string_bytes text.new ≡ string_bytes text.old
+        ++ times_text context.now.events (option_map (λ event. event.now) event.entry) writes.now) }
+{
+    if let Some(event) = event {
+        push_section(text, context, event, writes)?;
+    }
+    Ok(())
+}
+
+#[tactic(auto, unfolding(crate::specs::Times::times_section))]
+fn push_section(
+    text: &mut String,
+    context: &Context,
+    event: &Event,
+    writes: &[WriteLine],
+) -> Result<(), OutOfMemory>
+    ensures { OnOk result (string_bytes text.new ≡ string_bytes text.old ++ times_section context.now.events event.now writes.now) }
+{
+    let axis = times_axis(event);
+    push_band(text, &axis, event)?;
+    push_span(text, event)?;
+    text.push_str("</text>\n")?;
+    push_bars(text, context, &axis, writes)?;
+    text.push_str(BEHIND_TIMES)?;
+    Ok(())
+}
+
+fn instant(at: Moment) -> u64
+    ensures { result ≡ instant at }
+{
+    if at.0 < 0 {
+        return 0;
+    }
+    at.0.unsigned_abs().min(18_446_744_073_709_551_615) as u64
+}
+
+// How much is drawn on both sides of the event.
+fn margin(event: &Event) -> u64
+    ensures { result ≡ margin event.now }
+{
+    instant(event.staged)
+        .saturating_sub(instant(event.received))
+        .max(1_000_000)
+}
+
+fn times_axis(event: &Event) -> Axis
+    ensures { result ≡ times_axis event.now }
+{
+    Axis {
+        low: instant(event.received).saturating_sub(margin(event)),
+        high: instant(event.staged).saturating_add(margin(event)),
+        left: 40,
+        width: 880,
+    }
+}
+
+fn line_of(write: &WriteLine) -> u64
+    ensures { result ≡ line_of write.now }
+{
+    match write {
+        WriteLine::Made { line, .. } => *line,
+        WriteLine::Removed { line, .. } => *line,
+    }
+}
+
+#[tactic(auto, unfolding(crate::specs::Times::span_text))]
+fn push_span(text: &mut String, event: &Event) -> Result<(), OutOfMemory>
+    ensures { OnOk result (string_bytes text.new ≡ string_bytes text.old ++ span_text event.now) }
+{
+    push_moment(text, event.received)?;
+    text.push_str(" to ")?;
+    push_moment(text, event.staged)?;
+    Ok(())
+}
+
+#[tactic(auto, unfolding(crate::specs::Times::times_band))]
+fn push_band(text: &mut String, axis: &Axis, event: &Event) -> Result<(), OutOfMemory>
+    ensures { OnOk result (string_bytes text.new ≡ string_bytes text.old ++ times_band axis.now event.now) }
+{
+    let low = instant(event.received);
+    let x = axis.position(low);
+    let width = bar_width(axis, low, instant(event.staged));
+    text.push_str(BEFORE_TIMES)?;
+    push_span(text, event)?;
+    write!(
+        text,
+        "</desc>\n<rect class=\"band\" x=\"{x}\" y=\"30\" width=\"{width}\" height=\"124\"><title>the event</title></rect>\n<text x=\"480\" y=\"22\" text-anchor=\"middle\">"
+    )?;
+    Ok(())
+}
+
+fn push_bars(
+    text: &mut String,
+    context: &Context,
+    axis: &Axis,
+    writes: &[WriteLine],
+) -> Result<(), OutOfMemory>
+    ensures { OnOk result (string_bytes text.new ≡ string_bytes text.old ++ flat_map (write_bar context.now.events axis.now) (take most_marks writes.now)) }
+{
+    for write in drawn(writes) {
+        let line = line_of(write);
+        push_bar(text, axis, line, event_on(context, line))?;
+    }
+    Ok(())
+}
+
+#[tactic(auto, unfolding(crate::specs::Times::bar_text))]
+fn push_bar(
+    text: &mut String,
+    axis: &Axis,
+    line: u64,
+    event: Option<&Event>,
+) -> Result<(), OutOfMemory>
+    ensures { OnOk result (string_bytes text.new ≡ string_bytes text.old ++ bar_text axis.now line (option_map (λ event. event.now) event.entry)) }
+{
+    if let Some(event) = event {
+        push_event_bar(text, axis, line, event)?;
+    }
+    Ok(())
+}
+
+#[tactic(auto, unfolding(crate::specs::Times::bar_text))]
+fn push_event_bar(
+    text: &mut String,
+    axis: &Axis,
+    line: u64,
+    event: &Event,
+) -> Result<(), OutOfMemory>
+    ensures { OnOk result (string_bytes text.new ≡ string_bytes text.old ++ bar_text axis.now line (Some event.now)) }
+{
+    let low = instant(event.received);
+    let x = axis.position(low);
+    let y = 34 + line % 10 * 12;
+    let width = bar_width(axis, low, instant(event.staged));
+    write!(
+        text,
+        r#"<rect class="hatched" x="{x}" y="{y}" width="{width}" height="8"><title>line {line}: "#
+    )?;
+    push_span(text, event)?;
+    text.push_str("</title></rect>\n")?;
+    Ok(())
+}
