@@ -1,5 +1,5 @@
 -- The axis of a drawing of places, and the marks on it.
-use Rattle.std.specs.Prelude.{ℕ, ◌-◌, ◌==◌, List, [], ◌∷◌, ◌++◌, Option, Some, None, codes, length, max, slice_get, if◌then◌else◌}
+use Rattle.std.specs.Prelude.{ℕ, ◌+◌, ◌-◌, ◌*◌, ◌%◌, ◌==◌, List, [], ◌∷◌, ◌++◌, Option, Some, None, codes, length, max, slice_get, if◌then◌else◌}
 use Rattle.base_types.specs.declared.placed.WriteLine.{WriteLine}
 use Rattle.base_types.specs.declared.placed.WriteLine.TheVariants.{Made, Removed}
 use Rattle.markup.specs.Drawing.{position}
@@ -34,12 +34,13 @@ tick_text axis revision line key = shown (
     ∷ fixed (codes " by line ") ∷ number line
     ∷ fixed (codes ": ") ∷ told key ∷ fixed (codes "</title></line>\n") ∷ [])
 
--- of a removal: a bar over its range
+-- Of a removal: a bar over its range. Those of three lines behind one another stand below each other.
 unfoldable pub range_text : Axis → ℕ → ℕ → ℕ → List ℕ → List ℕ
 range_text axis low high line key =
     shown (
     fixed (codes "<rect class=\"bar\" x=\"") ∷ number (position axis low)
-    ∷ fixed (codes "\" y=\"50\" width=\"") ∷ number (bar_width axis low high) ∷ fixed (codes "\" height=\"16\"><title>") ∷ [])
+    ∷ fixed (codes "\" y=\"") ∷ number (40 + line % 3 * 13)
+    ∷ fixed (codes "\" width=\"") ∷ number (bar_width axis low high) ∷ fixed (codes "\" height=\"9\"><title>") ∷ [])
     ++ shown (
     fixed (codes "removal from ") ∷ number low
     ∷ fixed (codes " to ") ∷ number high

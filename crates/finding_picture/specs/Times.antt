@@ -1,6 +1,6 @@
 -- The event over the line of time, with the writes of its window by their events' receipt and stage.
-use Rattle.std.specs.Prelude.{ℕ, pos, ◌+◌, ◌-◌, ◌*◌, ◌%◌, List, [], ◌∷◌, ◌++◌, Option, Some, None, codes, int_lt, max, min, take, unsigned_abs, if◌then◌else◌}
-use Rattle.std.specs.List.{flat_map}
+use Rattle.std.specs.Prelude.{ℕ, pos, ◌+◌, ◌*◌, ◌%◌, List, [], ◌∷◌, ◌++◌, Option, Some, None, codes, int_lt, max, min, take, unsigned_abs, if◌then◌else◌}
+use Rattle.std.specs.List.{flat_map, fold}
 use Rattle.audit_event.specs.declared.event.Event.{Event}
 use Rattle.base_types.specs.declared.placed.WriteLine.{WriteLine}
 use Rattle.base_types.specs.declared.placed.WriteLine.TheVariants.{Made, Removed}
@@ -18,21 +18,36 @@ use Rattle.finding_picture.specs.declared.times.TheConstants.{BEFORE_TIMES, BEHI
 abbrev pub instant : Moment → ℕ
 instant at = if int_lt at.0 (pos 0) then 0 else min (unsigned_abs at.0) 18446744073709551615
 
--- On both sides of the event as much is drawn as it took, and a millisecond at least.
-abbrev pub margin : Event → ℕ
-margin event = max (instant event.staged - instant event.received) 1000000
-
-abbrev pub times_axis : Event → Axis
-times_axis event = record {
-  low = instant event.received - margin event;
-  high = min (instant event.staged + margin event) 18446744073709551615;
-  left = 40;
-  width = 880;
-}
-
 abbrev pub line_of : WriteLine → ℕ
 line_of (Made revision line key) = line
 line_of (Removed low high line key) = line
+
+-- the earlier of an instant and the receipt of a write's event
+abbrev pub begin_or : ℕ → Option Event → ℕ
+begin_or low None = low
+begin_or low (Some event) = min low (instant event.received)
+
+-- the later of an instant and the stage of a write's event
+abbrev pub end_or : ℕ → Option Event → ℕ
+end_or high None = high
+end_or high (Some event) = max high (instant event.staged)
+
+abbrev pub earlier : List Event → ℕ → WriteLine → ℕ
+earlier events low write = begin_or low (event_on events (line_of write))
+
+abbrev pub later : List Event → ℕ → WriteLine → ℕ
+later events high write = end_or high (event_on events (line_of write))
+
+-- from the first receipt to the last stage of the event and of the writes that are drawn
+abbrev pub first_instant : List Event → Event → List WriteLine → ℕ
+first_instant events event writes = fold (earlier events) (instant event.received) (take most_marks writes)
+
+abbrev pub last_instant : List Event → Event → List WriteLine → ℕ
+last_instant events event writes = fold (later events) (instant event.staged) (take most_marks writes)
+
+abbrev pub times_axis : List Event → Event → List WriteLine → Axis
+times_axis events event writes =
+    record { low = first_instant events event writes; high = last_instant events event writes; left = 40; width = 880 }
 
 unfoldable pub span_text : Event → List ℕ
 span_text event = moment_text event.received ++ (shown (fixed (codes " to ") ∷ []) ++ moment_text event.staged)
@@ -63,10 +78,10 @@ times_band axis event =
 
 unfoldable pub times_section : List Event → Event → List WriteLine → List ℕ
 times_section events event writes =
-    times_band (times_axis event) event
+    times_band (times_axis events event writes) event
     ++ (span_text event
     ++ (shown (fixed (codes "</text>\n") ∷ [])
-    ++ (flat_map (write_bar events (times_axis event)) (take most_marks writes)
+    ++ (flat_map (write_bar events (times_axis events event writes)) (take most_marks writes)
     ++ shown (fixed BEHIND_TIMES.now ∷ []))))
 
 -- A checkpoint has no times.

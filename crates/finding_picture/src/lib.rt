@@ -1,5 +1,5 @@
-//! The page of an event that no placement explains: what it asked and was answered, its window with the writes there, and
-//! what an answer would have been.
+//! The page of an event that no placement explains: what it asked and was answered, its window with the writes there,
+//! and what an answer would have been.
 #![tactic(auto)]
 
 mod caches;

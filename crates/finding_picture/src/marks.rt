@@ -97,11 +97,12 @@ fn push_range(
     ensures { OnOk result (string_bytes text.new ≡ string_bytes text.old ++ range_text axis.now low high line key.now) }
 {
     let x = axis.position(low);
+    let y = 40 + line % 3 * 13;
     let width = bar_width(axis, low, high);
     let object = Told(key.as_str());
     write!(
         text,
-        r#"<rect class="bar" x="{x}" y="50" width="{width}" height="16"><title>"#
+        r#"<rect class="bar" x="{x}" y="{y}" width="{width}" height="9"><title>"#
     )?;
     writeln!(
         text,

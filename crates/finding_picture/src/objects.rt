@@ -20,7 +20,8 @@ pub const BEFORE_OBJECT: &str = "<h2>What an answer would have been</h2>
 
 /// What stands behind it, before the rows.
 pub const BEHIND_OBJECT: &str =
-    "</code>. Before its first version it is absent. Each row holds up to the next one.</p>
+    "</code>. Before its first version it is absent. A version is there up to the next one, or to the removal of
+its UID.</p>
 <table>
 <tr><th>At places</th><th>An answer shows</th><th>UID</th><th>Written by</th></tr>
 ";

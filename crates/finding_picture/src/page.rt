@@ -16,8 +16,8 @@ use markup::{push_begin, push_end};
 use std::alloc::Global;
 use version_store::Context;
 
-/// The page of an event that no placement explains: one document in HTML, with no script and nothing from elsewhere. Each
-/// text of the log stands in it escaped.
+/// The page of an event that no placement explains: one document in HTML, with no script and nothing from elsewhere.
+/// Each text of the log stands in it escaped.
 #[tactic(auto, unfolding(crate::specs::Page::page_text))]
 pub fn finding_page(
     alloc: Global,

@@ -12,9 +12,10 @@ use version_store::Context;
 
 /// What stands before how many writes are drawn.
 pub const BEFORE_PLACES: &str = r#"<h2>Places</h2>
-<p>An answer of the event could be right at a place of the band: a place is a revision, and what the cluster held when
-it was the last one. A tick is a write that made a revision. A bar is the range in which a removal took place. The boxes below are
-the versions of the event's object, each from its revision on. Place 18446744073709551615 stands behind all revisions.</p>
+<p>An answer of the event could be right at a place of the band: a place is a revision, and what the cluster held
+when it was the last one. A tick is a write that made a revision. A bar is the range in which a removal took place.
+The boxes below are the versions of the event's object, each from its revision on. Place 18446744073709551615 stands
+behind all revisions.</p>
 <figure>
 <svg role="img" viewBox="0 0 960 150" aria-labelledby="places-title places-desc">
 <title id="places-title">The window of the event over the line of revisions</title>

@@ -20,7 +20,8 @@ pub fn push_rows(
     ensures { OnOk result (string_bytes text.new ≡ string_bytes text.old ++ rows_text context.now.events writes.now) }
 {
     text.push_str(
-        "<h2>Writes in the window</h2>\n<table>\n<tr><th>Revision or range</th><th>Line</th><th>Object</th><th>User</th><th>Received</th><th>Staged</th></tr>\n",
+        "<h2>Writes in the window</h2>\n<table>\n<tr><th>Revision or range</th><th>Line</th>\
+        <th>Object</th><th>User</th><th>Received</th><th>Staged</th></tr>\n",
     )?;
     push_each(text, context, writes)?;
     text.push_str("</table>\n")?;

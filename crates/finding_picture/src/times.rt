@@ -1,7 +1,7 @@
 ghost use Rattle.std.specs.Prelude.{◌≡◌, ◌++◌, OnOk, Some, option_map, string_bytes, take};
 ghost use Rattle.std.specs.List.{flat_map};
 ghost use Rattle.finding_picture.specs.Limits.{most_marks};
-ghost use Rattle.finding_picture.specs.Times.{bar_text, instant, line_of, margin, span_text, times_axis, times_band, times_section, times_text, write_bar};
+ghost use Rattle.finding_picture.specs.Times.{bar_text, begin_or, end_or, first_instant, instant, last_instant, line_of, span_text, times_axis, times_band, times_section, times_text, write_bar};
 
 use crate::limits::drawn;
 use crate::looking::event_on;
@@ -13,8 +13,8 @@ use version_store::Context;
 
 /// What stands before the event's span.
 pub const BEFORE_TIMES: &str = r#"<h2>Time</h2>
-<p>The band is the time from the event's receipt to its stage. Each dashed bar is that of a write in the window, cut at the
-ends of the drawing; the table below has its moments.</p>
+<p>The band is the time from the event's receipt to its stage. Each dashed bar is the same of a write in the window;
+the table below has its moments.</p>
 <figure>
 <svg role="img" viewBox="0 0 960 170" aria-labelledby="times-title times-desc">
 <title id="times-title">The event and the writes over the line of time</title>
@@ -52,7 +52,7 @@ fn push_section(
 ) -> Result<(), OutOfMemory>
     ensures { OnOk result (string_bytes text.new ≡ string_bytes text.old ++ times_section context.now.events event.now writes.now) }
 {
-    let axis = times_axis(event);
+    let axis = times_axis(context, event, writes);
     push_band(text, &axis, event)?;
     push_span(text, event)?;
     text.push_str("</text>\n")?;
@@ -70,21 +70,54 @@ fn instant(at: Moment) -> u64
     at.0.unsigned_abs().min(18_446_744_073_709_551_615) as u64
 }
 
-// How much is drawn on both sides of the event.
-fn margin(event: &Event) -> u64
-    ensures { result ≡ margin event.now }
+fn begin_or(low: u64, event: Option<&Event>) -> u64
+    ensures { result ≡ begin_or low (option_map (λ event. event.now) event.entry) }
 {
-    instant(event.staged)
-        .saturating_sub(instant(event.received))
-        .max(1_000_000)
+    match event {
+        Some(event) => low.min(instant(event.received)),
+        None => low,
+    }
 }
 
-fn times_axis(event: &Event) -> Axis
-    ensures { result ≡ times_axis event.now }
+fn end_or(high: u64, event: Option<&Event>) -> u64
+    ensures { result ≡ end_or high (option_map (λ event. event.now) event.entry) }
+{
+    match event {
+        Some(event) => high.max(instant(event.staged)),
+        None => high,
+    }
+}
+
+// The first receipt of the event and of the writes that are drawn.
+#[tactic(auto, using(std::proofs::lemmas::List::Sums::fold_more))]
+fn first_instant(context: &Context, event: &Event, writes: &[WriteLine]) -> u64
+    ensures { result ≡ first_instant context.now.events event.now writes.now }
+{
+    let mut low = instant(event.received);
+    for write in drawn(writes) {
+        low = begin_or(low, event_on(context, line_of(write)));
+    }
+    low
+}
+
+// The last stage of the event and of the writes that are drawn.
+#[tactic(auto, using(std::proofs::lemmas::List::Sums::fold_more))]
+fn last_instant(context: &Context, event: &Event, writes: &[WriteLine]) -> u64
+    ensures { result ≡ last_instant context.now.events event.now writes.now }
+{
+    let mut high = instant(event.staged);
+    for write in drawn(writes) {
+        high = end_or(high, event_on(context, line_of(write)));
+    }
+    high
+}
+
+fn times_axis(context: &Context, event: &Event, writes: &[WriteLine]) -> Axis
+    ensures { result ≡ times_axis context.now.events event.now writes.now }
 {
     Axis {
-        low: instant(event.received).saturating_sub(margin(event)),
-        high: instant(event.staged).saturating_add(margin(event)),
+        low: first_instant(context, event, writes),
+        high: last_instant(context, event, writes),
         left: 40,
         width: 880,
     }
@@ -120,7 +153,8 @@ fn push_band(text: &mut String, axis: &Axis, event: &Event) -> Result<(), OutOfM
     push_span(text, event)?;
     write!(
         text,
-        "</desc>\n<rect class=\"band\" x=\"{x}\" y=\"30\" width=\"{width}\" height=\"124\"><title>the event</title></rect>\n<text x=\"480\" y=\"22\" text-anchor=\"middle\">"
+        "</desc>\n<rect class=\"band\" x=\"{x}\" y=\"30\" width=\"{width}\" height=\"124\">\
+        <title>the event</title></rect>\n<text x=\"480\" y=\"22\" text-anchor=\"middle\">"
     )?;
     Ok(())
 }

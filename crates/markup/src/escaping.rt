@@ -22,8 +22,9 @@ impl fmt::Display for Told<'_> {
     }
 }
 
-/// Appends a text of the input so that it can be the text of an element or the value of an attribute in quotes. `&`, `<`,
-/// `>`, `"` and `'` become HTML's character references, and ASCII's control characters but tab and newline become U+FFFD.
+/// Appends a text of the input so that it can be the text of an element or the value of an attribute in quotes. `&`,
+/// `<`, `>`, `"` and `'` become HTML's character references, and ASCII's control characters but tab and newline become
+/// U+FFFD.
 pub fn push_escaped(text: &mut String, told: &str) -> Result<(), OutOfMemory>
     ensures { OnOk result (string_bytes text.new ≡ string_bytes text.old ++ escaped told.now) }
 {

@@ -16,12 +16,20 @@ pub const BEFORE_TITLE: &str = r#"<!DOCTYPE html>
 /// What stands between a page's title and its sections.
 pub const BEHIND_TITLE: &str = r#"</title>
 <style>
-:root { color-scheme: light dark; --paper: #ffffff; --ink: #1b1b1f; --dim: #55555f; --rule: #b9b9c4; --band: #dbe5f6; --mark: #1f4e9e; --gone: #9a3a00; }
+:root {
+  color-scheme: light dark; --paper: #ffffff; --ink: #1b1b1f; --rule: #b9b9c4; --band: #dbe5f6;
+  --mark: #1f4e9e; --gone: #9a3a00;
+}
 @media (prefers-color-scheme: dark) {
-  :root { --paper: #16161a; --ink: #ececf1; --dim: #b0b0bc; --rule: #4c4c58; --band: #24344f; --mark: #9cc0ff; --gone: #ffb47e; }
+  :root {
+    --paper: #16161a; --ink: #ececf1; --rule: #4c4c58; --band: #24344f; --mark: #9cc0ff; --gone: #ffb47e;
+  }
 }
 @media print {
-  :root { color-scheme: light; --paper: #ffffff; --ink: #000000; --dim: #333333; --rule: #777777; --band: #e4e4e4; --mark: #000000; --gone: #000000; }
+  :root {
+    color-scheme: light; --paper: #ffffff; --ink: #000000; --rule: #777777; --band: #e4e4e4; --mark: #000000;
+    --gone: #000000;
+  }
   main { max-width: none; }
   figure, tr { break-inside: avoid; }
 }
@@ -32,7 +40,8 @@ h2 { margin-top: 2.5rem; }
 figure { margin: 1rem 0; }
 table { border-collapse: collapse; margin: 1rem 0; }
 th, td { border: 1px solid var(--rule); padding: 0.25rem 0.6rem; text-align: left; vertical-align: top; }
-th, td, dd, code, pre { overflow-wrap: anywhere; unicode-bidi: isolate; }
+th { white-space: nowrap; }
+td, dd, code, pre { overflow-wrap: anywhere; unicode-bidi: isolate; }
 dt { font-weight: bold; }
 dd { margin: 0 0 0.5rem 1.5rem; }
 code, pre { font-family: ui-monospace, monospace; }

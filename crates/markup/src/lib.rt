@@ -1,5 +1,5 @@
-//! HTML pages of which each text that comes from the input stands escaped: the frame of a page, places in its drawings, and
-//! moments.
+//! HTML pages of which each text that comes from the input stands escaped: the frame of a page, places in its
+//! drawings, and moments.
 #![tactic(auto)]
 
 mod calendar;

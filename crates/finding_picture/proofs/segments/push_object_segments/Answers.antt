@@ -1,4 +1,4 @@
-use Rattle.std.proofs.Common.{◌≡◌, ◌+◌, ◌++◌, [], ◌∷◌, true, false, ap, arith, filter, length, string_bytes, sym, take, ◌∙◌}
+use Rattle.std.proofs.Common.{◌≡◌, ◌+◌, ◌++◌, [], ◌∷◌, ap, arith, filter, length, string_bytes, sym, take, ◌∙◌}
 use Rattle.std.specs.List.{flat_map}
 use Rattle.base_types.specs.Keys.{same_key}
 use Rattle.object_past.specs.declared.version.Version.{Version}
