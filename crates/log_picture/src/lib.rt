@@ -1,0 +1,12 @@
+//! The page that shows an explained log.
+#![tactic(auto)]
+
+mod counting;
+mod gone;
+mod kind;
+mod lanes;
+mod overview;
+mod page;
+mod revised;
+
+pub use page::log_page;
