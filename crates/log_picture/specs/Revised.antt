@@ -5,7 +5,8 @@ use Rattle.base_types.specs.declared.claim.Range.{Range}
 use Rattle.log_picture.specs.Gone.{line_at}
 use Rattle.log_picture.specs.declared.gone.TheConstants.{TABLE_END}
 use Rattle.log_picture.specs.declared.revised.Gap.{Gap}
-use Rattle.log_picture.specs.declared.revised.TheConstants.{GAPS_HEAD, HISTORY_HEAD, VERSIONS_HEAD}
+use Rattle.log_picture.specs.declared.revised.TheConstants.{HISTORY_HEAD}
+use Rattle.log_picture.specs.declared.tables.TheConstants.{GAPS_HEAD, VERSIONS_HEAD}
 use Rattle.markup.specs.Drawing.{position}
 use Rattle.markup.specs.Pieces.{fixed, number, told, shown}
 use Rattle.markup.specs.declared.drawing.Axis.{Axis}

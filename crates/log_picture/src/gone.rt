@@ -11,7 +11,8 @@ use write_groups::LogEvent;
 pub const REMOVALS_HEAD: &str = r#"<h2>Removals</h2>
 <p>A delete shows no revision, so a removal took place at one of a range of places.</p>
 <table>
-<thead><tr><th scope="col">Line</th><th scope="col">Object</th><th scope="col">Uid</th><th scope="col">Last revision</th><th scope="col">Range of places</th><th scope="col">Placed at</th></tr></thead>
+<thead><tr><th scope="col">Line</th><th scope="col">Object</th><th scope="col">Uid</th>
+<th scope="col">Last revision</th><th scope="col">Range of places</th><th scope="col">Placed at</th></tr></thead>
 <tbody>
 "#;
 

@@ -29,7 +29,9 @@ pub const TIME_HEAD: &str = r#"<h2>The log over time</h2>
 <figure>
 <svg viewBox="0 0 960 225" role="img" aria-labelledby="time-title time-desc">
 <title id="time-title">The log over time</title>
-<desc id="time-desc">Each event stands at the receipt of its request: writes as ticks, removals as diamonds, reads as circles, lists as squares, allowed requests as crosses that stand, forbidden ones as crosses that lie, unrecorded writes as broken ticks. The table below says the same.</desc>
+<desc id="time-desc">Each event stands at the receipt of its request: writes as ticks, removals as diamonds, reads as
+circles, lists as squares, allowed requests as crosses that stand, forbidden ones as crosses that lie, unrecorded writes as
+broken ticks. The table below says the same.</desc>
 <text x="4" y="28">Writes</text>
 <text x="4" y="58">Removals</text>
 <text x="4" y="88">Reads</text>
@@ -42,7 +44,8 @@ pub const TIME_HEAD: &str = r#"<h2>The log over time</h2>
 pub const EVENTS_HEAD: &str = r#"<details>
 <summary>The drawn events as a table</summary>
 <table>
-<thead><tr><th scope="col">Line</th><th scope="col">Receipt</th><th scope="col">Request</th><th scope="col">What the answer says</th><th scope="col">Decision</th></tr></thead>
+<thead><tr><th scope="col">Line</th><th scope="col">Receipt</th><th scope="col">Request</th>
+<th scope="col">What the answer says</th><th scope="col">Decision</th></tr></thead>
 <tbody>
 "#;
 

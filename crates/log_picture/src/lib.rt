@@ -8,5 +8,6 @@ mod lanes;
 mod overview;
 mod page;
 mod revised;
+mod tables;
 
 pub use page::log_page;

@@ -1,10 +1,11 @@
 ghost use Rattle.std.specs.Prelude.{◌≡◌, ◌++◌, OnOk, flat_map, string_bytes, take};
-ghost use Rattle.log_picture.specs.Revised.{axis_text, bar_text, bar_width, gap_mark, gap_row, gaps_table, history_drawing, history_marks, history_text, left_out_text, maker_text, more_text, range_text, rect_text, removal_mark, tick_text, version_cells, version_mark, version_row, versions_table};
+ghost use Rattle.log_picture.specs.Revised.{axis_text, bar_text, bar_width, gap_mark, history_drawing, history_marks, history_text, left_out_text, more_text, range_text, rect_text, removal_mark, tick_text, version_mark};
 
-use crate::gone::{TABLE_END, line_at};
+use crate::gone::line_at;
+use crate::tables::{append_gaps, append_versions};
 use base_types::{OutOfMemory, Range, key_text};
 use markup::{Axis, Told};
-use object_past::{Maker, Removal, Version};
+use object_past::{Removal, Version};
 use std::alloc::Global;
 use write_groups::LogEvent;
 
@@ -28,40 +29,26 @@ pub struct Drawn<'a> {
 }
 
 /// How many versions, removals and unrecorded writes are drawn at most, 2,000 in all.
-const VERSION_LIMIT: usize = 1_400;
+pub const VERSION_LIMIT: usize = 1_400;
 
 const REMOVAL_LIMIT: usize = 300;
 
-const GAP_LIMIT: usize = 300;
+pub const GAP_LIMIT: usize = 300;
 
 /// What stands in front of the drawing's marks.
 pub const HISTORY_HEAD: &str = r#"<h2>The history by revision</h2>
 <figure>
 <svg viewBox="0 0 960 205" role="img" aria-labelledby="history-title history-desc">
 <title id="history-title">The history by revision</title>
-<desc id="history-desc">Each version is a tick at its revision, each removal a bar over the range of its places, each unrecorded write a broken tick at the lowest place of its window. The tables below say the same.</desc>
+<desc id="history-desc">Each version is a tick at its revision, each removal a bar over the range of its places, each
+unrecorded write a broken tick at the lowest place of its window. The tables below say the same.</desc>
 <text x="4" y="36">Versions</text>
 <text x="4" y="98">Removals</text>
 <text x="4" y="158">Unrecorded writes</text>
 "#;
 
-/// What stands in front of the rows of the versions.
-pub const VERSIONS_HEAD: &str = r#"<h3>Versions</h3>
-<table>
-<thead><tr><th scope="col">Revision</th><th scope="col">Object</th><th scope="col">Written by</th></tr></thead>
-<tbody>
-"#;
-
-/// What stands in front of the rows of the unrecorded writes.
-pub const GAPS_HEAD: &str = r#"<h3>Unrecorded writes</h3>
-<p>From the lowest place of its window on, nothing is known of the objects that such a write may have changed.</p>
-<table>
-<thead><tr><th scope="col">Line</th><th scope="col">Lowest place</th></tr></thead>
-<tbody>
-"#;
-
-// The first items, at most so many.
-fn first_of<T>(items: &[T], limit: usize) -> &[T]
+/// The first items, at most so many.
+pub fn first_of<T>(items: &[T], limit: usize) -> &[T]
     ensures { result.now ≡ take limit items.now }
 {
     match items.get(..limit) {
@@ -296,107 +283,5 @@ pub fn append_more(
         let more = count - limit;
         writeln!(text, "<p>{more} more {words} aren't drawn.</p>")?;
     }
-    Ok(())
-}
-
-#[tactic(auto, unfolding(crate::specs::Revised::versions_table))]
-fn append_versions(
-    alloc: Global,
-    text: &mut String,
-    log: &[LogEvent],
-    versions: &[Version],
-) -> Result<(), OutOfMemory>
-    ensures { OnOk result (string_bytes text.new ≡ string_bytes text.old ++ versions_table log.now versions.now) }
-{
-    text.push_str(VERSIONS_HEAD)?;
-    append_version_rows(alloc, text, log, first_of(versions, VERSION_LIMIT))?;
-    text.push_str(TABLE_END)?;
-    Ok(())
-}
-
-fn append_version_rows(
-    alloc: Global,
-    text: &mut String,
-    log: &[LogEvent],
-    versions: &[Version],
-) -> Result<(), OutOfMemory>
-    ensures { OnOk result (string_bytes text.new ≡ string_bytes text.old ++ flat_map (version_row log.now) versions.now) }
-{
-    for version in versions {
-        append_version_row(alloc, text, log, version)?;
-    }
-    Ok(())
-}
-
-#[tactic(auto, unfolding(crate::specs::Revised::version_row))]
-fn append_version_row(
-    alloc: Global,
-    text: &mut String,
-    log: &[LogEvent],
-    version: &Version,
-) -> Result<(), OutOfMemory>
-    ensures { OnOk result (string_bytes text.new ≡ string_bytes text.old ++ version_row log.now version.now) }
-{
-    append_version_cells(alloc, text, version)?;
-    append_maker(text, log, version.maker)?;
-    text.push_str("</td></tr>\n")?;
-    Ok(())
-}
-
-#[tactic(auto, unfolding(crate::specs::Revised::version_cells))]
-fn append_version_cells(
-    alloc: Global,
-    text: &mut String,
-    version: &Version,
-) -> Result<(), OutOfMemory>
-    ensures { OnOk result (string_bytes text.new ≡ string_bytes text.old ++ version_cells version.now) }
-{
-    let revision = version.revision.get();
-    let key = key_text(alloc, &version.key)?;
-    write!(
-        text,
-        "<tr><td>{revision}</td><td>{}</td><td>",
-        Told(key.as_str())
-    )?;
-    Ok(())
-}
-
-#[tactic(auto, unfolding(crate::specs::Revised::maker_text))]
-fn append_maker(text: &mut String, log: &[LogEvent], maker: Maker) -> Result<(), OutOfMemory>
-    ensures { OnOk result (string_bytes text.new ≡ string_bytes text.old ++ maker_text log.now maker) }
-{
-    match maker {
-        Maker::Snapshot => text.push_str("there at the start")?,
-        Maker::Event(number) => write!(text, "line {}", line_at(log, number))?,
-        Maker::Unknown => text.push_str("an unrecorded write")?,
-    }
-    Ok(())
-}
-
-#[tactic(auto, unfolding(crate::specs::Revised::gaps_table))]
-fn append_gaps(text: &mut String, gaps: &[Gap]) -> Result<(), OutOfMemory>
-    ensures { OnOk result (string_bytes text.new ≡ string_bytes text.old ++ gaps_table gaps.now) }
-{
-    text.push_str(GAPS_HEAD)?;
-    append_gap_rows(text, first_of(gaps, GAP_LIMIT))?;
-    text.push_str(TABLE_END)?;
-    Ok(())
-}
-
-fn append_gap_rows(text: &mut String, gaps: &[Gap]) -> Result<(), OutOfMemory>
-    ensures { OnOk result (string_bytes text.new ≡ string_bytes text.old ++ flat_map gap_row gaps.now) }
-{
-    for gap in gaps {
-        append_gap_row(text, *gap)?;
-    }
-    Ok(())
-}
-
-#[tactic(auto, unfolding(crate::specs::Revised::gap_row))]
-fn append_gap_row(text: &mut String, gap: Gap) -> Result<(), OutOfMemory>
-    ensures { OnOk result (string_bytes text.new ≡ string_bytes text.old ++ gap_row gap) }
-{
-    let Gap { line, low } = gap;
-    writeln!(text, "<tr><td>{line}</td><td>{low}</td></tr>")?;
     Ok(())
 }

@@ -1,6 +1,6 @@
 use Rattle.std.proofs.Common.{append_assoc}
 use Rattle.log_picture.specs.Revised.{gaps_table}
-use Rattle.log_picture.proofs.revised.append_gaps.Goals as goal
+use Rattle.log_picture.proofs.tables.append_gaps.Goals as goal
 
 pub returns : goal.returns
 unfolding gaps_table
