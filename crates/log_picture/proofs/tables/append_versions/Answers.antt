@@ -1,0 +1,7 @@
+use Rattle.std.proofs.Common.{append_assoc}
+use Rattle.log_picture.specs.Revised.{versions_table}
+use Rattle.log_picture.proofs.tables.append_versions.Goals as goal
+
+pub returns : goal.returns
+unfolding versions_table
+returns c = rw (c.in_ok-push_str-2.ensures.bytes, c.in_ok-append_version_rows.ensures, c.first_of.ensures, c.in_ok-push_str.ensures.bytes) (simp append_assoc)

@@ -1,0 +1,131 @@
+-- The drawing of the history by revision.
+use Rattle.std.specs.Prelude.{ℕ, ◌+◌, ◌-◌, ◌*◌, ◌%◌, max, nat_lt, List, [], ◌∷◌, ◌++◌, length, take, codes, flat_map, if◌then◌else◌}
+use Rattle.base_types.specs.Keys.{key_spelling}
+use Rattle.base_types.specs.declared.claim.Range.{Range}
+use Rattle.log_picture.specs.Gone.{line_at}
+use Rattle.log_picture.specs.declared.gone.TheConstants.{TABLE_END}
+use Rattle.log_picture.specs.declared.revised.Gap.{Gap}
+use Rattle.log_picture.specs.declared.revised.TheConstants.{HISTORY_HEAD}
+use Rattle.log_picture.specs.declared.tables.TheConstants.{GAPS_HEAD, VERSIONS_HEAD}
+use Rattle.markup.specs.Drawing.{position}
+use Rattle.markup.specs.Pieces.{fixed, number, told, shown}
+use Rattle.markup.specs.declared.drawing.Axis.{Axis}
+use Rattle.object_past.specs.declared.removal.Removal.{Removal}
+use Rattle.object_past.specs.declared.version.Maker.{Maker}
+use Rattle.object_past.specs.declared.version.Maker.TheVariants.{Snapshot, Event, Unknown}
+use Rattle.object_past.specs.declared.version.Version.{Version}
+use Rattle.write_groups.specs.declared.event.LogEvent.{LogEvent}
+
+-- how many of each are drawn at most, 2000 in all
+abbrev pub version_limit : ℕ
+version_limit = 1400
+
+abbrev pub removal_limit : ℕ
+removal_limit = 300
+
+abbrev pub gap_limit : ℕ
+gap_limit = 300
+
+unfoldable pub tick_text : ℕ → ℕ → List ℕ → List ℕ
+tick_text x revision key = shown (
+    fixed (codes "<line class=\"tick\" x1=\"") ∷ number x ∷ fixed (codes "\" y1=\"20\" x2=\"") ∷ number x
+    ∷ fixed (codes "\" y2=\"44\"><title>Revision ") ∷ number revision ∷ fixed (codes ": ") ∷ told key
+    ∷ fixed (codes "</title></line>\n") ∷ [])
+
+-- a tick at the version's revision
+abbrev pub version_mark : Axis → Version → List ℕ
+version_mark axis v = tick_text (position axis v.revision) v.revision (key_spelling v.key)
+
+abbrev pub bar_width : Axis → ℕ → ℕ → ℕ
+bar_width axis low high = max 3 (position axis high - position axis low)
+
+-- Bars stand in one of six rows, so that those of ranges that share places can be told apart.
+abbrev pub bar_row : ℕ → ℕ
+bar_row n = 62 + n % 6 * 11
+
+-- as far right, down and wide
+unfoldable pub rect_text : ℕ → ℕ → ℕ → List ℕ
+rect_text x y width = shown (
+    fixed (codes "<rect class=\"bar\" x=\"") ∷ number x ∷ fixed (codes "\" y=\"") ∷ number y ∷ fixed (codes "\" width=\"") ∷ number width
+    ∷ fixed (codes "\" height=\"8\"><title>Line ") ∷ [])
+
+unfoldable pub range_text : ℕ → ℕ → ℕ → List ℕ → List ℕ
+range_text line low high key = shown (
+    number line ∷ fixed (codes ": removed at a place from ") ∷ number low ∷ fixed (codes " to ") ∷ number high ∷ fixed (codes ": ") ∷ told key
+    ∷ fixed (codes "</title></rect>\n") ∷ [])
+
+abbrev pub bar_text : Axis → Range → List ℕ
+bar_text axis range = rect_text (position axis range.low) (bar_row range.event) (bar_width axis range.low range.high)
+
+-- a bar over the removal's range
+unfoldable pub removal_mark : Axis → List LogEvent → Removal → List ℕ
+removal_mark axis log removal =
+    bar_text axis removal.range ++ range_text (line_at log removal.range.event) removal.range.low removal.range.high (key_spelling removal.key)
+
+-- a broken tick at the lowest place of the window of an unrecorded write
+unfoldable pub gap_mark : Axis → Gap → List ℕ
+gap_mark axis gap = shown (
+    fixed (codes "<line class=\"hatched\" x1=\"") ∷ number (position axis gap.low)
+    ∷ fixed (codes "\" y1=\"142\" x2=\"") ∷ number (position axis gap.low)
+    ∷ fixed (codes "\" y2=\"166\"><title>Line ") ∷ number gap.line
+    ∷ fixed (codes ": unrecorded write, from place ") ∷ number gap.low
+    ∷ fixed (codes " on</title></line>\n") ∷ [])
+
+-- the axis with the numbers of its ends
+unfoldable pub axis_text : Axis → List ℕ
+axis_text axis = shown (
+    fixed (codes "<line class=\"axis\" x1=\"150\" y1=\"178\" x2=\"930\" y2=\"178\"/>\n<text x=\"150\" y=\"196\">revision ") ∷ number axis.low
+    ∷ fixed (codes "</text>\n<text x=\"930\" y=\"196\" text-anchor=\"end\">revision ") ∷ number axis.high
+    ∷ fixed (codes "</text>\n</svg>\n</figure>\n") ∷ [])
+
+-- how many more there are than are drawn
+unfoldable pub more_text : ℕ → ℕ → List ℕ → List ℕ
+more_text limit count words =
+    if nat_lt limit count
+    then shown (fixed (codes "<p>") ∷ number (count - limit) ∷ fixed (codes " more ") ∷ fixed words ∷ fixed (codes " aren't drawn.</p>\n") ∷ [])
+    else []
+
+-- the marks of the first versions, removals and unrecorded writes
+unfoldable pub history_marks : Axis → List LogEvent → List Version → List Removal → List Gap → List ℕ
+history_marks axis log versions removals gaps =
+    flat_map (version_mark axis) (take version_limit versions) ++ flat_map (removal_mark axis log) (take removal_limit removals)
+    ++ flat_map (gap_mark axis) (take gap_limit gaps)
+
+unfoldable pub history_drawing : Axis → List LogEvent → List Version → List Removal → List Gap → List ℕ
+history_drawing axis log versions removals gaps = HISTORY_HEAD.now ++ history_marks axis log versions removals gaps ++ axis_text axis
+
+unfoldable pub left_out_text : List Version → List Removal → List Gap → List ℕ
+left_out_text versions removals gaps =
+    more_text version_limit (length versions) (codes "versions") ++ more_text removal_limit (length removals) (codes "removals")
+    ++ more_text gap_limit (length gaps) (codes "unrecorded writes")
+
+-- the line that wrote the version
+unfoldable pub maker_text : List LogEvent → Maker → List ℕ
+maker_text log Snapshot = codes "there at the start"
+maker_text log (Event n) = shown (fixed (codes "line ") ∷ number (line_at log n) ∷ [])
+maker_text log Unknown = codes "an unrecorded write"
+
+unfoldable pub version_cells : Version → List ℕ
+version_cells v = shown (
+    fixed (codes "<tr><td>") ∷ number v.revision ∷ fixed (codes "</td><td>") ∷ told (key_spelling v.key)
+    ∷ fixed (codes "</td><td>") ∷ [])
+
+unfoldable pub version_row : List LogEvent → Version → List ℕ
+version_row log v = version_cells v ++ maker_text log v.maker ++ codes "</td></tr>\n"
+
+unfoldable pub gap_row : Gap → List ℕ
+gap_row gap = shown (
+    fixed (codes "<tr><td>") ∷ number gap.line ∷ fixed (codes "</td><td>") ∷ number gap.low
+    ∷ fixed (codes "</td></tr>\n") ∷ [])
+
+-- the versions and unrecorded writes that are drawn
+unfoldable pub versions_table : List LogEvent → List Version → List ℕ
+versions_table log versions = VERSIONS_HEAD.now ++ flat_map (version_row log) (take version_limit versions) ++ TABLE_END.now
+
+unfoldable pub gaps_table : List Gap → List ℕ
+gaps_table gaps = GAPS_HEAD.now ++ flat_map gap_row (take gap_limit gaps) ++ TABLE_END.now
+
+unfoldable pub history_text : Axis → List LogEvent → List Version → List Removal → List Gap → List ℕ
+history_text axis log versions removals gaps =
+    history_drawing axis log versions removals gaps ++ left_out_text versions removals gaps ++ versions_table log versions
+    ++ gaps_table gaps

@@ -1,0 +1,335 @@
+ghost use Rattle.std.specs.Prelude.{◌≡◌, ◌≤◌, ◌++◌, min, OnOk, flat_map, length, string_bytes};
+ghost use Rattle.log_picture.specs.Lanes.{asked_cells, axis_high_text, axis_low_text, decision_form, decision_words, drawn_events, event_limit, event_row, events_table, form_mark, form_of, lane_of, mark_text, marks_text, outline_of, shape_text, style_of, time_axis_text, time_drawing, time_text, title_text};
+
+use crate::kind::{Kind, kind_of, kind_words};
+use crate::overview::{moment_at, receipt};
+use crate::revised::append_more;
+use audit_event::Event;
+use base_types::{Decision, OutOfMemory};
+use markup::{Axis, Told, push_moment};
+use write_groups::LogEvent;
+
+/// How an event is marked. Forms differ in their lines and not by colour alone.
+#[derive(Clone, Copy, PartialEq, Eq)]
+pub enum Form {
+    Write,
+    Removal,
+    Read,
+    List,
+    Allow,
+    Forbid,
+    Unrecorded,
+}
+
+/// How many events are drawn at most. Each has at most two marks.
+const EVENT_LIMIT: usize = 1_000;
+
+/// What stands in front of the drawing's marks.
+pub const TIME_HEAD: &str = r#"<h2>The log over time</h2>
+<figure>
+<svg viewBox="0 0 960 225" role="img" aria-labelledby="time-title time-desc">
+<title id="time-title">The log over time</title>
+<desc id="time-desc">Each event stands at the receipt of its request: writes as ticks, removals as diamonds, reads as
+circles, lists as squares, allowed requests as crosses that stand, forbidden ones as crosses that lie, unrecorded writes as
+broken ticks. The table below says the same.</desc>
+<text x="4" y="28">Writes</text>
+<text x="4" y="58">Removals</text>
+<text x="4" y="88">Reads</text>
+<text x="4" y="118">Lists</text>
+<text x="4" y="148">Decisions</text>
+<text x="4" y="178">Unrecorded writes</text>
+"#;
+
+/// What stands in front of the rows of the drawn events.
+pub const EVENTS_HEAD: &str = r#"<details>
+<summary>The drawn events as a table</summary>
+<table>
+<thead><tr><th scope="col">Line</th><th scope="col">Receipt</th><th scope="col">Request</th>
+<th scope="col">What the answer says</th><th scope="col">Decision</th></tr></thead>
+<tbody>
+"#;
+
+/// What stands behind them.
+pub const EVENTS_END: &str = "</tbody>\n</table>\n</details>\n";
+
+fn form_of(kind: Kind) -> Option<Form>
+    ensures { result ≡ form_of kind }
+{
+    match kind {
+        Kind::Created => Some(Form::Write),
+        Kind::Changed => Some(Form::Write),
+        Kind::Removed => Some(Form::Removal),
+        Kind::Unrecorded => Some(Form::Unrecorded),
+        Kind::Saw => Some(Form::Read),
+        Kind::NotFound => Some(Form::Read),
+        Kind::AlreadyExists => Some(Form::Read),
+        Kind::Conflict => Some(Form::Read),
+        Kind::Listed => Some(Form::List),
+        Kind::Free => None,
+        Kind::Aside => None,
+    }
+}
+
+fn decision_form(decision: Option<Decision>) -> Option<Form>
+    ensures { result ≡ decision_form decision }
+{
+    match decision {
+        Some(Decision::Allow) => Some(Form::Allow),
+        Some(Decision::Forbid) => Some(Form::Forbid),
+        None => None,
+    }
+}
+
+// By which of the page's styles it is drawn.
+fn style_of(form: Form) -> &'static str
+    ensures { result.now ≡ style_of form }
+{
+    match form {
+        Form::Write => "tick",
+        Form::Removal => "diamond",
+        Form::Read => "segment",
+        Form::List => "segment",
+        Form::Allow => "tick",
+        Form::Forbid => "tick",
+        Form::Unrecorded => "hatched",
+    }
+}
+
+// The lines of the form, as SVG's path data.
+fn outline_of(form: Form) -> &'static str
+    ensures { result.now ≡ outline_of form }
+{
+    match form {
+        Form::Write => "M0 -9V9",
+        Form::Removal => "M0 -8L6 0L0 8L-6 0Z",
+        Form::Read => "M-5 0A5 5 0 1 0 5 0A5 5 0 1 0 -5 0Z",
+        Form::List => "M-5 -5H5V5H-5Z",
+        Form::Allow => "M-6 0H6M0 -6V6",
+        Form::Forbid => "M-5 -5L5 5M5 -5L-5 5",
+        Form::Unrecorded => "M0 -9V9",
+    }
+}
+
+// How far down its lane is.
+fn lane_of(form: Form) -> u32
+    ensures { result ≡ lane_of form }
+{
+    match form {
+        Form::Write => 24,
+        Form::Removal => 54,
+        Form::Read => 84,
+        Form::List => 114,
+        Form::Allow => 144,
+        Form::Forbid => 144,
+        Form::Unrecorded => 174,
+    }
+}
+
+fn decision_words(decision: Option<Decision>) -> &'static str
+    ensures { result.now ≡ decision_words decision }
+{
+    match decision {
+        Some(Decision::Allow) => "allow",
+        Some(Decision::Forbid) => "forbid",
+        None => "not judged",
+    }
+}
+
+// How many events of a log are drawn.
+fn drawn_count(events: &[Event], log: &[LogEvent]) -> usize
+    ensures { result ≡ min event_limit (min (length events.now) (length log.now)) }
+{
+    EVENT_LIMIT.min(events.len().min(log.len()))
+}
+
+/// Appends the drawing of the log over time, and its table.
+#[tactic(auto, unfolding(crate::specs::Lanes::time_text))]
+pub fn append_time(
+    text: &mut String,
+    axis: &Axis,
+    events: &[Event],
+    log: &[LogEvent],
+) -> Result<(), OutOfMemory>
+    ensures { OnOk result (string_bytes text.new ≡ string_bytes text.old ++ time_text axis.now events.now log.now) }
+{
+    append_drawing(text, axis, events, log)?;
+    append_more(text, EVENT_LIMIT, events.len(), "events")?;
+    append_table(text, events, log)?;
+    Ok(())
+}
+
+#[tactic(auto, unfolding(crate::specs::Lanes::time_drawing))]
+fn append_drawing(
+    text: &mut String,
+    axis: &Axis,
+    events: &[Event],
+    log: &[LogEvent],
+) -> Result<(), OutOfMemory>
+    ensures { OnOk result (string_bytes text.new ≡ string_bytes text.old ++ time_drawing axis.now events.now log.now) }
+{
+    text.push_str(TIME_HEAD)?;
+    append_marks(text, axis, events, log)?;
+    append_axis(text, axis)?;
+    Ok(())
+}
+
+#[tactic(auto, unfolding(crate::specs::Lanes::events_table))]
+fn append_table(text: &mut String, events: &[Event], log: &[LogEvent]) -> Result<(), OutOfMemory>
+    ensures { OnOk result (string_bytes text.new ≡ string_bytes text.old ++ events_table events.now log.now) }
+{
+    text.push_str(EVENTS_HEAD)?;
+    append_rows(text, events, log)?;
+    text.push_str(EVENTS_END)?;
+    Ok(())
+}
+
+fn append_marks(
+    text: &mut String,
+    axis: &Axis,
+    events: &[Event],
+    log: &[LogEvent],
+) -> Result<(), OutOfMemory>
+    ensures { OnOk result (string_bytes text.new ≡ string_bytes text.old ++ flat_map (marks_text axis.now) (drawn_events events.now log.now)) }
+{
+    let count = drawn_count(events, log);
+    for number in 0..count {
+        append_event_marks(text, axis, &events[number], &log[number])?;
+    }
+    Ok(())
+}
+
+#[tactic(auto, unfolding(crate::specs::Lanes::marks_text))]
+fn append_event_marks(
+    text: &mut String,
+    axis: &Axis,
+    event: &Event,
+    logged: &LogEvent,
+) -> Result<(), OutOfMemory>
+    ensures { OnOk result (string_bytes text.new ≡ string_bytes text.old ++ marks_text axis.now (event.now, logged.now)) }
+{
+    let x = axis.position(receipt(event));
+    append_mark(text, x, event, form_of(kind_of(&logged.answer)))?;
+    append_mark(text, x, event, decision_form(logged.decision))?;
+    Ok(())
+}
+
+#[tactic(auto, unfolding(crate::specs::Lanes::mark_text))]
+fn append_mark(
+    text: &mut String,
+    x: u64,
+    event: &Event,
+    form: Option<Form>,
+) -> Result<(), OutOfMemory>
+    ensures { OnOk result (string_bytes text.new ≡ string_bytes text.old ++ mark_text x event.now form) }
+{
+    match form {
+        Some(form) => append_form(text, x, event, form)?,
+        None => {}
+    }
+    Ok(())
+}
+
+#[tactic(auto, unfolding(crate::specs::Lanes::form_mark))]
+fn append_form(text: &mut String, x: u64, event: &Event, form: Form) -> Result<(), OutOfMemory>
+    ensures { OnOk result (string_bytes text.new ≡ string_bytes text.old ++ form_mark x event.now form) }
+{
+    append_shape(text, style_of(form), outline_of(form), x, lane_of(form))?;
+    append_title(text, event)?;
+    Ok(())
+}
+
+#[tactic(auto, unfolding(crate::specs::Lanes::shape_text))]
+fn append_shape(
+    text: &mut String,
+    style: &str,
+    outline: &str,
+    x: u64,
+    y: u32,
+) -> Result<(), OutOfMemory>
+    ensures { OnOk result (string_bytes text.new ≡ string_bytes text.old ++ shape_text style.now outline.now x y) }
+{
+    write!(
+        text,
+        "<path class=\"{style}\" d=\"{outline}\" transform=\"translate({x} {y})\"><title>Line "
+    )?;
+    Ok(())
+}
+
+#[tactic(auto, unfolding(crate::specs::Lanes::title_text))]
+fn append_title(text: &mut String, event: &Event) -> Result<(), OutOfMemory>
+    ensures { OnOk result (string_bytes text.new ≡ string_bytes text.old ++ title_text event.now) }
+{
+    writeln!(
+        text,
+        "{}: {} {}</title></path>",
+        event.line,
+        Told(event.attrs.verb.as_str()),
+        Told(event.attrs.path.as_str())
+    )?;
+    Ok(())
+}
+
+#[tactic(auto, unfolding(crate::specs::Lanes::time_axis_text))]
+fn append_axis(text: &mut String, axis: &Axis) -> Result<(), OutOfMemory>
+    ensures { OnOk result (string_bytes text.new ≡ string_bytes text.old ++ time_axis_text axis.now) }
+{
+    append_axis_low(text, axis)?;
+    append_axis_high(text, axis)?;
+    Ok(())
+}
+
+#[tactic(auto, unfolding(crate::specs::Lanes::axis_low_text))]
+fn append_axis_low(text: &mut String, axis: &Axis) -> Result<(), OutOfMemory>
+    ensures { OnOk result (string_bytes text.new ≡ string_bytes text.old ++ axis_low_text axis.now) }
+{
+    text.push_str(
+        "<line class=\"axis\" x1=\"150\" y1=\"198\" x2=\"930\" y2=\"198\"/>\n<text x=\"150\" y=\"216\">",
+    )?;
+    push_moment(text, moment_at(axis.low))?;
+    Ok(())
+}
+
+#[tactic(auto, unfolding(crate::specs::Lanes::axis_high_text))]
+fn append_axis_high(text: &mut String, axis: &Axis) -> Result<(), OutOfMemory>
+    ensures { OnOk result (string_bytes text.new ≡ string_bytes text.old ++ axis_high_text axis.now) }
+{
+    text.push_str("</text>\n<text x=\"930\" y=\"216\" text-anchor=\"end\">")?;
+    push_moment(text, moment_at(axis.high))?;
+    text.push_str("</text>\n</svg>\n</figure>\n")?;
+    Ok(())
+}
+
+fn append_rows(text: &mut String, events: &[Event], log: &[LogEvent]) -> Result<(), OutOfMemory>
+    ensures { OnOk result (string_bytes text.new ≡ string_bytes text.old ++ flat_map event_row (drawn_events events.now log.now)) }
+{
+    let count = drawn_count(events, log);
+    for number in 0..count {
+        append_row(text, &events[number], &log[number])?;
+    }
+    Ok(())
+}
+
+#[tactic(auto, unfolding(crate::specs::Lanes::event_row))]
+fn append_row(text: &mut String, event: &Event, logged: &LogEvent) -> Result<(), OutOfMemory>
+    ensures { OnOk result (string_bytes text.new ≡ string_bytes text.old ++ event_row (event.now, logged.now)) }
+{
+    write!(text, "<tr><td>{}</td><td>", event.line)?;
+    push_moment(text, event.received)?;
+    append_asked(text, event, logged)?;
+    Ok(())
+}
+
+#[tactic(auto, unfolding(crate::specs::Lanes::asked_cells))]
+fn append_asked(text: &mut String, event: &Event, logged: &LogEvent) -> Result<(), OutOfMemory>
+    ensures { OnOk result (string_bytes text.new ≡ string_bytes text.old ++ asked_cells event.now logged.now) }
+{
+    let answered = kind_words(kind_of(&logged.answer));
+    let decided = decision_words(logged.decision);
+    writeln!(
+        text,
+        "</td><td>{} {}</td><td>{answered}</td><td>{decided}</td></tr>",
+        Told(event.attrs.verb.as_str()),
+        Told(event.attrs.path.as_str())
+    )?;
+    Ok(())
+}

@@ -1,0 +1,177 @@
+ghost use Rattle.std.specs.Prelude.{◌≡◌, ◌<◌, [], ◌∷◌, ◌++◌, IfOk, OnOk, Some, length, slice_get, string_bytes};
+ghost use Rattle.log_picture.specs.Page.{events_text, gap_of, gaps_in, log_page_text, objects_text, overview_of, revision_axis, sections_text, time_axis};
+ghost use Rattle.version_store.specs.Histories.{history_of};
+
+use crate::counting::append_counts;
+use crate::gone::append_removals;
+use crate::kind::{Kind, is_of};
+use crate::lanes::append_time;
+use crate::overview::{Overview, append_overview, first_receipt, greatest_revision, last_receipt};
+use crate::revised::{Drawn, Gap, append_history};
+use base_types::{OutOfMemory, PlacedLine, Placement};
+use markup::{Axis, push_begin, push_end};
+use std::alloc::Global;
+use version_store::Context;
+use write_groups::LogEvent;
+
+/// The page of an explained log, with the placement that explains it: one HTML text that needs nothing beside it, in which each
+/// text of the setup and of the log stands escaped.
+#[tactic(auto, unfolding(crate::specs::Page::log_page_text))]
+pub fn log_page(
+    alloc: Global,
+    context: &Context,
+    placement: &Placement,
+) -> Result<String, OutOfMemory>
+    ensures { IfOk result (λ page. string_bytes page ≡ log_page_text context.now placement.now) }
+{
+    let gaps = gaps_of(alloc, context)?;
+    let mut text = String::new(alloc);
+    push_begin(&mut text, "Explained log")?;
+    append_sections(
+        alloc,
+        &mut text,
+        context,
+        overview_of(context),
+        placement.as_slice(),
+        gaps.as_slice(),
+    )?;
+    push_end(&mut text)?;
+    Ok(text)
+}
+
+// Puts the event of this number behind the others, where it is an unrecorded write.
+fn push_gap(
+    gaps: &mut Vec<Gap>,
+    context: &Context,
+    number: u32,
+    event: &LogEvent,
+) -> Result<(), OutOfMemory>
+    requires within { number < length context.now.log }
+    requires at { slice_get context.now.log number ≡ Some event.now }
+    ensures { OnOk result (gaps.new.items ≡ gaps.old.items ++ gaps_in (history_of context.now) (event.now ∷ [])) }
+{
+    if !is_of(event, Kind::Unrecorded) {
+        return Ok(());
+    }
+    gaps.push(gap_of(context, number, event))?;
+    Ok(())
+}
+
+fn gap_of(context: &Context, number: u32, event: &LogEvent) -> Gap
+    requires within { number < length context.now.log }
+    requires at { slice_get context.now.log number ≡ Some event.now }
+    ensures { result ≡ gap_of (history_of context.now) event.now }
+{
+    let window = context.window(number);
+    Gap {
+        line: event.line,
+        low: window.low,
+    }
+}
+
+fn gaps_of(alloc: Global, context: &Context) -> Result<Vec<Gap>, OutOfMemory>
+    ensures { IfOk result (λ gaps. gaps.items ≡ gaps_in (history_of context.now) context.now.log) }
+{
+    let log = context.log();
+    let mut gaps = Vec::new(alloc);
+    for number in 0..context.count() {
+        push_gap(&mut gaps, context, number, &log[number as usize])?;
+    }
+    Ok(gaps)
+}
+
+fn overview_of(context: &Context) -> Overview
+    ensures { result ≡ overview_of context.now }
+{
+    let setup = context.setup();
+    let events = context.events();
+    Overview {
+        events: events.len(),
+        checkpoints: setup.checkpoints.len(),
+        first: first_receipt(events),
+        last: last_receipt(events),
+        start: setup.start.get(),
+        greatest: greatest_revision(setup.start, context.versions()),
+    }
+}
+
+fn time_axis(overview: Overview) -> Axis
+    ensures { result ≡ time_axis overview }
+{
+    Axis {
+        low: overview.first,
+        high: overview.last,
+        left: 150,
+        width: 780,
+    }
+}
+
+fn revision_axis(overview: Overview) -> Axis
+    ensures { result ≡ revision_axis overview }
+{
+    Axis {
+        low: overview.start,
+        high: overview.greatest,
+        left: 150,
+        width: 780,
+    }
+}
+
+#[tactic(auto, unfolding(crate::specs::Page::sections_text))]
+fn append_sections(
+    alloc: Global,
+    text: &mut String,
+    context: &Context,
+    overview: Overview,
+    lines: &[PlacedLine],
+    gaps: &[Gap],
+) -> Result<(), OutOfMemory>
+    ensures { OnOk result (string_bytes text.new ≡ string_bytes text.old ++ sections_text context.now overview lines.now gaps.now) }
+{
+    append_events(text, context, overview)?;
+    append_objects(alloc, text, context, overview, lines, gaps)?;
+    Ok(())
+}
+
+// Appends the verdict, how the events were judged, and the log over time.
+#[tactic(auto, unfolding(crate::specs::Page::events_text))]
+fn append_events(
+    text: &mut String,
+    context: &Context,
+    overview: Overview,
+) -> Result<(), OutOfMemory>
+    ensures { OnOk result (string_bytes text.new ≡ string_bytes text.old ++ events_text context.now overview) }
+{
+    let log = context.log();
+    let axis = time_axis(overview);
+    append_overview(text, overview)?;
+    append_counts(text, log)?;
+    append_time(text, &axis, context.events(), log)?;
+    Ok(())
+}
+
+// Appends the history by revision, and the removals.
+#[tactic(auto, unfolding(crate::specs::Page::objects_text))]
+fn append_objects(
+    alloc: Global,
+    text: &mut String,
+    context: &Context,
+    overview: Overview,
+    lines: &[PlacedLine],
+    gaps: &[Gap],
+) -> Result<(), OutOfMemory>
+    ensures { OnOk result (string_bytes text.new ≡ string_bytes text.old ++ objects_text context.now overview lines.now gaps.now) }
+{
+    let log = context.log();
+    let removals = context.past().removals();
+    let drawn = Drawn {
+        axis: revision_axis(overview),
+        log,
+        versions: context.versions(),
+        removals,
+        gaps,
+    };
+    append_history(alloc, text, &drawn)?;
+    append_removals(alloc, text, log, lines, removals)?;
+    Ok(())
+}

@@ -1,0 +1,287 @@
+ghost use Rattle.std.specs.Prelude.{◌≡◌, ◌++◌, OnOk, flat_map, string_bytes, take};
+ghost use Rattle.log_picture.specs.Revised.{axis_text, bar_text, bar_width, gap_mark, history_drawing, history_marks, history_text, left_out_text, more_text, range_text, rect_text, removal_mark, tick_text, version_mark};
+
+use crate::gone::line_at;
+use crate::tables::{append_gaps, append_versions};
+use base_types::{OutOfMemory, Range, key_text};
+use markup::{Axis, Told};
+use object_past::{Removal, Version};
+use std::alloc::Global;
+use write_groups::LogEvent;
+
+/// An unrecorded write.
+#[derive(Clone, Copy)]
+pub struct Gap {
+    /// The event's line.
+    pub line: u64,
+    /// The lowest place of its window.
+    pub low: u64,
+}
+
+/// What is drawn of a log's history by revision.
+#[derive(Clone, Copy)]
+pub struct Drawn<'a> {
+    pub axis: Axis,
+    pub log: &'a [LogEvent],
+    pub versions: &'a [Version],
+    pub removals: &'a [Removal],
+    pub gaps: &'a [Gap],
+}
+
+/// How many versions, removals and unrecorded writes are drawn at most, 2,000 in all.
+pub const VERSION_LIMIT: usize = 1_400;
+
+const REMOVAL_LIMIT: usize = 300;
+
+pub const GAP_LIMIT: usize = 300;
+
+/// What stands in front of the drawing's marks.
+pub const HISTORY_HEAD: &str = r#"<h2>The history by revision</h2>
+<figure>
+<svg viewBox="0 0 960 205" role="img" aria-labelledby="history-title history-desc">
+<title id="history-title">The history by revision</title>
+<desc id="history-desc">Each version is a tick at its revision, each removal a bar over the range of its places, each
+unrecorded write a broken tick at the lowest place of its window. The tables below say the same.</desc>
+<text x="4" y="36">Versions</text>
+<text x="4" y="98">Removals</text>
+<text x="4" y="158">Unrecorded writes</text>
+"#;
+
+/// The first items, at most so many.
+pub fn first_of<T>(items: &[T], limit: usize) -> &[T]
+    ensures { result.now ≡ take limit items.now }
+{
+    match items.get(..limit) {
+        Some(first) => first,
+        None => items,
+    }
+}
+
+/// Appends the drawing of the history by revision, and its tables but that of the removals.
+#[tactic(auto, unfolding(crate::specs::Revised::history_text))]
+pub fn append_history(
+    alloc: Global,
+    text: &mut String,
+    drawn: &Drawn<'_>,
+) -> Result<(), OutOfMemory>
+    ensures { OnOk result (string_bytes text.new ≡ string_bytes text.old ++ history_text drawn.now.axis drawn.now.log.now drawn.now.versions.now drawn.now.removals.now drawn.now.gaps.now) }
+{
+    append_drawing(alloc, text, drawn)?;
+    append_left_out(text, drawn)?;
+    append_versions(alloc, text, drawn.log, drawn.versions)?;
+    append_gaps(text, drawn.gaps)?;
+    Ok(())
+}
+
+#[tactic(auto, unfolding(crate::specs::Revised::history_drawing))]
+fn append_drawing(alloc: Global, text: &mut String, drawn: &Drawn<'_>) -> Result<(), OutOfMemory>
+    ensures { OnOk result (string_bytes text.new ≡ string_bytes text.old ++ history_drawing drawn.now.axis drawn.now.log.now drawn.now.versions.now drawn.now.removals.now drawn.now.gaps.now) }
+{
+    text.push_str(HISTORY_HEAD)?;
+    append_history_marks(alloc, text, drawn)?;
+    append_axis(text, &drawn.axis)?;
+    Ok(())
+}
+
+#[tactic(auto, unfolding(crate::specs::Revised::history_marks))]
+fn append_history_marks(
+    alloc: Global,
+    text: &mut String,
+    drawn: &Drawn<'_>,
+) -> Result<(), OutOfMemory>
+    ensures { OnOk result (string_bytes text.new ≡ string_bytes text.old ++ history_marks drawn.now.axis drawn.now.log.now drawn.now.versions.now drawn.now.removals.now drawn.now.gaps.now) }
+{
+    let axis = &drawn.axis;
+    append_version_marks(alloc, text, axis, first_of(drawn.versions, VERSION_LIMIT))?;
+    append_removal_marks(
+        alloc,
+        text,
+        axis,
+        drawn.log,
+        first_of(drawn.removals, REMOVAL_LIMIT),
+    )?;
+    append_gap_marks(text, axis, first_of(drawn.gaps, GAP_LIMIT))?;
+    Ok(())
+}
+
+fn append_version_marks(
+    alloc: Global,
+    text: &mut String,
+    axis: &Axis,
+    versions: &[Version],
+) -> Result<(), OutOfMemory>
+    ensures { OnOk result (string_bytes text.new ≡ string_bytes text.old ++ flat_map (version_mark axis.now) versions.now) }
+{
+    for version in versions {
+        append_version_mark(alloc, text, axis, version)?;
+    }
+    Ok(())
+}
+
+fn append_version_mark(
+    alloc: Global,
+    text: &mut String,
+    axis: &Axis,
+    version: &Version,
+) -> Result<(), OutOfMemory>
+    ensures { OnOk result (string_bytes text.new ≡ string_bytes text.old ++ version_mark axis.now version.now) }
+{
+    let revision = version.revision.get();
+    let x = axis.position(revision);
+    let key = key_text(alloc, &version.key)?;
+    append_tick(text, x, revision, key.as_str())?;
+    Ok(())
+}
+
+#[tactic(auto, unfolding(crate::specs::Revised::tick_text))]
+fn append_tick(text: &mut String, x: u64, revision: u64, key: &str) -> Result<(), OutOfMemory>
+    ensures { OnOk result (string_bytes text.new ≡ string_bytes text.old ++ tick_text x revision key.now) }
+{
+    writeln!(
+        text,
+        "<line class=\"tick\" x1=\"{x}\" y1=\"20\" x2=\"{x}\" y2=\"44\"><title>Revision {revision}: {}</title></line>",
+        Told(key)
+    )?;
+    Ok(())
+}
+
+fn append_removal_marks(
+    alloc: Global,
+    text: &mut String,
+    axis: &Axis,
+    log: &[LogEvent],
+    removals: &[Removal],
+) -> Result<(), OutOfMemory>
+    ensures { OnOk result (string_bytes text.new ≡ string_bytes text.old ++ flat_map (removal_mark axis.now log.now) removals.now) }
+{
+    for removal in removals {
+        append_removal_mark(alloc, text, axis, log, removal)?;
+    }
+    Ok(())
+}
+
+fn bar_width(axis: &Axis, low: u64, high: u64) -> u64
+    ensures { result ≡ bar_width axis.now low high }
+{
+    axis.position(high)
+        .saturating_sub(axis.position(low))
+        .max(3)
+}
+
+#[tactic(auto, unfolding(crate::specs::Revised::removal_mark))]
+fn append_removal_mark(
+    alloc: Global,
+    text: &mut String,
+    axis: &Axis,
+    log: &[LogEvent],
+    removal: &Removal,
+) -> Result<(), OutOfMemory>
+    ensures { OnOk result (string_bytes text.new ≡ string_bytes text.old ++ removal_mark axis.now log.now removal.now) }
+{
+    let range = removal.range;
+    let line = line_at(log, range.event);
+    let key = key_text(alloc, &removal.key)?;
+    append_bar(text, axis, range)?;
+    append_range(text, line, range.low, range.high, key.as_str())?;
+    Ok(())
+}
+
+fn append_bar(text: &mut String, axis: &Axis, range: Range) -> Result<(), OutOfMemory>
+    ensures { OnOk result (string_bytes text.new ≡ string_bytes text.old ++ bar_text axis.now range) }
+{
+    let x = axis.position(range.low);
+    let y = 62 + range.event % 6 * 11;
+    let width = bar_width(axis, range.low, range.high);
+    append_rect(text, x, y, width)?;
+    Ok(())
+}
+
+#[tactic(auto, unfolding(crate::specs::Revised::rect_text))]
+fn append_rect(text: &mut String, x: u64, y: u32, width: u64) -> Result<(), OutOfMemory>
+    ensures { OnOk result (string_bytes text.new ≡ string_bytes text.old ++ rect_text x y width) }
+{
+    write!(
+        text,
+        "<rect class=\"bar\" x=\"{x}\" y=\"{y}\" width=\"{width}\" height=\"8\"><title>Line "
+    )?;
+    Ok(())
+}
+
+#[tactic(auto, unfolding(crate::specs::Revised::range_text))]
+fn append_range(
+    text: &mut String,
+    line: u64,
+    low: u64,
+    high: u64,
+    key: &str,
+) -> Result<(), OutOfMemory>
+    ensures { OnOk result (string_bytes text.new ≡ string_bytes text.old ++ range_text line low high key.now) }
+{
+    writeln!(
+        text,
+        "{line}: removed at a place from {low} to {high}: {}</title></rect>",
+        Told(key)
+    )?;
+    Ok(())
+}
+
+fn append_gap_marks(text: &mut String, axis: &Axis, gaps: &[Gap]) -> Result<(), OutOfMemory>
+    ensures { OnOk result (string_bytes text.new ≡ string_bytes text.old ++ flat_map (gap_mark axis.now) gaps.now) }
+{
+    for gap in gaps {
+        append_gap_mark(text, axis, *gap)?;
+    }
+    Ok(())
+}
+
+#[tactic(auto, unfolding(crate::specs::Revised::gap_mark))]
+fn append_gap_mark(text: &mut String, axis: &Axis, gap: Gap) -> Result<(), OutOfMemory>
+    ensures { OnOk result (string_bytes text.new ≡ string_bytes text.old ++ gap_mark axis.now gap) }
+{
+    let Gap { line, low } = gap;
+    let x = axis.position(low);
+    writeln!(
+        text,
+        "<line class=\"hatched\" x1=\"{x}\" y1=\"142\" x2=\"{x}\" y2=\"166\"><title>Line {line}: unrecorded write, from place {low} on</title></line>"
+    )?;
+    Ok(())
+}
+
+#[tactic(auto, unfolding(crate::specs::Revised::axis_text))]
+fn append_axis(text: &mut String, axis: &Axis) -> Result<(), OutOfMemory>
+    ensures { OnOk result (string_bytes text.new ≡ string_bytes text.old ++ axis_text axis.now) }
+{
+    let Axis { low, high, .. } = *axis;
+    write!(
+        text,
+        "<line class=\"axis\" x1=\"150\" y1=\"178\" x2=\"930\" y2=\"178\"/>\n<text x=\"150\" y=\"196\">revision {low}</text>\n<text x=\"930\" y=\"196\" text-anchor=\"end\">revision {high}</text>\n</svg>\n</figure>\n"
+    )?;
+    Ok(())
+}
+
+#[tactic(auto, unfolding(crate::specs::Revised::left_out_text))]
+fn append_left_out(text: &mut String, drawn: &Drawn<'_>) -> Result<(), OutOfMemory>
+    ensures { OnOk result (string_bytes text.new ≡ string_bytes text.old ++ left_out_text drawn.now.versions.now drawn.now.removals.now drawn.now.gaps.now) }
+{
+    append_more(text, VERSION_LIMIT, drawn.versions.len(), "versions")?;
+    append_more(text, REMOVAL_LIMIT, drawn.removals.len(), "removals")?;
+    append_more(text, GAP_LIMIT, drawn.gaps.len(), "unrecorded writes")?;
+    Ok(())
+}
+
+/// Says how many more there are than are drawn.
+#[tactic(auto, unfolding(crate::specs::Revised::more_text))]
+pub fn append_more(
+    text: &mut String,
+    limit: usize,
+    count: usize,
+    words: &str,
+) -> Result<(), OutOfMemory>
+    ensures { OnOk result (string_bytes text.new ≡ string_bytes text.old ++ more_text limit count words.now) }
+{
+    if limit < count {
+        let more = count - limit;
+        writeln!(text, "<p>{more} more {words} aren't drawn.</p>")?;
+    }
+    Ok(())
+}

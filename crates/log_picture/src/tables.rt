@@ -1,0 +1,129 @@
+ghost use Rattle.std.specs.Prelude.{◌≡◌, ◌++◌, OnOk, flat_map, string_bytes};
+ghost use Rattle.log_picture.specs.Revised.{gap_row, gaps_table, maker_text, version_cells, version_row, versions_table};
+
+use crate::gone::{TABLE_END, line_at};
+use crate::revised::{GAP_LIMIT, Gap, VERSION_LIMIT, first_of};
+use base_types::{OutOfMemory, key_text};
+use markup::Told;
+use object_past::{Maker, Version};
+use std::alloc::Global;
+use write_groups::LogEvent;
+
+/// What stands in front of the rows of the versions.
+pub const VERSIONS_HEAD: &str = r#"<h3>Versions</h3>
+<table>
+<thead><tr><th scope="col">Revision</th><th scope="col">Object</th><th scope="col">Written by</th></tr></thead>
+<tbody>
+"#;
+
+/// What stands in front of the rows of the unrecorded writes.
+pub const GAPS_HEAD: &str = r#"<h3>Unrecorded writes</h3>
+<p>From the lowest place of its window on, nothing is known of the objects that such a write may have changed.</p>
+<table>
+<thead><tr><th scope="col">Line</th><th scope="col">Lowest place</th></tr></thead>
+<tbody>
+"#;
+
+/// Appends the table of the drawn versions.
+#[tactic(auto, unfolding(crate::specs::Revised::versions_table))]
+pub fn append_versions(
+    alloc: Global,
+    text: &mut String,
+    log: &[LogEvent],
+    versions: &[Version],
+) -> Result<(), OutOfMemory>
+    ensures { OnOk result (string_bytes text.new ≡ string_bytes text.old ++ versions_table log.now versions.now) }
+{
+    text.push_str(VERSIONS_HEAD)?;
+    append_version_rows(alloc, text, log, first_of(versions, VERSION_LIMIT))?;
+    text.push_str(TABLE_END)?;
+    Ok(())
+}
+
+fn append_version_rows(
+    alloc: Global,
+    text: &mut String,
+    log: &[LogEvent],
+    versions: &[Version],
+) -> Result<(), OutOfMemory>
+    ensures { OnOk result (string_bytes text.new ≡ string_bytes text.old ++ flat_map (version_row log.now) versions.now) }
+{
+    for version in versions {
+        append_version_row(alloc, text, log, version)?;
+    }
+    Ok(())
+}
+
+#[tactic(auto, unfolding(crate::specs::Revised::version_row))]
+fn append_version_row(
+    alloc: Global,
+    text: &mut String,
+    log: &[LogEvent],
+    version: &Version,
+) -> Result<(), OutOfMemory>
+    ensures { OnOk result (string_bytes text.new ≡ string_bytes text.old ++ version_row log.now version.now) }
+{
+    append_version_cells(alloc, text, version)?;
+    append_maker(text, log, version.maker)?;
+    text.push_str("</td></tr>\n")?;
+    Ok(())
+}
+
+#[tactic(auto, unfolding(crate::specs::Revised::version_cells))]
+fn append_version_cells(
+    alloc: Global,
+    text: &mut String,
+    version: &Version,
+) -> Result<(), OutOfMemory>
+    ensures { OnOk result (string_bytes text.new ≡ string_bytes text.old ++ version_cells version.now) }
+{
+    let revision = version.revision.get();
+    let key = key_text(alloc, &version.key)?;
+    write!(
+        text,
+        "<tr><td>{revision}</td><td>{}</td><td>",
+        Told(key.as_str())
+    )?;
+    Ok(())
+}
+
+#[tactic(auto, unfolding(crate::specs::Revised::maker_text))]
+fn append_maker(text: &mut String, log: &[LogEvent], maker: Maker) -> Result<(), OutOfMemory>
+    ensures { OnOk result (string_bytes text.new ≡ string_bytes text.old ++ maker_text log.now maker) }
+{
+    match maker {
+        Maker::Snapshot => text.push_str("there at the start")?,
+        Maker::Event(number) => write!(text, "line {}", line_at(log, number))?,
+        Maker::Unknown => text.push_str("an unrecorded write")?,
+    }
+    Ok(())
+}
+
+/// Appends the table of the drawn unrecorded writes.
+#[tactic(auto, unfolding(crate::specs::Revised::gaps_table))]
+pub fn append_gaps(text: &mut String, gaps: &[Gap]) -> Result<(), OutOfMemory>
+    ensures { OnOk result (string_bytes text.new ≡ string_bytes text.old ++ gaps_table gaps.now) }
+{
+    text.push_str(GAPS_HEAD)?;
+    append_gap_rows(text, first_of(gaps, GAP_LIMIT))?;
+    text.push_str(TABLE_END)?;
+    Ok(())
+}
+
+fn append_gap_rows(text: &mut String, gaps: &[Gap]) -> Result<(), OutOfMemory>
+    ensures { OnOk result (string_bytes text.new ≡ string_bytes text.old ++ flat_map gap_row gaps.now) }
+{
+    for gap in gaps {
+        append_gap_row(text, *gap)?;
+    }
+    Ok(())
+}
+
+#[tactic(auto, unfolding(crate::specs::Revised::gap_row))]
+fn append_gap_row(text: &mut String, gap: Gap) -> Result<(), OutOfMemory>
+    ensures { OnOk result (string_bytes text.new ≡ string_bytes text.old ++ gap_row gap) }
+{
+    let Gap { line, low } = gap;
+    writeln!(text, "<tr><td>{line}</td><td>{low}</td></tr>")?;
+    Ok(())
+}
