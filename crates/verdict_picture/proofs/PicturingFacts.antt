@@ -1,10 +1,8 @@
 -- What a setup and a log come to as a page.
-use Rattle.std.proofs.Common.{◌≡◌, ◌⊎◌, inl, inr, ℕ, List, Result, IsErrOf, ap, refl, sym, ◌∙◌, subst}
-use Rattle.context_intake.specs.Contexts.{IsToldBy, RefusesNothing}
+use Rattle.std.proofs.Common.{◌≡◌, inl, inr, ℕ, List, refl, subst, arith}
+use Rattle.context_intake.specs.Contexts.{IsToldBy}
 use Rattle.context_intake.specs.declared.refusal.Refusal.{Refusal}
 use Rattle.context_intake.specs.declared.refusal.Refusal.TheVariants.{BrokenSetup, MalformedLog, PastLimit}
-use Rattle.context_intake.specs.declared.stop.Stop.{Stop}
-use Rattle.context_intake.specs.declared.stop.Stop.TheVariants.{ReadFault}
 use Rattle.context_intake.specs.declared.told.Told.{Told}
 use Rattle.context_intake.specs.declared.told.Told.TheVariants as told
 use Rattle.log_verdict.specs.Answers.{Answer, refusal_answer}
@@ -18,12 +16,12 @@ pictured_told setup log (told.Context known) answered is from = inr (known, is, 
 
 -- a refusal has no page
 no_page : (refusal : Refusal) → HasPage (refusal_answer refusal) → ⊥
-no_page (BrokenSetup rule) (inl is) = let no : 3 ≡ 0 = is in cc
-no_page (BrokenSetup rule) (inr is) = let no : 3 ≡ 1 = is in cc
-no_page (MalformedLog line code) (inl is) = let no : 4 ≡ 0 = is in cc
-no_page (MalformedLog line code) (inr is) = let no : 4 ≡ 1 = is in cc
-no_page (PastLimit limit) (inl is) = let no : 7 ≡ 0 = is in cc
-no_page (PastLimit limit) (inr is) = let no : 7 ≡ 1 = is in cc
+no_page (BrokenSetup rule) (inl is) = omega (arith, is)
+no_page (BrokenSetup rule) (inr is) = omega (arith, is)
+no_page (MalformedLog line code) (inl is) = omega (arith, is)
+no_page (MalformedLog line code) (inr is) = omega (arith, is)
+no_page (PastLimit limit) (inl is) = omega (arith, is)
+no_page (PastLimit limit) (inr is) = omega (arith, is)
 
 -- a page comes of a context
 pub page_told : (found : Told) (answered : Answer) → IsPicturedFrom found answered → HasPage answered → (known : Known) × (found ≡ told.Context known)

@@ -17,12 +17,12 @@ use Rattle.version_store.specs.Known.{Known}
 
 -- the finding tells what an outcome tells of the event that breaks
 pub record TellsFinding (finding : Finding) (line : ℕ) (audit_id : List ℕ) (reason : Reason) (low high : ℕ) (writes : List WriteLine) : Type 0 where
-  pub line : finding.line ≡ line
-  pub audit_id : finding.audit_id.now ≡ audit_id
-  pub reason : finding.reason ≡ reason
-  pub low : finding.low ≡ low
-  pub high : finding.high ≡ high
-  pub writes : finding.writes.now ≡ writes
+  pub same_line : finding.line ≡ line
+  pub same_audit_id : finding.audit_id.now ≡ audit_id
+  pub same_reason : finding.reason ≡ reason
+  pub same_low : finding.low ≡ low
+  pub same_high : finding.high ≡ high
+  pub same_writes : finding.writes.now ≡ writes
 
 -- the page of a log as a whole, or of the event that breaks
 abbrev pub IsPage : Known → Outcome → List ℕ → Type 0
