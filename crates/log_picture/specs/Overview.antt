@@ -2,6 +2,7 @@
 use Rattle.std.specs.Prelude.{ℕ, pos, min, max, int_lt, unsigned_abs, if◌then◌else◌, List, [], ◌∷◌, ◌++◌, fold, codes}
 use Rattle.audit_event.specs.declared.event.Event.{Event}
 use Rattle.log_picture.specs.declared.overview.Overview.{Overview}
+use Rattle.log_picture.specs.declared.overview.TheConstants.{OVERVIEW_HEAD}
 use Rattle.base_types.specs.declared.revision.Moment.{Moment}
 use Rattle.markup.specs.Moments.{moment_text}
 use Rattle.markup.specs.Pieces.{fixed, number, shown}
@@ -37,8 +38,8 @@ abbrev pub greatest_revision : ℕ → List Version → ℕ
 greatest_revision start versions = fold greater start versions
 
 unfoldable pub first_text : Overview → List ℕ
-first_text overview = shown (
-    fixed (codes "<h1>Explained</h1>\n<p>There is an order of all events in which each answer is right. This page shows the log as a whole.</p>\n<dl>\n<dt>Events</dt><dd>") ∷ number overview.events
+first_text overview = OVERVIEW_HEAD.now ++ shown (
+    fixed (codes "<dt>Events</dt><dd>") ∷ number overview.events
     ∷ fixed (codes "</dd>\n<dt>Checkpoints</dt><dd>") ∷ number overview.checkpoints
     ∷ fixed (codes "</dd>\n<dt>First receipt</dt><dd>") ∷ [])
 

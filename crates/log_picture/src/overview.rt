@@ -23,6 +23,12 @@ pub struct Overview {
     pub greatest: u64,
 }
 
+/// What stands in front of the log's numbers.
+pub const OVERVIEW_HEAD: &str = r#"<h1>Explained</h1>
+<p>There is an order of all events in which each answer is right. This page shows the log as a whole.</p>
+<dl>
+"#;
+
 /// When the request of an event was received, in nanoseconds since 1970: 0 before, and the greatest number from the year 2554 on.
 pub fn receipt(event: &Event) -> u64
     ensures { result ≡ receipt event.now }
@@ -104,9 +110,10 @@ fn append_first(text: &mut String, overview: Overview) -> Result<(), OutOfMemory
         checkpoints,
         ..
     } = overview;
+    text.push_str(OVERVIEW_HEAD)?;
     write!(
         text,
-        "<h1>Explained</h1>\n<p>There is an order of all events in which each answer is right. This page shows the log as a whole.</p>\n<dl>\n<dt>Events</dt><dd>{events}</dd>\n<dt>Checkpoints</dt><dd>{checkpoints}</dd>\n<dt>First receipt</dt><dd>"
+        "<dt>Events</dt><dd>{events}</dd>\n<dt>Checkpoints</dt><dd>{checkpoints}</dd>\n<dt>First receipt</dt><dd>"
     )?;
     Ok(())
 }
