@@ -1,5 +1,5 @@
 -- The drawing of the log over time.
-use Rattle.std.specs.Prelude.{ℕ, List, [], ◌∷◌, ◌++◌, Option, Some, None, length, take, zip, codes, flat_map}
+use Rattle.std.specs.Prelude.{ℕ, Bool, ◌||◌, List, [], ◌∷◌, ◌++◌, Option, Some, None, is_some, length, take, filter, zip, codes, flat_map}
 use Rattle.audit_event.specs.declared.event.Event.{Event}
 use Rattle.base_types.specs.declared.request.Decision.{Decision}
 use Rattle.base_types.specs.declared.request.Decision.TheVariants.{Allow, Forbid}
@@ -10,6 +10,7 @@ use Rattle.log_picture.specs.declared.kind.Kind.{Kind}
 use Rattle.log_picture.specs.declared.kind.Kind.TheVariants as kind
 use Rattle.log_picture.specs.declared.lanes.Form.{Form}
 use Rattle.log_picture.specs.declared.lanes.Form.TheVariants as form
+use Rattle.log_picture.specs.declared.lanes.Marked.{Marked}
 use Rattle.log_picture.specs.declared.lanes.TheConstants.{EVENTS_END, EVENTS_HEAD, TIME_HEAD}
 use Rattle.markup.specs.Drawing.{position}
 use Rattle.markup.specs.Moments.{moment_text}
@@ -114,9 +115,16 @@ asked_cells event logged = shown (
 unfoldable pub event_row : Event × LogEvent → List ℕ
 event_row (event, logged) = line_cells event ++ (moment_text event.received ++ asked_cells event logged)
 
--- the events of the log that are drawn
-abbrev pub drawn_events : List Event → List LogEvent → List (Event × LogEvent)
-drawn_events events log = take event_limit (zip events log)
+abbrev pub pair_of : Marked → Event × LogEvent
+pair_of marked = (marked.event.now, marked.logged.now)
+
+-- its answer or its decision has a mark
+abbrev pub has_mark : Event × LogEvent → Bool
+has_mark (event, logged) = is_some (form_of (kind_of logged.answer)) || is_some (decision_form logged.decision)
+
+-- the events of the log that have one
+abbrev pub marked_events : List Event → List LogEvent → List (Event × LogEvent)
+marked_events events log = filter has_mark (zip events log)
 
 unfoldable pub axis_low_text : Axis → List ℕ
 axis_low_text axis = codes "<line class=\"axis\" x1=\"150\" y1=\"198\" x2=\"930\" y2=\"198\"/>\n<text x=\"150\" y=\"216\">" ++ moment_text (moment_at axis.low)
@@ -128,12 +136,16 @@ axis_high_text axis = codes "</text>\n<text x=\"930\" y=\"216\" text-anchor=\"en
 unfoldable pub time_axis_text : Axis → List ℕ
 time_axis_text axis = axis_low_text axis ++ axis_high_text axis
 
-unfoldable pub time_drawing : Axis → List Event → List LogEvent → List ℕ
-time_drawing axis events log = TIME_HEAD.now ++ flat_map (marks_text axis) (drawn_events events log) ++ time_axis_text axis
+unfoldable pub time_drawing : Axis → List (Event × LogEvent) → List ℕ
+time_drawing axis drawn = TIME_HEAD.now ++ flat_map (marks_text axis) drawn ++ time_axis_text axis
 
-unfoldable pub events_table : List Event → List LogEvent → List ℕ
-events_table events log = EVENTS_HEAD.now ++ flat_map event_row (drawn_events events log) ++ EVENTS_END.now
+unfoldable pub events_table : List (Event × LogEvent) → List ℕ
+events_table drawn = EVENTS_HEAD.now ++ flat_map event_row drawn ++ EVENTS_END.now
+
+unfoldable pub marked_text : Axis → List (Event × LogEvent) → List ℕ
+marked_text axis marked =
+    time_drawing axis (take event_limit marked) ++ more_text event_limit (length marked) (codes "events") ++ events_table (take event_limit marked)
 
 -- a drawing with a lane for each of what events do, and the same as a table
-unfoldable pub time_text : Axis → List Event → List LogEvent → List ℕ
-time_text axis events log = time_drawing axis events log ++ more_text event_limit (length events) (codes "events") ++ events_table events log
+abbrev pub time_text : Axis → List Event → List LogEvent → List ℕ
+time_text axis events log = marked_text axis (marked_events events log)

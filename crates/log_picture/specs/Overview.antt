@@ -1,7 +1,8 @@
 -- What the page says of a log as a whole.
-use Rattle.std.specs.Prelude.{ℕ, pos, min, max, int_lt, unsigned_abs, if◌then◌else◌, List, [], ◌∷◌, ◌++◌, fold, codes}
+use Rattle.std.specs.Prelude.{◌==◌, ℕ, pos, min, max, int_lt, unsigned_abs, if◌then◌else◌, List, [], ◌∷◌, ◌++◌, fold, codes}
 use Rattle.audit_event.specs.declared.event.Event.{Event}
 use Rattle.log_picture.specs.declared.overview.Overview.{Overview}
+use Rattle.log_picture.specs.declared.overview.TheConstants.{OVERVIEW_HEAD}
 use Rattle.base_types.specs.declared.revision.Moment.{Moment}
 use Rattle.markup.specs.Moments.{moment_text}
 use Rattle.markup.specs.Pieces.{fixed, number, shown}
@@ -21,13 +22,13 @@ earlier first event = min first (receipt event)
 abbrev pub later : ℕ → Event → ℕ
 later last event = max last (receipt event)
 
--- the earliest receipt, and the greatest number where there is none
-abbrev pub first_receipt : List Event → ℕ
-first_receipt events = fold earlier 18446744073709551615 events
-
 -- the latest receipt, or 0
 abbrev pub last_receipt : List Event → ℕ
 last_receipt events = fold later 0 events
+
+-- the earliest receipt, or 0: none is later than the latest
+abbrev pub first_receipt : List Event → ℕ
+first_receipt events = fold earlier (last_receipt events) events
 
 abbrev pub greater : ℕ → Version → ℕ
 greater most v = max most v.revision
@@ -37,8 +38,8 @@ abbrev pub greatest_revision : ℕ → List Version → ℕ
 greatest_revision start versions = fold greater start versions
 
 unfoldable pub first_text : Overview → List ℕ
-first_text overview = shown (
-    fixed (codes "<h1>Explained</h1>\n<p>There is an order of all events in which each answer is right. This page shows the log as a whole.</p>\n<dl>\n<dt>Events</dt><dd>") ∷ number overview.events
+first_text overview = OVERVIEW_HEAD.now ++ shown (
+    fixed (codes "<dt>Events</dt><dd>") ∷ number overview.events
     ∷ fixed (codes "</dd>\n<dt>Checkpoints</dt><dd>") ∷ number overview.checkpoints
     ∷ fixed (codes "</dd>\n<dt>First receipt</dt><dd>") ∷ [])
 
@@ -55,5 +56,8 @@ between_text = codes "</dd>\n<dt>Last receipt</dt><dd>"
 unfoldable pub receipts_text : Overview → List ℕ
 receipts_text overview = moment_text (moment_at overview.first) ++ (between_text ++ moment_text (moment_at overview.last))
 
+unfoldable pub receipts_or_none : Overview → List ℕ
+receipts_or_none overview = if overview.events == 0 then codes "none</dd>\n<dt>Last receipt</dt><dd>none" else receipts_text overview
+
 unfoldable pub overview_text : Overview → List ℕ
-overview_text overview = first_text overview ++ receipts_text overview ++ last_text overview
+overview_text overview = first_text overview ++ receipts_or_none overview ++ last_text overview

@@ -1,12 +1,13 @@
-ghost use Rattle.std.specs.Prelude.{◌≡◌, ◌≤◌, ◌++◌, min, OnOk, flat_map, length, string_bytes};
-ghost use Rattle.log_picture.specs.Lanes.{asked_cells, axis_high_text, axis_low_text, decision_form, decision_words, drawn_events, event_limit, event_row, events_table, form_mark, form_of, lane_of, mark_text, marks_text, outline_of, shape_text, style_of, time_axis_text, time_drawing, time_text, title_text};
+ghost use Rattle.std.specs.Prelude.{◌≡◌, [], ◌∷◌, ◌++◌, IfOk, OnOk, filter, flat_map, map, string_bytes};
+ghost use Rattle.log_picture.specs.Lanes.{asked_cells, axis_high_text, axis_low_text, decision_form, decision_words, event_row, events_table, form_mark, form_of, has_mark, lane_of, mark_text, marked_events, marked_text, marks_text, outline_of, pair_of, shape_text, style_of, time_axis_text, time_drawing, time_text, title_text};
 
 use crate::kind::{Kind, kind_of, kind_words};
 use crate::overview::{moment_at, receipt};
-use crate::revised::append_more;
+use crate::revised::{append_more, first_of};
 use audit_event::Event;
 use base_types::{Decision, OutOfMemory};
 use markup::{Axis, Told, push_moment};
+use std::alloc::Global;
 use write_groups::LogEvent;
 
 /// How an event is marked. Forms differ in their lines and not by colour alone.
@@ -19,6 +20,13 @@ pub enum Form {
     Allow,
     Forbid,
     Unrecorded,
+}
+
+/// An event that has a mark, and what its answer says.
+#[derive(Clone, Copy)]
+pub struct Marked<'a> {
+    pub event: &'a Event,
+    pub logged: &'a LogEvent,
 }
 
 /// How many events are drawn at most. Each has at most two marks.
@@ -135,16 +143,45 @@ fn decision_words(decision: Option<Decision>) -> &'static str
     }
 }
 
-// How many events of a log are drawn.
-fn drawn_count(events: &[Event], log: &[LogEvent]) -> usize
-    ensures { result ≡ min event_limit (min (length events.now) (length log.now)) }
+fn has_mark(event: &Event, logged: &LogEvent) -> bool
+    ensures { result ≡ has_mark (event.now, logged.now) }
 {
-    EVENT_LIMIT.min(events.len().min(log.len()))
+    form_of(kind_of(&logged.answer)).is_some() || decision_form(logged.decision).is_some()
+}
+
+// Puts an event behind the others, where it has a mark.
+fn push_marked<'a>(
+    marked: &mut Vec<Marked<'a>>,
+    event: &'a Event,
+    logged: &'a LogEvent,
+) -> Result<(), OutOfMemory>
+    ensures { OnOk result (map pair_of marked.new.items ≡ map pair_of marked.old.items ++ filter has_mark ((event.now, logged.now) ∷ [])) }
+{
+    if !has_mark(event, logged) {
+        return Ok(());
+    }
+    marked.push(Marked { event, logged })?;
+    Ok(())
+}
+
+fn marked_of<'a>(
+    alloc: Global,
+    events: &'a [Event],
+    log: &'a [LogEvent],
+) -> Result<Vec<Marked<'a>>, OutOfMemory>
+    ensures { IfOk result (λ marked. map pair_of marked.items ≡ marked_events events.now log.now) }
+{
+    let count = events.len().min(log.len());
+    let mut marked = Vec::new(alloc);
+    for number in 0..count {
+        push_marked(&mut marked, &events[number], &log[number])?;
+    }
+    Ok(marked)
 }
 
 /// Appends the drawing of the log over time, and its table.
-#[tactic(auto, unfolding(crate::specs::Lanes::time_text))]
 pub fn append_time(
+    alloc: Global,
     text: &mut String,
     axis: &Axis,
     events: &[Event],
@@ -152,48 +189,47 @@ pub fn append_time(
 ) -> Result<(), OutOfMemory>
     ensures { OnOk result (string_bytes text.new ≡ string_bytes text.old ++ time_text axis.now events.now log.now) }
 {
-    append_drawing(text, axis, events, log)?;
-    append_more(text, EVENT_LIMIT, events.len(), "events")?;
-    append_table(text, events, log)?;
+    let marked = marked_of(alloc, events, log)?;
+    append_marked(text, axis, marked.as_slice())?;
+    Ok(())
+}
+
+#[tactic(auto, unfolding(crate::specs::Lanes::marked_text))]
+fn append_marked(text: &mut String, axis: &Axis, marked: &[Marked<'_>]) -> Result<(), OutOfMemory>
+    ensures { OnOk result (string_bytes text.new ≡ string_bytes text.old ++ marked_text axis.now (map pair_of marked.now)) }
+{
+    let drawn = first_of(marked, EVENT_LIMIT);
+    append_drawing(text, axis, drawn)?;
+    append_more(text, EVENT_LIMIT, marked.len(), "events")?;
+    append_table(text, drawn)?;
     Ok(())
 }
 
 #[tactic(auto, unfolding(crate::specs::Lanes::time_drawing))]
-fn append_drawing(
-    text: &mut String,
-    axis: &Axis,
-    events: &[Event],
-    log: &[LogEvent],
-) -> Result<(), OutOfMemory>
-    ensures { OnOk result (string_bytes text.new ≡ string_bytes text.old ++ time_drawing axis.now events.now log.now) }
+fn append_drawing(text: &mut String, axis: &Axis, drawn: &[Marked<'_>]) -> Result<(), OutOfMemory>
+    ensures { OnOk result (string_bytes text.new ≡ string_bytes text.old ++ time_drawing axis.now (map pair_of drawn.now)) }
 {
     text.push_str(TIME_HEAD)?;
-    append_marks(text, axis, events, log)?;
+    append_marks(text, axis, drawn)?;
     append_axis(text, axis)?;
     Ok(())
 }
 
 #[tactic(auto, unfolding(crate::specs::Lanes::events_table))]
-fn append_table(text: &mut String, events: &[Event], log: &[LogEvent]) -> Result<(), OutOfMemory>
-    ensures { OnOk result (string_bytes text.new ≡ string_bytes text.old ++ events_table events.now log.now) }
+fn append_table(text: &mut String, drawn: &[Marked<'_>]) -> Result<(), OutOfMemory>
+    ensures { OnOk result (string_bytes text.new ≡ string_bytes text.old ++ events_table (map pair_of drawn.now)) }
 {
     text.push_str(EVENTS_HEAD)?;
-    append_rows(text, events, log)?;
+    append_rows(text, drawn)?;
     text.push_str(EVENTS_END)?;
     Ok(())
 }
 
-fn append_marks(
-    text: &mut String,
-    axis: &Axis,
-    events: &[Event],
-    log: &[LogEvent],
-) -> Result<(), OutOfMemory>
-    ensures { OnOk result (string_bytes text.new ≡ string_bytes text.old ++ flat_map (marks_text axis.now) (drawn_events events.now log.now)) }
+fn append_marks(text: &mut String, axis: &Axis, drawn: &[Marked<'_>]) -> Result<(), OutOfMemory>
+    ensures { OnOk result (string_bytes text.new ≡ string_bytes text.old ++ flat_map (marks_text axis.now) (map pair_of drawn.now)) }
 {
-    let count = drawn_count(events, log);
-    for number in 0..count {
-        append_event_marks(text, axis, &events[number], &log[number])?;
+    for one in drawn {
+        append_event_marks(text, axis, one.event, one.logged)?;
     }
     Ok(())
 }
@@ -299,12 +335,11 @@ fn append_axis_high(text: &mut String, axis: &Axis) -> Result<(), OutOfMemory>
     Ok(())
 }
 
-fn append_rows(text: &mut String, events: &[Event], log: &[LogEvent]) -> Result<(), OutOfMemory>
-    ensures { OnOk result (string_bytes text.new ≡ string_bytes text.old ++ flat_map event_row (drawn_events events.now log.now)) }
+fn append_rows(text: &mut String, drawn: &[Marked<'_>]) -> Result<(), OutOfMemory>
+    ensures { OnOk result (string_bytes text.new ≡ string_bytes text.old ++ flat_map event_row (map pair_of drawn.now)) }
 {
-    let count = drawn_count(events, log);
-    for number in 0..count {
-        append_row(text, &events[number], &log[number])?;
+    for one in drawn {
+        append_row(text, one.event, one.logged)?;
     }
     Ok(())
 }

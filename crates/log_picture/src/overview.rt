@@ -1,5 +1,5 @@
 ghost use Rattle.std.specs.Prelude.{◌≡◌, ◌++◌, OnOk, string_bytes};
-ghost use Rattle.log_picture.specs.Overview.{first_receipt, first_text, greatest_revision, last_receipt, last_text, moment_at, overview_text, receipt, receipts_text};
+ghost use Rattle.log_picture.specs.Overview.{first_receipt, first_text, greatest_revision, last_receipt, last_text, moment_at, overview_text, receipt, receipts_or_none, receipts_text};
 
 use audit_event::Event;
 use base_types::{Moment, OutOfMemory, Revision};
@@ -23,6 +23,12 @@ pub struct Overview {
     pub greatest: u64,
 }
 
+/// What stands in front of the log's numbers.
+pub const OVERVIEW_HEAD: &str = r#"<h1>Explained</h1>
+<p>There is an order of all events in which each answer is right. This page shows the log as a whole.</p>
+<dl>
+"#;
+
 /// When the request of an event was received, in nanoseconds since 1970: 0 before, and the greatest number from the year 2554 on.
 pub fn receipt(event: &Event) -> u64
     ensures { result ≡ receipt event.now }
@@ -41,11 +47,11 @@ pub fn moment_at(nanos: u64) -> Moment
     Moment(nanos as i128)
 }
 
-/// The earliest receipt, and the greatest number where there is none.
+/// The earliest receipt, or 0.
 pub fn first_receipt(events: &[Event]) -> u64
     ensures { result ≡ first_receipt events.now }
 {
-    let mut first = u64::MAX;
+    let mut first = last_receipt(events);
     for event in events {
         first = first.min(receipt(event));
     }
@@ -80,8 +86,20 @@ pub fn append_overview(text: &mut String, overview: Overview) -> Result<(), OutO
     ensures { OnOk result (string_bytes text.new ≡ string_bytes text.old ++ overview_text overview) }
 {
     append_first(text, overview)?;
-    append_receipts(text, overview)?;
+    append_receipts_or_none(text, overview)?;
     append_last(text, overview)?;
+    Ok(())
+}
+
+#[tactic(auto, unfolding(crate::specs::Overview::receipts_or_none))]
+fn append_receipts_or_none(text: &mut String, overview: Overview) -> Result<(), OutOfMemory>
+    ensures { OnOk result (string_bytes text.new ≡ string_bytes text.old ++ receipts_or_none overview) }
+{
+    if overview.events == 0 {
+        text.push_str("none</dd>\n<dt>Last receipt</dt><dd>none")?;
+    } else {
+        append_receipts(text, overview)?;
+    }
     Ok(())
 }
 
@@ -104,9 +122,10 @@ fn append_first(text: &mut String, overview: Overview) -> Result<(), OutOfMemory
         checkpoints,
         ..
     } = overview;
+    text.push_str(OVERVIEW_HEAD)?;
     write!(
         text,
-        "<h1>Explained</h1>\n<p>There is an order of all events in which each answer is right. This page shows the log as a whole.</p>\n<dl>\n<dt>Events</dt><dd>{events}</dd>\n<dt>Checkpoints</dt><dd>{checkpoints}</dd>\n<dt>First receipt</dt><dd>"
+        "<dt>Events</dt><dd>{events}</dd>\n<dt>Checkpoints</dt><dd>{checkpoints}</dd>\n<dt>First receipt</dt><dd>"
     )?;
     Ok(())
 }

@@ -128,7 +128,7 @@ fn append_sections(
 ) -> Result<(), OutOfMemory>
     ensures { OnOk result (string_bytes text.new ≡ string_bytes text.old ++ sections_text context.now overview lines.now gaps.now) }
 {
-    append_events(text, context, overview)?;
+    append_events(alloc, text, context, overview)?;
     append_objects(alloc, text, context, overview, lines, gaps)?;
     Ok(())
 }
@@ -136,6 +136,7 @@ fn append_sections(
 // Appends the verdict, how the events were judged, and the log over time.
 #[tactic(auto, unfolding(crate::specs::Page::events_text))]
 fn append_events(
+    alloc: Global,
     text: &mut String,
     context: &Context,
     overview: Overview,
@@ -146,7 +147,7 @@ fn append_events(
     let axis = time_axis(overview);
     append_overview(text, overview)?;
     append_counts(text, log)?;
-    append_time(text, &axis, context.events(), log)?;
+    append_time(alloc, text, &axis, context.events(), log)?;
     Ok(())
 }
 

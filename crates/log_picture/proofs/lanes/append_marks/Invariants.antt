@@ -1,7 +1,7 @@
-use Rattle.std.proofs.Common.{◌≡◌, ◌++◌, take, string_bytes}
-use Rattle.std.specs.List.{flat_map, zip}
-use Rattle.log_picture.specs.Lanes.{marks_text}
+use Rattle.std.proofs.Common.{◌≡◌, ◌++◌, map, take, string_bytes}
+use Rattle.std.specs.List.{flat_map}
+use Rattle.log_picture.specs.Lanes.{marks_text, pair_of}
 use Rattle.log_picture.proofs.lanes.append_marks.Given as goal
 
-abbrev pub invariant-loop-number : goal.invariant-loop-number
-invariant-loop-number l = string_bytes l.text ≡ string_bytes l.initial.text ++ flat_map (marks_text l.axis) (zip (take l.number l.events) (take l.number l.log))
+abbrev pub invariant-loop-one : goal.invariant-loop-one
+invariant-loop-one l = string_bytes l.text ≡ string_bytes l.initial.text ++ flat_map (marks_text l.axis) (map pair_of (take l.one-index l.drawn))
