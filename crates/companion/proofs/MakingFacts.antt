@@ -1,5 +1,5 @@
 -- What a time, a policy and files come to.
-use Rattle.std.proofs.Common.{◌≡◌, ◌≢◌, ◌⊎◌, ℕ, Bool, List, ◌∷◌, Result, Ok, Err, IsOk, IfOk, inr, refl, subst}
+use Rattle.std.proofs.Common.{◌≡◌, ◌≢◌, ℕ, Bool, List, ◌∷◌, Result, Ok, Err, IsOk, IfOk, inr, refl, subst}
 use Rattle.cluster_setup.specs.Answers.{OrMemory, Refuses}
 use Rattle.cluster_setup.specs.declared.fault.SetupRefusal.{SetupRefusal}
 use Rattle.cluster_setup.specs.declared.fault.SetupRefusal.TheVariants.{Time, Policy, Empty, Rule, File, OutOfMemory}

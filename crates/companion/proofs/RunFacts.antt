@@ -1,5 +1,5 @@
 -- Answers that are passed on.
-use Rattle.std.proofs.Common.{◌≡◌, ℕ, List, Option, Some, None, Result, Ok, Err, IfOk, IsErrOf, inl, inr, refl, sym, ◌∙◌, subst, arith}
+use Rattle.std.proofs.Common.{◌≡◌, ℕ, List, Option, Some, None, Result, Ok, Err, IfOk, IsErrOf, inl, inr, refl, sym, ◌∙◌, arith}
 use Rattle.std.specs.Io.KnownBytes.{Keeps}
 use Rattle.context_intake.specs.declared.stop.Stop.{Stop}
 use Rattle.context_intake.specs.declared.stop.Stop.TheVariants.{OutOfMemory, ReadFault}
@@ -7,7 +7,7 @@ use Rattle.edge_io.specs.Endings.{Ends}
 use Rattle.edge_io.specs.Faults.{Rose}
 use Rattle.log_verdict.specs.Answers.{Answer}
 use Rattle.log_verdict.specs.Endings.{IsAnswered}
-use Rattle.companion.specs.Command.{Asked, IsAsked, Reads, ReadsWords, Spells, Tells, TellsWords}
+use Rattle.companion.specs.Command.{Asked, IsAsked, ReadsWords, Spells, Tells, TellsWords}
 use Rattle.companion.specs.Program.{IsAnswer, IsAnswerTo, usage_answer}
 use Rattle.companion.specs.Reported.{Concludes, IsReported, report_answer, status_number}
 use Rattle.companion.specs.declared.report.Report.{Report}

@@ -1,6 +1,6 @@
 -- The words of a setup are those of no other command.
-use Rattle.std.proofs.Common.{◌≡◌, ◌≢◌, ℕ, Bool, true, false, List, [], ◌∷◌, length, Option, Some, None, codes, refl, sym, ◌∙◌, ap, subst, arith}
-use Rattle.companion.specs.Command.{AreInputs, Asked, Explain, IsRead, IsSetupRead, Setup, Sift, Spells, sift_words}
+use Rattle.std.proofs.Common.{◌≡◌, ◌≢◌, ℕ, Bool, true, false, List, [], ◌∷◌, length, Option, Some, None, codes, refl, sym, ◌∙◌, ap, arith}
+use Rattle.companion.specs.Command.{AreInputs, Asked, Explain, IsRead, IsSetupRead, Picture, Setup, Sift, Spells, sift_words}
 use Rattle.companion.specs.declared.words.Command.{Command}
 
 head_of : List (List ℕ) → List ℕ
@@ -32,12 +32,16 @@ no_sift : (left : Bool) (log : List ℕ) (words : List (List ℕ)) → codes "se
 no_sift true log words same = let long : 5 ≡ 4 = ap length (same_head (codes "setup") (codes "sift") words (codes "--left" ∷ log ∷ []) same) in omega (arith, long)
 no_sift false log words same = let long : 5 ≡ 4 = ap length (same_head (codes "setup") (codes "sift") words (log ∷ []) same) in omega (arith, long)
 
+no_picture : (setup log : List ℕ) (words : List (List ℕ)) → codes "setup" ∷ words ≡ codes "picture" ∷ setup ∷ log ∷ [] → ⊥
+no_picture setup log words same = let long : 5 ≡ 7 = ap length (same_head (codes "setup") (codes "picture") words (setup ∷ log ∷ []) same) in omega (arith, long)
+
 -- words whose first isn't the mode
 no_plain : (first : List ℕ) (rest : List (List ℕ)) → first ≢ codes "--authorize"
     → ((time policy : List ℕ) (files : List (List ℕ)) → first ∷ rest ≡ time ∷ policy ∷ files → AreInputs time policy files → ⊥)
     → (asked : Asked) → Spells asked (codes "setup" ∷ first ∷ rest) → ⊥
 no_plain first rest apart none (Explain text) (code, same, is) = no_explain (first ∷ rest) code same
 no_plain first rest apart none (Sift left log) same = no_sift left log (first ∷ rest) same
+no_plain first rest apart none (Picture setup log) (same, differ) = no_picture setup log (first ∷ rest) same
 no_plain first rest apart none (Setup true time policy files) (same, inputs) =
     apart (same_head first (codes "--authorize") rest (time ∷ policy ∷ files) (same_rest (codes "setup") (codes "setup") (first ∷ rest) (codes "--authorize" ∷ time ∷ policy ∷ files) same))
 no_plain first rest apart none (Setup false time policy files) (same, inputs) =
@@ -52,6 +56,7 @@ no_authorized : (rest : List (List ℕ)) → ((time policy : List ℕ) (files : 
     → (asked : Asked) → Spells asked (codes "setup" ∷ codes "--authorize" ∷ rest) → ⊥
 no_authorized rest none (Explain text) (code, same, is) = no_explain (codes "--authorize" ∷ rest) code same
 no_authorized rest none (Sift left log) same = no_sift left log (codes "--authorize" ∷ rest) same
+no_authorized rest none (Picture setup log) (same, differ) = no_picture setup log (codes "--authorize" ∷ rest) same
 no_authorized rest none (Setup true time policy files) (same, inputs) =
     none time policy files
     (same_rest (codes "--authorize") (codes "--authorize") rest (time ∷ policy ∷ files)

@@ -1,4 +1,4 @@
-use Rattle.std.proofs.Common.{◌≡◌, ℕ, List, get_or, take, drop, suc, slice_range, subst, sym}
+use Rattle.std.proofs.Common.{ℕ, List, get_or, take, drop, suc, slice_range, subst, sym}
 use Rattle.std.specs.List.{flat_map}
 use Rattle.log_sift.specs.declared.answer.Stretch.{Stretch}
 use Rattle.edge_io.specs.Endings.{AppendsPart}
