@@ -1,0 +1,142 @@
+#!/usr/bin/env python3
+"""Tries wrong bodies that were planted by hand, and tells which of them the contracts let through.
+
+planted.py [CRATE..] [--jobs N]
+
+docs/planted/CRATE.edits lists wrong bodies of a crate: after its first line, for each a line `== NAME` and the lines of
+a must-fail edit (`file:`, and pairs of `old:` and `new:`). For each crate (by default each that has a list, lowest
+first) the list takes the place of the must-fail edits of all crates, in a copy of the files that git tracks, and
+`rt must-fail CRATE` has the prover check the crate with each edit. A line is printed for each, once its crate is done:
+
+  refused  the prover refuses it; what it says first follows
+  proved   it is still proved: the contracts let it through
+  bad      nothing is known of it: it can't be applied, read or checked, or the crate isn't proved as it stands
+
+and at the end how many there are of each. Some are refused for less than a broken contract, which the line then says:
+where a proof names what the edit takes away, or where the prover comes to a limit of its own.
+
+--jobs N tries N crates at a time (by default 1), each in a copy of its own. One rt uses all processors, unless RT_JOBS
+says how many. What lies below a crate is taken from other checkouts on the machine that have proved it, and else proved
+once in each copy. The status is 0 where all are refused.
+"""
+import argparse
+import os
+import queue
+import re
+import shutil
+import subprocess
+import sys
+import tempfile
+import threading
+
+ROOT = os.path.dirname(os.path.dirname(os.path.abspath(__file__)))
+LISTS = os.path.join(ROOT, "docs", "planted")
+# A change of a comment, which a proved crate bears: without it, a crate that isn't proved would seem to refuse all.
+CONTROL = "as_it_stands"
+CONTROL_LINES = ["file: src/lib.rt", "old: #![tactic(auto)]", "new: #![tactic(auto)] // as it stands"]
+KINDS = {"refused, as it must be": "refused", "NOT REFUSED": "proved", "BAD EDIT": "bad", "NOT TRIED": "bad"}
+
+
+def listed(crate):
+    """The lines of each edit of a crate's list, by its name."""
+    edits, lines = {CONTROL: CONTROL_LINES}, None
+    with open(os.path.join(LISTS, crate + ".edits"), encoding="utf-8") as file:
+        for row, line in enumerate(file.read().split("\n"), 1):
+            if line.startswith("== "):
+                name = line[3:].strip()
+                if not re.fullmatch(r"\w+", name, re.ASCII) or name in edits:
+                    sys.exit(f"docs/planted/{crate}.edits:{row}: {name} is no name, or stands there twice")
+                edits[name] = lines = []
+            elif lines is not None:
+                lines.append(line)
+            elif line and not line.startswith("#"):
+                sys.exit(f"docs/planted/{crate}.edits:{row}: a line before the first name")
+    return edits
+
+
+def copy_to(room):
+    """Copies what git tracks, the must-fail edits aside."""
+    names = subprocess.run(["git", "ls-files", "-z"], cwd=ROOT, stdout=subprocess.PIPE, check=True).stdout
+    for name in names.decode().split("\0"):
+        if os.path.isfile(os.path.join(ROOT, name)) and "/must-fail/" not in name:
+            os.makedirs(os.path.dirname(os.path.join(room, name)), exist_ok=True)
+            shutil.copy2(os.path.join(ROOT, name), os.path.join(room, name))
+
+
+def told_by(output, crate):
+    """What rt says of each edit: its kind, and the words behind it. Lines without `rt: ` belong to the one before."""
+    told, name = {}, None
+    for line in output.split("\n"):
+        found = re.match(rf"rt: must-fail {re.escape(crate)}/(\w+)\.edit: (.*)", line)
+        if found:
+            name, words = found.groups()
+            start = next((it for it in KINDS if words.startswith(it)), "")
+            told[name] = [KINDS.get(start, "bad"), words[len(start):].lstrip(": ")]
+        elif line.startswith("rt: "):
+            name = None
+        elif name and line.strip():
+            told[name][1] += " " + line.strip()
+    return told
+
+
+def tried(room, crate, edits):
+    """The kind of each edit of the list, and the words to it."""
+    folder = os.path.join(room, "crates", crate, "must-fail")
+    os.makedirs(folder)
+    for name, lines in edits.items():
+        with open(os.path.join(folder, name + ".edit"), "w", encoding="utf-8") as file:
+            file.write("\n".join(lines) + "\n")
+    ran = subprocess.run(["rt", "must-fail", crate], cwd=room, stdin=subprocess.DEVNULL, stdout=subprocess.PIPE,
+                         stderr=subprocess.STDOUT, errors="replace")
+    shutil.rmtree(folder)
+    told = told_by(ran.stdout, crate)
+    last = " ".join(ran.stdout.strip().split("\n")[-3:])
+    kind, words = told.pop(CONTROL, ("bad", "rt said: " + last))
+    if kind != "proved":
+        return {name: ("bad", f"the crate isn't proved as it stands: {words}") for name in edits if name != CONTROL}
+    return {name: tuple(told.get(name, ("bad", "rt said nothing of it: " + last))) for name in edits if name != CONTROL}
+
+
+def work(crates, lists, counts, printing):
+    """Tries the crates that are left, one after the other, in one copy."""
+    with tempfile.TemporaryDirectory(prefix="planted-") as room:
+        copy_to(room)
+        while True:
+            try:
+                crate = crates.get_nowait()
+            except queue.Empty:
+                return
+            results = tried(room, crate, lists[crate])
+            with printing:
+                for name, (kind, words) in results.items():
+                    counts[kind] += 1
+                    print(f"{kind:7} {crate}/{name}  {words[:160]}".rstrip(), flush=True)
+
+
+def main():
+    words = argparse.ArgumentParser(description=__doc__, formatter_class=argparse.RawDescriptionHelpFormatter)
+    words.add_argument("crates", nargs="*")
+    words.add_argument("--jobs", type=int, default=1)
+    asked = words.parse_args()
+    with open(os.path.join(ROOT, "crates.txt"), encoding="utf-8") as file:
+        order = [line.split(":")[0].split()[0] for line in file if line.split("#")[0].strip()]
+    names = [it for it in order if os.path.isfile(os.path.join(LISTS, it + ".edits"))]
+    lacking = [it for it in asked.crates if it not in names]
+    if lacking:
+        sys.exit(f"there is no docs/planted/{lacking[0]}.edits of a crate of this name")
+    lists = {it: listed(it) for it in names if it in asked.crates or not asked.crates}
+    crates, counts, printing = queue.Queue(), {"refused": 0, "proved": 0, "bad": 0}, threading.Lock()
+    for crate in lists:
+        crates.put(crate)
+    threads = [threading.Thread(target=work, args=(crates, lists, counts, printing))
+               for _ in range(max(1, min(asked.jobs, len(lists))))]
+    for thread in threads:
+        thread.start()
+    for thread in threads:
+        thread.join()
+    print(", ".join(f"{count} {kind}" for kind, count in counts.items()))
+    if counts["proved"] or counts["bad"] or sum(counts.values()) < sum(len(it) - 1 for it in lists.values()):
+        sys.exit(1)
+
+
+main()
