@@ -67,7 +67,7 @@ module _ (old now : List ℕ → Option (List ℕ)) (untouched : Type 0) (faults
       → IsReported (Picture setup log) old now untouched faults_before faults_now (Ok report)
   page_reported found page report is same within right others = record {
     answered = λ files tells.
-      subst (IsPictured (files setup) (files log)) (sym same) (shown found page is right (files setup) (files log) (tells setup (inl refl)) (tells log (inr refl)));
+        subst (IsPictured (files setup) (files log)) (sym same) (shown found page is right (files setup) (files log) (tells setup (inl refl)) (tells log (inr refl)));
     within = within;
     fault = λ no. absurd (let never : Ok report ≡ Err ReadFault = no in cc);
     left = λ none. absurd (none setup (inl refl));

@@ -27,4 +27,3 @@ no_page (PastLimit limit) (inr is) = omega (arith, is)
 pub page_told : (found : Told) (answered : Answer) → IsPicturedFrom found answered → HasPage answered → (known : Known) × (found ≡ told.Context known)
 page_told (told.Refused refusal) answered from page = absurd (no_page refusal (subst HasPage from page))
 page_told (told.Context known) answered from page = (known, refl)
-

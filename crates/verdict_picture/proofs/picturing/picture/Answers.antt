@@ -22,7 +22,7 @@ returns-clause-pictured g c = λ s l ts tl.
 pub returns-clause-whole : goal.returns-clause-whole
 returns-clause-whole g c = λ page.
     let told = page_told c.in_ok-found.found (report_answer c.in_ok-report.report)
-      (subst (λ t. IsPicturedFrom t (report_answer c.in_ok-report.report)) (c.deref.ensures ∙ c.new-told.ensures) c.in_ok-report.ensures) page in
+    (subst (λ t. IsPicturedFrom t (report_answer c.in_ok-report.report)) (c.deref.ensures ∙ c.new-told.ensures) c.in_ok-report.ensures) page in
     c.in_ok-found.ensures.whole told.0 told.1
 
 pub returns-clause-setup_taken : goal.returns-clause-setup_taken
