@@ -1,4 +1,4 @@
-//! A setup made of what an API server tells: which resources it has, and which objects there are.
+//! A setup made of what an API server tells: which resources it has, and which objects there are at one revision.
 #![tactic(auto)]
 
 mod assembling;

@@ -1,4 +1,4 @@
-//! What each code, status and limit of the program means, how it comes about, and what to do.
+//! What each code, status and limit of the program means, how it comes about on an honest cluster, and what to do.
 #![tactic(auto)]
 
 mod explaining;

@@ -1,4 +1,4 @@
-//! companion explains the codes of kubepast, and prepares what it reads.
+//! companion explains the codes of kubepast, prepares what it reads, and shows its verdicts.
 #![tactic(auto)]
 
 mod ending;

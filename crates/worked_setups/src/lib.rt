@@ -1,4 +1,4 @@
-//! Worked setups: what is made of lists and of what an API server has.
+//! Worked setups: what is made of lists and of what an API server has, and each refusal.
 #![tactic(auto)]
 
 #[cfg(test)]
