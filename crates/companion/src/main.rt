@@ -1,19 +1,9 @@
 //! companion explains the codes of kubepast, prepares what it reads, and shows its verdicts.
 #![tactic(auto)]
 
-mod ending;
-mod gathering;
-mod making;
-mod reading;
-mod report;
-mod reporting;
-mod run;
-mod sifting;
-mod words;
-
+use companion_answers::run;
 use edge_io::{FileDesk, StdSink};
 use judge_pool::FreeGate;
-use run::run;
 use std::alloc::Global;
 use std::env;
 use std::env::Env;

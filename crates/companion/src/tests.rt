@@ -1,5 +1,5 @@
-use crate::run::run;
 use base_types::{Bytes, Text};
+use companion_answers::run;
 use edge_io::{InputFile, InputFiles, MemoryDesk, MemorySink};
 use judge_pool::FreeGate;
 use std::marker::Sync;
