@@ -8,8 +8,8 @@ mod making;
 mod reading;
 mod report;
 mod reporting;
-mod run;
+mod running;
 mod sifting;
 mod words;
 
-pub use run::run;
+pub use running::run;

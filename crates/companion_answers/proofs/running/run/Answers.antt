@@ -2,8 +2,8 @@ use Rattle.std.proofs.Common.{◌≡◌, None, map, string_bytes, Global, inl, r
 use Rattle.companion_answers.specs.Command.{command_asked}
 use Rattle.companion_answers.specs.Program.{usage_answer}
 use Rattle.companion_answers.proofs.RunFacts.{HasRun, run_answer, run_desk_left, run_memory, run_others_left, run_read_fault, run_usage, run_usage_only, run_write_fault}
-use Rattle.companion_answers.proofs.run.run.Given.{Over}
-use Rattle.companion_answers.proofs.run.run.Goals as goal
+use Rattle.companion_answers.proofs.running.run.Given.{Over}
+use Rattle.companion_answers.proofs.running.run.Goals as goal
 
 pub returns-in-None-clause-answer : goal.returns-in-None-clause-answer
 returns-in-None-clause-answer g c = λ files tells. inl (usage_answer, (None, c.in-None.ensures, refl), c.end_with.ensures.ends)
