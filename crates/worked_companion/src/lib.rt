@@ -1,0 +1,5 @@
+//! Worked calls of the companion: words and files, with the wanted status and text.
+#![tactic(auto)]
+
+#[cfg(test)]
+mod companion_rows;
