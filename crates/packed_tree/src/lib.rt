@@ -3,10 +3,10 @@
 
 mod building;
 mod framing;
-mod levels;
 mod packed;
 mod packing;
 mod reading;
+mod scalars;
 
 pub use packed::{Packed, pack};
 pub use reading::{PackedItems, PackedMembers, PackedRef, Shown};

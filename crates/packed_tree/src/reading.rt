@@ -1,14 +1,14 @@
-ghost use Rattle.std.specs.Prelude.{◌≡◌, ◌++◌, [], IsTrue, ◌↔◌, IfNone, option_map, option_to_list};
-ghost use Rattle.json_tree.specs.Meaning.{fields_of, fields_list, kids_list};
+ghost use Rattle.std.specs.Prelude.{◌≡◌, ◌++◌, ◌∷◌, [], IsTrue, ◌↔◌, IfOk, IfNone, option_map, option_to_list};
+ghost use Rattle.json_tree.specs.Meaning.{fields_of};
 ghost use Rattle.json_tree.specs.Names.{AreSorted};
 ghost use Rattle.json_tree.specs.Parts.{lookup, member_of, is_null, whole_of, text_of, items_of, members_of};
-ghost use Rattle.packed_tree.specs.Decoding.{decode, kids_in, fields_in};
+ghost use Rattle.packed_tree.specs.Decoding.{decode};
 ghost use Rattle.packed_tree.specs.Showing.{meaning_of};
-ghost use Rattle.packed_tree.specs.Sound.{IsSound, AreKidsSound, AreFieldsSound};
+ghost use Rattle.packed_tree.specs.Sound.{IsSound};
 
 use crate::building::build;
 use crate::framing::cut;
-use crate::levels::{level_of, str_of};
+use crate::scalars::{below_zero, not_below_zero, str_of};
 use base_types::OutOfMemory;
 use json_tree::Tree;
 use std::alloc::Global;
@@ -101,21 +101,32 @@ pub(crate) fn reader(bytes: &[u8]) -> PackedRef<'_>
     PackedRef { bytes }
 }
 
-// The items that stand one after another in these bytes.
-pub(crate) fn items(bytes: &[u8]) -> PackedItems<'_>
-    requires { AreKidsSound (kids_in bytes.now) }
-    ensures { result ≡ kids_list (kids_in bytes.entry.now) }
+// One level of the value of these bytes.
+fn level_of(bytes: &[u8]) -> Shown<'_>
+    requires { IsSound (decode bytes.now) }
+    ensures { meaning_of result ≡ decode bytes.entry.now }
 {
-    PackedItems { bytes }
+    match bytes {
+        [] => Shown::Null,
+        [tag, rest @ ..] => tagged_level(*tag, rest),
+    }
 }
 
-// The members that stand one after another in these bytes.
-pub(crate) fn members(bytes: &[u8]) -> PackedMembers<'_>
-    requires sound { AreFieldsSound (fields_in bytes.now) }
-    requires sorted { AreSorted (fields_list (fields_in bytes.now)) }
-    ensures { result ≡ fields_list (fields_in bytes.entry.now) }
+// What a byte in front, and those behind it, show.
+fn tagged_level(tag: u8, rest: &[u8]) -> Shown<'_>
+    requires { IsSound (decode (tag ∷ rest.now)) }
+    ensures { meaning_of result ≡ decode (tag ∷ rest.entry.now) }
 {
-    PackedMembers { bytes }
+    match tag {
+        1 => Shown::Flag(false),
+        2 => Shown::Flag(true),
+        3 => Shown::Whole(not_below_zero(rest)),
+        4 => Shown::Whole(below_zero(rest)),
+        5 => Shown::Words(str_of(rest)),
+        6 => Shown::Items(PackedItems { bytes: rest }),
+        7 => Shown::Members(PackedMembers { bytes: rest }),
+        _ => Shown::Null,
+    }
 }
 
 impl<'a> PackedRef<'a> {
