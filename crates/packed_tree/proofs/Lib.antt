@@ -2,3 +2,4 @@ pub mod FrameLemmas
 pub mod DecodeLemmas
 pub mod Steps
 pub mod Packings
+pub mod Sameness

@@ -70,6 +70,7 @@ impl PartialEq for Packed {
 
     ghost laws = { partial_equiv_from_equiv same-equiv };
 
+    #[tactic(auto, using(crate::proofs::Sameness::same_bytes))]
     fn eq(&self, other: &Packed) -> bool {
         self.bytes == other.bytes
     }
