@@ -4,17 +4,18 @@ ghost use Rattle.audit_event.specs.Bodies.{body_of, kept, is_kept, IsSoundBody};
 
 use crate::event::Body;
 use base_types::OutOfMemory;
-use json_tree::{Tree, TreeFault, from_value};
+use json_tree::TreeFault;
+use packed_tree::{Packed, pack};
 use serde_json::Value;
 use std::alloc::Global;
 
 impl Body {
-    /// The tree of a body that was recorded.
-    pub fn kept(&self) -> Option<&Tree>
-        ensures { option_map (λ tree. tree.now) result ≡ kept self.now }
+    /// The value of a body that was recorded.
+    pub fn kept(&self) -> Option<&Packed>
+        ensures { option_map (λ value. value.now) result ≡ kept self.now }
     {
         match self {
-            Body::Kept(tree) => Some(tree),
+            Body::Kept(value) => Some(value),
             _ => None,
         }
     }
@@ -34,8 +35,8 @@ pub(crate) fn read_body(alloc: Global, member: Option<&Value>) -> Result<Body, O
     let Some(value) = member else {
         return Ok(Body::Absent);
     };
-    match from_value(alloc, value) {
-        Ok(tree) => Ok(Body::Kept(tree)),
+    match pack(alloc, value) {
+        Ok(packed) => Ok(Body::Kept(packed)),
         Err(TreeFault::Fraction) => Ok(Body::Unread),
         Err(TreeFault::OutOfMemory) => Err(OutOfMemory),
     }

@@ -1,12 +1,12 @@
 use base_types::{Decision, Level, Listed, Moment, RequestAttrs, Stage, Text, User};
-use json_tree::Tree;
+use packed_tree::Packed;
 
 /// What an event records of an object that was sent or answered.
 #[derive(Drop, PartialEq, Eq)]
 pub enum Body {
     /// Not recorded, or null.
     Absent,
-    Kept(Tree),
+    Kept(Packed),
     /// Recorded, with a number that isn't whole or not in -2^63 to 2^64 - 1.
     Unread,
 }

@@ -5,7 +5,7 @@ use crate::event::{Body, Event, Events};
 use crate::fault::SeenFault;
 use base_types::{OutOfMemory, Pairs, RequestAttrs, Stage, Text, Texts, User};
 use indexmap::IndexSet;
-use json_tree::equal;
+use packed_tree::Packed;
 use std::alloc::Global;
 use std::marker::Model;
 
@@ -106,12 +106,18 @@ fn has_same_object(a: &RequestAttrs, b: &RequestAttrs) -> bool
         && is_same_query(&a.query, &b.query)
 }
 
+fn is_same_value(a: &Packed, b: &Packed) -> bool
+    ensures { IsTrue result ↔ (a.now ≡ b.now) }
+{
+    a == b
+}
+
 fn is_same_body(a: &Body, b: &Body) -> bool
     ensures { IsTrue result ↔ (a.now ≡ b.now) }
 {
     match (a, b) {
         (Body::Absent, Body::Absent) | (Body::Unread, Body::Unread) => true,
-        (Body::Kept(x), Body::Kept(y)) => equal(x, y),
+        (Body::Kept(x), Body::Kept(y)) => is_same_value(x, y),
         _ => false,
     }
 }

@@ -1,0 +1,4 @@
+pub mod FrameLemmas
+pub mod DecodeLemmas
+pub mod Steps
+pub mod Packings

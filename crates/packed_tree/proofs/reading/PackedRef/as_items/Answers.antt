@@ -1,0 +1,12 @@
+use Rattle.std.proofs.Common.{◌≡◌, Some, sym, ap, ◌∙◌}
+use Rattle.json_tree.specs.Meaning.{items, kids_of}
+use Rattle.json_tree.specs.Parts.{items_of}
+use Rattle.json_tree.proofs.Lists.{kids_list-kids_of}
+use Rattle.packed_tree.specs.Showing.{meaning_of}
+use Rattle.packed_tree.proofs.reading.PackedRef.as_items.Goals as goal
+
+pub returns-in-Items : goal.returns-in-Items
+returns-in-Items c =
+    let list = c.in-Items.list in
+    let is : c.args.self.now ≡ items (kids_of list) = sym c.show.ensures ∙ ap meaning_of c.in-Items.is in
+    ap Some (sym (kids_list-kids_of list)) ∙ ap items_of (sym is)

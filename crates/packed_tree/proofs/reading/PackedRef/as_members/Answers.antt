@@ -1,0 +1,12 @@
+use Rattle.std.proofs.Common.{◌≡◌, Some, sym, ap, ◌∙◌}
+use Rattle.json_tree.specs.Meaning.{members, fields_of}
+use Rattle.json_tree.specs.Parts.{members_of}
+use Rattle.json_tree.proofs.Lists.{fields_list-fields_of}
+use Rattle.packed_tree.specs.Showing.{meaning_of}
+use Rattle.packed_tree.proofs.reading.PackedRef.as_members.Goals as goal
+
+pub returns-in-Members : goal.returns-in-Members
+returns-in-Members c =
+    let list = c.in-Members.list in
+    let is : c.args.self.now ≡ members (fields_of list) = sym c.show.ensures ∙ ap meaning_of c.in-Members.is in
+    ap Some (sym (fields_list-fields_of list)) ∙ ap members_of (sym is)

@@ -1,0 +1,6 @@
+pub mod Frames
+pub mod Encoding
+pub mod Decoding
+pub mod Sound
+pub mod Packs
+pub mod Showing

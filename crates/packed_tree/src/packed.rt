@@ -1,0 +1,82 @@
+ghost use Rattle.std.specs.Prelude.{◌≡◌, Some, None, Err, IfOk};
+ghost use Rattle.serde_json.specs.View.{view};
+ghost use Rattle.json_tree.specs.Values.{of_data, InRange};
+
+use crate::packing::push_value;
+use crate::reading::{PackedRef, reader};
+use base_types::OutOfMemory;
+use json_tree::{Tree, TreeFault};
+use serde_json::Value;
+use std::alloc::Global;
+use std::marker::Model;
+
+/// A JSON value (RFC 8259) whose numbers are whole, in one block of memory. Contracts see it as a
+/// `Meaning`, as they do a `Tree`.
+#[derive(Drop)]
+pub struct Packed {
+    bytes: Vec<u8>,
+}
+
+impl Model for Packed {
+    ghost use Rattle.json_tree.specs.Meaning.{Meaning};
+    ghost use Rattle.json_tree.specs.Code.{coded_meaning};
+    ghost use Rattle.packed_tree.specs.Decoding.{decode};
+    ghost use Rattle.packed_tree.specs.Sound.{IsPacked};
+
+    ghost Value = { Meaning };
+
+    ghost coded = { coded_meaning };
+
+    ghost view = { λ p. decode p.bytes.items };
+
+    ghost invariant = { λ p. IsPacked p.bytes.items };
+}
+
+/// The packed form of a JSON value. As with `json_tree::from_value`, numbers that `serde_json` reads as
+/// floating point, as `1.0`, `-0` and `1e2`, are refused.
+pub fn pack(alloc: Global, value: &Value) -> Result<Packed, TreeFault>
+    ensures ok { IfOk result (λ packed. of_data (view value.now) ≡ Some packed) }
+    ensures range { IfOk result InRange }
+    ensures fraction { result ≡ Err TreeFault.Fraction → of_data (view value.now) ≡ None }
+{
+    let mut bytes = Vec::new(alloc);
+    push_value(&mut bytes, value)?;
+    bytes.shrink_to_fit();
+    Ok(Packed { bytes })
+}
+
+impl Packed {
+    /// The value, to be read in place.
+    pub fn root(&self) -> PackedRef<'_>
+        ensures { result ≡ self.now }
+    {
+        reader(self.bytes.as_slice())
+    }
+
+    /// The tree of this value.
+    pub fn tree(&self, alloc: Global) -> Result<Tree, OutOfMemory>
+        ensures { IfOk result (λ tree. tree ≡ self.now) }
+    {
+        self.root().tree(alloc)
+    }
+}
+
+/// Equal values have equal bytes, so these alone are compared.
+impl PartialEq for Packed {
+    ghost use Rattle.json_tree.specs.Same.{same, same-equiv};
+    ghost use Rattle.std.specs.Cmp.{partial_equiv_from_equiv};
+
+    ghost eq = { same };
+
+    ghost laws = { partial_equiv_from_equiv same-equiv };
+
+    fn eq(&self, other: &Packed) -> bool {
+        self.bytes == other.bytes
+    }
+}
+
+impl Eq for Packed {
+    ghost use Rattle.json_tree.specs.Same.{same-equiv};
+
+    ghost laws = { same-equiv };
+}

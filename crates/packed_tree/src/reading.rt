@@ -1,0 +1,255 @@
+ghost use Rattle.std.specs.Prelude.{◌≡◌, ◌++◌, ◌∷◌, [], IsTrue, ◌↔◌, IfOk, IfNone, option_map, option_to_list};
+ghost use Rattle.json_tree.specs.Meaning.{fields_of};
+ghost use Rattle.json_tree.specs.Names.{AreSorted};
+ghost use Rattle.json_tree.specs.Parts.{lookup, member_of, is_null, whole_of, text_of, items_of, members_of};
+ghost use Rattle.packed_tree.specs.Decoding.{decode};
+ghost use Rattle.packed_tree.specs.Showing.{meaning_of};
+ghost use Rattle.packed_tree.specs.Sound.{IsSound};
+
+use crate::building::build;
+use crate::framing::cut;
+use crate::scalars::{below_zero, not_below_zero, str_of};
+use base_types::OutOfMemory;
+use json_tree::Tree;
+use std::alloc::Global;
+use std::marker::Model;
+
+/// A JSON value within a packed one. Contracts see it as a `Meaning`.
+#[derive(Drop)]
+pub struct PackedRef<'a> {
+    bytes: &'a [u8],
+}
+
+/// The items of a packed array that are still to be read.
+#[derive(Drop)]
+pub struct PackedItems<'a> {
+    bytes: &'a [u8],
+}
+
+/// The members of a packed object that are still to be read, in the order of their names.
+#[derive(Drop)]
+pub struct PackedMembers<'a> {
+    bytes: &'a [u8],
+}
+
+impl<'a> Model for PackedRef<'a> {
+    ghost use Rattle.json_tree.specs.Meaning.{Meaning};
+    ghost use Rattle.json_tree.specs.Code.{coded_meaning};
+    ghost use Rattle.packed_tree.specs.Decoding.{decode};
+    ghost use Rattle.packed_tree.specs.Sound.{IsSound};
+
+    ghost Value = { Meaning };
+
+    ghost coded = { coded_meaning };
+
+    ghost view = { λ r. decode r.bytes.now };
+
+    ghost invariant = { λ r. IsSound (decode r.bytes.now) };
+}
+
+impl<'a> Model for PackedItems<'a> {
+    ghost use Rattle.std.specs.Prelude.{List};
+    ghost use Rattle.std.specs.Coded.{coded_list};
+    ghost use Rattle.json_tree.specs.Meaning.{Meaning, kids_list};
+    ghost use Rattle.json_tree.specs.Code.{coded_meaning};
+    ghost use Rattle.packed_tree.specs.Decoding.{kids_in};
+    ghost use Rattle.packed_tree.specs.Sound.{AreKidsSound};
+
+    ghost Value = { List Meaning };
+
+    ghost coded = { coded_list coded_meaning };
+
+    ghost view = { λ r. kids_list (kids_in r.bytes.now) };
+
+    ghost invariant = { λ r. AreKidsSound (kids_in r.bytes.now) };
+}
+
+impl<'a> Model for PackedMembers<'a> {
+    ghost use Rattle.std.specs.Prelude.{List, ℕ};
+    ghost use Rattle.std.specs.Coded.{coded_list, coded×};
+    ghost use Rattle.json_tree.specs.Meaning.{Meaning, fields_list};
+    ghost use Rattle.json_tree.specs.Code.{coded_meaning, coded_bytes};
+    ghost use Rattle.json_tree.specs.Names.{AreSorted};
+    ghost use Rattle.packed_tree.specs.Decoding.{fields_in};
+    ghost use Rattle.packed_tree.specs.Sound.{AreFieldsSound};
+
+    ghost Value = { List (List ℕ × Meaning) };
+
+    ghost coded = { coded_list (coded× coded_bytes coded_meaning) };
+
+    ghost view = { λ r. fields_list (fields_in r.bytes.now) };
+
+    ghost invariant = { λ r. AreFieldsSound (fields_in r.bytes.now) × AreSorted (fields_list (fields_in r.bytes.now)) };
+}
+
+/// One level of a packed value.
+#[derive(Drop)]
+pub enum Shown<'a> {
+    Null,
+    Flag(bool),
+    Whole(i128),
+    Words(&'a str),
+    Items(PackedItems<'a>),
+    Members(PackedMembers<'a>),
+}
+
+// The value of these bytes.
+pub(crate) fn reader(bytes: &[u8]) -> PackedRef<'_>
+    requires { IsSound (decode bytes.now) }
+    ensures { result ≡ decode bytes.entry.now }
+{
+    PackedRef { bytes }
+}
+
+// One level of the value of these bytes.
+fn level_of(bytes: &[u8]) -> Shown<'_>
+    requires { IsSound (decode bytes.now) }
+    ensures { meaning_of result ≡ decode bytes.entry.now }
+{
+    match bytes {
+        [] => Shown::Null,
+        [tag, rest @ ..] => tagged_level(*tag, rest),
+    }
+}
+
+// What a byte in front, and those behind it, show.
+fn tagged_level(tag: u8, rest: &[u8]) -> Shown<'_>
+    requires { IsSound (decode (tag ∷ rest.now)) }
+    ensures { meaning_of result ≡ decode (tag ∷ rest.entry.now) }
+{
+    match tag {
+        1 => Shown::Flag(false),
+        2 => Shown::Flag(true),
+        3 => Shown::Whole(not_below_zero(rest)),
+        4 => Shown::Whole(below_zero(rest)),
+        5 => Shown::Words(str_of(rest)),
+        6 => Shown::Items(PackedItems { bytes: rest }),
+        7 => Shown::Members(PackedMembers { bytes: rest }),
+        _ => Shown::Null,
+    }
+}
+
+impl<'a> PackedRef<'a> {
+    /// What the value is, and what it holds.
+    pub fn show(&self) -> Shown<'a>
+        ensures { meaning_of result ≡ self.now }
+    {
+        level_of(self.bytes)
+    }
+
+    /// The value of an object's member.
+    pub fn member(&self, name: &str) -> Option<PackedRef<'a>>
+        ensures { result ≡ member_of name.now self.now }
+    {
+        match self.show() {
+            Shown::Members(list) => list.get(name),
+            _ => None,
+        }
+    }
+
+    pub fn is_null(&self) -> bool
+        ensures { result ≡ is_null self.now }
+    {
+        matches!(self.show(), Shown::Null)
+    }
+
+    pub fn as_whole(&self) -> Option<i128>
+        ensures { result ≡ whole_of self.now }
+    {
+        match self.show() {
+            Shown::Whole(number) => Some(number),
+            _ => None,
+        }
+    }
+
+    pub fn as_text(&self) -> Option<&'a str>
+        ensures { option_map (λ s. s.now) result ≡ text_of self.now }
+    {
+        match self.show() {
+            Shown::Words(text) => Some(text),
+            _ => None,
+        }
+    }
+
+    pub fn as_items(&self) -> Option<PackedItems<'a>>
+        ensures { result ≡ items_of self.now }
+    {
+        match self.show() {
+            Shown::Items(list) => Some(list),
+            _ => None,
+        }
+    }
+
+    pub fn as_members(&self) -> Option<PackedMembers<'a>>
+        ensures { result ≡ members_of self.now }
+    {
+        match self.show() {
+            Shown::Members(list) => Some(list),
+            _ => None,
+        }
+    }
+
+    /// The tree of this value.
+    pub fn tree(&self, alloc: Global) -> Result<Tree, OutOfMemory>
+        ensures { IfOk result (λ tree. tree ≡ self.now) }
+    {
+        build(alloc, self)
+    }
+}
+
+impl<'a> PackedItems<'a> {
+    pub fn is_empty(&self) -> bool
+        ensures { IsTrue result ↔ (self.now ≡ []) }
+    {
+        self.bytes.is_empty()
+    }
+
+    /// The next item.
+    pub fn next(&mut self) -> Option<PackedRef<'a>>
+        ensures item { self.old ≡ option_to_list result ++ self.new }
+        ensures none { IfNone result (self.old ≡ []) }
+    {
+        if self.bytes.is_empty() {
+            return None;
+        }
+        let (item, rest) = cut(self.bytes);
+        self.bytes = rest;
+        Some(PackedRef { bytes: item })
+    }
+}
+
+impl<'a> PackedMembers<'a> {
+    /// The next member: its name and its value.
+    pub fn next(&mut self) -> Option<(&'a str, PackedRef<'a>)>
+        ensures member { self.old ≡ option_to_list (option_map (λ m. (m.0.now, m.1)) result) ++ self.new }
+        ensures none { IfNone result (self.old ≡ []) }
+    {
+        if self.bytes.is_empty() {
+            return None;
+        }
+        let (name, behind) = cut(self.bytes);
+        let (value, rest) = cut(behind);
+        self.bytes = rest;
+        Some((str_of(name), PackedRef { bytes: value }))
+    }
+
+    /// The value of the member of a name.
+    pub fn get(&self, name: &str) -> Option<PackedRef<'a>>
+        ensures { result ≡ lookup name.now (fields_of self.now) }
+    {
+        let mut rest = PackedMembers { bytes: self.bytes };
+        'members: while let Some((key, value)) = rest.next() {
+            if key == name {
+                return Some(value);
+            }
+        }
+        None
+    }
+
+    /// The names are in order. It does nothing.
+    pub(crate) fn sorted(&self)
+        ensures { AreSorted self.now }
+    {
+        let _bytes = &self.bytes;
+    }
+}
