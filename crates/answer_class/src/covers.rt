@@ -2,6 +2,7 @@ ghost use Rattle.std.specs.Prelude.{◌≡◌, IfOk};
 ghost use Rattle.answer_class.specs.Covers.{is_create, created_name, cover_name, cover_namespace, cover_of};
 
 use crate::bodies::body_member;
+use crate::members::filled_at;
 use crate::request::{Verb, verb_of};
 use audit_event::Event;
 use base_types::{Cover, CoverName, OutOfMemory, RequestAttrs, Text};
