@@ -14,6 +14,8 @@ mod merge_patch_rows;
 #[cfg(test)]
 mod node_pool_rows;
 #[cfg(test)]
+mod packed_tree_rows;
+#[cfg(test)]
 mod patching;
 #[cfg(test)]
 mod path_shape_rows;
