@@ -1,13 +1,14 @@
 ghost use Rattle.std.specs.Prelude.{◌≡◌, IfOk, option_map, option_and_then};
 ghost use Rattle.json_tree.specs.Parts.{member_of};
 ghost use Rattle.audit_event.specs.Bodies.{kept};
-ghost use Rattle.answer_class.specs.Bodies.{has_items, is_positive, is_there, metadata_at, is_deleted, is_finalizing, is_ended, answered_object, asks_dry, is_merge_body, is_merge};
+ghost use Rattle.answer_class.specs.Bodies.{has_items, is_positive, is_there, metadata_at, is_deleted, is_finalizing, is_ended, answered_object, asks_dry};
 
 use crate::request::Verb;
 use audit_event::{Body, Event};
-use base_types::{OutOfMemory, RequestAttrs};
+use base_types::OutOfMemory;
 use json_tree::Tree;
-use setup_file::{SnapshotObject, Tracked, is_merge_patch, read_object};
+use packed_tree::PackedRef;
+use setup_file::{SnapshotObject, Tracked, read_object};
 use std::alloc::Global;
 
 fn has_items(member: Option<&Tree>) -> bool
@@ -72,6 +73,30 @@ pub fn is_ended(tree: &Tree) -> bool
     is_deleted(tree) && !is_finalizing(tree)
 }
 
+/// The value of a body that was kept, to be read in place.
+pub fn value_of(body: &Body) -> Option<PackedRef<'_>>
+    ensures { result ≡ kept body.now }
+{
+    Some(body.kept()?.root())
+}
+
+/// A member of a body that was kept.
+pub fn body_member<'a>(body: &'a Body, name: &str) -> Option<PackedRef<'a>>
+    ensures { result ≡ option_and_then (member_of name.now) (kept body.now) }
+{
+    value_of(body)?.member(name)
+}
+
+/// The tree of a body that was kept.
+pub fn body_tree(alloc: Global, body: &Body) -> Result<Option<Tree>, OutOfMemory>
+    ensures { IfOk result (λ found. found ≡ kept body.now) }
+{
+    match body.kept() {
+        Some(packed) => Ok(Some(packed.tree(alloc)?)),
+        None => Ok(None),
+    }
+}
+
 /// The object that the answer is, under the request's path.
 pub fn answered_object(
     alloc: Global,
@@ -81,17 +106,23 @@ pub fn answered_object(
     ensures { IfOk result (λ found. found ≡ answered_object tracked.now event.now) }
 {
     let attrs = &event.attrs;
-    match event.response.kept() {
-        Some(tree) => read_object(alloc, tracked, &attrs.name, &attrs.namespace, tree),
+    match body_tree(alloc, &event.response)? {
+        Some(tree) => read_object(alloc, tracked, &attrs.name, &attrs.namespace, &tree),
         None => Ok(None),
     }
 }
 
-// A member of a body that was kept.
-pub fn body_member<'a>(body: &'a Body, name: &str) -> Option<&'a Tree>
-    ensures { option_map (λ tree. tree.now) result ≡ option_and_then (member_of name.now) (kept body.now) }
+// Whether a body's member is a list that isn't empty.
+fn is_list_of_some(member: Option<PackedRef<'_>>) -> bool
+    ensures { result ≡ has_items member.entry }
 {
-    body.kept()?.member(name)
+    match member {
+        Some(value) => match value.as_items() {
+            Some(items) => !items.is_empty(),
+            None => false,
+        },
+        None => false,
+    }
 }
 
 /// Whether a deletion asks for a dry run in its body.
@@ -99,23 +130,7 @@ pub fn asks_dry(verb: Verb, request: &Body) -> bool
     ensures { result ≡ asks_dry verb request.now }
 {
     match verb {
-        Verb::Delete | Verb::DeleteCollection => has_items(body_member(request, "dryRun")),
+        Verb::Delete | Verb::DeleteCollection => is_list_of_some(body_member(request, "dryRun")),
         _ => false,
     }
-}
-
-fn is_merge_body(tracked: &Tracked, attrs: &RequestAttrs, body: Option<&Tree>) -> bool
-    ensures { result ≡ is_merge_body tracked.now attrs.now (option_map (λ tree. tree.now) body.entry) }
-{
-    match body {
-        Some(body) => is_merge_patch(tracked, attrs, body),
-        None => false,
-    }
-}
-
-/// Whether the body of a patch is a merge patch (RFC 7386).
-pub fn is_merge(tracked: &Tracked, event: &Event) -> bool
-    ensures { result ≡ is_merge tracked.now event.now }
-{
-    is_merge_body(tracked, &event.attrs, event.request.kept())
 }

@@ -10,6 +10,7 @@ use crate::bodies::{answered_object, asks_dry, body_member, is_ended, is_finaliz
 use crate::conditions::{has_conditions, tracked_conditions};
 use crate::covers::{cover_of, is_create};
 use crate::lists::{Extent, answered_list, extent_of, is_odd, is_old_list};
+use crate::members::filled_at;
 use crate::request::{
     Effect, Verb, effect_of, first_value, has_filled, is_code, is_completing, is_done,
     is_elsewhere, is_full, is_nothing, is_open, is_own, is_read, is_unknown, is_write, succeeds,
@@ -19,7 +20,7 @@ use crate::times::{is_before, is_early, is_late};
 use audit_event::{Event, Status};
 use base_types::{ObjectKey, OutOfMemory, RequestAttrs, Text};
 use json_tree::Tree;
-use setup_file::{ListRead, Setup, SnapshotObject, Tracked, filled_at, tracked_of};
+use setup_file::{ListRead, Setup, SnapshotObject, Tracked, tracked_of};
 use std::alloc::Global;
 
 // The key of the object of this name in the path's namespace.
@@ -27,7 +28,7 @@ fn key_named(
     alloc: Global,
     tracked: &Tracked,
     attrs: &RequestAttrs,
-    name: &Text,
+    name: &str,
 ) -> Result<ObjectKey, OutOfMemory>
     ensures { IfOk result (λ key. key ≡ key_named tracked.now attrs.now name.now) }
 {
@@ -35,7 +36,7 @@ fn key_named(
         group: attrs.group.clone()?,
         resource: attrs.resource.clone()?,
         namespace: namespace_of(alloc, tracked, attrs)?,
-        name: name.clone()?,
+        name: Text::from_str(alloc, name)?,
     })
 }
 
@@ -57,7 +58,7 @@ fn path_key(
 ) -> Result<ObjectKey, OutOfMemory>
     ensures { IfOk result (λ key. key ≡ path_key tracked.now attrs.now) }
 {
-    key_named(alloc, tracked, attrs, &attrs.name)
+    key_named(alloc, tracked, attrs, attrs.name.as_str())
 }
 
 // What a read saw under a key.
@@ -198,14 +199,15 @@ fn is_missing(tracked: &Tracked, event: &Event) -> bool
         && !is_unknown(effect_of(tracked, attrs))
 }
 
-fn asked_name(event: &Event) -> Option<&Text>
+fn asked_name(event: &Event) -> Option<&str>
     ensures { option_map (λ text. text.now) result ≡ asked_name event.now }
 {
-    filled_at(body_member(&event.request, "metadata")?, "name")
+    let metadata = body_member(&event.request, "metadata")?;
+    filled_at(&metadata, "name")
 }
 
 // `409 AlreadyExists` for a create of this name.
-fn is_taken(tracked: &Tracked, event: &Event, name: &Text) -> bool
+fn is_taken(tracked: &Tracked, event: &Event, name: &str) -> bool
     ensures { result ≡ is_taken tracked.now event.now name.now }
 {
     let (attrs, status) = (&event.attrs, &event.status);
@@ -213,7 +215,7 @@ fn is_taken(tracked: &Tracked, event: &Event, name: &Text) -> bool
         && is_own(effect_of(tracked, attrs))
         && is_code(409, status.code)
         && status.reason.as_str() == "AlreadyExists"
-        && status.name == *name
+        && status.name.as_str() == name
 }
 
 // `409 Conflict` for the object at the path.
@@ -228,17 +230,17 @@ fn tells_conflict(tracked: &Tracked, event: &Event) -> bool
 }
 
 // The same for a request with conditions.
-fn is_conflict(tracked: &Tracked, event: &Event) -> Result<bool, OutOfMemory>
+fn is_conflict(alloc: Global, tracked: &Tracked, event: &Event) -> Result<bool, OutOfMemory>
     ensures { IfOk result (λ is. is ≡ is_conflict tracked.now event.now) }
 {
-    let conditions = tracked_conditions(tracked, event)?;
+    let conditions = tracked_conditions(alloc, tracked, event)?;
     Ok(has_conditions(&conditions) && tells_conflict(tracked, event))
 }
 
 fn conflict_class(alloc: Global, tracked: &Tracked, event: &Event) -> Result<Answer, OutOfMemory>
     ensures { IfOk result (λ answer. answer ≡ conflict_class tracked.now event.now) }
 {
-    if is_conflict(tracked, event)? {
+    if is_conflict(alloc, tracked, event)? {
         return Ok(Answer::SawOther {
             key: path_key(alloc, tracked, &event.attrs)?,
         });

@@ -1,12 +1,13 @@
-ghost use Rattle.std.specs.Prelude.{◌≡◌, IfOk, option_map};
+ghost use Rattle.std.specs.Prelude.{◌≡◌, IfOk};
 ghost use Rattle.answer_class.specs.Covers.{is_create, created_name, cover_name, cover_namespace, cover_of};
 
 use crate::bodies::body_member;
+use crate::members::filled_at;
 use crate::request::{Verb, verb_of};
 use audit_event::Event;
 use base_types::{Cover, CoverName, OutOfMemory, RequestAttrs, Text};
-use json_tree::Tree;
-use setup_file::{Tracked, filled_at};
+use packed_tree::PackedRef;
+use setup_file::Tracked;
 use std::alloc::Global;
 
 pub fn is_create(verb: Verb) -> bool
@@ -16,22 +17,22 @@ pub fn is_create(verb: Verb) -> bool
 }
 
 // The names that an object may have which is to be created with this metadata.
-fn created_name(metadata: Option<&Tree>) -> Result<CoverName, OutOfMemory>
-    ensures { IfOk result (λ name. name ≡ created_name (option_map (λ tree. tree.now) metadata.entry)) }
+fn created_name(alloc: Global, metadata: Option<PackedRef<'_>>) -> Result<CoverName, OutOfMemory>
+    ensures { IfOk result (λ name. name ≡ created_name metadata.entry) }
 {
     let Some(metadata) = metadata else {
         return Ok(CoverName::Any);
     };
-    if let Some(name) = filled_at(metadata, "name") {
-        return Ok(CoverName::Exact(name.clone()?));
+    if let Some(name) = filled_at(&metadata, "name") {
+        return Ok(CoverName::Exact(Text::from_str(alloc, name)?));
     }
-    match filled_at(metadata, "generateName") {
-        Some(front) => Ok(CoverName::Prefix(front.clone()?)),
+    match filled_at(&metadata, "generateName") {
+        Some(front) => Ok(CoverName::Prefix(Text::from_str(alloc, front)?)),
         None => Ok(CoverName::Any),
     }
 }
 
-fn cover_name(event: &Event) -> Result<CoverName, OutOfMemory>
+fn cover_name(alloc: Global, event: &Event) -> Result<CoverName, OutOfMemory>
     ensures { IfOk result (λ name. name ≡ cover_name event.now) }
 {
     let attrs = &event.attrs;
@@ -39,7 +40,7 @@ fn cover_name(event: &Event) -> Result<CoverName, OutOfMemory>
         return Ok(CoverName::Exact(attrs.name.clone()?));
     }
     if is_create(verb_of(attrs.verb.as_str())) {
-        return created_name(body_member(&event.request, "metadata"));
+        return created_name(alloc, body_member(&event.request, "metadata"));
     }
     Ok(CoverName::Any)
 }
@@ -69,7 +70,7 @@ pub fn cover_of(alloc: Global, tracked: &Tracked, event: &Event) -> Result<Cover
         group: attrs.group.clone()?,
         resource: attrs.resource.clone()?,
         namespace: cover_namespace(alloc, tracked, attrs)?,
-        name: cover_name(event)?,
+        name: cover_name(alloc, event)?,
         creates: is_create(verb_of(attrs.verb.as_str())),
     })
 }

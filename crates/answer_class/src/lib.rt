@@ -9,6 +9,8 @@ mod conditions;
 mod covers;
 mod labels;
 mod lists;
+mod members;
+mod patches;
 mod request;
 mod times;
 
@@ -18,5 +20,6 @@ pub use classes::class_of;
 pub use conditions::{Conditions, conditions_of};
 pub use labels::listable;
 pub use lists::one_at_most;
+pub use members::filled_at;
 pub use request::{first_value, has_filled, is_completing};
 pub use times::is_late;

@@ -3,12 +3,13 @@ ghost use Rattle.answer_class.specs.Lists.{not_whole, one_at_most, selected, ext
 ghost use Rattle.answer_class.specs.Requests.{is_filled};
 ghost use Rattle.label_select.specs.Readings.{selector_of};
 
-use crate::bodies::body_member;
+use crate::bodies::{body_member, body_tree};
+use crate::members::revision_at;
 use crate::request::{Verb, first_value, has_filled, is_filled};
 use audit_event::Event;
 use base_types::{OutOfMemory, Pair, RequestAttrs, Revision, Text};
 use label_select::{Selector, SelectorFault, read_selector};
-use setup_file::{ListRead, Setup, Tracked, canonical, read_list, revision_at};
+use setup_file::{ListRead, Setup, Tracked, canonical, read_list};
 use std::alloc::Global;
 
 /// Whether a list is all that there is, and which labels it asked for.
@@ -82,8 +83,8 @@ pub fn answered_list(
     ensures { IfOk result (λ found. found ≡ answered_list tracked.now event.now) }
 {
     let attrs = &event.attrs;
-    match event.response.kept() {
-        Some(tree) => read_list(alloc, tracked, &attrs.name, &attrs.namespace, tree),
+    match body_tree(alloc, &event.response)? {
+        Some(tree) => read_list(alloc, tracked, &attrs.name, &attrs.namespace, &tree),
         None => Ok(None),
     }
 }
@@ -92,7 +93,8 @@ pub fn answered_list(
 fn answered_at(event: &Event) -> Option<Revision>
     ensures { result ≡ answered_at event.now }
 {
-    revision_at(body_member(&event.response, "metadata")?, "resourceVersion")
+    let metadata = body_member(&event.response, "metadata")?;
+    revision_at(&metadata, "resourceVersion")
 }
 
 fn asks_revision(value: Option<&Text>) -> bool

@@ -4,17 +4,18 @@ ghost use Rattle.page_chains.specs.Pages.{token_of, asked_by, asked_of, is_first
 ghost use Rattle.page_chains.specs.Parts.{part_of, parts_of};
 
 use crate::page::{Asked, Joint, Page, Pages};
-use answer_class::{Answer, class_of, has_filled, one_at_most};
+use answer_class::{Answer, class_of, filled_at, has_filled, one_at_most};
 use audit_event::Event;
 use base_types::{OutOfMemory, RequestAttrs, Text};
-use setup_file::{Setup, filled_at};
+use setup_file::Setup;
 use std::alloc::Global;
 
 // The token with which the next page is asked for.
-fn token_of(event: &Event) -> Option<&Text>
+fn token_of(event: &Event) -> Option<&str>
     ensures { option_map (λ text. text.now) result ≡ token_of event.now }
 {
-    filled_at(event.response.kept()?.member("metadata")?, "continue")
+    let metadata = event.response.kept()?.root().member("metadata")?;
+    filled_at(&metadata, "continue")
 }
 
 #[tactic(auto, using(crate::proofs::ReadingLemmas::asked_as))]
@@ -44,21 +45,21 @@ fn is_selective(attrs: &RequestAttrs) -> bool
     has_filled(attrs, "labelSelector") || has_filled(attrs, "fieldSelector")
 }
 
-fn token_copied(event: &Event) -> Result<Option<Text>, OutOfMemory>
+fn token_copied(alloc: Global, event: &Event) -> Result<Option<Text>, OutOfMemory>
     ensures { IfOk result (λ token. token ≡ token_of event.now) }
 {
     match token_of(event) {
-        Some(token) => Ok(Some(token.clone()?)),
+        Some(token) => Ok(Some(Text::from_str(alloc, token)?)),
         None => Ok(None),
     }
 }
 
 // What joins a page to the pages before it and behind it.
-fn joint_of(event: &Event, asked: Asked) -> Result<Joint, OutOfMemory>
+fn joint_of(alloc: Global, event: &Event, asked: Asked) -> Result<Joint, OutOfMemory>
     ensures { IfOk result (λ joint. joint ≡ joint_of event.now asked) }
 {
     let namespace = event.attrs.namespace.clone()?;
-    let token = token_copied(event)?;
+    let token = token_copied(alloc, event)?;
     Ok(Joint {
         namespace,
         token,
@@ -113,7 +114,7 @@ fn part_of(alloc: Global, setup: &Setup, event: &Event) -> Result<Option<Page>, 
     if is_selective(&event.attrs) {
         return Ok(None);
     }
-    let joint = joint_of(event, asked)?;
+    let joint = joint_of(alloc, event, asked)?;
     let Ok(answer) = class_of(alloc, setup, event) else {
         drop(joint);
         return Err(OutOfMemory);

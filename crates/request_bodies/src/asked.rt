@@ -8,7 +8,8 @@ use crate::requests::{Write, is_created, is_of_another, write_of};
 use audit_event::Event;
 use base_types::OutOfMemory;
 use json_patch::{ApplyFault, Patch, PatchFault, apply, read_patch};
-use json_tree::{Tree, copy, stored_form};
+use json_tree::{Tree, stored_form};
+use packed_tree::Packed;
 use setup_file::{Tracked, is_merge_patch};
 use std::alloc::Global;
 
@@ -25,13 +26,13 @@ pub enum Asking {
     Finalizing,
 }
 
-fn asked_by_object(alloc: Global, tracked: &Tracked, body: &Tree) -> Result<Asking, OutOfMemory>
+fn asked_by_object(alloc: Global, tracked: &Tracked, body: &Packed) -> Result<Asking, OutOfMemory>
     ensures { IfOk result (λ asking. asking ≡ asked_by_object tracked.now body.now) }
 {
-    if is_of_another(tracked, body) {
+    if is_of_another(tracked, &body.root()) {
         return Ok(Asking::NotJudged);
     }
-    Ok(Asking::Whole(stored_form(copy(alloc, body)?)))
+    Ok(Asking::Whole(stored_form(body.tree(alloc)?)))
 }
 
 fn asked_by_operations(
@@ -110,7 +111,7 @@ fn asked_by(
     write: Write,
     tracked: &Tracked,
     event: &Event,
-    body: &Tree,
+    body: &Packed,
     old: Option<&Tree>,
 ) -> Result<Asking, OutOfMemory>
     ensures { IfOk result (λ asking. asking ≡ asked_by write tracked.now event.now body.now (option_map (λ tree. tree.now) old.entry)) }
@@ -121,7 +122,8 @@ fn asked_by(
             if is_created(event.status.code) {
                 return Ok(Asking::NotJudged);
             }
-            asked_by_patch(alloc, tracked, event, body, old)
+            let body = body.tree(alloc)?;
+            asked_by_patch(alloc, tracked, event, &body, old)
         }
         Write::Delete => Ok(Asking::Finalizing),
         Write::Other => Ok(Asking::NotJudged),

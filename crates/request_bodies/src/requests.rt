@@ -1,9 +1,10 @@
 ghost use Rattle.std.specs.Prelude.{◌≡◌, option_map, bytes_eq};
+ghost use Rattle.json_tree.specs.Texts.{text_at};
 ghost use Rattle.setup_file.specs.Objects.{api_version_of};
 ghost use Rattle.request_bodies.specs.Requests.{shape_of, write_of, is_created, is_another, is_of_another};
 
-use base_types::{RequestAttrs, Text, is_combined};
-use json_tree::Tree;
+use base_types::{RequestAttrs, is_combined};
+use packed_tree::PackedRef;
 use path_shape::Shape;
 use setup_file::{Tracked, subresource_named};
 
@@ -52,20 +53,16 @@ pub fn is_created(code: Option<u16>) -> bool
 }
 
 // Whether a text is the `apiVersion` of a resource.
-fn is_api_version(tracked: &Tracked, text: &Text) -> bool
+fn is_api_version(tracked: &Tracked, text: &str) -> bool
     ensures { result ≡ bytes_eq text.now (api_version_of tracked.now.group tracked.now.version) }
 {
     if tracked.group.is_empty() {
-        return *text == tracked.version;
+        return text == tracked.version.as_str();
     }
-    is_combined(
-        text.as_str(),
-        tracked.group.as_str(),
-        tracked.version.as_str(),
-    )
+    is_combined(text, tracked.group.as_str(), tracked.version.as_str())
 }
 
-fn is_of_another_version(tracked: &Tracked, text: Option<&Text>) -> bool
+fn is_of_another_version(tracked: &Tracked, text: Option<&str>) -> bool
     ensures { result ≡ is_another (api_version_of tracked.now.group tracked.now.version) (option_map (λ text. text.now) text.entry) }
 {
     match text {
@@ -74,19 +71,26 @@ fn is_of_another_version(tracked: &Tracked, text: Option<&Text>) -> bool
     }
 }
 
-fn is_of_another_kind(tracked: &Tracked, text: Option<&Text>) -> bool
+fn is_of_another_kind(tracked: &Tracked, text: Option<&str>) -> bool
     ensures { result ≡ is_another tracked.now.kind (option_map (λ text. text.now) text.entry) }
 {
     match text {
-        Some(text) => *text != tracked.kind,
+        Some(text) => text != tracked.kind.as_str(),
         None => false,
     }
 }
 
+// The text of a member that is a text.
+fn text_at<'a>(body: &PackedRef<'a>, name: &str) -> Option<&'a str>
+    ensures { option_map (λ text. text.now) result ≡ text_at name.now body.now }
+{
+    body.member(name)?.as_text()
+}
+
 /// Whether a body names another version or kind than those of the resource.
-pub fn is_of_another(tracked: &Tracked, body: &Tree) -> bool
+pub fn is_of_another(tracked: &Tracked, body: &PackedRef<'_>) -> bool
     ensures { result ≡ is_of_another tracked.now body.now }
 {
-    is_of_another_version(tracked, body.text_at("apiVersion"))
-        || is_of_another_kind(tracked, body.text_at("kind"))
+    is_of_another_version(tracked, text_at(body, "apiVersion"))
+        || is_of_another_kind(tracked, text_at(body, "kind"))
 }
