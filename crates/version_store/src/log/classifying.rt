@@ -85,7 +85,8 @@ pub fn classify_all<R: Threads + Sync>(
         .with_min_len(EVENTS_FOR_A_THREAD)
         .map(
             |event: &Event| -> Result<Classified, OutOfMemory>
-                requires { IsSound event.now }
+                requires slack { setup.now.slack ≤ 10 ^ 18 }
+                requires sound { IsSound event.now }
                 ensures { IfOk result (IsClassified setup.entry.now event.now) }
             { classify(alloc, setup, event) },
         )
