@@ -19,16 +19,16 @@ use Rattle.version_store.proofs.LoggedLemmas.{logged_more}
 use Rattle.version_store.proofs.SelectorLemmas.{selectors_more}
 
 logged_from : (setup : Setup) (trees : List Meaning) (event : Event) (classified : Classified) (logged : LogEvent) → IsClassified setup event classified → IsLoggedAs trees classified logged → IsLogged setup trees event logged
-logged_from setup trees event classified logged is as = record {
-  line = as.line ∙ is.line;
-  lo = ap (λ moment. moment.0) as.lo ∙ is.lo;
-  hi = ap (λ moment. moment.0) as.hi ∙ is.hi;
-  reading = as.reading ∙ is.reading;
-  preconditions = as.preconditions ∙ is.preconditions;
-  answer = subst (λ answer. IsShownAs trees answer logged.answer) is.answer as.answer;
-  other_level = as.other_level ∙ is.other_level;
-  omitted_stage = as.omitted_stage ∙ is.omitted_stage;
-  decision = as.decision ∙ is.decision;
+logged_from setup trees event classified logged is told = record {
+  line = told.line ∙ is.line;
+  lo = ap (λ moment. moment.0) told.lo ∙ is.lo;
+  hi = ap (λ moment. moment.0) told.hi ∙ is.hi;
+  reading = told.reading ∙ is.reading;
+  preconditions = told.preconditions ∙ is.preconditions;
+  answer = subst (λ answer. IsShownAs trees answer logged.answer) is.answer told.answer;
+  other_level = told.other_level ∙ is.other_level;
+  omitted_stage = told.omitted_stage ∙ is.omitted_stage;
+  decision = told.decision ∙ is.decision;
 }
 
 pub event_trees_are : (setup : Setup) (events : List Event) (classified : List Classified) → AreClassified setup events classified → classified_trees classified ≡ event_trees setup events
@@ -69,10 +69,10 @@ adds_no_selectors before selectors = λ setup events more each long are.
 
 pub adds_event : (old now new : List Meaning) (front : List Classified) (one : Classified) (before logged more : List LogEvent) (found : LogEvent) → Begins now new
     → AddsLogged old now front before logged → IsLoggedAs new one found → more ≡ logged ++ found ∷ [] → AddsLogged old new (front ++ one ∷ []) before more
-adds_event old now new front one before logged more found begins adds as pushed = λ setup events others each are.
+adds_event old now new front one before logged more found begins adds told pushed = λ setup events others each are.
     let parts = parted setup others front one each in
     let first = adds setup events parts.before parts.fronts are in
-    let all = logged_more setup now new begins (events ++ parts.before) logged parts.last found first (logged_from setup new parts.last one found parts.is as) in
+    let all = logged_more setup now new begins (events ++ parts.before) logged parts.last found first (logged_from setup new parts.last one found parts.is told) in
     let whole : (events ++ parts.before) ++ parts.last ∷ [] ≡ events ++ others = append_assoc events parts.before (parts.last ∷ []) ∙ ap (λ l. events ++ l) (sym parts.joined) in
     subst (AreLoggedEvents setup new (events ++ others)) (sym pushed) (subst (λ l. AreLoggedEvents setup new l (logged ++ found ∷ [])) whole all)
 

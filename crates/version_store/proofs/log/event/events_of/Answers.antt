@@ -22,7 +22,7 @@ returns-in_err-add_all-clause-full g c = λ refused.
     let batch = c.in-Some.batch in
     let rest = chunks_rest c.next.new.self in
     let joining = flattened_join (λ (event : Event). answer_trees (class_of setup event)) in
-    let full = c.add_all.ensures.full (c.in_err-add_all.was ∙ ap Err (passed_on c.from_residual.result _ PoolFull c.from_residual.ensures.1 refused)) in
+    let full = c.add_all.ensures.full (c.in_err-add_all.was ∙ ap Err (passed_on c.from_residual-in_err-add_all.result _ PoolFull c.from_residual-in_err-add_all.ensures.1 refused)) in
     let here = subst (λ ts. l.pool.limit < length (with_trees l.pool.trees ts)) (event_trees_are setup batch.now _ c.in_ok-classified.ensures) full in
     let split = l.invariant.split ∙ ap (λ r. all_of l.yielded ++ r) c.in-Some.ensures.steps.1.0 in
     let parts = joining.joins (all_of l.yielded) (batch.now ++ rest) ∙ ap (λ ts. event_trees setup (all_of l.yielded) ++ ts) (joining.joins batch.now rest) in
@@ -49,3 +49,14 @@ loop-batch-preserved g c =
       selectors = subst (λ done. AreSelectorsOf setup done c.add_all.new.all.selectors) more (e.selectors setup (all_of l.yielded) batch.now each l.invariant.logged.all l.invariant.selectors);
       grown = subst (IsGrown old new) (sym (joining.joins (all_of l.yielded) batch.now) ∙ ap (event_trees setup) more) all_grown;
     }
+
+pub add_all-requires : goal.add_all-requires
+add_all-requires g c =
+    let l = c.loop-batch in
+    let batch = c.in-Some.batch in
+    let rest = chunks_rest c.next.new.self in
+    let classified = AllZip-long (IsClassified c.args.setup.now) batch.now _ c.in_ok-classified.ensures in
+    let logged = l.invariant.logged.all in
+    let split = l.invariant.split ∙ ap (λ r. all_of l.yielded ++ r) c.in-Some.ensures.steps.1.0 in
+    let few = c.requires.few in
+    omega (arith, few, logged, classified, ap length split, length-append (all_of l.yielded) (batch.now ++ rest), length-append batch.now rest)

@@ -8,7 +8,7 @@ use Rattle.version_store.proofs.PoolLemmas.{IsGrown}
 use Rattle.version_store.proofs.log.event.events_of.Given as goal
 
 abbrev pub invariant-loop-batch : goal.invariant-loop-batch
-invariant-loop-batch l = record {
+invariant-loop-batch g l = record {
   split : l.events ≡ all_of l.yielded ++ chunks_rest l.batch-iterator;
   logged : AreLoggedEvents l.setup l.pool.trees (all_of l.yielded) l.all.events;
   selectors : AreSelectorsOf l.setup (all_of l.yielded) l.all.selectors;
