@@ -1,10 +1,9 @@
-use Rattle.std.proofs.Common.{◌≡◌, ◌∙◌, ◌<◌, ◌+◌, ◌++◌, ◌∷◌, [], Err, ap, append_assoc, arith, length, length-append, subst, sym}
-use Rattle.std.proofs.lemmas.List.{append-nil}
+use Rattle.std.proofs.Common.{◌∙◌, ◌<◌, ◌++◌, Err, ap, append_assoc, arith, length, length-append, subst, sym}
 use Rattle.std.proofs.lemmas.Slice.Zip.{AllZip-long}
 use Rattle.std.specs.Slice.Iter.{chunks_rest}
 use Rattle.audit_event.specs.declared.event.Event.{Event}
 use Rattle.answer_class.specs.Classes.{class_of}
-use Rattle.version_store.specs.Classified.{IsClassified, classified_trees}
+use Rattle.version_store.specs.Classified.{IsClassified}
 use Rattle.version_store.specs.LogSelectors.{AreSelectorsOf}
 use Rattle.version_store.specs.LogTrees.{answer_trees, event_trees, with_trees}
 use Rattle.version_store.specs.Logged.{AreLoggedEvents}
