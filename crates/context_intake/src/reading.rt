@@ -27,7 +27,7 @@ use version_store::{BuildFault, Context};
 const PIECE: usize = 65_536;
 
 /// Reads a setup and then a log from a desk, each by its name, and finds what they tell. Several threads decode the
-/// lines of a batch; each line's index in it enters the gate.
+/// lines of a batch, of which each one's index enters the gate, and classify the events.
 pub fn read_context<R: Threads + Sync, D: Desk, H: Gate>(
     rt: &R,
     alloc: Global,
