@@ -27,7 +27,7 @@ use version_store::{BuildFault, Context};
 const PIECE: usize = 65_536;
 
 /// Reads a setup and then a log from a desk, each by its name, and finds what they tell. Several threads decode the
-/// lines of a batch; each line's index in it enters the gate.
+/// lines of a batch, of which each one's index enters the gate, and classify the events.
 pub fn read_context<R: Threads + Sync, D: Desk, H: Gate>(
     rt: &R,
     alloc: Global,
@@ -56,7 +56,7 @@ pub fn read_context<R: Threads + Sync, D: Desk, H: Gate>(
         Err(stop) => return refused_setup(stop),
     };
     match read_log(rt, alloc, desk, log, &mut buffer, lines) {
-        Ok(events) => told_by(alloc, setup, events),
+        Ok(events) => told_by(rt, alloc, setup, events),
         Err(stop) => refused_log(stop),
     }
 }
@@ -97,7 +97,12 @@ fn refused_log(stop: LogStop) -> Result<Told, Stop>
 }
 
 // What a setup and the events of a log tell.
-fn told_by(alloc: Global, setup: Setup, events: Events) -> Result<Told, Stop>
+fn told_by<R: Threads + Sync>(
+    rt: &R,
+    alloc: Global,
+    setup: Setup,
+    events: Events,
+) -> Result<Told, Stop>
     requires setup { IsSound setup }
     requires few { length setup.checkpoints ≤ most_checkpoints }
     requires events { AreLogEvents events }
@@ -105,7 +110,7 @@ fn told_by(alloc: Global, setup: Setup, events: Events) -> Result<Told, Stop>
     ensures no_fault { IsErrOf result Stop.ReadFault → ⊥ }
 {
     let chained = with_chains(alloc, setup, &events)?;
-    match Context::build(alloc, chained, events) {
+    match Context::build(rt, alloc, chained, events) {
         Ok(context) => Ok(Told::Context(context)),
         Err(BuildFault::PoolFull) => Ok(Told::Refused(Refusal::PastLimit(Limit::PoolSize))),
         Err(BuildFault::OutOfMemory) => Err(Stop::OutOfMemory),

@@ -1,4 +1,6 @@
+pub mod ClassifiedLemmas
 pub mod Faulting
+pub mod Gathered
 pub mod LineLemmas
 pub mod LogLemmas
 pub mod LoggedLemmas
@@ -7,11 +9,13 @@ pub mod ReadingLemmas
 pub mod SelectorLemmas
 pub mod ShownLemmas
 pub mod Ranked
+pub mod Batches
 pub mod Blaming
 pub mod Coding
 pub mod RoleEnds
 pub mod Keying
 pub mod Built
+pub mod Sharing
 pub mod ShownTrees
 pub mod Remade
 pub mod Choosing

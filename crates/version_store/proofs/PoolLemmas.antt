@@ -69,7 +69,7 @@ objects_join = record { joins = λ xs ys. map-append (λ object. object.tree) xs
 pub flattened_join : {X : Type 0} (f : X → List Meaning) → IsJoining (flat_map f)
 flattened_join f = record { joins = flat_map-append f }
 
-one_flattened : {X : Type 0} (f : X → List Meaning) (x : X) → flat_map f (x ∷ []) ≡ f x
+pub one_flattened : {X Y : Type 0} (f : X → List Y) (x : X) → flat_map f (x ∷ []) ≡ f x
 one_flattened f x = flat_map-cons f x [] ∙ append-nil (f x)
 
 pub grown_one : {X : Type 0} (f : X → List Meaning) (now new : Pooled) (x : X) → IsGrown now new (f x) → IsGrown now new (flat_map f (x ∷ []))

@@ -1,4 +1,5 @@
 pub mod Answered
+pub mod Classified
 pub mod Contexts
 pub mod Gathering
 pub mod Given

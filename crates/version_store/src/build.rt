@@ -35,6 +35,8 @@ use object_versions::{Judged, LogPast, past_of};
 use rbac_timeline::Timeline;
 use setup_file::Setup;
 use std::alloc::Global;
+use std::marker::Sync;
+use std::thread::Threads;
 use time_windows::Windows;
 use write_groups::Groups;
 
@@ -205,7 +207,13 @@ fn found_of(
 }
 
 // What a context holds beside its setup and events, where the objects may have `limit` distinct values.
-fn gather(alloc: Global, setup: &Setup, events: &Events, limit: u32) -> Result<Gathered, BuildFault>
+fn gather<R: Threads + Sync>(
+    rt: &R,
+    alloc: Global,
+    setup: &Setup,
+    events: &Events,
+    limit: u32,
+) -> Result<Gathered, BuildFault>
     requires setup { IsSound setup.now }
     requires events { All IsSoundEvent events.now }
     requires lines { AreLines events.now }
@@ -215,7 +223,7 @@ fn gather(alloc: Global, setup: &Setup, events: &Events, limit: u32) -> Result<G
     ensures fits { IfOk result (λ gathered. length (pooled setup.now events.now) ≤ limit) }
 {
     let mut pool = Pool::new(alloc, limit)?;
-    let log = log_of(alloc, &mut pool, setup, events)?;
+    let log = log_of(rt, alloc, &mut pool, setup, events)?;
     let found = found_of(alloc, setup, events, &pool, &log)?;
     Ok(Gathered { pool, log, found })
 }
@@ -262,8 +270,13 @@ fn joined(setup: Setup, events: Events, gathered: Gathered) -> Context
 
 impl Context {
     /// What a setup and the events of a log say together. The objects may have 50,000,000 distinct values, lists and
-    /// members among them.
-    pub fn build(alloc: Global, setup: Setup, events: Events) -> Result<Context, BuildFault>
+    /// members among them. Several threads classify the events.
+    pub fn build<R: Threads + Sync>(
+        rt: &R,
+        alloc: Global,
+        setup: Setup,
+        events: Events,
+    ) -> Result<Context, BuildFault>
         requires setup { IsSound setup }
         requires events { All IsSoundEvent events }
         requires lines { AreLines events }
@@ -274,11 +287,12 @@ impl Context {
         ensures full { result ≡ Err BuildFault.PoolFull → 50000000 < length (pooled setup events) }
         ensures fits { IfOk result (λ context. length (pooled setup events) ≤ 50000000) }
     {
-        Context::build_within(alloc, setup, events, MOST_NODES)
+        Context::build_within(rt, alloc, setup, events, MOST_NODES)
     }
 
     /// The same, where the objects may have `limit` distinct values.
-    pub fn build_within(
+    pub fn build_within<R: Threads + Sync>(
+        rt: &R,
         alloc: Global,
         setup: Setup,
         events: Events,
@@ -294,7 +308,7 @@ impl Context {
         ensures full { result ≡ Err BuildFault.PoolFull → limit < length (pooled setup events) }
         ensures fits { IfOk result (λ context. length (pooled setup events) ≤ limit) }
     {
-        let gathered = gather(alloc, &setup, &events, limit)?;
+        let gathered = gather(rt, alloc, &setup, &events, limit)?;
         Ok(joined(setup, events, gathered))
     }
 }

@@ -5,6 +5,7 @@ ghost use Rattle.version_store.specs.Log.{IsLogOf, AreLines, RiseByLine};
 ghost use Rattle.version_store.specs.LogTrees.{pooled};
 
 mod checkpoint;
+mod classifying;
 mod event;
 mod fault;
 mod judged;
@@ -24,6 +25,8 @@ pub use selecting::{Selectors, is_listable};
 use setup_file::Setup;
 use shown::items_of;
 use std::alloc::Global;
+use std::marker::Sync;
+use std::thread::Threads;
 use write_groups::{Items, LogEvents};
 
 /// A log as the model of history sees it, beside its setup.
@@ -46,8 +49,9 @@ fn joined(events: LogEvents, checkpoints: LogEvents) -> Result<LogEvents, OutOfM
 }
 
 /// Puts a setup and its log into the terms of the model of history. The pool gets the trees of the snapshot, then those
-/// that the events' answers show, and then those of the checkpoints.
-pub fn log_of(
+/// that the events' answers show, and then those of the checkpoints. Several threads classify the events.
+pub fn log_of<R: Threads + Sync>(
+    rt: &R,
     alloc: Global,
     pool: &mut Pool,
     setup: &Setup,
@@ -65,7 +69,7 @@ pub fn log_of(
     ensures limit { pool.new.limit ≡ pool.old.limit }
 {
     let snapshot = items_of(alloc, pool, setup.snapshot.as_slice())?;
-    let LoggedEvents { events, selectors } = events_of(alloc, pool, setup, events.as_slice())?;
+    let LoggedEvents { events, selectors } = events_of(rt, alloc, pool, setup, events.as_slice())?;
     let checkpoints = checkpoints_of(alloc, pool, setup.checkpoints.as_slice())?;
     let _len = pool.len();
     Ok(Log {

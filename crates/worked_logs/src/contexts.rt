@@ -4,8 +4,10 @@ use crate::setups::CHECKED;
 use base_types::Revision;
 use node_pool::NodeId;
 use std::alloc::Global;
+use std::marker::Sync;
 use std::string::String;
 use std::test::Fail;
+use std::thread::Threads;
 use version_store::Context;
 
 // The places from `low` to `high`, or all from `low` on.
@@ -57,15 +59,15 @@ fn found(alloc: Global, context: &Context) -> Result<String, Fail> {
     Ok(text)
 }
 
-fn found_of(alloc: Global, row: &Row) -> Result<String, Fail> {
-    let context = context(alloc, row.setup, row.log, 1000)?.ok_or("full")?;
+fn found_of<R: Threads + Sync>(rt: &R, alloc: Global, row: &Row) -> Result<String, Fail> {
+    let context = context(rt, alloc, row.setup, row.log, 1000)?.ok_or("full")?;
     found(alloc, &context)
 }
 
 #[test]
 fn what_is_found_of_logs(rt: HostRuntime) -> Result<(), Fail> {
     for row in &ROWS {
-        let found = found_of(rt.alloc(), row)?;
+        let found = found_of(&rt, rt.alloc(), row)?;
         assert_eq!(rt; found.as_str(), row.found, "{}", row.name);
     }
     Ok(())
@@ -144,14 +146,14 @@ fn known_of(alloc: Global, context: &Context) -> Result<String, Fail> {
     Ok(format!(in alloc; "{object}; {events}{judged}")?)
 }
 
-fn known_seen_early(alloc: Global) -> Result<String, Fail> {
-    let context = context(alloc, CHECKED, SEEN_EARLY, 1000)?.ok_or("full")?;
+fn known_seen_early<R: Threads + Sync>(rt: &R, alloc: Global) -> Result<String, Fail> {
+    let context = context(rt, alloc, CHECKED, SEEN_EARLY, 1000)?.ok_or("full")?;
     known_of(alloc, &context)
 }
 
 #[test]
 fn what_is_known_of_a_log(rt: HostRuntime) -> Result<(), Fail> {
-    let text = known_seen_early(rt.alloc())?;
+    let text = known_seen_early(&rt, rt.alloc())?;
     assert_eq!(rt;
         text.as_str(),
         "true false, false true, 1, false 0; 1 a1 Some(NodeId(7)); 3 a3 Some(NodeId(7)); 1099511627777 checkpoint:1 None; 1099511627778 checkpoint:2 Some(NodeId(7)); None Some(U4), true, true false"
@@ -160,8 +162,12 @@ fn what_is_known_of_a_log(rt: HostRuntime) -> Result<(), Fail> {
 }
 
 // How many values a pool of this size holds of a log, where it has room for all.
-fn values_within(alloc: Global, limit: u32) -> Result<Option<u32>, Fail> {
-    match context(alloc, CHECKED, SEEN_EARLY, limit)? {
+fn values_within<R: Threads + Sync>(
+    rt: &R,
+    alloc: Global,
+    limit: u32,
+) -> Result<Option<u32>, Fail> {
+    match context(rt, alloc, CHECKED, SEEN_EARLY, limit)? {
         Some(context) => Ok(Some(context.pool().len())),
         None => Ok(None),
     }
@@ -169,7 +175,8 @@ fn values_within(alloc: Global, limit: u32) -> Result<Option<u32>, Fail> {
 
 #[test]
 fn a_full_pool(rt: HostRuntime) -> Result<(), Fail> {
-    let (fits, full) = (values_within(rt.alloc(), 8)?, values_within(rt.alloc(), 7)?);
+    let fits = values_within(&rt, rt.alloc(), 8)?;
+    let full = values_within(&rt, rt.alloc(), 7)?;
     assert!(rt; fits == Some(8));
     assert!(rt; full.is_none());
     Ok(())

@@ -9,7 +9,9 @@ use node_pool::Pool;
 use serde_json::Value;
 use setup_file::read_setup;
 use std::alloc::Global;
+use std::marker::Sync;
 use std::test::Fail;
+use std::thread::Threads;
 use version_store::log_of;
 use write_groups::{LogEvent, Reading, Shown};
 
@@ -148,7 +150,8 @@ fn log_with(
 }
 
 // What is told of the event of such a log.
-fn tell(
+fn tell<R: Threads + Sync>(
+    rt: &R,
     alloc: Global,
     request: (&str, &str),
     users: &str,
@@ -161,7 +164,7 @@ fn tell(
     }
     let events = log_with(alloc, request, users, stage, times)?;
     let mut pool = Pool::new(alloc, 100)?;
-    let log = log_of(alloc, &mut pool, &setup, &events)?;
+    let log = log_of(rt, alloc, &mut pool, &setup, &events)?;
     Ok(match log.events.as_slice().first() {
         Some(event) => told_of(event, pool.len()),
         None => nothing(),
@@ -206,7 +209,7 @@ fn seen_node(event: &LogEvent) -> Option<u32> {
 #[test]
 fn each_reading_is_told(rt: HostRuntime) -> Result<(), Fail> {
     for (request, reading) in &READINGS {
-        let told = tell(rt.alloc(), *request, USER, "ResponseComplete", WITHIN)?;
+        let told = tell(&rt, rt.alloc(), *request, USER, "ResponseComplete", WITHIN)?;
         assert_eq!(rt; told.reading, *reading);
     }
     Ok(())
@@ -215,7 +218,7 @@ fn each_reading_is_told(rt: HostRuntime) -> Result<(), Fail> {
 #[test]
 fn judged_decisions_are_told(rt: HostRuntime) -> Result<(), Fail> {
     for (users, stage, times, is_judged) in &DECISIONS {
-        let told = tell(rt.alloc(), ("get", "/a"), users, stage, *times)?;
+        let told = tell(&rt, rt.alloc(), ("get", "/a"), users, stage, *times)?;
         assert_eq!(rt; told.is_judged, *is_judged);
     }
     Ok(())
@@ -224,7 +227,14 @@ fn judged_decisions_are_told(rt: HostRuntime) -> Result<(), Fail> {
 /// An object that is read as it was at the start has one number in the pool.
 #[test]
 fn equal_trees_have_one_number(rt: HostRuntime) -> Result<(), Fail> {
-    let told = tell(rt.alloc(), ("get", "/a"), USER, "ResponseComplete", WITHIN)?;
+    let told = tell(
+        &rt,
+        rt.alloc(),
+        ("get", "/a"),
+        USER,
+        "ResponseComplete",
+        WITHIN,
+    )?;
     assert_eq!(rt; told.node, Some(5));
     assert_eq!(rt; told.values, 6);
     Ok(())

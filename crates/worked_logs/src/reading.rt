@@ -6,7 +6,9 @@ use audit_event::{Event, Events, read_item};
 use serde_json::Value;
 use setup_file::read_setup;
 use std::alloc::Global;
+use std::marker::Sync;
 use std::test::Fail;
+use std::thread::Threads;
 use version_store::{BuildFault, Context};
 
 // The event that a line tells of: the seconds of its receipt and of its answer, and further members.
@@ -43,7 +45,8 @@ fn events(alloc: Global, log: &str) -> Result<Events, Fail>
 }
 
 // The context of a setup and a log, or none where the pool is too small.
-pub(crate) fn context(
+pub(crate) fn context<R: Threads + Sync>(
+    rt: &R,
     alloc: Global,
     setup: &str,
     log: &str,
@@ -54,7 +57,7 @@ pub(crate) fn context(
         return Err("too many checkpoints".into());
     }
     let events = events(alloc, log)?;
-    match Context::build_within(alloc, setup, events, limit) {
+    match Context::build_within(rt, alloc, setup, events, limit) {
         Ok(context) => Ok(Some(context)),
         Err(BuildFault::PoolFull) => Ok(None),
         Err(BuildFault::OutOfMemory) => Err("no memory".into()),

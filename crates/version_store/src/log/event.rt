@@ -1,37 +1,26 @@
-ghost use Rattle.std.specs.Prelude.{◌≡◌, ◌<◌, ◌≤◌, ◌^◌, ◌++◌, [], ◌∷◌, Err, length, All, IfOk, OnOk};
+ghost use Rattle.std.specs.Prelude.{◌≡◌, ◌<◌, ◌≤◌, ◌+◌, ◌^◌, ◌++◌, [], ◌∷◌, Err, length, All, IfOk, OnOk};
 ghost use Rattle.audit_event.specs.Events.{IsSound};
-ghost use Rattle.answer_class.specs.Classes.{class_of};
-ghost use Rattle.answer_class.specs.Conditions.{conditions_of};
+ghost use Rattle.version_store.specs.Classified.{AddsLogged, AddsSelectors, IsLoggedAs, classified_trees};
 ghost use Rattle.version_store.specs.LogSelectors.{selector_in, AddsSelector, AreSelectorsOf};
 ghost use Rattle.version_store.specs.LogTrees.{answer_trees, event_trees, with_trees};
-ghost use Rattle.version_store.specs.Logged.{preconditions_of, IsLogged, AreLoggedEvents};
+ghost use Rattle.version_store.specs.Logged.{AreLoggedEvents};
 
+use crate::log::classifying::{Classified, classify_all};
 use crate::log::fault::BuildFault;
-use crate::log::judged::{hi_of, judged_decision, lo_of};
-use crate::log::level::{has_stage, is_level};
-use crate::log::reading::reading_of;
 use crate::log::selecting::Selectors;
 use crate::log::shown::{Told, tell};
-use answer_class::{Conditions, class_of, conditions_of};
 use audit_event::Event;
-use audit_policy::level_of;
 use base_types::OutOfMemory;
 use label_select::Selector;
 use node_pool::Pool;
 use setup_file::Setup;
 use std::alloc::Global;
-use write_groups::{LogEvent, LogEvents, Preconditions};
+use std::marker::Sync;
+use std::thread::Threads;
+use write_groups::{LogEvent, LogEvents};
 
-fn preconditions_of(
-    alloc: Global,
-    setup: &Setup,
-    event: &Event,
-) -> Result<Preconditions, OutOfMemory>
-    ensures { IfOk result (λ asked. asked ≡ preconditions_of (conditions_of setup.now event.now)) }
-{
-    let Conditions { revision, uid } = conditions_of(alloc, setup, event)?;
-    Ok(Preconditions { revision, uid })
-}
+/// So many events are classified at a time, so that no more of their trees stand beside the pool.
+const EVENTS_IN_A_BATCH: usize = 2_048;
 
 // An event of a log, and the label selector where its answer is a whole list with one.
 #[derive(Drop)]
@@ -40,36 +29,41 @@ struct Logged {
     selector: Option<Selector>,
 }
 
-// An event in the terms of the model of history, once the trees that its answer shows are in the pool.
+// A classified event in the terms of the model of history, once the trees that its answer shows are in the pool.
 fn logged_event(
     alloc: Global,
     pool: &mut Pool,
-    setup: &Setup,
-    event: &Event,
+    classified: Classified,
 ) -> Result<Logged, BuildFault>
-    requires slack { setup.now.slack ≤ 10 ^ 18 }
-    requires sound { IsSound event.now }
-    ensures logged { IfOk result (λ logged. IsLogged setup.now pool.new.trees event.now logged.event) }
-    ensures selector { IfOk result (λ logged. logged.selector ≡ selector_in (class_of setup.now event.now)) }
-    ensures added { OnOk result (pool.new.trees ≡ with_trees pool.old.trees (answer_trees (class_of setup.now event.now))) }
-    ensures full { result ≡ Err BuildFault.PoolFull → pool.old.limit < length (with_trees pool.old.trees (answer_trees (class_of setup.now event.now))) }
+    ensures logged { IfOk result (λ logged. IsLoggedAs pool.new.trees classified logged.event) }
+    ensures selector { IfOk result (λ logged. logged.selector ≡ selector_in classified.answer) }
+    ensures added { OnOk result (pool.new.trees ≡ with_trees pool.old.trees (answer_trees classified.answer)) }
+    ensures full { result ≡ Err BuildFault.PoolFull → pool.old.limit < length (with_trees pool.old.trees (answer_trees classified.answer)) }
     ensures limit { pool.new.limit ≡ pool.old.limit }
 {
-    let preconditions = preconditions_of(alloc, setup, event)?;
-    let answer = class_of(alloc, setup, event)?;
+    let Classified {
+        line,
+        lo,
+        hi,
+        reading,
+        preconditions,
+        answer,
+        other_level,
+        omitted_stage,
+        decision,
+    } = classified;
     let Told { shown, selector } = tell(alloc, pool, answer)?;
-    let (level, omitted) = level_of(&setup.policy, &event.attrs, &event.user);
     Ok(Logged {
         event: LogEvent {
-            line: event.line,
-            lo: lo_of(setup, event),
-            hi: hi_of(setup, event),
-            reading: reading_of(&event.attrs),
+            line,
+            lo,
+            hi,
+            reading,
             preconditions,
             answer: shown,
-            other_level: !is_level(level, event.level),
-            omitted_stage: has_stage(omitted, event.stage),
-            decision: judged_decision(setup, event),
+            other_level,
+            omitted_stage,
+            decision,
         },
         selector,
     })
@@ -94,8 +88,31 @@ fn add(all: &mut LoggedEvents, number: u32, logged: Logged) -> Result<(), OutOfM
     Ok(())
 }
 
+// Puts the trees of classified events into the pool, one event after another, and adds the events to the log.
+fn add_all(
+    alloc: Global,
+    pool: &mut Pool,
+    all: &mut LoggedEvents,
+    classified: Vec<Classified>,
+) -> Result<(), BuildFault>
+    requires few { length all.old.events + length classified.items < 2 ^ 32 }
+    ensures logged { OnOk result (AddsLogged pool.old.trees pool.new.trees classified.items all.old.events all.new.events) }
+    ensures selectors { OnOk result (AddsSelectors all.old.events classified.items all.old.selectors all.new.selectors) }
+    ensures added { OnOk result (pool.new.trees ≡ with_trees pool.old.trees (classified_trees classified.items)) }
+    ensures full { result ≡ Err BuildFault.PoolFull → pool.old.limit < length (with_trees pool.old.trees (classified_trees classified.items)) }
+    ensures limit { pool.new.limit ≡ pool.old.limit }
+{
+    for one in classified {
+        let number = all.events.len() as u32;
+        add(all, number, logged_event(alloc, pool, one)?)?;
+    }
+    Ok(())
+}
+
 /// The events of a log in the terms of the model of history, once the trees that their answers show are in the pool.
-pub fn events_of(
+/// Several threads classify the events of a batch.
+pub fn events_of<R: Threads + Sync>(
+    rt: &R,
     alloc: Global,
     pool: &mut Pool,
     setup: &Setup,
@@ -114,12 +131,9 @@ pub fn events_of(
         events: LogEvents::new(alloc),
         selectors: Selectors::new(alloc),
     };
-    for (number, event) in events.iter().enumerate() {
-        add(
-            &mut all,
-            number as u32,
-            logged_event(alloc, pool, setup, event)?,
-        )?;
+    for batch in events.chunks(EVENTS_IN_A_BATCH) {
+        let classified = classify_all(rt, alloc, setup, batch)?;
+        add_all(alloc, pool, &mut all, classified)?;
     }
     Ok(all)
 }

@@ -1,7 +1,5 @@
 use Rattle.std.proofs.Common.{◌≡◌, ◌∙◌, ◌<◌, ◌++◌, [], Err, ap, length, subst, sym}
-use Rattle.json_tree.specs.Meaning.{Meaning}
 use Rattle.node_pool.proofs.Fronts.{Begins-trans}
-use Rattle.version_store.specs.Log.{IsLogOf}
 use Rattle.version_store.specs.LogSelectors.{AreSelectorsOf}
 use Rattle.version_store.specs.Logged.{AreLoggedEvents, AreLoggedCheckpoints, AreLogged}
 use Rattle.version_store.specs.LogTrees.{object_trees, event_trees, checkpoint_trees, stored_trees, with_trees}
@@ -15,7 +13,7 @@ use Rattle.version_store.proofs.ShownLemmas.{items_stay}
 use Rattle.version_store.proofs.log.log_of.Goals as goal
 
 pub returns-in_err-snapshot-clause-full : goal.returns-in_err-snapshot-clause-full
-returns-in_err-snapshot-clause-full c = λ refused.
+returns-in_err-snapshot-clause-full g c = λ refused.
     let pool = c.args.pool.now in
     let setup = c.args.setup.now in
     let objects : c.as_slice.result.now ≡ setup.snapshot = c.as_slice.ensures in
@@ -25,7 +23,7 @@ returns-in_err-snapshot-clause-full c = λ refused.
     (grown_full pool pool [] (object_trees setup.snapshot) (event_trees setup c.args.events.now ++ checkpoint_trees setup.checkpoints) (grown_none pool) full)
 
 pub returns-in_err-events-clause-full : goal.returns-in_err-events-clause-full
-returns-in_err-events-clause-full c = λ refused.
+returns-in_err-events-clause-full g c = λ refused.
     let pool = c.args.pool.now in
     let setup = c.args.setup.now in
     let now = c.items_of.new.pool in
@@ -39,7 +37,7 @@ returns-in_err-events-clause-full c = λ refused.
     (grown_full pool now (object_trees setup.snapshot) (event_trees setup c.args.events.now) (checkpoint_trees setup.checkpoints) grown full)
 
 pub returns-clause-log : goal.returns-clause-log
-returns-clause-log c =
+returns-clause-log g c =
     let setup = c.args.setup.now in
     let first = c.items_of.new.pool in
     let second = c.events_of.new.pool in
@@ -64,4 +62,4 @@ returns-clause-log c =
     }
 
 pub returns-clause-lines : goal.returns-clause-lines
-returns-clause-lines c = λ lines. lines_rise c.args.setup.now c.checkpoints_of.new.pool.trees c.args.events.now c.in_ok-joined.field-0 (returns-clause-log c).logged lines
+returns-clause-lines g c = λ lines. lines_rise c.args.setup.now c.checkpoints_of.new.pool.trees c.args.events.now c.in_ok-joined.field-0 (returns-clause-log g c).logged lines

@@ -1,0 +1,102 @@
+-- Threads may share a setup and events, and send what they say of an event.
+use Rattle.std.proofs.Crossing as owned
+use Rattle.answer_class.specs.contracts.answer.Answer as answer
+use Rattle.audit_event.specs.contracts.event.Event as event
+use Rattle.base_types.specs.contracts.text.Text as text
+use Rattle.json_tree.proofs.tree.Member.TheLaws.TheKnot as knot
+use Rattle.json_tree.specs.contracts.tree.Tree as tree
+use Rattle.label_select.specs.contracts.selector.Requirement as requirement
+use Rattle.setup_file.specs.contracts.setup.Setup as setup
+use Rattle.setup_file.specs.contracts.setup.SnapshotObject as object
+use Rattle.version_store.specs.contracts.log.classifying.Classified as classified
+use denote.Param.Send.{IsSend, IsSync, sendable}
+use denote.Param.SendFields.{declared_send, declared_sync}
+
+pub tree_shared : IsSync tree.the_row
+tree_shared = search (knot.sync-Tree, sendable, owned.crosses) depth 60 fits 20000
+
+pub event_shared : IsSync event.the_row
+event_shared = search (tree_shared, sendable, owned.crosses) depth 60 fits 20000
+
+-- field by field
+pub setup_shared : IsSync setup.the_row
+setup_shared = declared_sync setup.the_type (
+  search (sendable, owned.crosses) depth 60 fits 20000,
+  (
+    search (sendable, owned.crosses) depth 60 fits 20000,
+    (
+      search (sendable, owned.crosses) depth 60 fits 20000,
+      (
+        search (sendable, owned.crosses) depth 60 fits 20000,
+        (
+          search (sendable, owned.crosses) depth 60 fits 20000,
+          (
+            search (sendable, owned.crosses) depth 60 fits 20000,
+            (
+              search (sendable, owned.crosses) depth 60 fits 20000,
+              (
+                search (sendable, owned.crosses) depth 60 fits 20000,
+                (
+                  search (tree_shared, sendable, owned.crosses) depth 60 fits 20000,
+                  (
+                    search (sendable, owned.crosses) depth 60 fits 20000,
+                    (
+                      search (sendable, owned.crosses) depth 60 fits 20000,
+                      (
+                        search (tree_shared, sendable, owned.crosses) depth 60 fits 20000,
+                        tt,
+                      ),
+                    ),
+                  ),
+                ),
+              ),
+            ),
+          ),
+        ),
+      ),
+    ),
+  ),
+)
+
+text_sent : IsSend text.the_row
+text_sent = search (sendable, owned.crosses) depth 60 fits 20000
+
+object_sent : IsSend object.the_row
+object_sent = search (knot.send-Tree, text_sent, sendable, owned.crosses) depth 60 fits 20000
+
+requirement_sent : IsSend requirement.the_row
+requirement_sent = search (text_sent, sendable, owned.crosses) depth 60 fits 20000
+
+answer_sent : IsSend answer.the_row
+answer_sent = search (knot.send-Tree, text_sent, object_sent, requirement_sent, sendable, owned.crosses) depth 60 fits 20000
+
+-- field by field
+pub classified_sent : IsSend classified.the_row
+classified_sent = declared_send classified.the_type (
+  search (sendable, owned.crosses) depth 60 fits 20000,
+  (
+    search (sendable, owned.crosses) depth 60 fits 20000,
+    (
+      search (sendable, owned.crosses) depth 60 fits 20000,
+      (
+        search (sendable, owned.crosses) depth 60 fits 20000,
+        (
+          search (text_sent, sendable, owned.crosses) depth 60 fits 20000,
+          (
+            search (answer_sent, sendable) depth 20,
+            (
+              search (sendable, owned.crosses) depth 60 fits 20000,
+              (
+                search (sendable, owned.crosses) depth 60 fits 20000,
+                (
+                  search (sendable, owned.crosses) depth 60 fits 20000,
+                  tt,
+                ),
+              ),
+            ),
+          ),
+        ),
+      ),
+    ),
+  ),
+)
