@@ -8,7 +8,7 @@ use Rattle.std.proofs.lemmas.Bool.{cond_both}
 use Rattle.std.proofs.lemmas.List.Concat.{flat_map-cons}
 use Rattle.std.proofs.lemmas.List.Elements.{All-nil, All-head, All-tail}
 use Rattle.json_tree.specs.Edits.{put}
-use Rattle.json_tree.specs.Meaning.{Meaning, null, flag, whole, words, items, members, Kids, no_kids, kid, Fields, no_fields, field, kids_of}
+use Rattle.json_tree.specs.Meaning.{Meaning, null, flag, whole, words, items, members, Fields, no_fields, field, kids_of}
 use Rattle.json_tree.specs.Parts.{member_of, is_null, items_of}
 use Rattle.json_tree.specs.Texts.{items_or_none}
 use Rattle.json_tree.specs.Values.{IsInteger, InRange, KidsInRange, FieldsInRange}

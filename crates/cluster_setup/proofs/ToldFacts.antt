@@ -1,5 +1,5 @@
 -- What a setup that is made says.
-use Rattle.std.proofs.Common.{◌≡◌, ℕ, pos, Bool, true, false, List, [], ◌∷◌, Option, Some, None, Ok, codes, refl, sym, ◌∙◌, ap, subst}
+use Rattle.std.proofs.Common.{◌≡◌, ℕ, Bool, true, false, List, [], ◌∷◌, Some, None, Ok, codes, refl, sym, ◌∙◌, ap, subst}
 use Rattle.std.specs.Prelude.{option_and_then}
 use Rattle.std.specs.List.{flat_map}
 use Rattle.std.specs.Result.{result_ok}
@@ -24,7 +24,7 @@ use Rattle.setup_file.specs.Reading.{chained, is_setup_form, is_known_version, c
 use Rattle.setup_file.specs.Resources.{entries_in, are_apart, has_shape, tracked_in}
 use Rattle.setup_file.specs.Snapshots.{snapshot_in, are_at_start}
 use Rattle.setup_file.specs.Steps.{or_breaks, unless_breaks}
-use Rattle.setup_file.proofs.Chains.{same_some, same_kept, found_both, chained_both, kept_both, not_broken, test_kept, was_ok}
+use Rattle.setup_file.proofs.Chains.{same_some, same_kept, found_both, kept_both, not_broken, test_kept, was_ok}
 use Rattle.std.specs.List.{list_all}
 use Rattle.cluster_setup.specs.Files.{start_word}
 use Rattle.cluster_setup.specs.Making.{entries_of, lag_of, objects_of, setup_tree, start_tree}

@@ -1,5 +1,5 @@
 -- What is answered: the text of a setup, or the first refusal.
-use Rattle.std.specs.Prelude.{◌≡◌, ◌<◌, ◌≤◌, ⊤, ◌⊎◌, ℕ, ◌==◌, Bool, true, List, length, take, Option, Some, None, Result, Ok, Err, is_some, if◌then◌else◌}
+use Rattle.std.specs.Prelude.{◌≡◌, ◌<◌, ◌≤◌, ⊤, ◌⊎◌, ℕ, ◌==◌, Bool, true, List, length, take, Some, None, Ok, Err, is_some, if◌then◌else◌}
 use Rattle.std.specs.Result.{result_ok}
 use Rattle.serde_json.specs.Written.{compact_text}
 use Rattle.json_tree.specs.Meaning.{Meaning}

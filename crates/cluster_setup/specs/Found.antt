@@ -1,5 +1,5 @@
 -- Which resource a list is of.
-use Rattle.std.specs.Prelude.{ℕ, ◌++◌, Bool, ◌&&◌, List, Option, Some, None, is_some, bytes_eq, codes, option_map, if◌then◌else◌}
+use Rattle.std.specs.Prelude.{ℕ, ◌++◌, Bool, ◌&&◌, List, Option, None, is_some, bytes_eq, codes, option_map, if◌then◌else◌}
 use Rattle.std.specs.List.{list_any, find}
 use Rattle.json_tree.specs.Meaning.{Meaning}
 use Rattle.json_tree.specs.Texts.{◌>>=◌}

@@ -2,6 +2,7 @@ pub mod Answers
 pub mod Files
 pub mod Found
 pub mod Making
+pub mod Parts
 pub mod Refusing
 pub mod Table
 pub mod Telling

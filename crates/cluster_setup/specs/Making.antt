@@ -3,7 +3,7 @@ use Rattle.std.specs.Prelude.{ℕ, pos, ◌++◌, Bool, true, false, List, [], �
 use Rattle.std.specs.List.{flat_map, list_any}
 use Rattle.base_types.specs.Matching.{combined}
 use Rattle.json_tree.specs.Edits.{put}
-use Rattle.json_tree.specs.Meaning.{Meaning, null, flag, whole, words, items, members, Kids, no_kids, kid, Fields, no_fields, kids_of}
+use Rattle.json_tree.specs.Meaning.{Meaning, null, flag, whole, words, items, members, no_kids, kid, Fields, no_fields, kids_of}
 use Rattle.json_tree.specs.Parts.{member_of, flag_of}
 use Rattle.json_tree.specs.Texts.{◌>>=◌}
 use Rattle.cluster_setup.specs.declared.table.Form.{Form}

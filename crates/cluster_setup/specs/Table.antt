@@ -1,5 +1,5 @@
 -- What is known of common resources: how their patches are sent, and what the server fills in.
-use Rattle.std.specs.Prelude.{ℕ, ◌==◌, Bool, true, false, not, ◌&&◌, List, [], ◌∷◌, bytes_eq, nat_eq, codes, if◌then◌else◌}
+use Rattle.std.specs.Prelude.{ℕ, List, [], bytes_eq, codes, if◌then◌else◌}
 use Rattle.cluster_setup.specs.declared.table.Form.{Form}
 use Rattle.cluster_setup.specs.declared.table.Form.TheVariants.{Merged, Plain, Bound, Pods, Usual}
 

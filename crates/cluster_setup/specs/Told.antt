@@ -1,5 +1,5 @@
 -- What a setup that is made says, in the words of those who read it (setup_file).
-use Rattle.std.specs.Prelude.{◌≡◌, ℕ, Bool, List, [], ◌∷◌, Option, Some, None, Ok, codes, option_and_then}
+use Rattle.std.specs.Prelude.{◌≡◌, ℕ, Bool, List, [], ◌∷◌, Some, None, Ok, codes, option_and_then}
 use Rattle.std.specs.List.{flat_map}
 use Rattle.audit_policy.specs.Forms.{policy_of}
 use Rattle.json_tree.specs.Meaning.{Meaning}

@@ -1,8 +1,10 @@
 ghost use Rattle.std.specs.Prelude.{◌≡◌, IfOk, OnOk};
 ghost use Rattle.json_tree.specs.Meaning.{fields_of};
-ghost use Rattle.cluster_setup.specs.Making.{start_tree, setup_tree, with_lag};
+ghost use Rattle.std.specs.List.{flat_map};
+ghost use Rattle.cluster_setup.specs.Making.{entries_of, objects_of, start_tree, setup_tree, with_lag};
+ghost use Rattle.cluster_setup.specs.Parts.{with_content, with_start};
 
-use crate::building::{flag, no_members, object, put, say, whole};
+use crate::building::{flag, object, put, said, whole};
 use crate::entries::entries_in;
 use crate::objects::objects_in;
 use base_types::OutOfMemory;
@@ -26,9 +28,7 @@ pub struct Given<'a> {
 fn start_tree(alloc: Global, revision: &str, time: &str) -> Result<Tree, OutOfMemory>
     ensures { IfOk result (λ tree. tree ≡ start_tree revision.now time.now) }
 {
-    let mut fields = no_members(alloc);
-    say(alloc, &mut fields, "revision", revision)?;
-    say(alloc, &mut fields, "time", time)?;
+    let fields = said(alloc, &[("revision", revision), ("time", time)])?;
     Ok(object(fields))
 }
 
@@ -42,21 +42,39 @@ fn add_lag(alloc: Global, fields: &mut MemberList, authorize: bool) -> Result<()
     Ok(())
 }
 
+// Says where a log begins, and whether decisions are judged.
+fn add_start(alloc: Global, fields: &mut MemberList, given: Given<'_>) -> Result<(), OutOfMemory>
+    ensures { OnOk result (fields_of fields.new ≡ with_start given.entry.revision.now given.entry.time.now given.entry.authorize (fields_of fields.old)) }
+{
+    put(alloc, fields, "version", whole(1))?;
+    let start = start_tree(alloc, given.revision, given.time)?;
+    put(alloc, fields, "start", start)?;
+    put(alloc, fields, "authorize", flag(given.authorize))?;
+    add_lag(alloc, fields, given.authorize)
+}
+
+// Says what is recorded, what is tracked, and what was there.
+fn add_content(
+    alloc: Global,
+    fields: &mut MemberList,
+    given: Given<'_>,
+    shown: &[Tree],
+) -> Result<(), OutOfMemory>
+    ensures { OnOk result (fields_of fields.new ≡ with_content given.entry.policy.now (flat_map (entries_of given.entry.trees.now) given.entry.trees.now) (flat_map (objects_of given.entry.trees.now) shown.now) (fields_of fields.old)) }
+{
+    put(alloc, fields, "policy", copy(alloc, given.policy)?)?;
+    let entries = entries_in(alloc, given.trees)?;
+    put(alloc, fields, "resources", entries)?;
+    let objects = objects_in(alloc, given.trees, shown)?;
+    put(alloc, fields, "snapshot", objects)
+}
+
 /// The setup of all files' resources, with the objects of some of them.
 pub fn setup_tree(alloc: Global, given: Given<'_>, shown: &[Tree]) -> Result<Tree, OutOfMemory>
     ensures { IfOk result (λ tree. tree ≡ setup_tree given.entry.revision.now given.entry.time.now given.entry.policy.now given.entry.trees.now shown.now given.entry.authorize) }
 {
-    let mut fields = no_members(alloc);
-    say(alloc, &mut fields, "kind", "PastSetup")?;
-    put(alloc, &mut fields, "version", whole(1))?;
-    let start = start_tree(alloc, given.revision, given.time)?;
-    put(alloc, &mut fields, "start", start)?;
-    put(alloc, &mut fields, "authorize", flag(given.authorize))?;
-    add_lag(alloc, &mut fields, given.authorize)?;
-    put(alloc, &mut fields, "policy", copy(alloc, given.policy)?)?;
-    let entries = entries_in(alloc, given.trees)?;
-    put(alloc, &mut fields, "resources", entries)?;
-    let objects = objects_in(alloc, given.trees, shown)?;
-    put(alloc, &mut fields, "snapshot", objects)?;
+    let mut fields = said(alloc, &[("kind", "PastSetup")])?;
+    add_start(alloc, &mut fields, given)?;
+    add_content(alloc, &mut fields, given, shown)?;
     Ok(object(fields))
 }

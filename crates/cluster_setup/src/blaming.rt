@@ -5,9 +5,9 @@ ghost use Rattle.setup_file.specs.declared.fault.SetupFault.TheVariants.{Rule};
 ghost use Rattle.cluster_setup.specs.Answers.{Breaks, IsAccepted, IsBlamed, OrMemory, blamed};
 ghost use Rattle.cluster_setup.specs.Making.{setup_tree};
 
-use crate::assembling::{Given, setup_tree};
+use crate::assembling::Given;
 use crate::fault::{FileFault, SetupRefusal};
-use crate::judging::accept;
+use crate::judging::accept_shown;
 use setup_file::{SetupFault, SetupRule};
 use std::alloc::Global;
 
@@ -44,8 +44,7 @@ fn try_with(alloc: Global, given: Given<'_>, number: usize) -> Result<(), SetupR
     ensures accepted { IfOk result (λ done. IsAccepted (setup_tree given.entry.revision.now given.entry.time.now given.entry.policy.now given.entry.trees.now (take number given.entry.trees.now) given.entry.authorize)) }
     ensures cause { IfErr result (OrMemory (IsBlamed given.entry.revision.now given.entry.time.now given.entry.policy.now given.entry.trees.now given.entry.authorize)) }
 {
-    let tree = setup_tree(alloc, given, &given.trees[..number])?;
-    match accept(alloc, &tree) {
+    match accept_shown(alloc, given, &given.trees[..number]) {
         Ok(_) => Ok(()),
         Err(fault) => Err(fault_blamed(given, number, fault)),
     }

@@ -1,7 +1,8 @@
-ghost use Rattle.std.specs.Prelude.{◌≡◌, ◌++◌, [], ◌∷◌, IfOk, OnOk};
+ghost use Rattle.std.specs.Prelude.{◌≡◌, [], IfOk, OnOk};
 ghost use Rattle.json_tree.specs.Edits.{put};
-ghost use Rattle.json_tree.specs.Meaning.{words, items, members, kid, no_kids, kids_of, fields_of, flag, whole};
-ghost use Rattle.cluster_setup.specs.Making.{say, shape, one, two, three, asked};
+ghost use Rattle.json_tree.specs.Meaning.{words, items, members, kids_of, fields_of, flag, whole};
+ghost use Rattle.cluster_setup.specs.Making.{say};
+ghost use Rattle.cluster_setup.specs.Parts.{said};
 
 use base_types::{OutOfMemory, Text};
 use json_tree::{MemberList, Node, Tree, Trees};
@@ -87,56 +88,13 @@ pub fn say(
     put(alloc, fields, name, words(alloc, text)?)
 }
 
-/// An entry of `shapes`.
-pub fn shape(alloc: Global, path: &str, class: &str) -> Result<Tree, OutOfMemory>
-    ensures { IfOk result (λ tree. tree ≡ shape path.now class.now) }
+/// The members with these texts at these names.
+pub fn said(alloc: Global, texts: &[(&str, &str)]) -> Result<MemberList, OutOfMemory>
+    ensures { IfOk result (λ fields. fields_of fields ≡ said texts.now) }
 {
     let mut fields = no_members(alloc);
-    say(alloc, &mut fields, "path", path)?;
-    say(alloc, &mut fields, "class", class)?;
-    Ok(object(fields))
-}
-
-/// The entry of what is as it was asked.
-pub fn asked(alloc: Global, path: &str) -> Result<Tree, OutOfMemory>
-    ensures { IfOk result (λ tree. tree ≡ asked path.now) }
-{
-    shape(alloc, path, "Asked")
-}
-
-/// The list without items.
-pub fn none(alloc: Global) -> Tree
-    ensures { result ≡ items no_kids }
-{
-    items(Vec::new(alloc))
-}
-
-/// The list of one item.
-pub fn one(alloc: Global, first: Tree) -> Result<Tree, OutOfMemory>
-    ensures { IfOk result (λ tree. tree ≡ one first) }
-{
-    let mut all = Vec::new(alloc);
-    all.push(first)?;
-    Ok(items(all))
-}
-
-/// The list of two items.
-pub fn two(alloc: Global, first: Tree, second: Tree) -> Result<Tree, OutOfMemory>
-    ensures { IfOk result (λ tree. tree ≡ two first second) }
-{
-    let mut all = Vec::new(alloc);
-    all.push(first)?;
-    all.push(second)?;
-    Ok(items(all))
-}
-
-/// The list of three items.
-pub fn three(alloc: Global, first: Tree, second: Tree, third: Tree) -> Result<Tree, OutOfMemory>
-    ensures { IfOk result (λ tree. tree ≡ three first second third) }
-{
-    let mut all = Vec::new(alloc);
-    all.push(first)?;
-    all.push(second)?;
-    all.push(third)?;
-    Ok(items(all))
+    for (name, text) in texts {
+        say(alloc, &mut fields, *name, *text)?;
+    }
+    Ok(fields)
 }

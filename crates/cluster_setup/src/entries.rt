@@ -1,89 +1,38 @@
-ghost use Rattle.std.specs.Prelude.{◌≡◌, ◌++◌, IfOk, OnOk};
+ghost use Rattle.std.specs.Prelude.{◌≡◌, ◌++◌, IfOk, OnOk, codes};
 ghost use Rattle.std.specs.List.{flat_map};
-ghost use Rattle.json_tree.specs.Meaning.{items, kids_of};
-ghost use Rattle.cluster_setup.specs.Making.{usual_shapes, shapes_of, status_shapes_of, same_subresource, idle_subresource, is_named, is_served, with_status, with_idle, subresources_of, is_namespaced, entry_with, entry_of, form_for, entries_from, entries_of};
+ghost use Rattle.json_tree.specs.Meaning.{fields_of, items, kids_of};
+ghost use Rattle.cluster_setup.specs.Files.{word};
+ghost use Rattle.cluster_setup.specs.Making.{shapes_of, status_shapes_of, same_subresource, idle_subresource, is_named, is_served, with_status, with_idle, subresources_of, is_namespaced, entry_of, form_for, entries_of};
+ghost use Rattle.cluster_setup.specs.Parts.{names_of, with_all_idle, with_rules};
+ghost use Rattle.cluster_setup.specs.Table.{patch_of};
 
-use crate::building::{
-    asked, flag, items, no_members, none, object, one, put, say, shape, three, two,
-};
+use crate::building::{flag, items, object, put, said, say};
 use crate::finding::{Found, found_for};
+use crate::shapes::{shape_list, shapes_of, status_shapes_of};
 use crate::table::{Form, form_of, patch_of};
 use crate::words::{group_of, listed, version_of, word};
 use base_types::{OutOfMemory, is_combined};
-use json_tree::Tree;
+use json_tree::{MemberList, Tree};
 use std::alloc::Global;
 
-fn usual_shapes(alloc: Global) -> Result<Tree, OutOfMemory>
-    ensures { IfOk result (λ tree. tree ≡ usual_shapes) }
-{
-    let spec = shape(alloc, "/spec", "Defaulted")?;
-    let status = shape(alloc, "/status", "Kept")?;
-    two(alloc, spec, status)
-}
+/// The subresources that write nothing.
+const IDLE: [&str; 6] = ["log", "exec", "attach", "portforward", "proxy", "token"];
 
-fn bound_shapes(alloc: Global) -> Result<Tree, OutOfMemory>
-    ensures { IfOk result (λ tree. tree ≡ shapes_of Form.Bound) }
+// The subresource that writes its object's status.
+fn status_subresource(alloc: Global, form: Form) -> Result<Tree, OutOfMemory>
+    ensures { IfOk result (λ tree. tree ≡ same_subresource (codes "status") (status_shapes_of form)) }
 {
-    let subjects = shape(alloc, "/subjects", "Defaulted")?;
-    let role = shape(alloc, "/roleRef", "Defaulted")?;
-    two(alloc, subjects, role)
-}
-
-fn shapes_of(alloc: Global, form: Form) -> Result<Tree, OutOfMemory>
-    ensures { IfOk result (λ tree. tree ≡ shapes_of form) }
-{
-    match form {
-        Form::Merged => Ok(none(alloc)),
-        Form::Plain => Ok(none(alloc)),
-        Form::Bound => bound_shapes(alloc),
-        Form::Pods => usual_shapes(alloc),
-        Form::Usual => usual_shapes(alloc),
-    }
-}
-
-fn pods_status_shapes(alloc: Global) -> Result<Tree, OutOfMemory>
-    ensures { IfOk result (λ tree. tree ≡ status_shapes_of Form.Pods) }
-{
-    let status = asked(alloc, "/status")?;
-    let labels = asked(alloc, "/metadata/labels")?;
-    let annotations = asked(alloc, "/metadata/annotations")?;
-    three(alloc, status, labels, annotations)
-}
-
-fn usual_status_shapes(alloc: Global) -> Result<Tree, OutOfMemory>
-    ensures { IfOk result (λ tree. tree ≡ status_shapes_of Form.Usual) }
-{
-    one(alloc, asked(alloc, "/status")?)
-}
-
-fn status_shapes_of(alloc: Global, form: Form) -> Result<Tree, OutOfMemory>
-    ensures { IfOk result (λ tree. tree ≡ status_shapes_of form) }
-{
-    match form {
-        Form::Merged => usual_status_shapes(alloc),
-        Form::Plain => usual_status_shapes(alloc),
-        Form::Bound => usual_status_shapes(alloc),
-        Form::Pods => pods_status_shapes(alloc),
-        Form::Usual => usual_status_shapes(alloc),
-    }
-}
-
-fn same_subresource(alloc: Global, name: &str, shapes: Tree) -> Result<Tree, OutOfMemory>
-    ensures { IfOk result (λ tree. tree ≡ same_subresource name.now shapes) }
-{
-    let mut fields = no_members(alloc);
-    say(alloc, &mut fields, "name", name)?;
-    say(alloc, &mut fields, "effect", "same")?;
+    let mut fields = said(alloc, &[("name", "status"), ("effect", "same")])?;
+    let shapes = shape_list(alloc, status_shapes_of(form))?;
     put(alloc, &mut fields, "shapes", shapes)?;
     Ok(object(fields))
 }
 
+// A subresource that writes nothing.
 fn idle_subresource(alloc: Global, name: &str) -> Result<Tree, OutOfMemory>
     ensures { IfOk result (λ tree. tree ≡ idle_subresource name.now) }
 {
-    let mut fields = no_members(alloc);
-    say(alloc, &mut fields, "name", name)?;
-    say(alloc, &mut fields, "effect", "none")?;
+    let fields = said(alloc, &[("name", name), ("effect", "none")])?;
     Ok(object(fields))
 }
 
@@ -114,8 +63,7 @@ fn add_status(
     if !is_served(document, resource, "status") {
         return Ok(());
     }
-    let shapes = status_shapes_of(alloc, form)?;
-    list.push(same_subresource(alloc, "status", shapes)?)?;
+    list.push(status_subresource(alloc, form)?)?;
     Ok(())
 }
 
@@ -135,6 +83,21 @@ fn add_idle(
     Ok(())
 }
 
+fn add_all_idle(
+    alloc: Global,
+    list: &mut Vec<Tree>,
+    document: &Tree,
+    resource: &str,
+    names: &[&str],
+) -> Result<(), OutOfMemory>
+    ensures { OnOk result (list.new.items ≡ with_all_idle document.now resource.now names.now list.old.items) }
+{
+    for name in names {
+        add_idle(alloc, list, document, resource, *name)?;
+    }
+    Ok(())
+}
+
 // The subresources whose effect is known; a write of another one hides its object.
 fn subresources_of(
     alloc: Global,
@@ -146,12 +109,7 @@ fn subresources_of(
 {
     let mut list = Vec::new(alloc);
     add_status(alloc, &mut list, document, resource, form)?;
-    add_idle(alloc, &mut list, document, resource, "log")?;
-    add_idle(alloc, &mut list, document, resource, "exec")?;
-    add_idle(alloc, &mut list, document, resource, "attach")?;
-    add_idle(alloc, &mut list, document, resource, "portforward")?;
-    add_idle(alloc, &mut list, document, resource, "proxy")?;
-    add_idle(alloc, &mut list, document, resource, "token")?;
+    add_all_idle(alloc, &mut list, document, resource, &IDLE)?;
     Ok(list)
 }
 
@@ -164,6 +122,43 @@ fn is_namespaced(entry: &Tree) -> bool
     }
 }
 
+// Says how a resource is judged.
+fn add_rules(
+    alloc: Global,
+    fields: &mut MemberList,
+    found: Found<'_>,
+    form: Form,
+) -> Result<(), OutOfMemory>
+    ensures { OnOk result (fields_of fields.new ≡ with_rules (is_namespaced found.entry.entry.now) (patch_of form) (shapes_of form)
+        (subresources_of found.entry.document.now (word (codes "name") found.entry.entry.now) form) (fields_of fields.old)) }
+{
+    let Found { document, entry } = found;
+    put(alloc, fields, "namespaced", flag(is_namespaced(entry)))?;
+    say(alloc, fields, "objectPatch", patch_of(form))?;
+    let shapes = shape_list(alloc, shapes_of(form))?;
+    put(alloc, fields, "shapes", shapes)?;
+    let subresources = subresources_of(alloc, document, word(entry, "name"), form)?;
+    put(alloc, fields, "subresources", items(subresources))
+}
+
+// The members that name a resource, whose lists have this kind.
+fn names_of(alloc: Global, found: Found<'_>, list_kind: &str) -> Result<MemberList, OutOfMemory>
+    ensures { IfOk result (λ fields. fields_of fields ≡ names_of found.entry.document.now found.entry.entry.now list_kind.now) }
+{
+    let Found { document, entry } = found;
+    let group_version = word(document, "groupVersion");
+    said(
+        alloc,
+        &[
+            ("group", group_of(group_version)),
+            ("version", version_of(group_version)),
+            ("resource", word(entry, "name")),
+            ("kind", word(entry, "kind")),
+            ("listKind", list_kind),
+        ],
+    )
+}
+
 // The entry of a resource, whose lists have this kind.
 fn entry_of(
     alloc: Global,
@@ -173,20 +168,8 @@ fn entry_of(
 ) -> Result<Tree, OutOfMemory>
     ensures { IfOk result (λ tree. tree ≡ entry_of found.entry.document.now found.entry.entry.now list_kind.now form) }
 {
-    let Found { document, entry } = found;
-    let group_version = word(document, "groupVersion");
-    let resource = word(entry, "name");
-    let subresources = subresources_of(alloc, document, resource, form)?;
-    let mut fields = no_members(alloc);
-    say(alloc, &mut fields, "group", group_of(group_version))?;
-    say(alloc, &mut fields, "version", version_of(group_version))?;
-    say(alloc, &mut fields, "resource", resource)?;
-    say(alloc, &mut fields, "kind", word(entry, "kind"))?;
-    say(alloc, &mut fields, "listKind", list_kind)?;
-    put(alloc, &mut fields, "namespaced", flag(is_namespaced(entry)))?;
-    say(alloc, &mut fields, "objectPatch", patch_of(form))?;
-    put(alloc, &mut fields, "shapes", shapes_of(alloc, form)?)?;
-    put(alloc, &mut fields, "subresources", items(subresources))?;
+    let mut fields = names_of(alloc, found, list_kind)?;
+    add_rules(alloc, &mut fields, found, form)?;
     Ok(object(fields))
 }
 

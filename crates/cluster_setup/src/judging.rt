@@ -1,11 +1,13 @@
-ghost use Rattle.std.specs.Prelude.{◌≡◌, ◌↔◌, Err, IfOk, IfSome, IfNone, IsTrue, string_bytes};
+ghost use Rattle.std.specs.Prelude.{◌≡◌, ◌↔◌, Err, All, IfOk, IfSome, IfNone, IsTrue, string_bytes};
 ghost use Rattle.json_tree.specs.Meaning.{Meaning};
 ghost use Rattle.json_tree.specs.Values.{InRange};
 ghost use Rattle.setup_file.specs.Reading.{IsTreeOf};
 ghost use Rattle.setup_file.specs.declared.fault.SetupRule.{SetupRule as AnyRule};
 ghost use Rattle.setup_file.specs.declared.fault.SetupFault.TheVariants.{Rule};
-ghost use Rattle.cluster_setup.specs.Answers.{json_text, IsAccepted, Breaks};
+ghost use Rattle.cluster_setup.specs.Answers.{json_text, IsAccepted, IsTextOf, Breaks};
+ghost use Rattle.cluster_setup.specs.Making.{setup_tree};
 
+use crate::assembling::{Given, setup_tree};
 use base_types::OutOfMemory;
 use json_tree::{Tree, TreeFault, equal, from_value, to_value};
 use serde_json::Value;
@@ -49,8 +51,8 @@ fn print(alloc: Global, tree: &Tree) -> Result<String, OutOfMemory>
     Ok(to_value(alloc, tree)?.to_string(alloc)?)
 }
 
-/// The text of a setup's tree, or the rule that it breaks.
-pub fn accept(alloc: Global, tree: &Tree) -> Result<String, SetupFault>
+// The text of a setup's tree, or the rule that it breaks.
+fn accept(alloc: Global, tree: &Tree) -> Result<String, SetupFault>
     requires { InRange tree.now }
     ensures text { IfOk result (λ text. string_bytes text ≡ json_text tree.now) }
     ensures accepted { IfOk result (λ text. IsAccepted tree.now) }
@@ -61,7 +63,23 @@ pub fn accept(alloc: Global, tree: &Tree) -> Result<String, SetupFault>
         return Err(SetupFault::Rule(SetupRule::S1));
     }
     match read_setup(alloc, text.as_bytes()) {
-        Ok(_) => Ok(text),
+        Ok(setup) => {
+            drop(setup);
+            Ok(text)
+        }
         Err(fault) => Err(fault),
     }
+}
+
+/// The text of the setup with the objects of some files, or the rule that it breaks.
+pub fn accept_shown(alloc: Global, given: Given<'_>, shown: &[Tree]) -> Result<String, SetupFault>
+    requires policy { InRange given.policy.now }
+    requires trees { All InRange given.trees.now }
+    requires shown { All InRange shown.now }
+    ensures text { IfOk result (λ text. IsTextOf (setup_tree given.entry.revision.now given.entry.time.now given.entry.policy.now given.entry.trees.now shown.now given.entry.authorize) (string_bytes text)) }
+    ensures broken { (rule : AnyRule) → result ≡ Err (Rule rule)
+        → Breaks (setup_tree given.entry.revision.now given.entry.time.now given.entry.policy.now given.entry.trees.now shown.now given.entry.authorize) rule }
+{
+    let tree = setup_tree(alloc, given, shown)?;
+    accept(alloc, &tree)
 }

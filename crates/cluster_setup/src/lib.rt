@@ -12,6 +12,7 @@ mod judging;
 mod making;
 mod objects;
 mod refusing;
+mod shapes;
 mod table;
 mod telling;
 mod words;

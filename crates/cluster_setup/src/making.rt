@@ -1,4 +1,6 @@
 ghost use Rattle.std.specs.Prelude.{◌≡◌, ◌<◌, ◌+◌, ℕ, None, All, OnOk, length, take, IfOk, IfErr, IfSome, IfNone, string_bytes, is_some, true};
+ghost use Rattle.std.specs.Result.{result_ok};
+ghost use Rattle.audit_policy.specs.Forms.{policy_of};
 ghost use Rattle.json_tree.specs.Meaning.{Meaning};
 ghost use Rattle.json_tree.specs.Values.{InRange};
 ghost use Rattle.setup_file.specs.Forms.{moment_of};
@@ -8,11 +10,11 @@ ghost use Rattle.cluster_setup.specs.Making.{setup_tree};
 ghost use Rattle.cluster_setup.specs.Refusing.{AreTrees, IsFirstBroken, first_refused};
 ghost use Rattle.cluster_setup.specs.Told.{Tells};
 
-use crate::assembling::{Given, setup_tree};
+use crate::assembling::Given;
 use crate::blaming::refuse;
 use crate::fault::{FileFault, SetupRefusal};
 use crate::files::start_word;
-use crate::judging::{accept, read_tree};
+use crate::judging::{accept_shown, read_tree};
 use crate::refusing::first_refused;
 use audit_policy::{PolicyFault, read_policy};
 use base_types::{Bytes, OutOfMemory};
@@ -76,6 +78,20 @@ fn read_files(alloc: Global, files: &[Bytes]) -> Result<Vec<Tree>, SetupRefusal>
     Ok(trees)
 }
 
+// Whether a tree is an audit policy.
+fn is_policy(alloc: Global, tree: &Tree) -> Result<bool, OutOfMemory>
+    ensures { IfOk result (λ is. is ≡ is_some (result_ok (policy_of tree.now))) }
+{
+    match read_policy(alloc, tree) {
+        Ok(policy) => {
+            drop(policy);
+            Ok(true)
+        }
+        Err(PolicyFault::Form { .. }) => Ok(false),
+        Err(PolicyFault::OutOfMemory) => Err(OutOfMemory),
+    }
+}
+
 // Reads an audit policy.
 fn policy_of(alloc: Global, bytes: &[u8]) -> Result<Option<Tree>, OutOfMemory>
     ensures some { IfOk result (λ found. IfSome found (IsPolicy bytes.now)) }
@@ -85,10 +101,10 @@ fn policy_of(alloc: Global, bytes: &[u8]) -> Result<Option<Tree>, OutOfMemory>
     let Some(tree) = read_tree(alloc, bytes)? else {
         return Ok(None);
     };
-    match read_policy(alloc, &tree) {
-        Ok(_) => Ok(Some(tree)),
-        Err(PolicyFault::Form { .. }) => Ok(None),
-        Err(PolicyFault::OutOfMemory) => Err(OutOfMemory),
+    if is_policy(alloc, &tree)? {
+        Ok(Some(tree))
+    } else {
+        Ok(None)
     }
 }
 
@@ -99,8 +115,7 @@ fn judged(alloc: Global, given: Given<'_>) -> Result<String, SetupRefusal>
     ensures made { IfOk result (λ text. IsTextOf (setup_tree given.entry.revision.now given.entry.time.now given.entry.policy.now given.entry.trees.now given.entry.trees.now given.entry.authorize) (string_bytes text)) }
     ensures cause { IfErr result (OrMemory (IsBlamed given.entry.revision.now given.entry.time.now given.entry.policy.now given.entry.trees.now given.entry.authorize)) }
 {
-    let tree = setup_tree(alloc, given, given.trees)?;
-    match accept(alloc, &tree) {
+    match accept_shown(alloc, given, given.trees) {
         Ok(text) => Ok(text),
         Err(fault) => Err(refuse(alloc, given, fault)),
     }

@@ -3,7 +3,7 @@ ghost use Rattle.std.specs.List.{flat_map};
 ghost use Rattle.json_tree.specs.Meaning.{items, kids_of};
 ghost use Rattle.cluster_setup.specs.Making.{put_in, filled, whole_item, object_entry, objects_of};
 
-use crate::building::{items, no_members, object, put, say};
+use crate::building::{items, object, put, said, say};
 use crate::finding::found_for;
 use crate::words::{group_of, listed, word};
 use base_types::OutOfMemory;
@@ -29,13 +29,20 @@ fn fill(alloc: Global, tree: &mut Tree, name: &str, text: &str) -> Result<(), Ou
     put_in(alloc, tree, name, text)
 }
 
+// Puts the kind and the version into an item of a list, which leaves them out.
+fn complete(alloc: Global, tree: &mut Tree, kind: &str, version: &str) -> Result<(), OutOfMemory>
+    ensures { OnOk result (tree.new ≡ whole_item kind.now version.now tree.old) }
+{
+    fill(alloc, tree, "kind", kind)?;
+    fill(alloc, tree, "apiVersion", version)
+}
+
 // The item of a list, with the kind and the version that the list leaves out.
 fn whole_item(alloc: Global, kind: &str, version: &str, item: &Tree) -> Result<Tree, OutOfMemory>
     ensures { IfOk result (λ made. made ≡ whole_item kind.now version.now item.now) }
 {
     let mut made = copy(alloc, item)?;
-    fill(alloc, &mut made, "kind", kind)?;
-    fill(alloc, &mut made, "apiVersion", version)?;
+    complete(alloc, &mut made, kind, version)?;
     Ok(made)
 }
 
@@ -49,15 +56,9 @@ fn object_entry(
 ) -> Result<Tree, OutOfMemory>
     ensures { IfOk result (λ made. made ≡ object_entry group.now name.now kind.now version.now item.now) }
 {
-    let mut fields = no_members(alloc);
-    say(alloc, &mut fields, "group", group)?;
-    say(alloc, &mut fields, "resource", name)?;
-    put(
-        alloc,
-        &mut fields,
-        "object",
-        whole_item(alloc, kind, version, item)?,
-    )?;
+    let mut fields = said(alloc, &[("group", group), ("resource", name)])?;
+    let whole = whole_item(alloc, kind, version, item)?;
+    put(alloc, &mut fields, "object", whole)?;
     Ok(object(fields))
 }
 

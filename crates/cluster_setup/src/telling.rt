@@ -1,4 +1,4 @@
-ghost use Rattle.std.specs.Prelude.{◌≡◌, ◌≢◌, IfOk, IsOk, map, string_bytes};
+ghost use Rattle.std.specs.Prelude.{◌≡◌, ◌≢◌, ◌++◌, IfOk, IsOk, codes, map, string_bytes};
 ghost use Rattle.cluster_setup.specs.Telling.{rule_word, code_word, name_at, refusal_words};
 
 use crate::fault::{FileFault, SetupRefusal};
@@ -13,17 +13,24 @@ fn rule_word(alloc: Global, rule: SetupRule) -> Result<String, OutOfMemory>
     Ok(format!(in alloc; "S{number}")?)
 }
 
+// A word that is always the same.
+fn fixed(alloc: Global, word: &str) -> Result<String, OutOfMemory>
+    ensures { IfOk result (λ text. string_bytes text ≡ word.now) }
+{
+    Ok(String::from_str(alloc, word)?)
+}
+
 fn code_word(alloc: Global, code: FileFault) -> Result<String, OutOfMemory>
     ensures { IfOk result (λ text. string_bytes text ≡ code_word code) }
 {
     match code {
-        FileFault::Json => Ok(String::from_str(alloc, "json")?),
-        FileFault::Kind => Ok(String::from_str(alloc, "kind")?),
-        FileFault::Pages => Ok(String::from_str(alloc, "pages")?),
-        FileFault::Unknown => Ok(String::from_str(alloc, "unknown")?),
-        FileFault::Version => Ok(String::from_str(alloc, "version")?),
-        FileFault::Twice => Ok(String::from_str(alloc, "twice")?),
-        FileFault::Revision => Ok(String::from_str(alloc, "revision")?),
+        FileFault::Json => fixed(alloc, "json"),
+        FileFault::Kind => fixed(alloc, "kind"),
+        FileFault::Pages => fixed(alloc, "pages"),
+        FileFault::Unknown => fixed(alloc, "unknown"),
+        FileFault::Version => fixed(alloc, "version"),
+        FileFault::Twice => fixed(alloc, "twice"),
+        FileFault::Revision => fixed(alloc, "revision"),
         FileFault::Rule(rule) => rule_word(alloc, rule),
     }
 }
@@ -38,6 +45,20 @@ fn name_at(names: &[String], number: usize) -> &str
     }
 }
 
+fn resources_words(alloc: Global, rule: SetupRule) -> Result<String, OutOfMemory>
+    ensures { IfOk result (λ text. string_bytes text ≡ codes "resources " ++ rule_word rule) }
+{
+    let word = rule_word(alloc, rule)?;
+    Ok(format!(in alloc; "resources {}", word.as_str())?)
+}
+
+fn file_words(alloc: Global, name: &str, code: FileFault) -> Result<String, OutOfMemory>
+    ensures { IfOk result (λ text. string_bytes text ≡ codes "file " ++ (name.now ++ (codes " " ++ code_word code))) }
+{
+    let word = code_word(alloc, code)?;
+    Ok(format!(in alloc; "file {} {}", name, word.as_str())?)
+}
+
 /// The words of a refusal of files with these names, as many as were given: `time`, `policy`, `empty`, `resources RULE`
 /// or `file FILE CODE`, where FILE is a name and CODE is `json`, `kind`, `pages`, `unknown`, `version`, `twice`,
 /// `revision` or a RULE, from `S1` to `S15`. Want of memory has no words, and stays what it is.
@@ -50,18 +71,11 @@ pub fn refusal_words(
     ensures memory { IsOk result → refusal ≢ SetupRefusal.OutOfMemory }
 {
     match refusal {
-        SetupRefusal::Time => Ok(String::from_str(alloc, "time")?),
-        SetupRefusal::Policy => Ok(String::from_str(alloc, "policy")?),
-        SetupRefusal::Empty => Ok(String::from_str(alloc, "empty")?),
-        SetupRefusal::Rule(rule) => {
-            let word = rule_word(alloc, rule)?;
-            Ok(format!(in alloc; "resources {}", word.as_str())?)
-        }
-        SetupRefusal::File { number, code } => {
-            let word = code_word(alloc, code)?;
-            let name = name_at(names, number);
-            Ok(format!(in alloc; "file {} {}", name, word.as_str())?)
-        }
+        SetupRefusal::Time => fixed(alloc, "time"),
+        SetupRefusal::Policy => fixed(alloc, "policy"),
+        SetupRefusal::Empty => fixed(alloc, "empty"),
+        SetupRefusal::Rule(rule) => resources_words(alloc, rule),
+        SetupRefusal::File { number, code } => file_words(alloc, name_at(names, number), code),
         SetupRefusal::OutOfMemory => Err(OutOfMemory),
     }
 }

@@ -1,12 +1,26 @@
 -- What is found among codes with their texts.
 use Rattle.std.proofs.Common.{◌≡◌, ℕ, zero, suc, ◌<◌, List, [], ◌∷◌, ◌++◌, length, Option, Some, None, Bool, true, false, Contains, IsSome, is_some, option_map, bytes_eq, nat_eq, codes, if◌then◌else◌, drop, refl, sym, ◌∙◌, ap, inl, inr, arith}
-use Rattle.std.specs.List.{starts_with}
+use Rattle.std.specs.List.{find, starts_with}
+use Rattle.std.specs.Prelude.{map}
 use Rattle.std.specs.Option.{option_or}
 use Rattle.std.proofs.lemmas.Bool.Decides.{Decides-eqb}
 use Rattle.std.proofs.lemmas.List.Elements.{Contains-append_cases, Contains-append_left, Contains-append_right}
 use Rattle.std.proofs.lemmas.Option.{same_Some}
 use Rattle.std.proofs.lemmas.Slice.Eq.{bytes_eq-Decides, starts_is}
+use Rattle.code_guide.specs.declared.guide.Guide.{Guide as AnyGuide}
+use Rattle.code_guide.specs.Listed.{guide_of, is_named}
 use Rattle.code_guide.specs.Texts.{Guide, text_in}
+
+-- the text of the guide that a search finds
+text_found_here : (first : AnyGuide) (others : List AnyGuide) (name : List ℕ) (test : Bool)
+    → option_map (λ guide. guide.text.now) (find (is_named name) others) ≡ text_in (map guide_of others) name
+    → option_map (λ guide. guide.text.now) (if test then Some first else find (is_named name) others) ≡ (if test then Some first.text.now else text_in (map guide_of others) name)
+text_found_here first others name true below = refl
+text_found_here first others name false below = below
+
+pub text_found : (guides : List AnyGuide) (name : List ℕ) → option_map (λ guide. guide.text.now) (find (is_named name) guides) ≡ text_in (map guide_of guides) name
+text_found [] name = refl
+text_found (first ∷ others) name = text_found_here first others name (is_named name first) (text_found others name)
 
 abbrev pub names_in : List Guide → List (List ℕ)
 names_in [] = []

@@ -2,6 +2,8 @@ ghost use Rattle.std.specs.Prelude.{◌≡◌, option_map};
 ghost use Rattle.code_guide.specs.Texts.{text_in};
 ghost use Rattle.code_guide.specs.FileGuides.{file_guides};
 
+use crate::guide::{Guide, text_in};
+
 /// `file json`
 pub const FILE_JSON: &str = "file json: the file isn't one JSON text whose numbers are whole.
 
@@ -85,19 +87,42 @@ Look at: `metadata.resourceVersion` of each list.
 What to do: Take all lists at one revision: `?resourceVersion=N&resourceVersionMatch=Exact`.
 ";
 
+// Each fault of a file that a setup is to be made of, with its text.
+const FILE_GUIDES: [Guide; 7] = [
+    Guide {
+        name: "json",
+        text: FILE_JSON,
+    },
+    Guide {
+        name: "kind",
+        text: FILE_KIND,
+    },
+    Guide {
+        name: "pages",
+        text: FILE_PAGES,
+    },
+    Guide {
+        name: "unknown",
+        text: FILE_UNKNOWN,
+    },
+    Guide {
+        name: "version",
+        text: FILE_VERSION,
+    },
+    Guide {
+        name: "twice",
+        text: FILE_TWICE,
+    },
+    Guide {
+        name: "revision",
+        text: FILE_REVISION,
+    },
+];
+
 /// The text of the word of a fault of a file that a setup is to be made of, or none where there is no such code.
 #[tactic(auto, unfolding(crate::specs::FileGuides::file_guides))]
 pub fn file_text(name: &str) -> Option<&'static str>
     ensures { option_map (λ text. text.now) result ≡ text_in file_guides name.now }
 {
-    match name {
-        "json" => Some(FILE_JSON),
-        "kind" => Some(FILE_KIND),
-        "pages" => Some(FILE_PAGES),
-        "unknown" => Some(FILE_UNKNOWN),
-        "version" => Some(FILE_VERSION),
-        "twice" => Some(FILE_TWICE),
-        "revision" => Some(FILE_REVISION),
-        _ => None,
-    }
+    text_in(&FILE_GUIDES, name)
 }

@@ -3,6 +3,7 @@
 
 mod explaining;
 mod file_codes;
+mod guide;
 mod limits;
 mod log_codes;
 mod making_codes;

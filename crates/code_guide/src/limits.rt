@@ -2,6 +2,8 @@ ghost use Rattle.std.specs.Prelude.{◌≡◌, option_map};
 ghost use Rattle.code_guide.specs.Texts.{text_in};
 ghost use Rattle.code_guide.specs.LimitGuides.{limit_guides};
 
+use crate::guide::{Guide, text_in};
+
 /// `limit setup`
 pub const LIMIT_SETUP: &str = "limit setup: the setup has more than 268,435,456 bytes.
 
@@ -77,19 +79,42 @@ Look at: which resources have the largest bodies.
 What to do: Track fewer resources, or judge the log in parts.
 ";
 
+// Each limit, with its text.
+const LIMIT_GUIDES: [Guide; 7] = [
+    Guide {
+        name: "setup",
+        text: LIMIT_SETUP,
+    },
+    Guide {
+        name: "line",
+        text: LIMIT_LINE,
+    },
+    Guide {
+        name: "events",
+        text: LIMIT_EVENTS,
+    },
+    Guide {
+        name: "input",
+        text: LIMIT_INPUT,
+    },
+    Guide {
+        name: "file",
+        text: LIMIT_FILE,
+    },
+    Guide {
+        name: "placement",
+        text: LIMIT_PLACEMENT,
+    },
+    Guide {
+        name: "pool",
+        text: LIMIT_POOL,
+    },
+];
+
 /// The text of the name of a limit, or none where there is no such code.
 #[tactic(auto, unfolding(crate::specs::LimitGuides::limit_guides))]
 pub fn limit_text(name: &str) -> Option<&'static str>
     ensures { option_map (λ text. text.now) result ≡ text_in limit_guides name.now }
 {
-    match name {
-        "setup" => Some(LIMIT_SETUP),
-        "line" => Some(LIMIT_LINE),
-        "events" => Some(LIMIT_EVENTS),
-        "input" => Some(LIMIT_INPUT),
-        "file" => Some(LIMIT_FILE),
-        "placement" => Some(LIMIT_PLACEMENT),
-        "pool" => Some(LIMIT_POOL),
-        _ => None,
-    }
+    text_in(&LIMIT_GUIDES, name)
 }

@@ -2,6 +2,8 @@ ghost use Rattle.std.specs.Prelude.{◌≡◌, option_map};
 ghost use Rattle.code_guide.specs.Texts.{text_in};
 ghost use Rattle.code_guide.specs.LogGuides.{log_guides};
 
+use crate::guide::{Guide, text_in};
+
 /// `M1`
 pub const M1: &str =
     "M1: the line isn't one JSON text in UTF-8, is nested deeper than 127, or has a number too
@@ -170,24 +172,62 @@ What to do: Judge each cluster's log by itself. Of two events of one client `kub
 leaves the later one out; say so beside the verdict.
 ";
 
+// Each rule that an event of the log can break, with its text.
+const LOG_GUIDES: [Guide; 12] = [
+    Guide {
+        name: "M1",
+        text: M1,
+    },
+    Guide {
+        name: "M2",
+        text: M2,
+    },
+    Guide {
+        name: "M3",
+        text: M3,
+    },
+    Guide {
+        name: "M4",
+        text: M4,
+    },
+    Guide {
+        name: "M5",
+        text: M5,
+    },
+    Guide {
+        name: "M6",
+        text: M6,
+    },
+    Guide {
+        name: "M7",
+        text: M7,
+    },
+    Guide {
+        name: "M8",
+        text: M8,
+    },
+    Guide {
+        name: "M9",
+        text: M9,
+    },
+    Guide {
+        name: "M10",
+        text: M10,
+    },
+    Guide {
+        name: "M11",
+        text: M11,
+    },
+    Guide {
+        name: "M12",
+        text: M12,
+    },
+];
+
 /// The text of the code of a rule that an event of the log can break, or none where there is no such code.
 #[tactic(auto, unfolding(crate::specs::LogGuides::log_guides))]
 pub fn log_text(name: &str) -> Option<&'static str>
     ensures { option_map (λ text. text.now) result ≡ text_in log_guides name.now }
 {
-    match name {
-        "M1" => Some(M1),
-        "M2" => Some(M2),
-        "M3" => Some(M3),
-        "M4" => Some(M4),
-        "M5" => Some(M5),
-        "M6" => Some(M6),
-        "M7" => Some(M7),
-        "M8" => Some(M8),
-        "M9" => Some(M9),
-        "M10" => Some(M10),
-        "M11" => Some(M11),
-        "M12" => Some(M12),
-        _ => None,
-    }
+    text_in(&LOG_GUIDES, name)
 }

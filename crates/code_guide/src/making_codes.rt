@@ -2,6 +2,8 @@ ghost use Rattle.std.specs.Prelude.{◌≡◌, option_map};
 ghost use Rattle.code_guide.specs.Texts.{text_in};
 ghost use Rattle.code_guide.specs.MakingGuides.{making_guides};
 
+use crate::guide::{Guide, text_in};
+
 /// `setup time`
 pub const SETUP_TIME: &str = "setup time: the time isn't a timestamp.
 
@@ -34,15 +36,26 @@ What to do: Give at least one list, as `kubectl get --raw /api/v1/configmaps` ta
 revision is where the log begins.
 ";
 
+// Each reason for which no setup can be made, with its text.
+const MAKING_GUIDES: [Guide; 3] = [
+    Guide {
+        name: "time",
+        text: SETUP_TIME,
+    },
+    Guide {
+        name: "policy",
+        text: SETUP_POLICY,
+    },
+    Guide {
+        name: "empty",
+        text: SETUP_EMPTY,
+    },
+];
+
 /// The text of the word of a reason for which no setup can be made, or none where there is no such code.
 #[tactic(auto, unfolding(crate::specs::MakingGuides::making_guides))]
 pub fn making_text(name: &str) -> Option<&'static str>
     ensures { option_map (λ text. text.now) result ≡ text_in making_guides name.now }
 {
-    match name {
-        "time" => Some(SETUP_TIME),
-        "policy" => Some(SETUP_POLICY),
-        "empty" => Some(SETUP_EMPTY),
-        _ => None,
-    }
+    text_in(&MAKING_GUIDES, name)
 }

@@ -2,6 +2,8 @@ ghost use Rattle.std.specs.Prelude.{◌≡◌, option_map};
 ghost use Rattle.code_guide.specs.Texts.{text_in};
 ghost use Rattle.code_guide.specs.SetupGuides.{setup_guides};
 
+use crate::guide::{Guide, text_in};
+
 /// `S1`
 pub const S1: &str =
     "S1: the setup isn't one JSON text, or holds a number that isn't whole or isn't from -2^63 to
@@ -188,27 +190,74 @@ What to do: Give at most 10,000 whole lists of tracked resources, none of them b
 start.
 ";
 
+// Each rule that a setup can break, with its text.
+const SETUP_GUIDES: [Guide; 15] = [
+    Guide {
+        name: "S1",
+        text: S1,
+    },
+    Guide {
+        name: "S2",
+        text: S2,
+    },
+    Guide {
+        name: "S3",
+        text: S3,
+    },
+    Guide {
+        name: "S4",
+        text: S4,
+    },
+    Guide {
+        name: "S5",
+        text: S5,
+    },
+    Guide {
+        name: "S6",
+        text: S6,
+    },
+    Guide {
+        name: "S7",
+        text: S7,
+    },
+    Guide {
+        name: "S8",
+        text: S8,
+    },
+    Guide {
+        name: "S9",
+        text: S9,
+    },
+    Guide {
+        name: "S10",
+        text: S10,
+    },
+    Guide {
+        name: "S11",
+        text: S11,
+    },
+    Guide {
+        name: "S12",
+        text: S12,
+    },
+    Guide {
+        name: "S13",
+        text: S13,
+    },
+    Guide {
+        name: "S14",
+        text: S14,
+    },
+    Guide {
+        name: "S15",
+        text: S15,
+    },
+];
+
 /// The text of the code of a rule that a setup can break, or none where there is no such code.
 #[tactic(auto, unfolding(crate::specs::SetupGuides::setup_guides))]
 pub fn setup_text(name: &str) -> Option<&'static str>
     ensures { option_map (λ text. text.now) result ≡ text_in setup_guides name.now }
 {
-    match name {
-        "S1" => Some(S1),
-        "S2" => Some(S2),
-        "S3" => Some(S3),
-        "S4" => Some(S4),
-        "S5" => Some(S5),
-        "S6" => Some(S6),
-        "S7" => Some(S7),
-        "S8" => Some(S8),
-        "S9" => Some(S9),
-        "S10" => Some(S10),
-        "S11" => Some(S11),
-        "S12" => Some(S12),
-        "S13" => Some(S13),
-        "S14" => Some(S14),
-        "S15" => Some(S15),
-        _ => None,
-    }
+    text_in(&SETUP_GUIDES, name)
 }

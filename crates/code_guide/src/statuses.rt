@@ -2,6 +2,8 @@ ghost use Rattle.std.specs.Prelude.{◌≡◌, option_map};
 ghost use Rattle.code_guide.specs.Texts.{text_in};
 ghost use Rattle.code_guide.specs.StatusGuides.{status_guides};
 
+use crate::guide::{Guide, text_in};
+
 /// `status 0`
 pub const STATUS_0: &str =
     "status 0: the log is explained (with `--strict`: and nothing crosses), the placement holds,
@@ -120,22 +122,54 @@ What to do: Mend that, and call again. This status comes of `./kubepast` alone, 
 answer has it.
 ";
 
+// Each exit status, with its text.
+const STATUS_GUIDES: [Guide; 10] = [
+    Guide {
+        name: "0",
+        text: STATUS_0,
+    },
+    Guide {
+        name: "1",
+        text: STATUS_1,
+    },
+    Guide {
+        name: "2",
+        text: STATUS_2,
+    },
+    Guide {
+        name: "3",
+        text: STATUS_3,
+    },
+    Guide {
+        name: "4",
+        text: STATUS_4,
+    },
+    Guide {
+        name: "5",
+        text: STATUS_5,
+    },
+    Guide {
+        name: "6",
+        text: STATUS_6,
+    },
+    Guide {
+        name: "7",
+        text: STATUS_7,
+    },
+    Guide {
+        name: "8",
+        text: STATUS_8,
+    },
+    Guide {
+        name: "70",
+        text: STATUS_70,
+    },
+];
+
 /// The text of the number of an exit status, or none where there is no such code.
 #[tactic(auto, unfolding(crate::specs::StatusGuides::status_guides))]
 pub fn status_text(name: &str) -> Option<&'static str>
     ensures { option_map (λ text. text.now) result ≡ text_in status_guides name.now }
 {
-    match name {
-        "0" => Some(STATUS_0),
-        "1" => Some(STATUS_1),
-        "2" => Some(STATUS_2),
-        "3" => Some(STATUS_3),
-        "4" => Some(STATUS_4),
-        "5" => Some(STATUS_5),
-        "6" => Some(STATUS_6),
-        "7" => Some(STATUS_7),
-        "8" => Some(STATUS_8),
-        "70" => Some(STATUS_70),
-        _ => None,
-    }
+    text_in(&STATUS_GUIDES, name)
 }

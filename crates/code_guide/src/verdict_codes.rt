@@ -2,6 +2,8 @@ ghost use Rattle.std.specs.Prelude.{◌≡◌, option_map};
 ghost use Rattle.code_guide.specs.Texts.{text_in};
 ghost use Rattle.code_guide.specs.VerdictGuides.{verdict_guides};
 
+use crate::guide::{Guide, text_in};
+
 /// `U1`
 pub const U1: &str = "U1: the event is recorded at another level than the audit policy says.
 
@@ -209,28 +211,78 @@ event.
 What to do: Judge this log by this setup again, and check that placement.
 ";
 
+// Each reason for which an event is unexplained or a placement wrong, with its text.
+const VERDICT_GUIDES: [Guide; 16] = [
+    Guide {
+        name: "U1",
+        text: U1,
+    },
+    Guide {
+        name: "U2",
+        text: U2,
+    },
+    Guide {
+        name: "U3",
+        text: U3,
+    },
+    Guide {
+        name: "U4",
+        text: U4,
+    },
+    Guide {
+        name: "U5",
+        text: U5,
+    },
+    Guide {
+        name: "U6",
+        text: U6,
+    },
+    Guide {
+        name: "U7",
+        text: U7,
+    },
+    Guide {
+        name: "U8",
+        text: U8,
+    },
+    Guide {
+        name: "U9",
+        text: U9,
+    },
+    Guide {
+        name: "U10",
+        text: U10,
+    },
+    Guide {
+        name: "U11",
+        text: U11,
+    },
+    Guide {
+        name: "U12",
+        text: U12,
+    },
+    Guide {
+        name: "U13",
+        text: U13,
+    },
+    Guide {
+        name: "U14",
+        text: U14,
+    },
+    Guide {
+        name: "V1",
+        text: V1,
+    },
+    Guide {
+        name: "V2",
+        text: V2,
+    },
+];
+
 /// The text of the code of a reason for which an event is unexplained or a placement wrong, or none where there is no such code.
 #[tactic(auto, unfolding(crate::specs::VerdictGuides::verdict_guides))]
 pub fn verdict_text(name: &str) -> Option<&'static str>
     ensures { option_map (λ text. text.now) result ≡ text_in verdict_guides name.now }
 {
-    match name {
-        "U1" => Some(U1),
-        "U2" => Some(U2),
-        "U3" => Some(U3),
-        "U4" => Some(U4),
-        "U5" => Some(U5),
-        "U6" => Some(U6),
-        "U7" => Some(U7),
-        "U8" => Some(U8),
-        "U9" => Some(U9),
-        "U10" => Some(U10),
-        "U11" => Some(U11),
-        "U12" => Some(U12),
-        "U13" => Some(U13),
-        "U14" => Some(U14),
-        "V1" => Some(V1),
-        "V2" => Some(V2),
-        _ => None,
-    }
+    text_in(&VERDICT_GUIDES, name)
 }

@@ -5,7 +5,7 @@ use Rattle.json_tree.specs.Values.{InRange}
 use Rattle.setup_file.specs.Reading.{IsTreeOf}
 use Rattle.cluster_setup.specs.declared.fault.FileFault.TheVariants.{Json}
 use Rattle.cluster_setup.specs.declared.fault.SetupRefusal.TheVariants.{File}
-use Rattle.cluster_setup.specs.Refusing.{AreTrees, IsFirstBroken}
+use Rattle.cluster_setup.specs.Refusing.{IsFirstBroken}
 use Rattle.cluster_setup.proofs.Causes.{weaker}
 use Rattle.cluster_setup.proofs.Zips.{zip_more, first_broken}
 use Rattle.cluster_setup.proofs.making.add_file.Goals as goal

@@ -1,7 +1,6 @@
 use Rattle.std.proofs.Common.{◌≡◌, Some, None, inl, inr, refl, sym, ap, ◌∙◌}
 use Rattle.std.specs.Prelude.{option_map}
 use Rattle.std.proofs.lemmas.Result.{IfOk-weaker, IfErr-weaker}
-use Rattle.cluster_setup.specs.declared.fault.SetupRefusal.TheVariants.{Empty}
 use Rattle.cluster_setup.specs.Answers.{IsBlamed, IsRefused}
 use Rattle.cluster_setup.specs.Files.{start_word}
 use Rattle.cluster_setup.proofs.Causes.{weaker}

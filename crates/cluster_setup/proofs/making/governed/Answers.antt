@@ -1,6 +1,6 @@
-use Rattle.std.proofs.Common.{inl, inr, refl, subst, sym}
+use Rattle.std.proofs.Common.{inl, inr, refl}
 use Rattle.std.proofs.lemmas.Result.{IfOk-weaker, IfErr-weaker}
-use Rattle.cluster_setup.specs.Answers.{IsPolicy, IsUnread, Refuses}
+use Rattle.cluster_setup.specs.Answers.{IsUnread, Refuses}
 use Rattle.cluster_setup.proofs.Causes.{weaker}
 use Rattle.cluster_setup.proofs.making.governed.Goals as goal
 

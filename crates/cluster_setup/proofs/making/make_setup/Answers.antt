@@ -1,4 +1,4 @@
-use Rattle.std.proofs.Common.{◌≡◌, None, Ok, inl, sym, subst, refl, ap, ◌∙◌}
+use Rattle.std.proofs.Common.{◌≡◌, None, Ok, inl, sym, subst, refl, ◌∙◌}
 use Rattle.std.proofs.lemmas.Result.{IfOk-weaker}
 use Rattle.setup_file.specs.Forms.{moment_of}
 use Rattle.setup_file.specs.Reading.{ReadsAs}

@@ -1,4 +1,4 @@
-use Rattle.std.proofs.Common.{◌≡◌, ℕ, inl, inr, subst, sym, rules}
+use Rattle.std.proofs.Common.{◌≡◌, ℕ, inl, inr, rules}
 use Rattle.std.proofs.lemmas.Result.{IfOk-weaker, IfErr-weaker}
 use Rattle.cluster_setup.specs.declared.fault.FileFault.TheVariants.{Json}
 use Rattle.cluster_setup.specs.declared.fault.SetupRefusal.TheVariants.{File}

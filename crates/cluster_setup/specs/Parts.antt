@@ -1,0 +1,52 @@
+-- Parts of what is made, as the code puts them together.
+use Rattle.std.specs.Borrow.{Bor}
+use Rattle.std.specs.Prelude.{ℕ, pos, Bool, List, fold, map, codes}
+use Rattle.json_tree.specs.Edits.{put}
+use Rattle.json_tree.specs.Meaning.{Meaning, flag, whole, items, Fields, no_fields, kids_of}
+use Rattle.cluster_setup.specs.declared.shapes.Shape.{Shape}
+use Rattle.cluster_setup.specs.Files.{group_of, version_of, word}
+use Rattle.cluster_setup.specs.Making.{say, shape, start_tree, with_idle, with_lag}
+
+-- the members with these texts at these names
+abbrev pub said : List (Bor (List ℕ) × Bor (List ℕ)) → Fields
+said texts = fold (λ fields named. say named.0.now named.1.now fields) no_fields texts
+
+abbrev pub shape_tree : Shape → Meaning
+shape_tree given = shape given.path.now given.class.now
+
+abbrev pub shape_list : List Shape → Meaning
+shape_list shapes = items (kids_of (map shape_tree shapes))
+
+-- the subresources of these names behind others, where the document has them
+abbrev pub with_all_idle : Meaning → List ℕ → List (Bor (List ℕ)) → List Meaning → List Meaning
+with_all_idle document resource names list = fold (λ front name. with_idle document resource name.now front) list names
+
+-- what names a resource, whose lists have this kind
+abbrev pub names_of : Meaning → Meaning → List ℕ → Fields
+names_of document entry list_kind =
+    say (codes "listKind") list_kind
+    (say (codes "kind") (word (codes "kind") entry)
+    (say (codes "resource") (word (codes "name") entry)
+    (say (codes "version") (version_of (word (codes "groupVersion") document))
+    (say (codes "group") (group_of (word (codes "groupVersion") document)) no_fields))))
+
+-- how a resource is judged
+abbrev pub with_rules : Bool → List ℕ → Meaning → List Meaning → Fields → Fields
+with_rules namespaced patch shapes subresources fields =
+    put (codes "subresources") (items (kids_of subresources))
+    (put (codes "shapes") shapes
+    (say (codes "objectPatch") patch
+    (put (codes "namespaced") (flag namespaced) fields)))
+
+-- where a log begins, and whether decisions are judged
+abbrev pub with_start : List ℕ → List ℕ → Bool → Fields → Fields
+with_start revision time authorize fields =
+    with_lag authorize
+    (put (codes "authorize") (flag authorize)
+    (put (codes "start") (start_tree revision time)
+    (put (codes "version") (whole (pos 1)) fields)))
+
+-- what is recorded, what is tracked, and what was there
+abbrev pub with_content : Meaning → List Meaning → List Meaning → Fields → Fields
+with_content policy resources objects fields =
+    put (codes "snapshot") (items (kids_of objects)) (put (codes "resources") (items (kids_of resources)) (put (codes "policy") policy fields))
