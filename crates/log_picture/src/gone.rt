@@ -1,6 +1,7 @@
 ghost use Rattle.std.specs.Prelude.{◌≡◌, ◌++◌, OnOk, flat_map, string_bytes};
 ghost use Rattle.log_picture.specs.Gone.{line_at, place_of, place_text, removal_row, removals_text, removed_at, removed_by, removed_text};
 
+use crate::limits::{REMOVAL_LIMIT, append_rest, first_of};
 use base_types::{OutOfMemory, PlacedAnswer, PlacedLine, key_text};
 use markup::Told;
 use object_past::Removal;
@@ -72,8 +73,14 @@ pub fn append_removals(
     ensures { OnOk result (string_bytes text.new ≡ string_bytes text.old ++ removals_text log.now lines.now removals.now) }
 {
     text.push_str(REMOVALS_HEAD)?;
-    append_rows(alloc, text, log, lines, removals)?;
+    append_rows(alloc, text, log, lines, first_of(removals, REMOVAL_LIMIT))?;
     text.push_str(TABLE_END)?;
+    append_rest(
+        text,
+        REMOVAL_LIMIT,
+        removals.len(),
+        "Removals that aren't listed",
+    )?;
     Ok(())
 }
 

@@ -2,7 +2,8 @@ ghost use Rattle.std.specs.Prelude.{◌≡◌, ◌++◌, OnOk, flat_map, string_
 ghost use Rattle.log_picture.specs.Revised.{gap_row, gaps_table, maker_text, version_cells, version_row, versions_table};
 
 use crate::gone::{TABLE_END, line_at};
-use crate::revised::{GAP_LIMIT, Gap, VERSION_LIMIT, first_of};
+use crate::limits::{GAP_LIMIT, VERSION_LIMIT, first_of};
+use crate::revised::Gap;
 use base_types::{OutOfMemory, key_text};
 use markup::Told;
 use object_past::{Maker, Version};
