@@ -1,1 +1,3 @@
 mod Pairs
+mod Ranking
+mod Tallying

@@ -17,7 +17,7 @@ use Rattle.object_past.specs.declared.version.Version.{Version}
 -- the log has the write that made the version
 abbrev pub is_recorded : Maker → Bool
 is_recorded Snapshot = false
-is_recorded (Event number) = true
+is_recorded (Event n) = true
 is_recorded Unknown = false
 
 -- a recorded write gave the object this version
