@@ -10,7 +10,8 @@ use write_groups::LogEvent;
 
 /// What stands in front of the table's rows.
 pub const REMOVALS_HEAD: &str = r#"<h2>Removals</h2>
-<p>A delete shows no revision, so a removal took place at one of a range of places.</p>
+<p>A delete shows no revision, so a removal took place at one of a range of places. Place 18446744073709551615 stands
+behind all revisions.</p>
 <table>
 <thead><tr><th scope="col">Line</th><th scope="col">Object</th><th scope="col">Uid</th>
 <th scope="col">Last revision</th><th scope="col">Range of places</th><th scope="col">Placed at</th></tr></thead>
