@@ -3,12 +3,12 @@ ghost use Rattle.std.specs.List.{flat_map};
 ghost use Rattle.finding_picture.specs.Limits.{most_marks};
 ghost use Rattle.finding_picture.specs.Times.{bar_text, begin_or, end_or, first_instant, instant, last_instant, line_of, span_text, times_axis, times_band, times_section, times_text, write_bar};
 
-use crate::limits::drawn;
+use crate::limits::MOST_MARKS;
 use crate::looking::event_on;
 use crate::marks::bar_width;
 use audit_event::Event;
 use base_types::{Moment, OutOfMemory, WriteLine};
-use markup::{Axis, push_moment};
+use markup::{Axis, first_of, push_moment};
 use version_store::Context;
 
 /// What stands before the event's span.
@@ -94,7 +94,7 @@ fn first_instant(context: &Context, event: &Event, writes: &[WriteLine]) -> u64
     ensures { result ≡ first_instant context.now.events event.now writes.now }
 {
     let mut low = instant(event.received);
-    for write in drawn(writes) {
+    for write in first_of(writes, MOST_MARKS) {
         low = begin_or(low, event_on(context, line_of(write)));
     }
     low
@@ -106,7 +106,7 @@ fn last_instant(context: &Context, event: &Event, writes: &[WriteLine]) -> u64
     ensures { result ≡ last_instant context.now.events event.now writes.now }
 {
     let mut high = instant(event.staged);
-    for write in drawn(writes) {
+    for write in first_of(writes, MOST_MARKS) {
         high = end_or(high, event_on(context, line_of(write)));
     }
     high
@@ -167,7 +167,7 @@ fn push_bars(
 ) -> Result<(), OutOfMemory>
     ensures { OnOk result (string_bytes text.new ≡ string_bytes text.old ++ flat_map (write_bar context.now.events axis.now) (take most_marks writes.now)) }
 {
-    for write in drawn(writes) {
+    for write in first_of(writes, MOST_MARKS) {
         let line = line_of(write);
         push_bar(text, axis, line, event_on(context, line))?;
     }

@@ -4,11 +4,12 @@ use Rattle.std.specs.declared.cmp.Ordering.TheVariants.{Less}
 use Rattle.base_types.specs.Keys.{key_spelling, same_key}
 use Rattle.base_types.specs.declared.key.ObjectKey.{ObjectKey}
 use Rattle.clouds.specs.Kept.{key_order}
-use Rattle.log_picture.specs.Limits.{change_limit, rest_text}
+use Rattle.log_picture.specs.Limits.{change_limit}
 use Rattle.log_picture.specs.declared.changed.Changed.{Changed}
 use Rattle.log_picture.specs.declared.changed.TheConstants.{CHANGES_HEAD}
 use Rattle.log_picture.specs.declared.gone.TheConstants.{TABLE_END}
 use Rattle.log_picture.specs.declared.tallies.Tally.{Tally}
+use Rattle.markup.specs.Limits.{rest_text}
 use Rattle.markup.specs.Pieces.{fixed, number, told, shown}
 use Rattle.object_past.specs.declared.version.Maker.{Maker}
 use Rattle.object_past.specs.declared.version.Maker.TheVariants.{Snapshot, Event, Unknown}

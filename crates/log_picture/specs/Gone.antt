@@ -4,8 +4,9 @@ use Rattle.base_types.specs.Keys.{key_spelling}
 use Rattle.base_types.specs.declared.placed.PlacedAnswer.{PlacedAnswer}
 use Rattle.base_types.specs.declared.placed.PlacedAnswer.TheVariants.{Made, Removed, At, Nowhere}
 use Rattle.base_types.specs.declared.placed.PlacedLine.{PlacedLine}
-use Rattle.log_picture.specs.Limits.{removal_limit, rest_text}
+use Rattle.log_picture.specs.Limits.{removal_limit}
 use Rattle.log_picture.specs.declared.gone.TheConstants.{REMOVALS_HEAD, TABLE_END}
+use Rattle.markup.specs.Limits.{rest_text}
 use Rattle.markup.specs.Pieces.{fixed, number, told, shown}
 use Rattle.object_past.specs.declared.removal.Removal.{Removal}
 use Rattle.write_groups.specs.declared.event.LogEvent.{LogEvent}

@@ -3,12 +3,13 @@ use Rattle.std.specs.Prelude.{ℕ, ◌+◌, ◌-◌, ◌*◌, ◌%◌, max, List
 use Rattle.base_types.specs.Keys.{key_spelling}
 use Rattle.base_types.specs.declared.claim.Range.{Range}
 use Rattle.log_picture.specs.Gone.{line_at}
-use Rattle.log_picture.specs.Limits.{gap_limit, removal_limit, rest_text, version_limit}
+use Rattle.log_picture.specs.Limits.{gap_limit, removal_limit, version_limit}
 use Rattle.log_picture.specs.declared.gone.TheConstants.{TABLE_END}
 use Rattle.log_picture.specs.declared.revised.Gap.{Gap}
 use Rattle.log_picture.specs.declared.revised.TheConstants.{HISTORY_HEAD}
 use Rattle.log_picture.specs.declared.tables.TheConstants.{GAPS_HEAD, VERSIONS_HEAD}
 use Rattle.markup.specs.Drawing.{position}
+use Rattle.markup.specs.Limits.{rest_text}
 use Rattle.markup.specs.Pieces.{fixed, number, told, shown}
 use Rattle.markup.specs.declared.drawing.Axis.{Axis}
 use Rattle.object_past.specs.declared.removal.Removal.{Removal}

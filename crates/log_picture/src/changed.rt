@@ -5,10 +5,10 @@ ghost use Rattle.log_picture.specs.Changes.{AreChanges, change_row, change_text,
 ghost use Rattle.log_picture.specs.Tallied.{changed_as};
 
 use crate::gone::TABLE_END;
-use crate::limits::{CHANGE_LIMIT, append_rest, first_of};
+use crate::limits::CHANGE_LIMIT;
 use crate::tallies::{Tallies, tallies_of};
 use base_types::{ObjectKey, OutOfMemory, key_text};
-use markup::Told;
+use markup::{Told, first_of, push_rest};
 use object_past::Version;
 use std::alloc::Global;
 use std::cmp::Reverse;
@@ -73,7 +73,7 @@ pub fn append_changes(
     text.push_str(CHANGES_HEAD)?;
     append_rows(alloc, text, first_of(changes, CHANGE_LIMIT))?;
     text.push_str(TABLE_END)?;
-    append_rest(
+    push_rest(
         text,
         CHANGE_LIMIT,
         changes.len(),

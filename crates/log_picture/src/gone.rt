@@ -1,9 +1,9 @@
 ghost use Rattle.std.specs.Prelude.{◌≡◌, ◌++◌, OnOk, flat_map, string_bytes};
 ghost use Rattle.log_picture.specs.Gone.{line_at, place_of, place_text, removal_row, removals_text, removed_at, removed_by, removed_text};
 
-use crate::limits::{REMOVAL_LIMIT, append_rest, first_of};
+use crate::limits::REMOVAL_LIMIT;
 use base_types::{OutOfMemory, PlacedAnswer, PlacedLine, key_text};
-use markup::Told;
+use markup::{Told, first_of, push_rest};
 use object_past::Removal;
 use std::alloc::Global;
 use write_groups::LogEvent;
@@ -76,7 +76,7 @@ pub fn append_removals(
     text.push_str(REMOVALS_HEAD)?;
     append_rows(alloc, text, log, lines, first_of(removals, REMOVAL_LIMIT))?;
     text.push_str(TABLE_END)?;
-    append_rest(
+    push_rest(
         text,
         REMOVAL_LIMIT,
         removals.len(),

@@ -2,11 +2,11 @@ ghost use Rattle.std.specs.Prelude.{◌≡◌, [], ◌∷◌, ◌++◌, IfOk, On
 ghost use Rattle.log_picture.specs.Lanes.{asked_cells, axis_high_text, axis_low_text, decision_form, decision_words, drawn_text, event_row, events_table, form_mark, form_of, has_mark, lane_of, mark_text, marked_events, marked_text, marks_text, outline_of, pair_of, shape_text, style_of, time_axis_text, time_drawing, time_text, title_text};
 
 use crate::kind::{Kind, kind_of, kind_words};
-use crate::limits::{EVENT_LIMIT, append_rest, first_of};
+use crate::limits::EVENT_LIMIT;
 use crate::overview::{moment_at, receipt};
 use audit_event::Event;
 use base_types::{Decision, OutOfMemory};
-use markup::{Axis, Told, push_moment};
+use markup::{Axis, Told, first_of, push_moment, push_rest};
 use std::alloc::Global;
 use write_groups::LogEvent;
 
@@ -212,7 +212,7 @@ fn append_drawn(text: &mut String, axis: &Axis, marked: &[Marked<'_>]) -> Result
 {
     let drawn = first_of(marked, EVENT_LIMIT);
     append_drawing(text, axis, drawn)?;
-    append_rest(text, EVENT_LIMIT, marked.len(), "Events that aren't drawn")?;
+    push_rest(text, EVENT_LIMIT, marked.len(), "Events that aren't drawn")?;
     append_table(text, drawn)?;
     Ok(())
 }

@@ -2,10 +2,10 @@ ghost use Rattle.std.specs.Prelude.{◌≡◌, ◌++◌, OnOk, flat_map, string_
 ghost use Rattle.log_picture.specs.Revised.{axis_text, bar_text, bar_width, gap_mark, history_drawing, history_marks, history_text, left_out_text, range_text, rect_text, removal_mark, tick_text, version_mark};
 
 use crate::gone::line_at;
-use crate::limits::{GAP_LIMIT, REMOVAL_LIMIT, VERSION_LIMIT, append_rest, first_of};
+use crate::limits::{GAP_LIMIT, REMOVAL_LIMIT, VERSION_LIMIT};
 use crate::tables::{append_gaps, append_versions};
 use base_types::{OutOfMemory, Range, key_text};
-use markup::{Axis, Told};
+use markup::{Axis, Told, first_of, push_rest};
 use object_past::{Removal, Version};
 use std::alloc::Global;
 use write_groups::LogEvent;
@@ -247,19 +247,19 @@ fn append_axis(text: &mut String, axis: &Axis) -> Result<(), OutOfMemory>
 fn append_left_out(text: &mut String, drawn: &Drawn<'_>) -> Result<(), OutOfMemory>
     ensures { OnOk result (string_bytes text.new ≡ string_bytes text.old ++ left_out_text drawn.now.versions.now drawn.now.removals.now drawn.now.gaps.now) }
 {
-    append_rest(
+    push_rest(
         text,
         VERSION_LIMIT,
         drawn.versions.len(),
         "Versions that aren't drawn",
     )?;
-    append_rest(
+    push_rest(
         text,
         REMOVAL_LIMIT,
         drawn.removals.len(),
         "Removals that aren't drawn",
     )?;
-    append_rest(
+    push_rest(
         text,
         GAP_LIMIT,
         drawn.gaps.len(),
