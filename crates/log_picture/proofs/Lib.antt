@@ -1,3 +1,4 @@
 mod Pairs
 mod Ranking
 mod Tallying
+mod Unique

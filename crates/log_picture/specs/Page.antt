@@ -71,3 +71,7 @@ pub record IsLogPage (known : Known) (lines : List PlacedLine) (page : List ℕ)
   pub changes : List Changed
   pub changed : AreChanges known.versions changes
   pub text : page ≡ log_page_text known lines changes
+
+-- a setup, a log and a placement have no two pages
+abbrev pub OnePage : Type 0
+OnePage = (known : Known) (lines : List PlacedLine) (page other : List ℕ) → IsLogPage known lines page → IsLogPage known lines other → page ≡ other

@@ -13,4 +13,4 @@ mod revised;
 mod tables;
 mod tallies;
 
-pub use page::log_page;
+pub use page::{log_page, one_page_law};

@@ -1,5 +1,5 @@
 ghost use Rattle.std.specs.Prelude.{◌≡◌, ◌<◌, [], ◌∷◌, ◌++◌, IfOk, OnOk, Some, length, slice_get, string_bytes};
-ghost use Rattle.log_picture.specs.Page.{events_text, gap_of, gaps_in, IsLogPage, log_page_text, objects_text, overview_of, revision_axis, sections_text, time_axis};
+ghost use Rattle.log_picture.specs.Page.{events_text, gap_of, gaps_in, IsLogPage, OnePage, log_page_text, objects_text, overview_of, revision_axis, sections_text, time_axis};
 ghost use Rattle.version_store.specs.Histories.{history_of};
 
 use crate::changed::{Changed, append_changes, changes_of};
@@ -40,6 +40,11 @@ pub fn log_page(
     push_end(&mut text)?;
     Ok(text)
 }
+
+/// What a setup and a log tell, and a placement, have no two pages.
+pub fn one_page_law()
+    ensures { OnePage }
+{}
 
 // Puts the event of this number behind the others, where it is an unrecorded write.
 fn push_gap(

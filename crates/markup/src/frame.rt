@@ -32,6 +32,7 @@ pub const BEHIND_TITLE: &str = r#"</title>
   }
   main { max-width: none; }
   figure, tr { break-inside: avoid; }
+  h1, h2, h3 { break-after: avoid; }
 }
 body { margin: 0; background: var(--ground); color: var(--ink); font: 1rem/1.5 system-ui, sans-serif; }
 main { max-width: 72rem; margin: 0 auto; padding: 1rem 1.5rem 3rem; }
@@ -44,6 +45,7 @@ th { white-space: nowrap; }
 td, dd, code, pre { overflow-wrap: anywhere; unicode-bidi: isolate; }
 dt { font-weight: bold; }
 dd { margin: 0 0 0.5rem 1.5rem; }
+@media (min-width: 48rem) { td { min-width: 5rem; } }
 code, pre { font-family: ui-monospace, monospace; }
 pre { white-space: pre-wrap; border-left: 3px solid var(--rule); padding-left: 1rem; }
 svg { display: block; width: 100%; height: auto; }
