@@ -5,7 +5,7 @@ use Rattle.base_types.specs.declared.request.Decision.{Decision}
 use Rattle.base_types.specs.declared.request.Decision.TheVariants.{Allow, Forbid}
 use Rattle.log_picture.specs.Kinds.{kind_of, kind_words}
 use Rattle.log_picture.specs.Limits.{event_limit}
-use Rattle.log_picture.specs.Overview.{moment_at, receipt}
+use Rattle.log_picture.specs.Overview.{receipt}
 use Rattle.log_picture.specs.declared.kind.Kind.{Kind}
 use Rattle.log_picture.specs.declared.kind.Kind.TheVariants as kind
 use Rattle.log_picture.specs.declared.lanes.Form.{Form}
@@ -13,7 +13,7 @@ use Rattle.log_picture.specs.declared.lanes.Form.TheVariants as form
 use Rattle.log_picture.specs.declared.lanes.Marked.{Marked}
 use Rattle.log_picture.specs.declared.lanes.TheConstants.{EVENTS_END, EVENTS_HEAD, NO_EVENTS, TIME_HEAD}
 use Rattle.markup.specs.Drawing.{position}
-use Rattle.markup.specs.Moments.{moment_text}
+use Rattle.markup.specs.Moments.{moment_at, moment_text}
 use Rattle.markup.specs.Limits.{rest_text}
 use Rattle.markup.specs.Pieces.{fixed, number, told, shown}
 use Rattle.markup.specs.declared.drawing.Axis.{Axis}

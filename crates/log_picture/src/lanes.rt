@@ -3,10 +3,10 @@ ghost use Rattle.log_picture.specs.Lanes.{asked_cells, axis_high_text, axis_low_
 
 use crate::kind::{Kind, kind_of, kind_words};
 use crate::limits::EVENT_LIMIT;
-use crate::overview::{moment_at, receipt};
+use crate::overview::receipt;
 use audit_event::Event;
 use base_types::{Decision, OutOfMemory};
-use markup::{Axis, Told, first_of, push_moment, push_rest};
+use markup::{Axis, Told, first_of, moment_at, push_moment, push_rest};
 use std::alloc::Global;
 use write_groups::LogEvent;
 

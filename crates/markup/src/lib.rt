@@ -13,4 +13,4 @@ pub use drawing::Axis;
 pub use escaping::{Told, escaped_law, push_escaped};
 pub use frame::{push_begin, push_end};
 pub use limits::{first_of, push_rest};
-pub use moments::push_moment;
+pub use moments::{moment_at, push_moment};
