@@ -82,5 +82,5 @@ hiding_rows h writes =
     ++ (shown (fixed (codes "</table>\n") ∷ [])
     ++ rest_text most_rows (length writes) (codes "Unrecorded writes that aren't listed")))
 
-abbrev pub hiding_text : Known → List ℕ
+unfoldable pub hiding_text : Known → List ℕ
 hiding_text known = hiding_rows (history_of known) (unrecorded_in known.log)

@@ -22,6 +22,7 @@ anything until a recorded revision shows it again.</p>
 ";
 
 /// Appends the unrecorded writes of the log.
+#[tactic(auto, unfolding(crate::specs::Hiding::hiding_text))]
 pub fn push_hiding(alloc: Global, text: &mut String, context: &Context) -> Result<(), OutOfMemory>
     ensures { OnOk result (string_bytes text.new ≡ string_bytes text.old ++ hiding_text context.now) }
 {
