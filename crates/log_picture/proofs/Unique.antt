@@ -73,8 +73,8 @@ module _ (versions : List Version) where
       told = all_at (λ (c : Changed). tally versions c.key ≡ Some (tally_in c)) xs c p.each d
 
       go : Any (λ (b : Changed). b.key ≡ c.key) ys → Contains ys c
-      go (k, (b, (within, (at, e)))) =
-          subst (Contains ys) (same_change c b told (all_at (λ (c : Changed). tally versions c.key ≡ Some (tally_in c)) ys b q.each (k, (within, at))) e) (k, (within, at))
+      go (k, b, within, at, e) =
+          subst (Contains ys) (same_change c b told (all_at (λ (c : Changed). tally versions c.key ≡ Some (tally_in c)) ys b q.each (k, within, at)) e) (k, within, at)
 
   pub one_list : (xs ys : List Changed) → AreChanges versions xs → AreChanges versions ys → xs ≡ ys
   one_list xs ys p q = in_one_order xs ys p.order q.order (among_both xs ys p q) (among_both ys xs q p)
