@@ -1,5 +1,5 @@
 -- The objects that recorded writes changed, once they are sorted.
-use Rattle.std.proofs.Common.{◌≡◌, ◌≢◌, ℕ, ◌<◌, ◌⊎◌, inl, inr, true, false, List, [], ◌∷◌, length, get_or, map, Option, Some, None, All, AllPairs, Any, Contains, refl, sym, ◌∙◌, subst, ap, true≢false, arith}
+use Rattle.std.proofs.Common.{◌≡◌, ◌≢◌, ◌<◌, ◌⊎◌, inl, inr, true, false, List, [], ◌∷◌, get_or, map, Option, Some, None, AllPairs, Any, Contains, refl, sym, ◌∙◌, subst, ap, true≢false, arith}
 use Rattle.std.specs.BTreeMap.{BTreeMap, IsOrdered, get, keys}
 use Rattle.std.specs.Cmp.{IsStrictWeakOrder, nat_cmp_total}
 use Rattle.std.specs.List.{IsDistinct}

@@ -1,19 +1,17 @@
 -- What a setup and a log tell has one list of changed objects.
-use Rattle.std.proofs.Common.{◌≡◌, ◌<◌, ◌⊎◌, inl, inr, List, [], ◌∷◌, Option, Some, AllPairs, All, Any, Contains, refl, sym, ◌∙◌, subst, ap, ap₂, arith}
+use Rattle.std.proofs.Common.{◌≡◌, ◌⊎◌, inl, inr, List, [], ◌∷◌, Some, AllPairs, Any, Contains, refl, sym, ◌∙◌, subst, ap, ap₂, arith}
 use Rattle.std.specs.Ordering.{ordering_reverse}
 use Rattle.std.specs.Prelude.{IsSome}
 use Rattle.std.specs.declared.cmp.Ordering.TheVariants.{Less}
 use Rattle.std.proofs.lemmas.Option.{same_Some}
 use Rattle.base_types.specs.declared.key.ObjectKey.{ObjectKey}
-use Rattle.base_types.specs.declared.placed.PlacedLine.{PlacedLine}
 use Rattle.clouds.proofs.Adding.{key_order_total}
 use Rattle.clouds.specs.Kept.{key_order}
 use Rattle.history_model.proofs.Members.{all_at, here, in_cons, not_in_none, pairs_head, pairs_tail, there}
 use Rattle.log_picture.specs.Changes.{AreChanges, ComesBefore, tally, tally_in}
-use Rattle.log_picture.specs.Page.{IsLogPage, OnePage, log_page_text}
+use Rattle.log_picture.specs.Page.{OnePage, log_page_text}
 use Rattle.log_picture.specs.declared.changed.Changed.{Changed}
 use Rattle.object_past.specs.declared.version.Version.{Version}
-use Rattle.version_store.specs.Known.{Known}
 
 keys_not_both : (a b : ObjectKey) → key_order a b ≡ Less → key_order b a ≡ Less → ⊥
 keys_not_both a b l m = let other : key_order a b ≡ ordering_reverse Less = key_order_total.antisymm a b ∙ ap ordering_reverse m in cc (l, other)

@@ -1,4 +1,4 @@
-use Rattle.std.proofs.Common.{map, subst}
+use Rattle.std.proofs.Common.{subst}
 use Rattle.std.specs.List.Sorted.{IsPermutation}
 use Rattle.log_picture.proofs.Ranking.{changes_are}
 use Rattle.log_picture.proofs.changed.changes_of.Goals as goal

@@ -1,5 +1,5 @@
 use Rattle.std.proofs.Common.{◌≡◌, Some, ap, subst, sym, rules, ◌∙◌}
-use Rattle.std.specs.BTreeMap.{Updates, get}
+use Rattle.std.specs.BTreeMap.{Updates}
 use Rattle.clouds.proofs.Adding.{same_key}
 use Rattle.clouds.specs.Kept.{key_order}
 use Rattle.log_picture.proofs.Tallying.{counts_updates, grown}
