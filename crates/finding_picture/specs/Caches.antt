@@ -1,14 +1,16 @@
 -- Of a decision: the range of the places of its authoriser's four caches, and the roles and bindings that came and went in it.
-use Rattle.std.specs.Prelude.{ℕ, Bool, ◌==◌, ◌&&◌, List, [], ◌∷◌, ◌++◌, codes, filter, is_some, nat_le, if◌then◌else◌}
+use Rattle.std.specs.Prelude.{ℕ, Bool, ◌==◌, ◌&&◌, List, [], ◌∷◌, ◌++◌, codes, filter, is_some, length, nat_le, take, if◌then◌else◌}
 use Rattle.std.specs.List.{flat_map}
 use Rattle.base_types.specs.Keys.{key_spelling}
 use Rattle.base_types.specs.Reasons.{code_number}
+use Rattle.markup.specs.Limits.{rest_text}
 use Rattle.markup.specs.Pieces.{fixed, number, told, shown}
 use Rattle.object_past.specs.declared.removal.Removal.{Removal}
 use Rattle.object_past.specs.declared.version.Version.{Version}
 use Rattle.rbac_timeline.specs.Kinds.{kind_of_key}
 use Rattle.version_store.specs.Known.{Known}
 use Rattle.write_groups.specs.declared.event.LogEvent.{LogEvent}
+use Rattle.finding_picture.specs.Limits.{most_rows}
 use Rattle.finding_picture.specs.Objects.{line_at, maker_text}
 use Rattle.finding_picture.specs.declared.caches.TheConstants.{BEFORE_CACHES, BEHIND_RANGE}
 use Rattle.finding_picture.specs.declared.finding.Finding.{Finding}
@@ -37,13 +39,20 @@ gone_row log removal = shown (
     ∷ fixed (codes "</code></td><td>line ") ∷ number (line_at log removal.range.event)
     ∷ fixed (codes "</td></tr>\n") ∷ [])
 
+-- the first of them as rows, and how many others there are
+unfoldable pub caches_rows : List LogEvent → List Version → List Removal → List ℕ
+caches_rows log come gone =
+    flat_map (come_row log) (take most_rows come)
+    ++ (flat_map (gone_row log) (take most_rows gone)
+    ++ (shown (fixed (codes "</table>\n") ∷ [])
+    ++ (rest_text most_rows (length come) (codes "Roles and bindings that came, but aren't listed")
+    ++ rest_text most_rows (length gone) (codes "Roles and bindings that may have gone, but aren't listed"))))
+
 unfoldable pub caches_section : Known → ℕ → ℕ → List ℕ
 caches_section known low high =
     shown (
     fixed BEFORE_CACHES.now ∷ number low ∷ fixed (codes " to ") ∷ number high ∷ fixed BEHIND_RANGE.now ∷ [])
-    ++ (flat_map (come_row known.log) (filter (has_come low high) known.versions)
-    ++ (flat_map (gone_row known.log) (filter (may_have_gone low high) known.removals)
-    ++ shown (fixed (codes "</table>\n") ∷ [])))
+    ++ caches_rows known.log (filter (has_come low high) known.versions) (filter (may_have_gone low high) known.removals)
 
 -- only decisions have caches
 unfoldable pub caches_text : Known → Finding → List ℕ

@@ -16,7 +16,7 @@ guide_text reason = unwrap_or (text_of (code_name reason ∷ [])) []
 
 unfoldable pub verdict_text : Finding → List ℕ
 verdict_text finding = shown (
-    fixed (codes "<h1>unexplained</h1>\n<dl>\n<dt>Line</dt><dd>") ∷ number finding.line
+    fixed (codes "<h1>Unexplained</h1>\n<dl>\n<dt>Line</dt><dd>") ∷ number finding.line
     ∷ fixed (codes "</dd>\n<dt>Audit ID</dt><dd><code>") ∷ told finding.audit_id.now
     ∷ fixed (codes "</code></dd>\n<dt>Code</dt><dd>U") ∷ number (code_number finding.reason)
     ∷ fixed (codes "</dd>\n<dt>Places</dt><dd>from ") ∷ number finding.low

@@ -1,11 +1,12 @@
 -- The unrecorded writes, and from where on they hide which objects.
-use Rattle.std.specs.Prelude.{ℕ, List, [], ◌∷◌, ◌++◌, Option, Some, None, codes}
+use Rattle.std.specs.Prelude.{ℕ, Bool, true, false, List, [], ◌∷◌, ◌++◌, Option, Some, None, codes, filter, length, take}
 use Rattle.std.specs.List.{flat_map}
 use Rattle.base_types.specs.declared.key.Cover.{Cover}
 use Rattle.base_types.specs.declared.key.CoverName.{CoverName}
 use Rattle.base_types.specs.declared.key.CoverName.TheVariants.{Exact, Prefix, Any}
 use Rattle.history_model.specs.Histories.{History}
 use Rattle.history_model.specs.Windows.{low_end}
+use Rattle.markup.specs.Limits.{rest_text}
 use Rattle.markup.specs.Pieces.{fixed, number, told, shown}
 use Rattle.version_store.specs.Histories.{history_of}
 use Rattle.version_store.specs.Known.{Known}
@@ -13,6 +14,7 @@ use Rattle.write_groups.specs.Modelled.{event_of}
 use Rattle.write_groups.specs.declared.event.LogEvent.{LogEvent}
 use Rattle.write_groups.specs.declared.event.Shown.{Shown}
 use Rattle.write_groups.specs.declared.event.Shown.TheVariants.{Made, Removed, Opaque, Saw, SawNone, SawSome, SawOther, Listed, Free, Aside}
+use Rattle.finding_picture.specs.Limits.{most_rows}
 use Rattle.finding_picture.specs.declared.hiding.TheConstants.{BEFORE_HIDING}
 
 unfoldable pub namespace_text : Option (List ℕ) → List ℕ
@@ -37,6 +39,18 @@ cover_row line low cover =
     ++ (name_text cover.name
     ++ shown (fixed (codes "</td></tr>\n") ∷ []))))
 
+abbrev pub is_opaque : Shown → Bool
+is_opaque (Made item created) = false
+is_opaque (Removed key uid) = false
+is_opaque (Opaque cover) = true
+is_opaque (Saw item) = false
+is_opaque (SawNone key) = false
+is_opaque (SawSome key) = false
+is_opaque (SawOther key) = false
+is_opaque (Listed listing) = false
+is_opaque Free = false
+is_opaque Aside = false
+
 -- a row of the answer of an unrecorded write
 abbrev pub hidden_row_of : ℕ → ℕ → Shown → List ℕ
 hidden_row_of line low (Made item created) = []
@@ -53,8 +67,20 @@ hidden_row_of line low Aside = []
 unfoldable pub hidden_row : History → LogEvent → List ℕ
 hidden_row h event = hidden_row_of event.line (low_end h (event_of event)) event.answer
 
-unfoldable pub hiding_text : Known → List ℕ
-hiding_text known =
+abbrev pub is_unrecorded : LogEvent → Bool
+is_unrecorded event = is_opaque event.answer
+
+-- the unrecorded writes of a log
+abbrev pub unrecorded_in : List LogEvent → List LogEvent
+unrecorded_in log = filter is_unrecorded log
+
+-- the first of them as rows, and how many others there are
+unfoldable pub hiding_rows : History → List LogEvent → List ℕ
+hiding_rows h writes =
     shown (fixed BEFORE_HIDING.now ∷ [])
-    ++ (flat_map (hidden_row (history_of known)) known.log
-    ++ shown (fixed (codes "</table>\n") ∷ []))
+    ++ (flat_map (hidden_row h) (take most_rows writes)
+    ++ (shown (fixed (codes "</table>\n") ∷ [])
+    ++ rest_text most_rows (length writes) (codes "Unrecorded writes that aren't listed")))
+
+unfoldable pub hiding_text : Known → List ℕ
+hiding_text known = hiding_rows (history_of known) (unrecorded_in known.log)

@@ -1,12 +1,10 @@
--- How much is drawn.
-use Rattle.std.specs.Prelude.{ℕ, ◌-◌, ◌==◌, List, [], ◌∷◌, codes, if◌then◌else◌}
-use Rattle.markup.specs.Pieces.{fixed, number, shown}
+-- How much is drawn and listed.
+use Rattle.std.specs.Prelude.{ℕ}
 
+-- so many writes of the window are drawn and listed at most, and so many versions of the event's object
 abbrev pub most_marks : ℕ
 most_marks = 2000
 
--- how many are left out, where some are
-unfoldable pub rest_text : ℕ → List ℕ
-rest_text count =
-    if count - most_marks == 0 then []
-    else shown (fixed (codes "<p>") ∷ number (count - most_marks) ∷ fixed (codes " more aren't drawn.</p>\n") ∷ [])
+-- so many removals, unrecorded writes, and roles and bindings that came or went are listed at most
+abbrev pub most_rows : ℕ
+most_rows = 200

@@ -1,8 +1,9 @@
 -- What an answer about the event's object would have been, place by place: the object's versions and its removals.
-use Rattle.std.specs.Prelude.{ℕ, ◌==◌, List, [], ◌∷◌, ◌++◌, Option, Some, None, codes, filter, find, option_and_then, slice_get}
+use Rattle.std.specs.Prelude.{ℕ, ◌==◌, List, [], ◌∷◌, ◌++◌, Option, Some, None, codes, filter, find, length, option_and_then, slice_get, take}
 use Rattle.std.specs.List.{flat_map}
 use Rattle.base_types.specs.Keys.{key_spelling, same_key}
 use Rattle.base_types.specs.declared.key.ObjectKey.{ObjectKey}
+use Rattle.markup.specs.Limits.{rest_text}
 use Rattle.markup.specs.Pieces.{fixed, number, told, shown}
 use Rattle.object_past.specs.declared.removal.Removal.{Removal}
 use Rattle.object_past.specs.declared.version.Maker.{Maker}
@@ -12,6 +13,7 @@ use Rattle.version_store.specs.Known.{Known}
 use Rattle.write_groups.specs.declared.event.LogEvent.{LogEvent}
 use Rattle.write_groups.specs.declared.event.Shown.{Shown}
 use Rattle.write_groups.specs.declared.event.Shown.TheVariants.{Made, Removed, Opaque, Saw, SawNone, SawSome, SawOther, Listed, Free, Aside}
+use Rattle.finding_picture.specs.Limits.{most_marks, most_rows}
 use Rattle.finding_picture.specs.declared.objects.TheConstants.{BEFORE_OBJECT, BEHIND_OBJECT, NO_OBJECT}
 
 -- the object that an answer speaks of, where it is one
@@ -72,13 +74,20 @@ versions_of known key = filter (λ v. same_key v.key key) known.versions
 abbrev pub removals_of : Known → ObjectKey → List Removal
 removals_of known key = filter (λ removal. same_key removal.key key) known.removals
 
+-- the first of them as rows, and how many others there are
+unfoldable pub object_rows : List LogEvent → List Version → List Removal → List ℕ
+object_rows log versions removals =
+    flat_map (version_row log) (take most_marks versions)
+    ++ (flat_map (removal_row log) (take most_rows removals)
+    ++ (shown (fixed (codes "</table>\n") ∷ [])
+    ++ (rest_text most_marks (length versions) (codes "Versions that aren't listed")
+    ++ rest_text most_rows (length removals) (codes "Removals that aren't listed"))))
+
 unfoldable pub object_text : Known → Option ObjectKey → List ℕ
 object_text known None = shown (fixed NO_OBJECT.now ∷ [])
 object_text known (Some key) =
     shown (fixed BEFORE_OBJECT.now ∷ told (key_spelling key) ∷ fixed BEHIND_OBJECT.now ∷ [])
-    ++ (flat_map (version_row known.log) (versions_of known key)
-    ++ (flat_map (removal_row known.log) (removals_of known key)
-    ++ shown (fixed (codes "</table>\n") ∷ [])))
+    ++ object_rows known.log (versions_of known key) (removals_of known key)
 
 unfoldable pub object_section : Known → ℕ → List ℕ
 object_section known line = object_text known (key_on known.log line)

@@ -15,7 +15,7 @@ use Rattle.finding_picture.specs.declared.finding.Finding.{Finding}
 
 unfoldable pub page_text : Known → Finding → List ℕ
 page_text known finding =
-    begin_text (codes "unexplained")
+    begin_text (codes "Unexplained event")
     ++ (heading_text finding
     ++ (request_text (event_on known.events finding.line)
     ++ (places_text known finding

@@ -2,10 +2,11 @@
 use Rattle.std.specs.Prelude.{ℕ, List, [], ◌∷◌, ◌++◌, codes, length, take}
 use Rattle.std.specs.List.{flat_map}
 use Rattle.base_types.specs.declared.placed.WriteLine.{WriteLine}
+use Rattle.markup.specs.Limits.{rest_text}
 use Rattle.markup.specs.Pieces.{fixed, number, shown}
 use Rattle.markup.specs.declared.drawing.Axis.{Axis}
 use Rattle.version_store.specs.Known.{Known}
-use Rattle.finding_picture.specs.Limits.{most_marks, rest_text}
+use Rattle.finding_picture.specs.Limits.{most_marks}
 use Rattle.finding_picture.specs.Marks.{mark_text, places_axis}
 use Rattle.finding_picture.specs.Objects.{key_on}
 use Rattle.finding_picture.specs.Segments.{segments_text}
@@ -30,4 +31,4 @@ places_text known finding =
     ++ (marks_text (places_axis known.versions finding.low finding.high) finding.writes.now
     ++ (segments_text (places_axis known.versions finding.low finding.high) known.versions (key_on known.log finding.line)
     ++ (shown (fixed BEHIND_PLACES.now ∷ [])
-    ++ rest_text (length finding.writes.now))))
+    ++ rest_text most_marks (length finding.writes.now) (codes "Writes that aren't drawn"))))

@@ -35,6 +35,6 @@ row_text events (Removed low high line key) =
 
 unfoldable pub rows_text : List Event → List WriteLine → List ℕ
 rows_text events writes =
-    shown (fixed (codes "<h2>Writes in the window</h2>\n<table>\n<tr><th>Revision or range</th><th>Line</th><th>Object</th><th>User</th><th>Received</th><th>Staged</th></tr>\n") ∷ [])
+    shown (fixed (codes "<h2>Writes in the window</h2>\n<table>\n<tr><th scope=\"col\">Revision or range</th><th scope=\"col\">Line</th><th scope=\"col\">Object</th><th scope=\"col\">User</th><th scope=\"col\">Received</th><th scope=\"col\">Staged</th></tr>\n") ∷ [])
     ++ (flat_map (row_text events) (take most_marks writes)
     ++ shown (fixed (codes "</table>\n") ∷ []))

@@ -6,13 +6,13 @@ use Rattle.base_types.specs.declared.placed.WriteLine.{WriteLine}
 use Rattle.base_types.specs.declared.placed.WriteLine.TheVariants.{Made, Removed}
 use Rattle.base_types.specs.declared.revision.Moment.{Moment}
 use Rattle.markup.specs.Drawing.{position}
-use Rattle.markup.specs.Moments.{moment_text}
+use Rattle.markup.specs.Moments.{moment_at, moment_text}
 use Rattle.markup.specs.Pieces.{fixed, number, shown}
 use Rattle.markup.specs.declared.drawing.Axis.{Axis}
 use Rattle.finding_picture.specs.Limits.{most_marks}
 use Rattle.finding_picture.specs.Looking.{event_on}
 use Rattle.finding_picture.specs.Marks.{bar_width}
-use Rattle.finding_picture.specs.declared.times.TheConstants.{BEFORE_TIMES, BEHIND_TIMES}
+use Rattle.finding_picture.specs.declared.times.TheConstants.{BEFORE_TIMES, BEHIND_TIMES, TIMES_AXIS}
 
 -- in nanoseconds since 1970, as an axis has them
 abbrev pub instant : Moment → ℕ
@@ -74,7 +74,16 @@ times_band axis event =
     ++ shown (
     fixed (codes "</desc>\n<rect class=\"band\" x=\"") ∷ number (position axis (instant event.received))
     ∷ fixed (codes "\" y=\"30\" width=\"") ∷ number (bar_width axis (instant event.received) (instant event.staged))
-    ∷ fixed (codes "\" height=\"124\"><title>the event</title></rect>\n<text x=\"480\" y=\"22\" text-anchor=\"middle\">") ∷ []))
+    ∷ fixed (codes "\" height=\"124\"><title>the event</title></rect>\n<text x=\"480\" y=\"22\" text-anchor=\"middle\">the event: ") ∷ []))
+
+-- the axis with the moments of its ends
+unfoldable pub ends_text : Axis → List ℕ
+ends_text axis =
+    shown (fixed TIMES_AXIS.now ∷ [])
+    ++ (moment_text (moment_at axis.low)
+    ++ (shown (fixed (codes "</text>\n<text x=\"920\" y=\"168\" text-anchor=\"end\">") ∷ [])
+    ++ (moment_text (moment_at axis.high)
+    ++ shown (fixed BEHIND_TIMES.now ∷ []))))
 
 unfoldable pub times_section : List Event → Event → List WriteLine → List ℕ
 times_section events event writes =
@@ -82,7 +91,7 @@ times_section events event writes =
     ++ (span_text event
     ++ (shown (fixed (codes "</text>\n") ∷ [])
     ++ (flat_map (write_bar events (times_axis events event writes)) (take most_marks writes)
-    ++ shown (fixed BEHIND_TIMES.now ∷ []))))
+    ++ ends_text (times_axis events event writes))))
 
 -- A checkpoint has no times.
 unfoldable pub times_text : List Event → Option Event → List WriteLine → List ℕ

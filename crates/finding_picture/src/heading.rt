@@ -29,7 +29,7 @@ fn push_verdict(text: &mut String, finding: &Finding<'_>) -> Result<(), OutOfMem
     let code = finding.reason.number();
     write!(
         text,
-        "<h1>unexplained</h1>\n<dl>\n<dt>Line</dt><dd>{line}</dd>\n\
+        "<h1>Unexplained</h1>\n<dl>\n<dt>Line</dt><dd>{line}</dd>\n\
         <dt>Audit ID</dt><dd><code>{}</code></dd>\n\
         <dt>Code</dt><dd>U{code}</dd>\n\
         <dt>Places</dt><dd>from {} to {}</dd>\n</dl>\n",

@@ -1,12 +1,14 @@
-ghost use Rattle.std.specs.Prelude.{◌≡◌, ◌++◌, OnOk, string_bytes};
+ghost use Rattle.std.specs.Prelude.{◌≡◌, ◌++◌, IfOk, OnOk, map, string_bytes};
 ghost use Rattle.std.specs.List.{flat_map};
 ghost use Rattle.history_model.specs.Windows.{low_end};
 ghost use Rattle.write_groups.specs.Modelled.{event_of};
-ghost use Rattle.finding_picture.specs.Hiding.{cover_row, hidden_row, hiding_text, name_text, namespace_text};
+ghost use Rattle.finding_picture.specs.Hiding.{cover_row, hidden_row, hiding_rows, hiding_text, is_unrecorded, name_text, namespace_text, unrecorded_in};
 ghost use Rattle.version_store.specs.Histories.{history_of};
 
+use crate::limits::MOST_ROWS;
 use base_types::{Cover, CoverName, OutOfMemory, Text};
-use markup::Told;
+use markup::{Told, first_of, push_rest};
+use std::alloc::Global;
 use version_store::Context;
 use write_groups::{LogEvent, Shown, window_of};
 
@@ -15,24 +17,68 @@ pub const BEFORE_HIDING: &str = "<h2>Unrecorded writes</h2>
 <p>The log doesn't tell what these writes left. Behind the place that is named, an object that a row stands for may be
 anything until a recorded revision shows it again.</p>
 <table>
-<tr><th>Line</th><th>Hides</th><th>Group</th><th>Resource</th><th>Namespace</th><th>Name</th></tr>
+<tr><th scope=\"col\">Line</th><th scope=\"col\">Hides</th><th scope=\"col\">Group</th>
+<th scope=\"col\">Resource</th><th scope=\"col\">Namespace</th><th scope=\"col\">Name</th></tr>
 ";
 
 /// Appends the unrecorded writes of the log.
 #[tactic(auto, unfolding(crate::specs::Hiding::hiding_text))]
-pub fn push_hiding(text: &mut String, context: &Context) -> Result<(), OutOfMemory>
+pub fn push_hiding(alloc: Global, text: &mut String, context: &Context) -> Result<(), OutOfMemory>
     ensures { OnOk result (string_bytes text.new ≡ string_bytes text.old ++ hiding_text context.now) }
 {
-    text.push_str(BEFORE_HIDING)?;
-    push_hidden_rows(text, context)?;
-    text.push_str("</table>\n")?;
+    let writes = unrecorded_in(alloc, context.log())?;
+    push_hiding_rows(text, context, writes.as_slice())?;
     Ok(())
 }
 
-fn push_hidden_rows(text: &mut String, context: &Context) -> Result<(), OutOfMemory>
-    ensures { OnOk result (string_bytes text.new ≡ string_bytes text.old ++ flat_map (hidden_row (history_of context.now)) context.now.log) }
+#[tactic(auto, unfolding(crate::specs::Hiding::hiding_rows))]
+fn push_hiding_rows(
+    text: &mut String,
+    context: &Context,
+    writes: &[&LogEvent],
+) -> Result<(), OutOfMemory>
+    ensures { OnOk result (string_bytes text.new ≡ string_bytes text.old
+        ++ hiding_rows (history_of context.now) (map (λ event. event.now) writes.now)) }
 {
-    for event in context.log() {
+    text.push_str(BEFORE_HIDING)?;
+    push_hidden_rows(text, context, first_of(writes, MOST_ROWS))?;
+    text.push_str("</table>\n")?;
+    push_rest(
+        text,
+        MOST_ROWS,
+        writes.len(),
+        "Unrecorded writes that aren't listed",
+    )?;
+    Ok(())
+}
+
+fn is_unrecorded(event: &LogEvent) -> bool
+    ensures { result ≡ is_unrecorded event.now }
+{
+    matches!(&event.answer, Shown::Opaque { .. })
+}
+
+fn unrecorded_in(alloc: Global, log: &[LogEvent]) -> Result<Vec<&LogEvent>, OutOfMemory>
+    ensures { IfOk result (λ writes. map (λ event. event.now) writes.items ≡ unrecorded_in log.now) }
+{
+    let mut writes = Vec::new(alloc);
+    for event in log {
+        if is_unrecorded(event) {
+            writes.push(event)?;
+        }
+    }
+    Ok(writes)
+}
+
+fn push_hidden_rows(
+    text: &mut String,
+    context: &Context,
+    writes: &[&LogEvent],
+) -> Result<(), OutOfMemory>
+    ensures { OnOk result (string_bytes text.new ≡ string_bytes text.old
+        ++ flat_map (hidden_row (history_of context.now)) (map (λ event. event.now) writes.now)) }
+{
+    for event in writes {
         push_hidden(text, context, event)?;
     }
     Ok(())

@@ -1,9 +1,10 @@
-ghost use Rattle.std.specs.Prelude.{◌≡◌, ◌++◌, OnOk, Some, option_map, string_bytes};
+ghost use Rattle.std.specs.Prelude.{◌≡◌, ◌++◌, IfOk, OnOk, Some, map, option_map, string_bytes};
 ghost use Rattle.std.specs.List.{flat_map};
-ghost use Rattle.finding_picture.specs.Objects.{answer_key, key_on, line_at, logged_on, maker_text, object_section, object_text, removal_row, removals_of, version_row, versions_of};
+ghost use Rattle.finding_picture.specs.Objects.{answer_key, key_on, line_at, logged_on, maker_text, object_rows, object_section, object_text, removal_row, removals_of, version_row, versions_of};
 
+use crate::limits::{MOST_MARKS, MOST_ROWS};
 use base_types::{ObjectKey, OutOfMemory, key_text};
-use markup::Told;
+use markup::{Told, first_of, push_rest};
 use object_past::{Maker, Removal, Version};
 use std::alloc::Global;
 use version_store::Context;
@@ -23,7 +24,8 @@ pub const BEHIND_OBJECT: &str =
     "</code>. Before its first version it is absent. A version is there up to the next one, or to the removal of
 its UID.</p>
 <table>
-<tr><th>At places</th><th>An answer shows</th><th>UID</th><th>Written by</th></tr>
+<tr><th scope=\"col\">At places</th><th scope=\"col\">An answer shows</th><th scope=\"col\">UID</th>
+<th scope=\"col\">Written by</th></tr>
 ";
 
 /// Appends what an answer about the object of the event with this line would have been at each place.
@@ -53,12 +55,77 @@ fn push_object(
     ensures { OnOk result (string_bytes text.new ≡ string_bytes text.old ++ object_text context.now (Some key.now)) }
 {
     let name = key_text(alloc, key)?;
+    let versions = versions_of(alloc, context, key)?;
+    let removals = removals_of(alloc, context, key)?;
     text.push_str(BEFORE_OBJECT)?;
     write!(text, "{}", Told(name.as_str()))?;
     text.push_str(BEHIND_OBJECT)?;
-    push_versions(text, context, key)?;
-    push_removals(text, context, key)?;
+    push_object_rows(
+        text,
+        context.log(),
+        versions.as_slice(),
+        removals.as_slice(),
+    )?;
+    Ok(())
+}
+
+fn versions_of<'a>(
+    alloc: Global,
+    context: &'a Context,
+    key: &ObjectKey,
+) -> Result<Vec<&'a Version>, OutOfMemory>
+    ensures { IfOk result (λ found. map (λ v. v.now) found.items ≡ versions_of context.now key.now) }
+{
+    let mut found = Vec::new(alloc);
+    for version in context.versions() {
+        if version.key == *key {
+            found.push(version)?;
+        }
+    }
+    Ok(found)
+}
+
+fn removals_of<'a>(
+    alloc: Global,
+    context: &'a Context,
+    key: &ObjectKey,
+) -> Result<Vec<&'a Removal>, OutOfMemory>
+    ensures { IfOk result (λ found. map (λ r. r.now) found.items ≡ removals_of context.now key.now) }
+{
+    let mut found = Vec::new(alloc);
+    for removal in context.past().removals() {
+        if removal.key == *key {
+            found.push(removal)?;
+        }
+    }
+    Ok(found)
+}
+
+#[tactic(auto, unfolding(crate::specs::Objects::object_rows))]
+fn push_object_rows(
+    text: &mut String,
+    log: &[LogEvent],
+    versions: &[&Version],
+    removals: &[&Removal],
+) -> Result<(), OutOfMemory>
+    ensures { OnOk result (string_bytes text.new ≡ string_bytes text.old
+        ++ object_rows log.now (map (λ v. v.now) versions.now) (map (λ r. r.now) removals.now)) }
+{
+    push_versions(text, log, first_of(versions, MOST_MARKS))?;
+    push_removals(text, log, first_of(removals, MOST_ROWS))?;
     text.push_str("</table>\n")?;
+    push_rest(
+        text,
+        MOST_MARKS,
+        versions.len(),
+        "Versions that aren't listed",
+    )?;
+    push_rest(
+        text,
+        MOST_ROWS,
+        removals.len(),
+        "Removals that aren't listed",
+    )?;
     Ok(())
 }
 
@@ -105,24 +172,28 @@ pub fn line_at(log: &[LogEvent], position: u32) -> u64
     }
 }
 
-fn push_versions(text: &mut String, context: &Context, key: &ObjectKey) -> Result<(), OutOfMemory>
-    ensures { OnOk result (string_bytes text.new ≡ string_bytes text.old ++ flat_map (version_row context.now.log) (versions_of context.now key.now)) }
+fn push_versions(
+    text: &mut String,
+    log: &[LogEvent],
+    versions: &[&Version],
+) -> Result<(), OutOfMemory>
+    ensures { OnOk result (string_bytes text.new ≡ string_bytes text.old ++ flat_map (version_row log.now) (map (λ v. v.now) versions.now)) }
 {
-    for version in context.versions() {
-        if version.key == *key {
-            push_version(text, context.log(), version)?;
-        }
+    for version in versions {
+        push_version(text, log, version)?;
     }
     Ok(())
 }
 
-fn push_removals(text: &mut String, context: &Context, key: &ObjectKey) -> Result<(), OutOfMemory>
-    ensures { OnOk result (string_bytes text.new ≡ string_bytes text.old ++ flat_map (removal_row context.now.log) (removals_of context.now key.now)) }
+fn push_removals(
+    text: &mut String,
+    log: &[LogEvent],
+    removals: &[&Removal],
+) -> Result<(), OutOfMemory>
+    ensures { OnOk result (string_bytes text.new ≡ string_bytes text.old ++ flat_map (removal_row log.now) (map (λ r. r.now) removals.now)) }
 {
-    for removal in context.past().removals() {
-        if removal.key == *key {
-            push_removal(text, context.log(), removal)?;
-        }
+    for removal in removals {
+        push_removal(text, log, removal)?;
     }
     Ok(())
 }

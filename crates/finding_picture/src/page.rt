@@ -27,7 +27,7 @@ pub fn finding_page(
     ensures { IfOk result (λ page. string_bytes page ≡ page_text context.now finding.now) }
 {
     let mut text = String::new(alloc);
-    push_begin(&mut text, "unexplained")?;
+    push_begin(&mut text, "Unexplained event")?;
     push_heading(alloc, &mut text, finding)?;
     let event = event_on(context, finding.line);
     push_request(&mut text, event)?;
@@ -35,7 +35,7 @@ pub fn finding_page(
     push_times(&mut text, context, event, finding.writes)?;
     push_rows(&mut text, context, finding.writes)?;
     push_object_section(alloc, &mut text, context, finding.line)?;
-    push_hiding(&mut text, context)?;
+    push_hiding(alloc, &mut text, context)?;
     push_caches(alloc, &mut text, context, finding)?;
     push_end(&mut text)?;
     Ok(text)

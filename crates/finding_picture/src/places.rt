@@ -2,12 +2,12 @@ ghost use Rattle.std.specs.Prelude.{◌≡◌, ◌++◌, OnOk, string_bytes};
 ghost use Rattle.finding_picture.specs.Places.{band_text, marks_text, places_text};
 
 use crate::finding::Finding;
-use crate::limits::{drawn, push_rest};
+use crate::limits::MOST_MARKS;
 use crate::marks::{places_axis, push_mark};
 use crate::objects::key_on;
 use crate::segments::push_segments;
 use base_types::{OutOfMemory, WriteLine};
-use markup::Axis;
+use markup::{Axis, first_of, push_rest};
 use version_store::Context;
 
 /// What stands before how many writes are drawn.
@@ -45,7 +45,12 @@ pub fn push_places(
     push_marks(text, &axis, finding.writes)?;
     push_segments(text, &axis, versions, key_on(context.log(), finding.line))?;
     text.push_str(BEHIND_PLACES)?;
-    push_rest(text, finding.writes.len())?;
+    push_rest(
+        text,
+        MOST_MARKS,
+        finding.writes.len(),
+        "Writes that aren't drawn",
+    )?;
     Ok(())
 }
 
@@ -69,7 +74,7 @@ fn push_band(text: &mut String, finding: &Finding<'_>) -> Result<(), OutOfMemory
 fn push_marks(text: &mut String, axis: &Axis, writes: &[WriteLine]) -> Result<(), OutOfMemory>
     ensures { OnOk result (string_bytes text.new ≡ string_bytes text.old ++ marks_text axis.now writes.now) }
 {
-    for write in drawn(writes) {
+    for write in first_of(writes, MOST_MARKS) {
         push_mark(text, axis, write)?;
     }
     Ok(())

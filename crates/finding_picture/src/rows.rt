@@ -3,11 +3,11 @@ ghost use Rattle.std.specs.List.{flat_map};
 ghost use Rattle.finding_picture.specs.Limits.{most_marks};
 ghost use Rattle.finding_picture.specs.Rows.{author_text, event_cells, row_text, rows_text};
 
-use crate::limits::drawn;
+use crate::limits::MOST_MARKS;
 use crate::looking::event_on;
 use audit_event::Event;
 use base_types::{OutOfMemory, Text, WriteLine};
-use markup::{Told, push_moment};
+use markup::{Told, first_of, push_moment};
 use version_store::Context;
 
 /// Appends the table of the writes in the window.
@@ -20,8 +20,9 @@ pub fn push_rows(
     ensures { OnOk result (string_bytes text.new ≡ string_bytes text.old ++ rows_text context.now.events writes.now) }
 {
     text.push_str(
-        "<h2>Writes in the window</h2>\n<table>\n<tr><th>Revision or range</th><th>Line</th>\
-        <th>Object</th><th>User</th><th>Received</th><th>Staged</th></tr>\n",
+        "<h2>Writes in the window</h2>\n<table>\n<tr><th scope=\"col\">Revision or range</th>\
+        <th scope=\"col\">Line</th><th scope=\"col\">Object</th><th scope=\"col\">User</th>\
+        <th scope=\"col\">Received</th><th scope=\"col\">Staged</th></tr>\n",
     )?;
     push_each(text, context, writes)?;
     text.push_str("</table>\n")?;
@@ -31,7 +32,7 @@ pub fn push_rows(
 fn push_each(text: &mut String, context: &Context, writes: &[WriteLine]) -> Result<(), OutOfMemory>
     ensures { OnOk result (string_bytes text.new ≡ string_bytes text.old ++ flat_map (row_text context.now.events) (take most_marks writes.now)) }
 {
-    for write in drawn(writes) {
+    for write in first_of(writes, MOST_MARKS) {
         push_row(text, context, write)?;
     }
     Ok(())

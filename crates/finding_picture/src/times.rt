@@ -1,14 +1,14 @@
 ghost use Rattle.std.specs.Prelude.{◌≡◌, ◌++◌, OnOk, Some, option_map, string_bytes, take};
 ghost use Rattle.std.specs.List.{flat_map};
 ghost use Rattle.finding_picture.specs.Limits.{most_marks};
-ghost use Rattle.finding_picture.specs.Times.{bar_text, begin_or, end_or, first_instant, instant, last_instant, line_of, span_text, times_axis, times_band, times_section, times_text, write_bar};
+ghost use Rattle.finding_picture.specs.Times.{bar_text, begin_or, end_or, ends_text, first_instant, instant, last_instant, line_of, span_text, times_axis, times_band, times_section, times_text, write_bar};
 
-use crate::limits::drawn;
+use crate::limits::MOST_MARKS;
 use crate::looking::event_on;
 use crate::marks::bar_width;
 use audit_event::Event;
 use base_types::{Moment, OutOfMemory, WriteLine};
-use markup::{Axis, push_moment};
+use markup::{Axis, first_of, moment_at, push_moment};
 use version_store::Context;
 
 /// What stands before the event's span.
@@ -20,11 +20,12 @@ the table below has its moments.</p>
 <title id="times-title">The event and the writes over the line of time</title>
 <desc id="times-desc">The event lasted from "#;
 
-/// What stands behind the bars.
-pub const BEHIND_TIMES: &str = r#"<line class="axis" x1="40" y1="154" x2="920" y2="154"/>
-</svg>
-</figure>
-"#;
+/// The axis, and what stands in front of the moment of its low end.
+pub const TIMES_AXIS: &str = r#"<line class="axis" x1="40" y1="154" x2="920" y2="154"/>
+<text x="40" y="168">"#;
+
+/// What stands behind the moment of its high end.
+pub const BEHIND_TIMES: &str = "</text>\n</svg>\n</figure>\n";
 
 /// Appends the drawing of the event and of these writes over the line of time; nothing for a checkpoint.
 #[tactic(auto, unfolding(crate::specs::Times::times_text))]
@@ -57,6 +58,19 @@ fn push_section(
     push_span(text, event)?;
     text.push_str("</text>\n")?;
     push_bars(text, context, &axis, writes)?;
+    push_ends(text, &axis)?;
+    Ok(())
+}
+
+// The axis with the moments of its ends.
+#[tactic(auto, unfolding(crate::specs::Times::ends_text))]
+fn push_ends(text: &mut String, axis: &Axis) -> Result<(), OutOfMemory>
+    ensures { OnOk result (string_bytes text.new ≡ string_bytes text.old ++ ends_text axis.now) }
+{
+    text.push_str(TIMES_AXIS)?;
+    push_moment(text, moment_at(axis.low))?;
+    text.push_str("</text>\n<text x=\"920\" y=\"168\" text-anchor=\"end\">")?;
+    push_moment(text, moment_at(axis.high))?;
     text.push_str(BEHIND_TIMES)?;
     Ok(())
 }
@@ -94,7 +108,7 @@ fn first_instant(context: &Context, event: &Event, writes: &[WriteLine]) -> u64
     ensures { result ≡ first_instant context.now.events event.now writes.now }
 {
     let mut low = instant(event.received);
-    for write in drawn(writes) {
+    for write in first_of(writes, MOST_MARKS) {
         low = begin_or(low, event_on(context, line_of(write)));
     }
     low
@@ -106,7 +120,7 @@ fn last_instant(context: &Context, event: &Event, writes: &[WriteLine]) -> u64
     ensures { result ≡ last_instant context.now.events event.now writes.now }
 {
     let mut high = instant(event.staged);
-    for write in drawn(writes) {
+    for write in first_of(writes, MOST_MARKS) {
         high = end_or(high, event_on(context, line_of(write)));
     }
     high
@@ -154,7 +168,7 @@ fn push_band(text: &mut String, axis: &Axis, event: &Event) -> Result<(), OutOfM
     write!(
         text,
         "</desc>\n<rect class=\"band\" x=\"{x}\" y=\"30\" width=\"{width}\" height=\"124\">\
-        <title>the event</title></rect>\n<text x=\"480\" y=\"22\" text-anchor=\"middle\">"
+        <title>the event</title></rect>\n<text x=\"480\" y=\"22\" text-anchor=\"middle\">the event: "
     )?;
     Ok(())
 }
@@ -167,7 +181,7 @@ fn push_bars(
 ) -> Result<(), OutOfMemory>
     ensures { OnOk result (string_bytes text.new ≡ string_bytes text.old ++ flat_map (write_bar context.now.events axis.now) (take most_marks writes.now)) }
 {
-    for write in drawn(writes) {
+    for write in first_of(writes, MOST_MARKS) {
         let line = line_of(write);
         push_bar(text, axis, line, event_on(context, line))?;
     }

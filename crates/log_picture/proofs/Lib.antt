@@ -1,1 +1,4 @@
 mod Pairs
+mod Ranking
+mod Tallying
+mod Unique

@@ -1,26 +1,23 @@
 -- The drawing of the log over time.
-use Rattle.std.specs.Prelude.{ℕ, Bool, ◌||◌, List, [], ◌∷◌, ◌++◌, Option, Some, None, is_some, length, take, filter, zip, codes, flat_map}
+use Rattle.std.specs.Prelude.{ℕ, Bool, ◌||◌, ◌==◌, List, [], ◌∷◌, ◌++◌, Option, Some, None, is_some, length, take, filter, zip, codes, flat_map, if◌then◌else◌}
 use Rattle.audit_event.specs.declared.event.Event.{Event}
 use Rattle.base_types.specs.declared.request.Decision.{Decision}
 use Rattle.base_types.specs.declared.request.Decision.TheVariants.{Allow, Forbid}
 use Rattle.log_picture.specs.Kinds.{kind_of, kind_words}
-use Rattle.log_picture.specs.Overview.{moment_at, receipt}
-use Rattle.log_picture.specs.Revised.{more_text}
+use Rattle.log_picture.specs.Limits.{event_limit}
+use Rattle.log_picture.specs.Overview.{receipt}
 use Rattle.log_picture.specs.declared.kind.Kind.{Kind}
 use Rattle.log_picture.specs.declared.kind.Kind.TheVariants as kind
 use Rattle.log_picture.specs.declared.lanes.Form.{Form}
 use Rattle.log_picture.specs.declared.lanes.Form.TheVariants as form
 use Rattle.log_picture.specs.declared.lanes.Marked.{Marked}
-use Rattle.log_picture.specs.declared.lanes.TheConstants.{EVENTS_END, EVENTS_HEAD, TIME_HEAD}
+use Rattle.log_picture.specs.declared.lanes.TheConstants.{EVENTS_END, EVENTS_HEAD, NO_EVENTS, TIME_HEAD}
 use Rattle.markup.specs.Drawing.{position}
-use Rattle.markup.specs.Moments.{moment_text}
+use Rattle.markup.specs.Moments.{moment_at, moment_text}
+use Rattle.markup.specs.Limits.{rest_text}
 use Rattle.markup.specs.Pieces.{fixed, number, told, shown}
 use Rattle.markup.specs.declared.drawing.Axis.{Axis}
 use Rattle.write_groups.specs.declared.event.LogEvent.{LogEvent}
-
--- so many events are drawn at most; each has one mark by its answer, and one by its decision
-abbrev pub event_limit : ℕ
-event_limit = 1000
 
 -- how the answer of an event is marked, where it is
 abbrev pub form_of : Kind → Option Form
@@ -142,9 +139,13 @@ time_drawing axis drawn = TIME_HEAD.now ++ flat_map (marks_text axis) drawn ++ t
 unfoldable pub events_table : List (Event × LogEvent) → List ℕ
 events_table drawn = EVENTS_HEAD.now ++ flat_map event_row drawn ++ EVENTS_END.now
 
+unfoldable pub drawn_text : Axis → List (Event × LogEvent) → List ℕ
+drawn_text axis marked =
+    time_drawing axis (take event_limit marked) ++ rest_text event_limit (length marked) (codes "Events that aren't drawn")
+    ++ events_table (take event_limit marked)
+
 unfoldable pub marked_text : Axis → List (Event × LogEvent) → List ℕ
-marked_text axis marked =
-    time_drawing axis (take event_limit marked) ++ more_text event_limit (length marked) (codes "events") ++ events_table (take event_limit marked)
+marked_text axis marked = if length marked == 0 then NO_EVENTS.now else drawn_text axis marked
 
 -- a drawing with a lane for each of what events do, and the same as a table
 abbrev pub time_text : Axis → List Event → List LogEvent → List ℕ

@@ -1,7 +1,10 @@
+pub mod Changes
 pub mod Counts
 pub mod Gone
 pub mod Kinds
 pub mod Lanes
+pub mod Limits
 pub mod Overview
 pub mod Page
 pub mod Revised
+pub mod Tallied

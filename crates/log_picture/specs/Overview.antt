@@ -3,18 +3,13 @@ use Rattle.std.specs.Prelude.{◌==◌, ℕ, pos, min, max, int_lt, unsigned_abs
 use Rattle.audit_event.specs.declared.event.Event.{Event}
 use Rattle.log_picture.specs.declared.overview.Overview.{Overview}
 use Rattle.log_picture.specs.declared.overview.TheConstants.{OVERVIEW_HEAD}
-use Rattle.base_types.specs.declared.revision.Moment.{Moment}
-use Rattle.markup.specs.Moments.{moment_text}
+use Rattle.markup.specs.Moments.{moment_at, moment_text}
 use Rattle.markup.specs.Pieces.{fixed, number, shown}
 use Rattle.object_past.specs.declared.version.Version.{Version}
 
 -- When the request of an event was received, in nanoseconds since 1970: 0 before, and the greatest number from the year 2554 on.
 abbrev pub receipt : Event → ℕ
 receipt event = if int_lt event.received.0 (pos 0) then 0 else min (unsigned_abs event.received.0) 18446744073709551615
-
--- so many nanoseconds after 1970 begins
-abbrev pub moment_at : ℕ → Moment
-moment_at nanos = record { 0 = pos nanos }
 
 abbrev pub earlier : ℕ → Event → ℕ
 earlier first event = min first (receipt event)

@@ -1,14 +1,16 @@
 -- The page of an explained log.
-use Rattle.std.specs.Prelude.{ℕ, List, ◌++◌, length, map, filter, codes}
+use Rattle.std.specs.Prelude.{◌≡◌, ℕ, List, ◌++◌, length, map, filter, codes}
 use Rattle.base_types.specs.declared.placed.PlacedLine.{PlacedLine}
 use Rattle.history_model.specs.Histories.{History}
 use Rattle.history_model.specs.Windows.{low_end}
+use Rattle.log_picture.specs.Changes.{AreChanges, changes_text}
 use Rattle.log_picture.specs.Counts.{counts_text}
 use Rattle.log_picture.specs.Gone.{removals_text}
 use Rattle.log_picture.specs.Kinds.{is_of}
 use Rattle.log_picture.specs.Lanes.{time_text}
 use Rattle.log_picture.specs.Overview.{first_receipt, greatest_revision, last_receipt, overview_text}
 use Rattle.log_picture.specs.Revised.{history_text}
+use Rattle.log_picture.specs.declared.changed.Changed.{Changed}
 use Rattle.log_picture.specs.declared.kind.Kind.TheVariants.{Unrecorded}
 use Rattle.log_picture.specs.declared.overview.Overview.{Overview}
 use Rattle.log_picture.specs.declared.revised.Gap.{Gap}
@@ -54,10 +56,22 @@ unfoldable pub objects_text : Known → Overview → List PlacedLine → List Ga
 objects_text known overview lines gaps =
     history_text (revision_axis overview) known.log known.versions known.removals gaps ++ removals_text known.log lines known.removals
 
-unfoldable pub sections_text : Known → Overview → List PlacedLine → List Gap → List ℕ
-sections_text known overview lines gaps = events_text known overview ++ objects_text known overview lines gaps
+unfoldable pub sections_text : Known → Overview → List PlacedLine → List Gap → List Changed → List ℕ
+sections_text known overview lines gaps changes =
+    events_text known overview ++ changes_text changes ++ objects_text known overview lines gaps
+
+-- the page, with the objects that changed
+unfoldable pub log_page_text : Known → List PlacedLine → List Changed → List ℕ
+log_page_text known lines changes =
+    begin_text (codes "Explained log") ++ sections_text known (overview_of known) lines (gaps_in (history_of known) known.log) changes
+    ++ end_text
 
 -- the page of what a setup and a log tell, and of the placement that explains the log
-unfoldable pub log_page_text : Known → List PlacedLine → List ℕ
-log_page_text known lines =
-    begin_text (codes "Explained log") ++ sections_text known (overview_of known) lines (gaps_in (history_of known) known.log) ++ end_text
+pub record IsLogPage (known : Known) (lines : List PlacedLine) (page : List ℕ) : Type 0 where
+  pub changes : List Changed
+  pub changed : AreChanges known.versions changes
+  pub text : page ≡ log_page_text known lines changes
+
+-- a setup, a log and a placement have no two pages
+abbrev pub OnePage : Type 0
+OnePage = (known : Known) (lines : List PlacedLine) (page other : List ℕ) → IsLogPage known lines page → IsLogPage known lines other → page ≡ other

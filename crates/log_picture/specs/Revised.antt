@@ -1,13 +1,15 @@
 -- The drawing of the history by revision.
-use Rattle.std.specs.Prelude.{ℕ, ◌+◌, ◌-◌, ◌*◌, ◌%◌, max, nat_lt, List, [], ◌∷◌, ◌++◌, length, take, codes, flat_map, if◌then◌else◌}
+use Rattle.std.specs.Prelude.{ℕ, ◌+◌, ◌-◌, ◌*◌, ◌%◌, max, List, [], ◌∷◌, ◌++◌, length, take, codes, flat_map}
 use Rattle.base_types.specs.Keys.{key_spelling}
 use Rattle.base_types.specs.declared.claim.Range.{Range}
 use Rattle.log_picture.specs.Gone.{line_at}
+use Rattle.log_picture.specs.Limits.{gap_limit, removal_limit, version_limit}
 use Rattle.log_picture.specs.declared.gone.TheConstants.{TABLE_END}
 use Rattle.log_picture.specs.declared.revised.Gap.{Gap}
 use Rattle.log_picture.specs.declared.revised.TheConstants.{HISTORY_HEAD}
 use Rattle.log_picture.specs.declared.tables.TheConstants.{GAPS_HEAD, VERSIONS_HEAD}
 use Rattle.markup.specs.Drawing.{position}
+use Rattle.markup.specs.Limits.{rest_text}
 use Rattle.markup.specs.Pieces.{fixed, number, told, shown}
 use Rattle.markup.specs.declared.drawing.Axis.{Axis}
 use Rattle.object_past.specs.declared.removal.Removal.{Removal}
@@ -15,16 +17,6 @@ use Rattle.object_past.specs.declared.version.Maker.{Maker}
 use Rattle.object_past.specs.declared.version.Maker.TheVariants.{Snapshot, Event, Unknown}
 use Rattle.object_past.specs.declared.version.Version.{Version}
 use Rattle.write_groups.specs.declared.event.LogEvent.{LogEvent}
-
--- how many of each are drawn at most, 2000 in all
-abbrev pub version_limit : ℕ
-version_limit = 1400
-
-abbrev pub removal_limit : ℕ
-removal_limit = 300
-
-abbrev pub gap_limit : ℕ
-gap_limit = 300
 
 unfoldable pub tick_text : ℕ → ℕ → List ℕ → List ℕ
 tick_text x revision key = shown (
@@ -78,13 +70,6 @@ axis_text axis = shown (
     ∷ fixed (codes "</text>\n<text x=\"930\" y=\"196\" text-anchor=\"end\">revision ") ∷ number axis.high
     ∷ fixed (codes "</text>\n</svg>\n</figure>\n") ∷ [])
 
--- how many more there are than are drawn
-unfoldable pub more_text : ℕ → ℕ → List ℕ → List ℕ
-more_text limit count words =
-    if nat_lt limit count
-    then shown (fixed (codes "<p>") ∷ number (count - limit) ∷ fixed (codes " more ") ∷ fixed words ∷ fixed (codes " aren't drawn.</p>\n") ∷ [])
-    else []
-
 -- the marks of the first versions, removals and unrecorded writes
 unfoldable pub history_marks : Axis → List LogEvent → List Version → List Removal → List Gap → List ℕ
 history_marks axis log versions removals gaps =
@@ -94,10 +79,12 @@ history_marks axis log versions removals gaps =
 unfoldable pub history_drawing : Axis → List LogEvent → List Version → List Removal → List Gap → List ℕ
 history_drawing axis log versions removals gaps = HISTORY_HEAD.now ++ history_marks axis log versions removals gaps ++ axis_text axis
 
+-- how many aren't drawn
 unfoldable pub left_out_text : List Version → List Removal → List Gap → List ℕ
 left_out_text versions removals gaps =
-    more_text version_limit (length versions) (codes "versions") ++ more_text removal_limit (length removals) (codes "removals")
-    ++ more_text gap_limit (length gaps) (codes "unrecorded writes")
+    rest_text version_limit (length versions) (codes "Versions that aren't drawn")
+    ++ rest_text removal_limit (length removals) (codes "Removals that aren't drawn")
+    ++ rest_text gap_limit (length gaps) (codes "Unrecorded writes that aren't drawn")
 
 -- the line that wrote the version
 unfoldable pub maker_text : List LogEvent → Maker → List ℕ

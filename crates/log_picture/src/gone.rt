@@ -1,15 +1,17 @@
 ghost use Rattle.std.specs.Prelude.{◌≡◌, ◌++◌, OnOk, flat_map, string_bytes};
 ghost use Rattle.log_picture.specs.Gone.{line_at, place_of, place_text, removal_row, removals_text, removed_at, removed_by, removed_text};
 
+use crate::limits::REMOVAL_LIMIT;
 use base_types::{OutOfMemory, PlacedAnswer, PlacedLine, key_text};
-use markup::Told;
+use markup::{Told, first_of, push_rest};
 use object_past::Removal;
 use std::alloc::Global;
 use write_groups::LogEvent;
 
 /// What stands in front of the table's rows.
 pub const REMOVALS_HEAD: &str = r#"<h2>Removals</h2>
-<p>A delete shows no revision, so a removal took place at one of a range of places.</p>
+<p>A delete shows no revision, so a removal took place at one of a range of places. Place 18446744073709551615 stands
+behind all revisions.</p>
 <table>
 <thead><tr><th scope="col">Line</th><th scope="col">Object</th><th scope="col">Uid</th>
 <th scope="col">Last revision</th><th scope="col">Range of places</th><th scope="col">Placed at</th></tr></thead>
@@ -72,8 +74,14 @@ pub fn append_removals(
     ensures { OnOk result (string_bytes text.new ≡ string_bytes text.old ++ removals_text log.now lines.now removals.now) }
 {
     text.push_str(REMOVALS_HEAD)?;
-    append_rows(alloc, text, log, lines, removals)?;
+    append_rows(alloc, text, log, lines, first_of(removals, REMOVAL_LIMIT))?;
     text.push_str(TABLE_END)?;
+    push_rest(
+        text,
+        REMOVAL_LIMIT,
+        removals.len(),
+        "Removals that aren't listed",
+    )?;
     Ok(())
 }
 

@@ -1,12 +1,12 @@
 ghost use Rattle.std.specs.Prelude.{◌≡◌, [], ◌∷◌, ◌++◌, IfOk, OnOk, filter, flat_map, map, string_bytes};
-ghost use Rattle.log_picture.specs.Lanes.{asked_cells, axis_high_text, axis_low_text, decision_form, decision_words, event_row, events_table, form_mark, form_of, has_mark, lane_of, mark_text, marked_events, marked_text, marks_text, outline_of, pair_of, shape_text, style_of, time_axis_text, time_drawing, time_text, title_text};
+ghost use Rattle.log_picture.specs.Lanes.{asked_cells, axis_high_text, axis_low_text, decision_form, decision_words, drawn_text, event_row, events_table, form_mark, form_of, has_mark, lane_of, mark_text, marked_events, marked_text, marks_text, outline_of, pair_of, shape_text, style_of, time_axis_text, time_drawing, time_text, title_text};
 
 use crate::kind::{Kind, kind_of, kind_words};
-use crate::overview::{moment_at, receipt};
-use crate::revised::{append_more, first_of};
+use crate::limits::EVENT_LIMIT;
+use crate::overview::receipt;
 use audit_event::Event;
 use base_types::{Decision, OutOfMemory};
-use markup::{Axis, Told, push_moment};
+use markup::{Axis, Told, first_of, moment_at, push_moment, push_rest};
 use std::alloc::Global;
 use write_groups::LogEvent;
 
@@ -29,9 +29,6 @@ pub struct Marked<'a> {
     pub logged: &'a LogEvent,
 }
 
-/// How many events are drawn at most. Each has at most two marks.
-const EVENT_LIMIT: usize = 1_000;
-
 /// What stands in front of the drawing's marks.
 pub const TIME_HEAD: &str = r#"<h2>The log over time</h2>
 <figure>
@@ -47,6 +44,9 @@ broken ticks. The table below says the same.</desc>
 <text x="4" y="148">Decisions</text>
 <text x="4" y="178">Unrecorded writes</text>
 "#;
+
+/// What stands in place of the drawing where no event has a mark.
+pub const NO_EVENTS: &str = "<h2>The log over time</h2>\n<p>No event is drawn.</p>\n";
 
 /// What stands in front of the rows of the drawn events.
 pub const EVENTS_HEAD: &str = r#"<details>
@@ -198,9 +198,21 @@ pub fn append_time(
 fn append_marked(text: &mut String, axis: &Axis, marked: &[Marked<'_>]) -> Result<(), OutOfMemory>
     ensures { OnOk result (string_bytes text.new ≡ string_bytes text.old ++ marked_text axis.now (map pair_of marked.now)) }
 {
+    if marked.is_empty() {
+        text.push_str(NO_EVENTS)?;
+    } else {
+        append_drawn(text, axis, marked)?;
+    }
+    Ok(())
+}
+
+#[tactic(auto, unfolding(crate::specs::Lanes::drawn_text))]
+fn append_drawn(text: &mut String, axis: &Axis, marked: &[Marked<'_>]) -> Result<(), OutOfMemory>
+    ensures { OnOk result (string_bytes text.new ≡ string_bytes text.old ++ drawn_text axis.now (map pair_of marked.now)) }
+{
     let drawn = first_of(marked, EVENT_LIMIT);
     append_drawing(text, axis, drawn)?;
-    append_more(text, EVENT_LIMIT, marked.len(), "events")?;
+    push_rest(text, EVENT_LIMIT, marked.len(), "Events that aren't drawn")?;
     append_table(text, drawn)?;
     Ok(())
 }

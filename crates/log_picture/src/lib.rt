@@ -1,13 +1,16 @@
 //! The page that shows an explained log.
 #![tactic(auto)]
 
+mod changed;
 mod counting;
 mod gone;
 mod kind;
 mod lanes;
+mod limits;
 mod overview;
 mod page;
 mod revised;
 mod tables;
+mod tallies;
 
-pub use page::log_page;
+pub use page::{log_page, one_page_law};

@@ -1,9 +1,9 @@
 ghost use Rattle.std.specs.Prelude.{◌≡◌, ◌++◌, OnOk, string_bytes};
-ghost use Rattle.log_picture.specs.Overview.{first_receipt, first_text, greatest_revision, last_receipt, last_text, moment_at, overview_text, receipt, receipts_or_none, receipts_text};
+ghost use Rattle.log_picture.specs.Overview.{first_receipt, first_text, greatest_revision, last_receipt, last_text, overview_text, receipt, receipts_or_none, receipts_text};
 
 use audit_event::Event;
-use base_types::{Moment, OutOfMemory, Revision};
-use markup::push_moment;
+use base_types::{OutOfMemory, Revision};
+use markup::{moment_at, push_moment};
 use object_past::Version;
 
 /// What the page says of a log as a whole.
@@ -38,13 +38,6 @@ pub fn receipt(event: &Event) -> u64
         return 0;
     }
     received.unsigned_abs().min(18_446_744_073_709_551_615) as u64
-}
-
-/// The moment so many nanoseconds after 1970 begins.
-pub fn moment_at(nanos: u64) -> Moment
-    ensures { result ≡ moment_at nanos }
-{
-    Moment(nanos as i128)
 }
 
 /// The earliest receipt, or 0.

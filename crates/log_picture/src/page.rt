@@ -1,7 +1,8 @@
 ghost use Rattle.std.specs.Prelude.{◌≡◌, ◌<◌, [], ◌∷◌, ◌++◌, IfOk, OnOk, Some, length, slice_get, string_bytes};
-ghost use Rattle.log_picture.specs.Page.{events_text, gap_of, gaps_in, log_page_text, objects_text, overview_of, revision_axis, sections_text, time_axis};
+ghost use Rattle.log_picture.specs.Page.{events_text, gap_of, gaps_in, IsLogPage, OnePage, log_page_text, objects_text, overview_of, revision_axis, sections_text, time_axis};
 ghost use Rattle.version_store.specs.Histories.{history_of};
 
+use crate::changed::{Changed, append_changes, changes_of};
 use crate::counting::append_counts;
 use crate::gone::append_removals;
 use crate::kind::{Kind, is_of};
@@ -22,22 +23,28 @@ pub fn log_page(
     context: &Context,
     placement: &Placement,
 ) -> Result<String, OutOfMemory>
-    ensures { IfOk result (λ page. string_bytes page ≡ log_page_text context.now placement.now) }
+    ensures { IfOk result (λ page. IsLogPage context.now placement.now (string_bytes page)) }
 {
     let gaps = gaps_of(alloc, context)?;
+    let changes = changes_of(alloc, context.versions())?;
     let mut text = String::new(alloc);
     push_begin(&mut text, "Explained log")?;
     append_sections(
         alloc,
         &mut text,
         context,
-        overview_of(context),
         placement.as_slice(),
         gaps.as_slice(),
+        changes.as_slice(),
     )?;
     push_end(&mut text)?;
     Ok(text)
 }
+
+/// What a setup and a log tell, and a placement, have no two pages.
+pub fn one_page_law()
+    ensures { OnePage }
+{}
 
 // Puts the event of this number behind the others, where it is an unrecorded write.
 fn push_gap(
@@ -122,13 +129,15 @@ fn append_sections(
     alloc: Global,
     text: &mut String,
     context: &Context,
-    overview: Overview,
     lines: &[PlacedLine],
     gaps: &[Gap],
+    changes: &[Changed],
 ) -> Result<(), OutOfMemory>
-    ensures { OnOk result (string_bytes text.new ≡ string_bytes text.old ++ sections_text context.now overview lines.now gaps.now) }
+    ensures { OnOk result (string_bytes text.new ≡ string_bytes text.old ++ sections_text context.now (overview_of context.now) lines.now gaps.now changes.now) }
 {
+    let overview = overview_of(context);
     append_events(alloc, text, context, overview)?;
+    append_changes(alloc, text, changes)?;
     append_objects(alloc, text, context, overview, lines, gaps)?;
     Ok(())
 }

@@ -1,10 +1,11 @@
-ghost use Rattle.std.specs.Prelude.{◌≡◌, ◌++◌, OnOk, flat_map, string_bytes, take};
-ghost use Rattle.log_picture.specs.Revised.{axis_text, bar_text, bar_width, gap_mark, history_drawing, history_marks, history_text, left_out_text, more_text, range_text, rect_text, removal_mark, tick_text, version_mark};
+ghost use Rattle.std.specs.Prelude.{◌≡◌, ◌++◌, OnOk, flat_map, string_bytes};
+ghost use Rattle.log_picture.specs.Revised.{axis_text, bar_text, bar_width, gap_mark, history_drawing, history_marks, history_text, left_out_text, range_text, rect_text, removal_mark, tick_text, version_mark};
 
 use crate::gone::line_at;
+use crate::limits::{GAP_LIMIT, REMOVAL_LIMIT, VERSION_LIMIT};
 use crate::tables::{append_gaps, append_versions};
 use base_types::{OutOfMemory, Range, key_text};
-use markup::{Axis, Told};
+use markup::{Axis, Told, first_of, push_rest};
 use object_past::{Removal, Version};
 use std::alloc::Global;
 use write_groups::LogEvent;
@@ -28,13 +29,6 @@ pub struct Drawn<'a> {
     pub gaps: &'a [Gap],
 }
 
-/// How many versions, removals and unrecorded writes are drawn at most, 2,000 in all.
-pub const VERSION_LIMIT: usize = 1_400;
-
-const REMOVAL_LIMIT: usize = 300;
-
-pub const GAP_LIMIT: usize = 300;
-
 /// What stands in front of the drawing's marks.
 pub const HISTORY_HEAD: &str = r#"<h2>The history by revision</h2>
 <figure>
@@ -46,16 +40,6 @@ unrecorded write a broken tick at the lowest place of its window. The tables bel
 <text x="4" y="98">Removals</text>
 <text x="4" y="158">Unrecorded writes</text>
 "#;
-
-/// The first items, at most so many.
-pub fn first_of<T>(items: &[T], limit: usize) -> &[T]
-    ensures { result.now ≡ take limit items.now }
-{
-    match items.get(..limit) {
-        Some(first) => first,
-        None => items,
-    }
-}
 
 /// Appends the drawing of the history by revision, and its tables but that of the removals.
 #[tactic(auto, unfolding(crate::specs::Revised::history_text))]
@@ -263,25 +247,23 @@ fn append_axis(text: &mut String, axis: &Axis) -> Result<(), OutOfMemory>
 fn append_left_out(text: &mut String, drawn: &Drawn<'_>) -> Result<(), OutOfMemory>
     ensures { OnOk result (string_bytes text.new ≡ string_bytes text.old ++ left_out_text drawn.now.versions.now drawn.now.removals.now drawn.now.gaps.now) }
 {
-    append_more(text, VERSION_LIMIT, drawn.versions.len(), "versions")?;
-    append_more(text, REMOVAL_LIMIT, drawn.removals.len(), "removals")?;
-    append_more(text, GAP_LIMIT, drawn.gaps.len(), "unrecorded writes")?;
-    Ok(())
-}
-
-/// Says how many more there are than are drawn.
-#[tactic(auto, unfolding(crate::specs::Revised::more_text))]
-pub fn append_more(
-    text: &mut String,
-    limit: usize,
-    count: usize,
-    words: &str,
-) -> Result<(), OutOfMemory>
-    ensures { OnOk result (string_bytes text.new ≡ string_bytes text.old ++ more_text limit count words.now) }
-{
-    if limit < count {
-        let more = count - limit;
-        writeln!(text, "<p>{more} more {words} aren't drawn.</p>")?;
-    }
+    push_rest(
+        text,
+        VERSION_LIMIT,
+        drawn.versions.len(),
+        "Versions that aren't drawn",
+    )?;
+    push_rest(
+        text,
+        REMOVAL_LIMIT,
+        drawn.removals.len(),
+        "Removals that aren't drawn",
+    )?;
+    push_rest(
+        text,
+        GAP_LIMIT,
+        drawn.gaps.len(),
+        "Unrecorded writes that aren't drawn",
+    )?;
     Ok(())
 }

@@ -2,9 +2,10 @@ ghost use Rattle.std.specs.Prelude.{◌≡◌, ◌++◌, OnOk, flat_map, string_
 ghost use Rattle.log_picture.specs.Revised.{gap_row, gaps_table, maker_text, version_cells, version_row, versions_table};
 
 use crate::gone::{TABLE_END, line_at};
-use crate::revised::{GAP_LIMIT, Gap, VERSION_LIMIT, first_of};
+use crate::limits::{GAP_LIMIT, VERSION_LIMIT};
+use crate::revised::Gap;
 use base_types::{OutOfMemory, key_text};
-use markup::Told;
+use markup::{Told, first_of};
 use object_past::{Maker, Version};
 use std::alloc::Global;
 use write_groups::LogEvent;

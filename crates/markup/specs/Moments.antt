@@ -4,6 +4,10 @@ use Rattle.base_types.specs.declared.revision.Moment.{Moment}
 use Rattle.markup.specs.Calendar.{date_of}
 use Rattle.markup.specs.declared.calendar.Date.{Date}
 
+-- so many nanoseconds after 1970 begins
+abbrev pub moment_at : ℕ → Moment
+moment_at nanos = record { 0 = pos nanos }
+
 abbrev pub two_digits : ℕ → List ℕ
 two_digits n = decimal (n / 10) ++ decimal (n % 10)
 

@@ -17,23 +17,24 @@ pub const BEFORE_TITLE: &str = r#"<!DOCTYPE html>
 pub const BEHIND_TITLE: &str = r#"</title>
 <style>
 :root {
-  color-scheme: light dark; --paper: #ffffff; --ink: #1b1b1f; --rule: #b9b9c4; --band: #dbe5f6;
+  color-scheme: light dark; --ground: #ffffff; --ink: #1b1b1f; --rule: #b9b9c4; --band: #dbe5f6;
   --mark: #1f4e9e; --gone: #9a3a00;
 }
 @media (prefers-color-scheme: dark) {
   :root {
-    --paper: #16161a; --ink: #ececf1; --rule: #4c4c58; --band: #24344f; --mark: #9cc0ff; --gone: #ffb47e;
+    --ground: #16161a; --ink: #ececf1; --rule: #4c4c58; --band: #24344f; --mark: #9cc0ff; --gone: #ffb47e;
   }
 }
 @media print {
   :root {
-    color-scheme: light; --paper: #ffffff; --ink: #000000; --rule: #777777; --band: #e4e4e4; --mark: #000000;
+    color-scheme: light; --ground: #ffffff; --ink: #000000; --rule: #777777; --band: #e4e4e4; --mark: #000000;
     --gone: #000000;
   }
   main { max-width: none; }
   figure, tr { break-inside: avoid; }
+  h1, h2, h3 { break-after: avoid; }
 }
-body { margin: 0; background: var(--paper); color: var(--ink); font: 1rem/1.5 system-ui, sans-serif; }
+body { margin: 0; background: var(--ground); color: var(--ink); font: 1rem/1.5 system-ui, sans-serif; }
 main { max-width: 72rem; margin: 0 auto; padding: 1rem 1.5rem 3rem; }
 h1, h2 { line-height: 1.25; }
 h2 { margin-top: 2.5rem; }
@@ -44,6 +45,7 @@ th { white-space: nowrap; }
 td, dd, code, pre { overflow-wrap: anywhere; unicode-bidi: isolate; }
 dt { font-weight: bold; }
 dd { margin: 0 0 0.5rem 1.5rem; }
+@media (min-width: 48rem) { td { min-width: 5rem; } }
 code, pre { font-family: ui-monospace, monospace; }
 pre { white-space: pre-wrap; border-left: 3px solid var(--rule); padding-left: 1rem; }
 svg { display: block; width: 100%; height: auto; }
@@ -54,7 +56,7 @@ svg .tick { stroke: var(--mark); stroke-width: 2; }
 svg .bar { fill: none; stroke: var(--gone); stroke-width: 2; }
 svg .hatched { fill: none; stroke: var(--gone); stroke-width: 2; stroke-dasharray: 4 3; }
 svg .diamond { fill: var(--mark); }
-svg .segment { fill: var(--paper); stroke: var(--mark); stroke-width: 2; }
+svg .segment { fill: var(--ground); stroke: var(--mark); stroke-width: 2; }
 </style>
 </head>
 <body>

@@ -6,9 +6,11 @@ mod calendar;
 mod drawing;
 mod escaping;
 mod frame;
+mod limits;
 mod moments;
 
 pub use drawing::Axis;
 pub use escaping::{Told, escaped_law, push_escaped};
 pub use frame::{push_begin, push_end};
-pub use moments::push_moment;
+pub use limits::{first_of, push_rest};
+pub use moments::{moment_at, push_moment};

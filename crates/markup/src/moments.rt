@@ -1,8 +1,15 @@
 ghost use Rattle.std.specs.Prelude.{◌≡◌, ◌<◌, ◌++◌, ◌^◌, OnOk, string_bytes};
-ghost use Rattle.markup.specs.Moments.{clock_text, date_text, fraction_text, instant_text, moment_text, three_digits, two_digits};
+ghost use Rattle.markup.specs.Moments.{clock_text, date_text, fraction_text, instant_text, moment_at, moment_text, three_digits, two_digits};
 
 use crate::calendar::{Date, date_of};
 use base_types::{Moment, OutOfMemory};
+
+/// The moment so many nanoseconds after 1970 begins.
+pub fn moment_at(nanos: u64) -> Moment
+    ensures { result ≡ moment_at nanos }
+{
+    Moment(nanos as i128)
+}
 
 /// Appends a moment in UTC as RFC 3339 writes it, to the nanosecond; one before 1970 by how far before.
 pub fn push_moment(text: &mut String, at: Moment) -> Result<(), OutOfMemory>

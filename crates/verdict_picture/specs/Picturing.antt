@@ -10,7 +10,7 @@ use Rattle.context_intake.specs.declared.told.Told.{Told}
 use Rattle.context_intake.specs.declared.told.Told.TheVariants as told
 use Rattle.finding_picture.specs.Page as finding_page
 use Rattle.finding_picture.specs.declared.finding.Finding.{Finding}
-use Rattle.log_picture.specs.Page.{log_page_text}
+use Rattle.log_picture.specs.Page.{IsLogPage}
 use Rattle.log_verdict.specs.Answers.{Answer, answer, outcome_status, refusal_answer}
 use Rattle.log_verdict.specs.Judging.{IsOutcomeOf}
 use Rattle.version_store.specs.Known.{Known}
@@ -26,7 +26,7 @@ pub record TellsFinding (finding : Finding) (line : ℕ) (audit_id : List ℕ) (
 
 -- the page of a log as a whole, or of the event that breaks
 abbrev pub IsPage : Known → Outcome → List ℕ → Type 0
-IsPage known (Explained lines) page = page ≡ log_page_text known lines
+IsPage known (Explained lines) page = IsLogPage known lines page
 IsPage known (Unexplained line audit_id reason low high writes) page =
     (finding : Finding) × TellsFinding finding line audit_id reason low high writes × (page ≡ finding_page.page_text known finding)
 

@@ -1,8 +1,7 @@
-use Rattle.std.proofs.Common.{◌≡◌, ◌++◌, filter, take, string_bytes}
+use Rattle.std.proofs.Common.{◌≡◌, ◌++◌, map, take, string_bytes}
 use Rattle.std.specs.List.{flat_map}
-use Rattle.base_types.specs.Keys.{same_key}
 use Rattle.finding_picture.specs.Objects.{version_row}
 use Rattle.finding_picture.proofs.objects.push_versions.Given as goal
 
 abbrev pub invariant-loop-version : goal.invariant-loop-version
-invariant-loop-version l = string_bytes l.text ≡ string_bytes l.initial.text ++ flat_map (version_row l.context.log) (filter (λ v. same_key v.key l.key) (take l.version-index l.version-items))
+invariant-loop-version l = string_bytes l.text ≡ string_bytes l.initial.text ++ flat_map (version_row l.log) (map (λ one. one.now) (take l.version-index l.versions))

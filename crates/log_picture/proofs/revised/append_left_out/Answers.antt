@@ -4,4 +4,4 @@ use Rattle.log_picture.proofs.revised.append_left_out.Goals as goal
 
 pub returns : goal.returns
 unfolding left_out_text
-returns c = rw (c.in_ok-append_more-3.ensures, c.in_ok-append_more-2.ensures, c.in_ok-append_more.ensures) (simp append_assoc)
+returns c = rw (c.in_ok-push_rest-3.ensures, c.in_ok-push_rest-2.ensures, c.in_ok-push_rest.ensures) (simp append_assoc)
