@@ -9,7 +9,7 @@ threads were at work in it on average, and the peak of memory up to its end. The
 what the system counts of the process 50 times a second: bytes read and written, threads, memory.
 
   reading   until the log is read to its end
-  building  until several threads work again: what setup and log tell
+  building  until several threads work for the last time: what setup and log tell
   claims    until one thread works again
   placing   until the text is written: settling, places, text
   ending    until the process is gone
@@ -64,19 +64,23 @@ def watched(words, size):
             time.sleep(0.02)
         status = process.wait()
     ended = time.monotonic() - begun
-    first_write = samples[0][2] if samples else 0
-    marks, phase = [], "reading"
-    for at, read, written, threads, processor, memory in samples:
-        if phase == "reading" and read >= size:
-            phase = "building"
-        elif phase == "building" and threads > 1:
-            phase = "claims"
-        elif phase == "claims" and threads == 1:
-            phase = "placing"
-        if phase == "placing" and written > first_write:
-            phase = "ending"
-        marks.append((phase, at, processor, memory))
-    return status, ended, marks
+    return status, ended, phases(samples, size)
+
+
+def phases(samples, size):
+    """Puts a phase to each sample: the claims are the last stretch in which several threads work."""
+    read = next((i for i, sample in enumerate(samples) if sample[1] >= size), len(samples))
+    last = max((i for i, sample in enumerate(samples) if i > read and sample[3] > 1), default=read)
+    first = last
+    while first > read and samples[first - 1][3] > 1:
+        first -= 1
+    marks = []
+    for i, (at, _, written, _, processor, memory) in enumerate(samples):
+        name = "reading" if i < read else "building" if i < first else "claims" if i <= last else "placing"
+        if name == "placing" and written > samples[0][2]:
+            name = "ending"
+        marks.append((name, at, processor, memory))
+    return marks
 
 
 def told(marks, ended):
