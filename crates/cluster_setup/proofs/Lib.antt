@@ -1,10 +1,13 @@
 pub mod Added
 pub mod Causes
+pub mod Gathered
 pub mod Left
 pub mod ListKinds
+pub mod Named
 pub mod NoFloats
 pub mod NoMembers
 pub mod Ranges
+pub mod Ruled
 pub mod Same
 pub mod ToldFacts
 pub mod Zips

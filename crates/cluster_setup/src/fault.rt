@@ -1,10 +1,9 @@
 use base_types::OutOfMemory;
 use setup_file::SetupRule;
 use std::alloc::AllocFailed;
-use thiserror::Error;
 
 /// What is wrong with a file that a setup is to be made of.
-#[derive(Clone, Copy, Debug, PartialEq, Eq)]
+#[derive(Clone, Copy)]
 pub enum FileFault {
     /// It isn't one JSON text whose numbers are whole.
     Json,
@@ -25,24 +24,18 @@ pub enum FileFault {
 }
 
 /// Why no setup is made.
-#[derive(Clone, Copy, Debug, PartialEq, Eq, Error)]
+#[derive(Clone, Copy)]
 pub enum SetupRefusal {
     /// The start's time isn't a timestamp.
-    #[error("the time isn't a timestamp")]
     Time,
     /// The policy isn't an audit policy as JSON.
-    #[error("the policy isn't an audit policy")]
     Policy,
     /// No file is a list.
-    #[error("there is no list")]
     Empty,
     /// The resources of the lists break this rule of setups, whatever their objects are.
-    #[error("the resources break a rule")]
     Rule(SetupRule),
     /// The first file with a fault, by its number from 1 in the order given.
-    #[error("file {number} has a fault")]
     File { number: usize, code: FileFault },
-    #[error("out of memory")]
     OutOfMemory,
 }
 

@@ -2,7 +2,7 @@ ghost use Rattle.std.specs.Prelude.{◌≡◌};
 ghost use Rattle.cluster_setup.specs.Table.{core_form, rbac_form, lease_form, event_form, form_of, patch_of};
 
 /// How a resource is judged: whether its patches that are objects are merge patches, and what the server fills in.
-#[derive(Clone, Copy, Debug, PartialEq, Eq)]
+#[derive(Clone, Copy)]
 pub enum Form {
     /// Patches are merge patches; an answer has what was asked.
     Merged,

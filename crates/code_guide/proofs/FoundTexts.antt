@@ -1,5 +1,5 @@
 -- What is found among codes with their texts.
-use Rattle.std.proofs.Common.{◌≡◌, ℕ, zero, suc, ◌<◌, List, [], ◌∷◌, ◌++◌, length, Option, Some, None, Bool, true, false, Contains, IsSome, is_some, option_map, bytes_eq, nat_eq, codes, if◌then◌else◌, drop, refl, sym, ◌∙◌, ap, inl, inr, arith}
+use Rattle.std.proofs.Common.{◌≡◌, ℕ, zero, suc, List, [], ◌∷◌, ◌++◌, length, Option, Some, None, Bool, true, false, Contains, IsSome, option_map, bytes_eq, nat_eq, codes, if◌then◌else◌, drop, refl, sym, ◌∙◌, ap, inl, inr, arith}
 use Rattle.std.specs.List.{find, starts_with}
 use Rattle.std.specs.Prelude.{map}
 use Rattle.std.specs.Option.{option_or}

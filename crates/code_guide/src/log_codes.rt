@@ -172,8 +172,8 @@ What to do: Judge each cluster's log by itself. Of two events of one client `kub
 leaves the later one out; say so beside the verdict.
 ";
 
-// Each rule that an event of the log can break, with its text.
-const LOG_GUIDES: [Guide; 12] = [
+// Rules of a line, and of an event's level, stage, times and numbers, with their texts.
+const LINE_GUIDES: [Guide; 6] = [
     Guide {
         name: "M1",
         text: M1,
@@ -198,6 +198,10 @@ const LOG_GUIDES: [Guide; 12] = [
         name: "M6",
         text: M6,
     },
+];
+
+// Rules of what an event tells of its request, and of the events of one request, with their texts.
+const REQUEST_GUIDES: [Guide; 6] = [
     Guide {
         name: "M7",
         text: M7,
@@ -225,9 +229,8 @@ const LOG_GUIDES: [Guide; 12] = [
 ];
 
 /// The text of the code of a rule that an event of the log can break, or none where there is no such code.
-#[tactic(auto, unfolding(crate::specs::LogGuides::log_guides))]
 pub fn log_text(name: &str) -> Option<&'static str>
     ensures { option_map (λ text. text.now) result ≡ text_in log_guides name.now }
 {
-    text_in(&LOG_GUIDES, name)
+    text_in(&LINE_GUIDES, name).or(text_in(&REQUEST_GUIDES, name))
 }

@@ -190,8 +190,8 @@ What to do: Give at most 10,000 whole lists of tracked resources, none of them b
 start.
 ";
 
-// Each rule that a setup can break, with its text.
-const SETUP_GUIDES: [Guide; 15] = [
+// Rules of a setup and its own members, with their texts.
+const MEMBER_GUIDES: [Guide; 7] = [
     Guide {
         name: "S1",
         text: S1,
@@ -220,6 +220,10 @@ const SETUP_GUIDES: [Guide; 15] = [
         name: "S7",
         text: S7,
     },
+];
+
+// Rules of what it tracks and what was there, with their texts.
+const CONTENT_GUIDES: [Guide; 8] = [
     Guide {
         name: "S8",
         text: S8,
@@ -255,9 +259,8 @@ const SETUP_GUIDES: [Guide; 15] = [
 ];
 
 /// The text of the code of a rule that a setup can break, or none where there is no such code.
-#[tactic(auto, unfolding(crate::specs::SetupGuides::setup_guides))]
 pub fn setup_text(name: &str) -> Option<&'static str>
     ensures { option_map (λ text. text.now) result ≡ text_in setup_guides name.now }
 {
-    text_in(&SETUP_GUIDES, name)
+    text_in(&MEMBER_GUIDES, name).or(text_in(&CONTENT_GUIDES, name))
 }

@@ -211,8 +211,8 @@ event.
 What to do: Judge this log by this setup again, and check that placement.
 ";
 
-// Each reason for which an event is unexplained or a placement wrong, with its text.
-const VERDICT_GUIDES: [Guide; 16] = [
+// Reasons that lie in how an event is recorded and in what it wrote, with their texts.
+const WRITTEN_GUIDES: [Guide; 9] = [
     Guide {
         name: "U1",
         text: U1,
@@ -249,6 +249,10 @@ const VERDICT_GUIDES: [Guide; 16] = [
         name: "U9",
         text: U9,
     },
+];
+
+// Reasons that lie in what an event shows, and in a placement, with their texts.
+const SHOWN_GUIDES: [Guide; 7] = [
     Guide {
         name: "U10",
         text: U10,
@@ -280,9 +284,8 @@ const VERDICT_GUIDES: [Guide; 16] = [
 ];
 
 /// The text of the code of a reason for which an event is unexplained or a placement wrong, or none where there is no such code.
-#[tactic(auto, unfolding(crate::specs::VerdictGuides::verdict_guides))]
 pub fn verdict_text(name: &str) -> Option<&'static str>
     ensures { option_map (λ text. text.now) result ≡ text_in verdict_guides name.now }
 {
-    text_in(&VERDICT_GUIDES, name)
+    text_in(&WRITTEN_GUIDES, name).or(text_in(&SHOWN_GUIDES, name))
 }

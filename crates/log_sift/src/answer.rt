@@ -2,7 +2,7 @@ use audit_event::Malformed;
 use base_types::Listed;
 
 /// Why a line is left out.
-#[derive(Clone, Copy, Debug, PartialEq, Eq)]
+#[derive(Clone, Copy)]
 pub enum LeftCause {
     /// It has more than 16,777,216 bytes.
     LineTooLong,
@@ -11,7 +11,7 @@ pub enum LeftCause {
 }
 
 /// What becomes of a line of a log.
-#[derive(Clone, Copy, Debug, PartialEq, Eq)]
+#[derive(Clone, Copy)]
 pub enum Fate {
     /// It is blank and not too long, and stays.
     Blank,
@@ -22,7 +22,7 @@ pub enum Fate {
 }
 
 /// A line that is left out.
-#[derive(Clone, Copy, Debug, PartialEq, Eq)]
+#[derive(Clone, Copy)]
 pub struct LeftLine {
     /// The number of the line, from 1. All lines are counted, blank ones too; an EventList counts once.
     pub line: u64,
@@ -33,7 +33,7 @@ pub struct LeftLine {
 pub type LeftLines = Listed<LeftLine>;
 
 /// Bytes of a log that stay: those from `start` on and before `end`, as indexes from 0.
-#[derive(Clone, Copy, Debug, PartialEq, Eq)]
+#[derive(Clone, Copy)]
 pub struct Stretch {
     pub start: usize,
     pub end: usize,

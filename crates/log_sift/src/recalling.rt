@@ -85,15 +85,19 @@ fn seen_one(alloc: Global, event: Event) -> Result<Seen, OutOfMemory>
 }
 
 // Why an event isn't kept behind an earlier one of its request and stage; nothing where it repeats that one.
-fn compare(alloc: Global, earlier: Event, event: Event) -> Result<Option<LeftCause>, OutOfMemory>
+fn compare(
+    alloc: Global,
+    mut earlier: Event,
+    mut event: Event,
+) -> Result<Option<LeftCause>, OutOfMemory>
     ensures { IfOk result (λ cause. AreOfOneStage earlier event → Compares earlier event cause) }
 {
-    let mut first = earlier;
-    first.line = 0;
-    let mut second = event;
-    second.line = 1;
-    let mut seen = seen_one(alloc, first)?;
-    match seen.admit(second) {
+    earlier.line = 0;
+    event.line = 1;
+    let mut seen = seen_one(alloc, earlier)?;
+    let admitted = seen.admit(event);
+    drop(seen);
+    match admitted {
         Ok(_) => Ok(None),
         Err(SeenFault::Differs { .. }) => Ok(Some(LeftCause::Rule(Malformed::M12))),
         Err(SeenFault::OutOfMemory) => Err(OutOfMemory),

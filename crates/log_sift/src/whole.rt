@@ -1,4 +1,4 @@
-ghost use Rattle.std.specs.Prelude.{◌≡◌, ◌<◌, ◌+◌, IfOk, OnOk, List};
+ghost use Rattle.std.specs.Prelude.{◌≡◌, ◌<◌, ◌+◌, [], IfOk, OnOk, List};
 ghost use Rattle.log_sift.specs.declared.answer.Fate.{Fate as Became};
 ghost use Rattle.log_sift.specs.Sifted.{IsSifting, noted, stays_from, with_stretch};
 
@@ -54,6 +54,32 @@ fn stays_from(from: usize, next: usize, fate: Fate) -> usize
     }
 }
 
+// Sifts a log's lines, behind no kept event.
+fn sift_lines(
+    alloc: Global,
+    log: &[u8],
+    homes: &mut Homes,
+    sifting: &mut Sifting,
+) -> Result<(), OutOfMemory>
+    requires homes { homes.old.entries ≡ [] }
+    requires sifting { sifting.old ≡ record { stays = []; left = []; kept = 0 } }
+    ensures { OnOk result ((fates : List Became) × IsSifting log.now fates sifting.new) }
+{
+    let mut number = 0;
+    let mut from = 0;
+    let mut start = 0;
+    'lines: while start < log.len() {
+        let cut = cut_line(log, start);
+        let fate = sift_line(alloc, log, homes, start, cut.end)?;
+        number += 1;
+        note(sifting, from, start, number, fate)?;
+        from = stays_from(from, cut.next, fate);
+        start = cut.next;
+    }
+    add_stretch(&mut sifting.stays, from, start)?;
+    Ok(())
+}
+
 /// What becomes of each line of a log: a line stays where its events can be taken behind those of the lines before it that
 /// stay. No event of a line that is left out is kept.
 pub fn sift(alloc: Global, log: &[u8]) -> Result<Sifting, OutOfMemory>
@@ -65,17 +91,10 @@ pub fn sift(alloc: Global, log: &[u8]) -> Result<Sifting, OutOfMemory>
         left: LeftLines::new(alloc),
         kept: 0,
     };
-    let mut number = 0;
-    let mut from = 0;
-    let mut start = 0;
-    'lines: while start < log.len() {
-        let cut = cut_line(log, start);
-        let fate = sift_line(alloc, log, &mut homes, start, cut.end)?;
-        number += 1;
-        note(&mut sifting, from, start, number, fate)?;
-        from = stays_from(from, cut.next, fate);
-        start = cut.next;
+    let sifted = sift_lines(alloc, log, &mut homes, &mut sifting);
+    drop(homes);
+    match sifted {
+        Ok(()) => Ok(sifting),
+        Err(OutOfMemory) => Err(OutOfMemory),
     }
-    add_stretch(&mut sifting.stays, from, start)?;
-    Ok(sifting)
 }

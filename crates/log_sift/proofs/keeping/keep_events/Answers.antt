@@ -1,4 +1,4 @@
-use Rattle.std.proofs.Common.{◌≡◌, ◌∙◌, ◌+◌, [], ◌∷◌, ◌++◌, Some, None, ap, arith, length, length-append, slice_get, subst, sym}
+use Rattle.std.proofs.Common.{◌≡◌, ◌∙◌, [], ◌∷◌, ◌++◌, Some, None, ap, arith, length, length-append, slice_get, subst, sym}
 use Rattle.std.specs.Vec.Iter.{into_iter_items}
 use Rattle.log_intake.proofs.EventFacts.{one_further}
 use Rattle.log_sift.specs.Recalling.{IsAt, Moves, home_at}

@@ -2,7 +2,7 @@ use Rattle.std.proofs.Common.{◌+◌, slice_range, subst, sym}
 use Rattle.log_sift.specs.declared.answer.Sifting.{Sifting}
 use Rattle.log_sift.specs.Sifted.{stays_from}
 use Rattle.log_sift.proofs.LoopFacts.{HasSifted, all_sifted, has_sifted}
-use Rattle.log_sift.proofs.whole.sift.Goals as goal
+use Rattle.log_sift.proofs.whole.sift_lines.Goals as goal
 
 pub lines-preserved : goal.lines-preserved
 lines-preserved c =

@@ -1,6 +1,6 @@
 use Rattle.std.proofs.Common.{◌-◌, length}
 use Rattle.log_sift.proofs.LoopFacts.{HasSifted}
-use Rattle.log_sift.proofs.whole.sift.Given as goal
+use Rattle.log_sift.proofs.whole.sift_lines.Given as goal
 
 abbrev pub invariant-lines : goal.invariant-lines
 invariant-lines l = HasSifted l.log l.homes.entries l.sifting l.number l.from l.start

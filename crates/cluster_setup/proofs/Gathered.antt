@@ -1,0 +1,16 @@
+-- What a loop over a list makes, one item further.
+use Rattle.std.proofs.Common.{◌≡◌, ℕ, ◌+◌, ◌<◌, List, [], ◌∷◌, ◌++◌, length, get_or, take, sym, ap, ◌∙◌}
+use Rattle.std.specs.Prelude.{fold}
+use Rattle.std.specs.List.{flat_map}
+use Rattle.std.proofs.lemmas.List.{take_more, flat_map_more}
+use Rattle.std.proofs.lemmas.List.Sums.{fold_more}
+
+pub gathered : {X A : Type 0} (f : X → List A) (xs : List X) (i : ℕ) (x : X) (old new : List A)
+    → i < length xs → x ≡ get_or xs i x → old ≡ flat_map f (take i xs) → new ≡ old ++ f x → new ≡ flat_map f (take (i + 1) xs)
+gathered f xs i x old new within is before after =
+    after ∙ ap (λ l. l ++ f x) before ∙ flat_map_more f [] (take i xs) x
+    ∙ ap (flat_map f) (sym (take_more xs i x within ∙ ap (λ y. take i xs ++ y ∷ []) (sym is)))
+
+pub folded : {X B : Type 0} (f : B → X → B) (start : B) (xs : List X) (i : ℕ) (d : X) (old new : B)
+    → i < length xs → old ≡ fold f start (take i xs) → new ≡ f old (get_or xs i d) → new ≡ fold f start (take (i + 1) xs)
+folded f start xs i d old new within before after = after ∙ ap (λ b. f b (get_or xs i d)) before ∙ sym (fold_more f start xs i d within)
