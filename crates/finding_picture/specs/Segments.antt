@@ -1,5 +1,5 @@
 -- The versions of the event's object, below the axis of places.
-use Rattle.std.specs.Prelude.{ℕ, ◌+◌, ◌-◌, List, [], ◌∷◌, ◌++◌, Option, Some, None, codes, filter, take}
+use Rattle.std.specs.Prelude.{ℕ, Bool, ◌+◌, ◌-◌, ◌&&◌, List, [], ◌∷◌, ◌++◌, Option, Some, None, codes, filter, nat_le, take}
 use Rattle.std.specs.List.{flat_map}
 use Rattle.base_types.specs.Keys.{same_key}
 use Rattle.base_types.specs.declared.key.ObjectKey.{ObjectKey}
@@ -21,11 +21,15 @@ segment_text axis version = shown (
     ∷ fixed (codes "\" height=\"18\"><title>from revision ") ∷ number version.revision
     ∷ fixed (codes ": uid ") ∷ told version.uid ∷ fixed (codes "</title></rect>\n") ∷ [])
 
-abbrev pub drawn_versions : List Version → ObjectKey → List Version
-drawn_versions versions key = take most_marks (filter (λ v. same_key v.key key) versions)
+-- it is one of the object, and there at some place of the axis
+abbrev pub is_on_axis : Axis → ObjectKey → Version → Bool
+is_on_axis axis key version = same_key version.key key && nat_le version.revision axis.high
+
+abbrev pub drawn_versions : Axis → List Version → ObjectKey → List Version
+drawn_versions axis versions key = take most_marks (filter (is_on_axis axis key) versions)
 
 unfoldable pub segments_text : Axis → List Version → Option ObjectKey → List ℕ
 segments_text axis versions None = []
 segments_text axis versions (Some key) =
     shown (fixed (codes "<text x=\"40\" y=\"102\">versions of the event's object</text>\n") ∷ [])
-    ++ flat_map (segment_text axis) (drawn_versions versions key)
+    ++ flat_map (segment_text axis) (drawn_versions axis versions key)

@@ -1,15 +1,15 @@
 ghost use Rattle.std.specs.Prelude.{◌≡◌, ◌++◌, ◌+◌, ◌≤◌, [], IfOk, OnOk, Some, if◌then◌else◌, min, nat_lt, option_map, string_bytes};
 ghost use Rattle.std.specs.List.{flat_map};
-ghost use Rattle.base_types.specs.Keys.{same_key};
 ghost use Rattle.finding_picture.specs.Limits.{most_marks};
-ghost use Rattle.finding_picture.specs.Segments.{drawn_versions, segment_text, segment_width, segments_text};
+ghost use Rattle.finding_picture.specs.Segments.{drawn_versions, is_on_axis, segment_text, segment_width, segments_text};
 
 use crate::limits::MOST_MARKS;
 use base_types::{ObjectKey, OutOfMemory};
 use markup::{Axis, Told};
 use object_past::Version;
 
-/// Appends the versions of an object as boxes from their revisions on; nothing where there is no key.
+/// Appends the versions of an object that were there on the axis as boxes from their revisions on; nothing where there is
+/// no key.
 #[tactic(auto, unfolding(crate::specs::Segments::segments_text))]
 pub fn push_segments(
     text: &mut String,
@@ -34,21 +34,22 @@ fn push_object_segments(
     key: &ObjectKey,
 ) -> Result<(), OutOfMemory>
     ensures { OnOk result (string_bytes text.new ≡ string_bytes text.old
-        ++ flat_map (segment_text axis.now) (drawn_versions versions.now key.now)) }
+        ++ flat_map (segment_text axis.now) (drawn_versions axis.now versions.now key.now)) }
 {
     let mut drawn = 0;
     for version in versions {
-        if is_of(version, key) {
+        if is_on_axis(axis, key, version) {
             drawn = push_next(text, axis, version, drawn)?;
         }
     }
     Ok(())
 }
 
-fn is_of(version: &Version, key: &ObjectKey) -> bool
-    ensures { result ≡ same_key version.now.key key.now }
+// Whether a version is one of an object, and was there at some place of the axis.
+fn is_on_axis(axis: &Axis, key: &ObjectKey, version: &Version) -> bool
+    ensures { result ≡ is_on_axis axis.now key.now version.now }
 {
-    version.key == *key
+    version.key == *key && version.revision.get() <= axis.high
 }
 
 // One more box, where not too many are drawn yet. Gives how many are drawn.

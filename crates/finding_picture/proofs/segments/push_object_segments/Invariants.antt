@@ -5,6 +5,6 @@ use Rattle.finding_picture.proofs.segments.push_object_segments.Given as goal
 
 abbrev pub invariant-loop-version : goal.invariant-loop-version
 invariant-loop-version l = record {
-  counted : l.drawn ≡ length (drawn_versions (take l.version-index l.versions) l.key);
-  text : string_bytes l.text ≡ string_bytes l.initial.text ++ flat_map (segment_text l.axis) (drawn_versions (take l.version-index l.versions) l.key);
+  counted : l.drawn ≡ length (drawn_versions l.axis (take l.version-index l.versions) l.key);
+  text : string_bytes l.text ≡ string_bytes l.initial.text ++ flat_map (segment_text l.axis) (drawn_versions l.axis (take l.version-index l.versions) l.key);
 }
