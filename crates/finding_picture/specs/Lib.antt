@@ -10,4 +10,5 @@ pub mod Places
 pub mod Requests
 pub mod Rows
 pub mod Segments
+pub mod Showing
 pub mod Times

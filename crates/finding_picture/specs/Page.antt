@@ -6,7 +6,7 @@ use Rattle.finding_picture.specs.Caches.{caches_text}
 use Rattle.finding_picture.specs.Heading.{heading_text}
 use Rattle.finding_picture.specs.Hiding.{hiding_text}
 use Rattle.finding_picture.specs.Looking.{event_on}
-use Rattle.finding_picture.specs.Objects.{object_section}
+use Rattle.finding_picture.specs.Objects.{logged_on, object_section}
 use Rattle.finding_picture.specs.Places.{places_text}
 use Rattle.finding_picture.specs.Requests.{request_text}
 use Rattle.finding_picture.specs.Rows.{rows_text}
@@ -17,7 +17,7 @@ unfoldable pub page_text : Known → Finding → List ℕ
 page_text known finding =
     begin_text (codes "Unexplained event")
     ++ (heading_text finding
-    ++ (request_text (event_on known.events finding.line)
+    ++ (request_text (event_on known.events finding.line) (logged_on known.log finding.line)
     ++ (places_text known finding
     ++ (times_text known.events (event_on known.events finding.line) finding.writes.now
     ++ (rows_text known.events finding.writes.now

@@ -1,4 +1,4 @@
--- What the event asked and was answered.
+-- What the event asked, what it was answered, and what the answer shows.
 use Rattle.std.specs.Prelude.{ℕ, List, [], ◌∷◌, ◌++◌, Option, Some, None, codes}
 use Rattle.std.specs.List.{flat_map}
 use Rattle.audit_event.specs.declared.event.Event.{Event}
@@ -10,6 +10,9 @@ use Rattle.base_types.specs.declared.request.User.{User}
 use Rattle.base_types.specs.declared.revision.Moment.{Moment}
 use Rattle.markup.specs.Moments.{moment_text}
 use Rattle.markup.specs.Pieces.{fixed, number, told, shown}
+use Rattle.write_groups.specs.declared.event.LogEvent.{LogEvent}
+use Rattle.finding_picture.specs.Showing.{showing_text}
+use Rattle.finding_picture.specs.declared.request.TheConstants.{CHECKPOINT}
 
 -- a name of the program's own, and a text of the input
 unfoldable pub entry_text : List ℕ → List ℕ → List ℕ
@@ -61,10 +64,17 @@ answered_text event =
     ++ (status_text event.status event.status.code
     ++ decision_text event.decision))
 
-unfoldable pub request_text : Option Event → List ℕ
-request_text None = shown (fixed (codes "<h2>The event</h2>\n<p>This is a checkpoint of the setup: no line of the log has it.</p>\n") ∷ [])
-request_text (Some event) =
+-- the event itself, of the log; of a checkpoint, that it is one
+unfoldable pub event_text : Option Event → List ℕ
+event_text None = shown (fixed CHECKPOINT.now ∷ [])
+event_text (Some event) =
     shown (fixed (codes "<h2>The event</h2>\n<dl>\n") ∷ [])
     ++ (asked_text event
-    ++ (answered_text event
-    ++ shown (fixed (codes "</dl>\n") ∷ [])))
+    ++ answered_text event)
+
+-- behind it what its answer shows
+unfoldable pub request_text : Option Event → Option LogEvent → List ℕ
+request_text event logged =
+    event_text event
+    ++ (showing_text logged
+    ++ shown (fixed (codes "</dl>\n") ∷ []))

@@ -15,6 +15,7 @@ mod places;
 mod request;
 mod rows;
 mod segments;
+mod showing;
 mod times;
 
 pub use finding::Finding;

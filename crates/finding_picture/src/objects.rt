@@ -139,7 +139,8 @@ pub fn key_on(log: &[LogEvent], line: u64) -> Option<&ObjectKey>
     }
 }
 
-fn logged_on(log: &[LogEvent], line: u64) -> Option<&LogEvent>
+/// The event or checkpoint with this line.
+pub fn logged_on(log: &[LogEvent], line: u64) -> Option<&LogEvent>
     ensures { option_map (λ event. event.now) result ≡ logged_on log.now line }
 {
     log.iter().find(|event| event.line == line)

@@ -6,7 +6,7 @@ use crate::finding::Finding;
 use crate::heading::push_heading;
 use crate::hiding::push_hiding;
 use crate::looking::event_on;
-use crate::objects::push_object_section;
+use crate::objects::{logged_on, push_object_section};
 use crate::places::push_places;
 use crate::request::push_request;
 use crate::rows::push_rows;
@@ -30,7 +30,7 @@ pub fn finding_page(
     push_begin(&mut text, "Unexplained event")?;
     push_heading(alloc, &mut text, finding)?;
     let event = event_on(context, finding.line);
-    push_request(&mut text, event)?;
+    push_request(&mut text, event, logged_on(context.log(), finding.line))?;
     push_places(&mut text, context, finding)?;
     push_times(&mut text, context, event, finding.writes)?;
     push_rows(&mut text, context, finding.writes)?;

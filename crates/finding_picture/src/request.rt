@@ -1,33 +1,54 @@
 ghost use Rattle.std.specs.Prelude.{◌≡◌, ◌++◌, OnOk, Some, option_map, string_bytes};
 ghost use Rattle.std.specs.List.{flat_map};
-ghost use Rattle.finding_picture.specs.Requests.{answered_text, asked_text, decision_text, decision_word, entry_text, group_text, impersonated_text, pair_text, request_text, status_text, time_entry, user_text};
+ghost use Rattle.finding_picture.specs.Requests.{answered_text, asked_text, decision_text, decision_word, entry_text, event_text, group_text, impersonated_text, pair_text, request_text, status_text, time_entry, user_text};
 
+use crate::showing::push_showing;
 use audit_event::{Event, Status};
 use base_types::{Decision, Moment, OutOfMemory, Pair, Text, User};
 use markup::{Told, push_moment};
+use write_groups::LogEvent;
 
-/// Appends what the event asked and was answered; that it is a checkpoint, where there is none.
+/// What stands for the event of a checkpoint, before what it shows.
+pub const CHECKPOINT: &str = "<h2>The event</h2>
+<p>This is a checkpoint of the setup: no line of the log has it.</p>
+<dl>
+";
+
+/// Appends what the event asked, what it was answered, and what the answer shows; that it is a checkpoint, where it is
+/// no event of the log.
 #[tactic(auto, unfolding(crate::specs::Requests::request_text))]
-pub fn push_request(text: &mut String, event: Option<&Event>) -> Result<(), OutOfMemory>
-    ensures { OnOk result (string_bytes text.new ≡ string_bytes text.old ++ request_text (option_map (λ event. event.now) event.entry)) }
+pub fn push_request(
+    text: &mut String,
+    event: Option<&Event>,
+    logged: Option<&LogEvent>,
+) -> Result<(), OutOfMemory>
+    ensures { OnOk result (string_bytes text.new ≡ string_bytes text.old
+        ++ request_text (option_map (λ event. event.now) event.entry) (option_map (λ event. event.now) logged.entry)) }
+{
+    push_event(text, event)?;
+    push_showing(text, logged)?;
+    text.push_str("</dl>\n")?;
+    Ok(())
+}
+
+#[tactic(auto, unfolding(crate::specs::Requests::event_text))]
+fn push_event(text: &mut String, event: Option<&Event>) -> Result<(), OutOfMemory>
+    ensures { OnOk result (string_bytes text.new ≡ string_bytes text.old ++ event_text (option_map (λ event. event.now) event.entry)) }
 {
     match event {
-        Some(event) => push_event(text, event)?,
-        None => text.push_str(
-            "<h2>The event</h2>\n<p>This is a checkpoint of the setup: no line of the log has it.</p>\n",
-        )?,
+        Some(event) => push_recorded(text, event)?,
+        None => text.push_str(CHECKPOINT)?,
     }
     Ok(())
 }
 
-#[tactic(auto, unfolding(crate::specs::Requests::request_text))]
-fn push_event(text: &mut String, event: &Event) -> Result<(), OutOfMemory>
-    ensures { OnOk result (string_bytes text.new ≡ string_bytes text.old ++ request_text (Some event.now)) }
+#[tactic(auto, unfolding(crate::specs::Requests::event_text))]
+fn push_recorded(text: &mut String, event: &Event) -> Result<(), OutOfMemory>
+    ensures { OnOk result (string_bytes text.new ≡ string_bytes text.old ++ event_text (Some event.now)) }
 {
     text.push_str("<h2>The event</h2>\n<dl>\n")?;
     push_asked(text, event)?;
     push_answered(text, event)?;
-    text.push_str("</dl>\n")?;
     Ok(())
 }
 
