@@ -4,7 +4,7 @@ ghost use Rattle.std.specs.List.Sorted.{IsBinarySearchResult, IsSearchInRange, I
 ghost use Rattle.std.specs.Ordering.{nat_cmp};
 ghost use Rattle.std.specs.Cmp.Lexicographic.{slice_cmp};
 ghost use Rattle.json_tree.specs.Meaning.{fields_of};
-ghost use Rattle.json_tree.specs.Parts.{lookup};
+ghost use Rattle.json_tree.specs.Parts.{lookup, member_of};
 ghost use Rattle.json_tree.specs.Pointers.{child_of, index_of, pointed as pointed_tree};
 ghost use Rattle.node_pool.specs.Within.{field_at, name_of, name_at, IsFieldWithin};
 
@@ -25,6 +25,18 @@ pub fn pointed(store: &Store, number: u32, pointer: &Pointer) -> Option<u32>
         here = child(store, here, token)?;
     }
     Some(here)
+}
+
+/// The number of the value of an object's member.
+pub fn member_of(store: &Store, number: u32, name: &str) -> Option<u32>
+    requires { number < length store.now.trees }
+    ensures found { option_and_then (slice_get store.now.trees) result ≡ option_and_then (member_of name.now) (slice_get store.now.trees number) }
+    ensures within { IfSome result (λ n. n < length store.now.trees) }
+{
+    match &store.level(number)?.form {
+        Form::Members(numbers) => member(store, numbers, name),
+        _ => None,
+    }
 }
 
 // The number of what one token refers to.

@@ -1,4 +1,5 @@
 ghost use Rattle.std.specs.Prelude.{◌≡◌, ◌<◌, ◌≤◌, ◌↔◌, [], Some, Err, length, slice_get, option_and_then, OnOk, OnErr, IfOk, IfSome, IsTrue};
+ghost use Rattle.json_tree.specs.Parts.{member_of};
 ghost use Rattle.json_tree.specs.Pointers.{pointed as pointed_tree};
 ghost use Rattle.node_pool.specs.Pooled.{AreDistinct};
 ghost use Rattle.node_pool.specs.Subtrees.{interned};
@@ -6,7 +7,7 @@ ghost use Rattle.node_pool.specs.Subtrees.{interned};
 use crate::comparing::equals;
 use crate::fault::PoolFault;
 use crate::interning::add;
-use crate::pointing::pointed;
+use crate::pointing::{member_of, pointed};
 use crate::rebuilding::rebuild;
 use crate::store::Store;
 use base_types::OutOfMemory;
@@ -112,5 +113,14 @@ impl Pool {
         ensures within { IfSome result (λ at. at.0 < length self.now.trees) }
     {
         Some(NodeId(pointed(&self.store, node.0, pointer)?))
+    }
+
+    /// The number of the value of a member of the object of a number.
+    pub fn member(&self, node: NodeId, name: &str) -> Option<NodeId>
+        requires { node.0 < length self.now.trees }
+        ensures found { option_and_then (λ at. slice_get self.now.trees at.0) result ≡ option_and_then (member_of name.now) (slice_get self.now.trees node.0) }
+        ensures within { IfSome result (λ at. at.0 < length self.now.trees) }
+    {
+        Some(NodeId(member_of(&self.store, node.0, name)?))
     }
 }

@@ -1,5 +1,7 @@
 -- What stands at each number of a log.
-use Rattle.std.proofs.Common.{◌≡◌, ◌⊎◌, inl, inr, ℕ, zero, suc, ◌+◌, ◌-◌, ◌<◌, ◌≤◌, Bool, true, List, [], ◌∷◌, ◌++◌, length, get_or, Option, Some, None, slice_get, option_and_then, refl, sym, ap, subst, ◌∙◌, arith, length-append}
+use Rattle.std.proofs.Common.{◌≡◌, ◌⊎◌, inl, inr, ℕ, zero, suc, ◌+◌, ◌-◌, ◌<◌, ◌≤◌, Bool, true, List, [], ◌∷◌, ◌++◌, length, get_or, Option, Some, None, codes, slice_get, option_and_then, refl, sym, ap, subst, ◌∙◌, arith, length-append}
+use Rattle.std.specs.BTreeMap.{get}
+use Rattle.std.specs.Ordering.{nat_cmp}
 use Rattle.std.proofs.lemmas.Bool.{cases_lt}
 use Rattle.std.proofs.lemmas.List.{get_or-append-add, get_or_append_left}
 use Rattle.std.proofs.lemmas.Option.{slice_get-get_or, slice_get_past, slice_get_within}
@@ -7,11 +9,15 @@ use Rattle.json_tree.specs.Meaning.{Meaning}
 use Rattle.audit_event.specs.declared.event.Event.{Event}
 use Rattle.setup_file.specs.declared.setup.Checkpoint.{Checkpoint}
 use Rattle.setup_file.specs.declared.setup.Setup.{Setup}
+use Rattle.answer_class.specs.Bodies.{metadata_at}
 use Rattle.answer_class.specs.Classes.{class_of}
 use Rattle.answer_class.specs.Labels.{is_listable, is_selected}
 use Rattle.answer_class.specs.declared.answer.Answer.{Answer}
 use Rattle.answer_class.specs.declared.answer.Answer.TheVariants.{Made, Removed, Opaque, Saw, SawNone, SawSome, SawOther, Listed, Free, Aside}
+use Rattle.label_select.specs.Meeting.{matches}
+use Rattle.label_select.specs.declared.selector.Requirement.{Requirement}
 use Rattle.write_groups.specs.declared.event.LogEvent.{LogEvent}
+use Rattle.version_store.specs.Histories.{listable_by, listable_test}
 use Rattle.version_store.specs.Logged.{IsLogged, IsLoggedCheckpoint, AreLogged}
 use Rattle.version_store.specs.LogSelectors.{Selectors, AreSelectorsOf, selector_in, is_taken}
 use Rattle.version_store.proofs.LineLemmas.{some_of}
@@ -103,8 +109,34 @@ pub taken_is_listable : (setup : Setup) (events : List Event) (selectors : Selec
 taken_is_listable setup events selectors are number event tree at =
     ap (λ selector. is_selected selector tree) (are number ∙ ap (option_and_then (λ e. selector_in (class_of setup e))) at) ∙ selects (class_of setup event) tree
 
--- a checkpoint has no selector
-pub checkpoint_takes_all : (setup : Setup) (events : List Event) (selectors : Selectors) → AreSelectorsOf setup events selectors → (number : ℕ) (tree : Meaning) → length events ≤ number
-    → is_taken selectors number tree ≡ true
-checkpoint_takes_all setup events selectors are number tree past =
-    ap (λ selector. is_selected selector tree) (are number ∙ ap (option_and_then (λ e. selector_in (class_of setup e))) (slice_get_past events number past))
+module _ (setup : Setup) (events : List Event) (trees : List Meaning) (selectors : Selectors) (are : AreSelectorsOf setup events selectors) (number node : ℕ) where
+  -- a selector says of an object's labels what the history says of the object
+  pub labels_tell : (selector : List Requirement) → get nat_cmp selectors number ≡ Some selector → node < length trees
+      → matches selector (option_and_then (metadata_at (codes "labels")) (slice_get trees node)) ≡ listable_test setup events trees number node
+  labels_tell selector has within = go (slice_get events number) refl (slice_get trees node) refl
+    where
+      go : (e : Option Event) → slice_get events number ≡ e → (t : Option Meaning) → slice_get trees node ≡ t
+          → matches selector (option_and_then (metadata_at (codes "labels")) t) ≡ listable_by setup e t
+      go None at t is = absurd (cc (sym has ∙ are number ∙ ap (option_and_then (λ e. selector_in (class_of setup e))) at))
+      go (Some event) at None is = absurd (cc (sym is ∙ (there trees node within).1))
+      go (Some event) at (Some tree) is =
+          ap (λ s. is_selected s tree) (sym has) ∙ taken_is_listable setup events selectors are number event tree at
+
+  -- without one each object is listed
+  pub all_without_selector : get nat_cmp selectors number ≡ None → listable_test setup events trees number node ≡ true
+  all_without_selector none = go (slice_get events number) refl (slice_get trees node) refl
+    where
+      go : (e : Option Event) → slice_get events number ≡ e → (t : Option Meaning) → slice_get trees node ≡ t → listable_by setup e t ≡ true
+      go None at t is = refl
+      go (Some event) at None is = refl
+      go (Some event) at (Some tree) is =
+          sym (taken_is_listable setup events selectors are number event tree at) ∙ ap (λ s. is_selected s tree) none
+
+  -- and so is what no tree has
+  pub all_past_the_trees : length trees ≤ node → listable_test setup events trees number node ≡ true
+  all_past_the_trees past = go (slice_get events number) (slice_get trees node) (slice_get_past trees node past)
+    where
+      go : (e : Option Event) (t : Option Meaning) → t ≡ None → listable_by setup e t ≡ true
+      go None t is = refl
+      go (Some event) None is = refl
+      go (Some event) (Some tree) is = absurd (cc is)

@@ -21,5 +21,5 @@ pub use context::{Context, Shared};
 pub use faults::{Makings, faults_of, makings_of};
 pub use keys::keys_of;
 pub use law::one_history_law;
-pub use log::{BuildFault, Log, Selectors, is_listable, log_of};
+pub use log::{BuildFault, Log, Selectors, log_of};
 pub use roles::{role_ends, roles_of};

@@ -21,7 +21,7 @@ use event::{LoggedEvents, events_of};
 pub use fault::BuildFault;
 pub(crate) use judged::judged_user;
 use node_pool::Pool;
-pub use selecting::{Selectors, is_listable};
+pub use selecting::Selectors;
 use setup_file::Setup;
 use shown::items_of;
 use std::alloc::Global;
