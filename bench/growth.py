@@ -10,6 +10,9 @@ times the size. A kind stops where a run takes longer than --most seconds (by de
 
   plain      creates, updates and reads, for comparison
   prefixes   unrecorded creates, each with another generateName
+  nested     the same with 200 prefixes, each a prefix of the next
+  namespaces unrecorded removals of whole collections, each in another namespace
+  bindings   unrecorded creates of role bindings, each with another generateName, and refused requests
   decisions  roles and bindings that come and go within the lag, and refused requests
   pages      first pages of one list that all have one token
   inserts    JSON Patches that insert at the front of a list, ten to an object
@@ -202,7 +205,42 @@ def subjects(log, size):
                   user={"username": "anna", "groups": ["g"]}, annotations={"authorization.k8s.io/decision": "forbid"})
 
 
-KINDS = {it.__name__: it for it in (plain, prefixes, decisions, pages, inserts, spans, absent, resources, names, subjects)}
+def namespaces(log, size):
+    for number in range(size // 2):
+        log.revision += 1
+        log.event("deletecollection", "/api/v1/namespaces/n%d/configmaps" % number, 200, None, None, level="Metadata",
+                  user={"username": "p"})
+        log.write("c%d" % number, "a")
+    log.setup["policy"]["rules"] = [{"level": "Metadata", "users": ["p"]}, {"level": "RequestResponse"}]
+
+
+def nested(log, size):
+    for number in range(size // 2):
+        body = {"kind": "ConfigMap", "apiVersion": "v1", "metadata": {"generateName": "p" * (number % 200 + 1), "namespace": "d"}}
+        log.revision += 1
+        log.event("create", COLLECTION, 201, body, None, level="Request", user={"username": "p"})
+        log.write("c%d" % number, "a")
+    log.setup["policy"]["rules"] = [{"level": "Request", "users": ["p"]}, {"level": "RequestResponse"}]
+
+
+def bindings(log, size):
+    log.authorize(0)
+    rule = [{"verbs": ["get"], "apiGroups": [""], "resources": ["configmaps"]}]
+    log.role_object("roles", "r", rules=rule)
+    for number in range(size // 2):
+        body = {"kind": "RoleBinding", "apiVersion": RBAC + "/v1",
+                "metadata": {"generateName": "b%d-" % number, "namespace": "d"},
+                "subjects": [{"kind": "User", "name": "anna", "apiGroup": RBAC}],
+                "roleRef": {"apiGroup": RBAC, "kind": "Role", "name": "r"}}
+        log.revision += 1
+        log.event("create", BINDINGS, 201, body, None, level="Request", user={"username": "p"})
+        log.event("get", COLLECTION + "/c", 403, None, status("c", status="Failure", reason="Forbidden", code=403),
+                  user={"username": "anna"}, annotations={"authorization.k8s.io/decision": "forbid"})
+    log.setup["policy"]["rules"] = [{"level": "Request", "users": ["p"]}, {"level": "RequestResponse"}]
+
+
+KINDS = {it.__name__: it for it in (plain, prefixes, nested, namespaces, decisions, bindings, pages, inserts, spans, absent,
+                                    resources, names, subjects)}
 
 
 def judged(program, folder):
