@@ -2,6 +2,8 @@ ghost use Rattle.std.specs.Prelude.{◌≡◌, ◌≤◌, ◌<◌, ◌+◌, ◌-
 ghost use Rattle.line_reader.specs.Lines.{is_dropped, is_blank, is_space, newline, number_after};
 ghost use Rattle.line_reader.specs.Search.{Skips, HasNoNewline, IsLineAt};
 
+use memchr::memchr;
+
 /// A line may have so many bytes.
 pub const LONGEST_LINE: usize = 16_777_216;
 
@@ -50,7 +52,7 @@ fn find_newline(bytes: &[u8], from: usize) -> Option<usize>
     ensures some { IfSome result (λ at. (from ≤ at) × (at < length bytes.now) × (slice_index bytes.now at ≡ newline) × HasNoNewline (take (at - from) (drop from bytes.now))) }
     ensures none { IfNone result (HasNoNewline (drop from bytes.now)) }
 {
-    let ahead = bytes[from..].iter().position(|byte| *byte == NEWLINE)?;
+    let ahead = memchr(NEWLINE, &bytes[from..])?;
     Some(from + ahead)
 }
 
