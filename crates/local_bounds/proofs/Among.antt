@@ -1,10 +1,12 @@
 -- The keys of items, one after another.
 use Rattle.std.proofs.Common.{◌≡◌, ◌≢◌, ℕ, ◌+◌, ◌<◌, ◌≤◌, ◌⊎◌, true, false, ◌||◌, Bor, List, [], ◌∷◌, ◌++◌, length, get_or, take, AllPairs, Contains, inl, inr, refl, sym, ap, ◌∙◌, subst, true≢false, arith}
 use Rattle.std.specs.List.{list_any}
+use Rattle.std.specs.List.Sorted.{IsPermutation}
 use Rattle.std.proofs.lemmas.List.{take_more, take_all, get_or-take, get_or_default, length-take}
 use Rattle.std.proofs.lemmas.List.Elements.{Contains-get_or}
 use Rattle.std.proofs.lemmas.List.Folds.{list_any_more}
 use Rattle.std.proofs.lemmas.List.Quantifiers.{all_pairs_push}
+use Rattle.std.proofs.lemmas.List.Sorted.{list_any-IsPermutation}
 use Rattle.std.proofs.Math.Bool.{or_comm}
 use Rattle.base_types.specs.declared.key.ObjectKey.{ObjectKey}
 use Rattle.history_model.proofs.KeyLemmas.{key_tells}
@@ -73,12 +75,11 @@ module _ (items : List Item) (i : ℕ) (item : Item) (within : i < length items)
   still_apart e apart = subst (AllPairs (λ a b. a.key ≢ b.key)) (sym (take_more items i item within ∙ ap (λ z. take i items ++ z ∷ []) (sym is)))
       (all_pairs_push (λ a b. a.key ≢ b.key) (take i items) item apart (λ k d l same. among_not (take i items) item.key e (get_or (take i items) k d, Contains-get_or (take i items) k d l, sym same)))
 
-  pub keys_more : (old new : List (Bor ObjectKey)) (key : Bor ObjectKey) → key.now ≡ item.key
-      → ((k : ObjectKey) → list_any (λ shown. same_key k shown.now) new ≡ (same_key k key.now || list_any (λ shown. same_key k shown.now) old))
+  pub keys_more : (old new : List (Bor ObjectKey)) (key : Bor ObjectKey) → key.now ≡ item.key → IsPermutation (key ∷ old) new
       → ((k : ObjectKey) → list_any (λ shown. same_key k shown.now) old ≡ is_among (take i items) k)
       → (k : ObjectKey) → list_any (λ shown. same_key k shown.now) new ≡ is_among (take (i + 1) items) k
-  keys_more old new key e put before k =
-      put k
+  keys_more old new key e perm before k =
+      sym (list_any-IsPermutation (λ (shown : Bor ObjectKey). same_key k shown.now) (key ∷ old) new perm)
       ∙ ap (λ b. same_key k key.now || b) (before k)
       ∙ or_comm (same_key k key.now) (is_among (take i items) k)
       ∙ ap (λ z. is_among (take i items) k || same_key k z) (e ∙ ap (λ (z : Item). z.key) is)

@@ -12,7 +12,6 @@ pub mod Gathered
 pub mod Strict
 pub mod Together
 pub mod Askings
-pub mod Ordered
 pub mod Among
 pub mod Filtered
 pub mod Lacking

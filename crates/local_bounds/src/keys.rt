@@ -5,18 +5,18 @@ ghost use Rattle.local_bounds.specs.Keys.{AreKeysOf, is_among};
 
 use base_types::{ObjectKey, OutOfMemory};
 use std::alloc::Global;
-use std::collections::BTreeSet;
+use std::collections::HashSet;
 use write_groups::Item;
 
-/// Keys of a list's items, in order: a set by hashes could be flooded by who chooses the names.
-pub type Keys<'a> = BTreeSet<&'a ObjectKey>;
+/// Keys of a list's items.
+pub type Keys<'a> = HashSet<&'a ObjectKey>;
 
 /// The keys of the items; None where two items have one key.
 pub fn distinct_keys<'a>(alloc: Global, items: &'a [Item]) -> Result<Option<Keys<'a>>, OutOfMemory>
     ensures some { IfOk result (λ found. IfSome found (λ keys. AllPairs (λ a b. a.key ≢ b.key) items.now × AreKeysOf items.now keys)) }
     ensures none { IfOk result (λ found. IfNone found (AllPairs (λ a b. a.key ≢ b.key) items.now → ⊥)) }
 {
-    let mut keys = BTreeSet::new(alloc);
+    let mut keys = HashSet::new(alloc);
     for item in items {
         if !keys.insert(&item.key)? {
             return Ok(None);
