@@ -2,4 +2,5 @@ mod Examples
 pub mod Counting
 pub mod Listing
 pub mod Paths
+pub mod Prefixes
 pub mod Sizes

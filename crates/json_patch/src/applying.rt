@@ -190,16 +190,14 @@ fn move_value(
     })
 }
 
+// No recursion: a pointer may have as many tokens as its text has bytes.
 fn is_proper_prefix(from: &[Text], path: &[Text]) -> bool
     ensures { result ≡ is_proper_prefix from.now path.now }
 {
-    match from {
-        [] => !path.is_empty(),
-        [start, more @ ..] => match path {
-            [] => false,
-            [token, rest @ ..] => start == token && is_proper_prefix(more, rest),
-        },
+    if from.len() >= path.len() {
+        return false;
     }
+    path.starts_with(from)
 }
 
 fn copy_value(

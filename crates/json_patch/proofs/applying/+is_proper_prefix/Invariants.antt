@@ -1,5 +1,0 @@
-use Rattle.std.proofs.Common.{length}
-use Rattle.json_patch.proofs.applying.+is_proper_prefix.Given as goal
-
-abbrev pub decreases-is_proper_prefix : goal.decreases-is_proper_prefix
-decreases-is_proper_prefix l = length l.from.now
