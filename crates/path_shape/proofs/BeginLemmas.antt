@@ -1,8 +1,7 @@
 -- The patterns with which the walk begins are those of the shape.
-use Rattle.std.proofs.Common.{◌≡◌, ℕ, ◌<◌, ◌≤◌, Bool, true, false, ◌||◌, IsTrue, List, [], ◌∷◌, ◌++◌, length, get_or, take, drop, ◌-◌, map, reverse, Option, Some, None, IfSome, refl, sym, ap, subst, ◌∙◌, arith, append_assoc}
-use Rattle.std.specs.Prelude.{option_map, option_and_then, is_some, unwrap_or, if◌then◌else◌, ◌↔◌, codes}
-use Rattle.std.proofs.lemmas.List.{reverse-append, reverse-reverse, map-append}
-use Rattle.std.proofs.Math.Seq.{take-length}
+use Rattle.std.proofs.Common.{◌≡◌, ℕ, ◌<◌, ◌≤◌, Bool, true, false, ◌||◌, List, [], ◌∷◌, ◌++◌, length, map, Option, Some, None, IfSome, refl, sym, ap, subst, ◌∙◌, arith}
+use Rattle.std.specs.Prelude.{option_map, option_and_then, is_some, unwrap_or, if◌then◌else◌, ◌↔◌}
+use Rattle.std.proofs.lemmas.List.{map-append}
 use Rattle.json_tree.specs.Meaning.{Meaning, null, flag, whole, words, items, members, no_fields, Fields, field}
 use Rattle.path_shape.specs.declared.shape.FieldClass.{FieldClass}
 use Rattle.path_shape.specs.declared.shape.FieldClass.TheVariants.{Asked, Defaulted, Owned, Kept}
@@ -12,22 +11,19 @@ use Rattle.path_shape.specs.declared.spot.Spot.{Spot}
 use Rattle.path_shape.specs.Forms.{has_no_fields, thin_root, thin_fields, left_root, child_in, at}
 use Rattle.path_shape.specs.Patterns.{Pattern, matches, goes_past, longer, longest, class_or, class_at, is_open, built_in, pattern_of, patterns_of, unasked, unasked_pattern, released, unasked_patterns}
 use Rattle.path_shape.specs.Agreement.{kind, FitsOpen, FitsHere, Fits, Agrees, Keeps}
-use Rattle.path_shape.specs.Walk.{form, Going, pattern_from, patterns_in, FitsSpot}
-use Rattle.path_shape.specs.Beginning.{read_as, root_found, root_class, laid, started, built_in_before, metadata_before}
-use Rattle.path_shape.proofs.ClassLemmas.{Found, lt_true, lt_false, longer_keeps, longest_some, first_or, first_or-none, turned, is_open-append, or_true}
+use Rattle.path_shape.specs.Passing.{entries_past, built_in_fields, released_fields, at_root, past}
+use Rattle.path_shape.specs.Walk.{form, Going, pattern_from, patterns_in, goes_on, FitsSpot}
+use Rattle.path_shape.specs.Beginning.{read_as, root_class, root_or}
+use Rattle.path_shape.proofs.ClassLemmas.{Found, lt_true, lt_false, longer_keeps, longest_some, first_or, first_or-none, goes_on-append, is_open-append, or_true}
 
 -- the patterns that have a token
 abbrev pub nonempty : List Pattern → List Going
 nonempty [] = []
-nonempty (p ∷ ps) = laid p.0 p.1 (nonempty ps)
-
-laid-append : (ts : List (List ℕ)) (c : FieldClass) (ps qs : List Going) → laid ts c (ps ++ qs) ≡ laid ts c ps ++ qs
-laid-append [] c ps qs = refl
-laid-append (t ∷ ts) c ps qs = refl
+nonempty (p ∷ ps) = goes_on p.0 p.1 (nonempty ps)
 
 nonempty-append : (ps qs : List Pattern) → nonempty (ps ++ qs) ≡ nonempty ps ++ nonempty qs
 nonempty-append [] qs = refl
-nonempty-append (p ∷ ps) qs = ap (laid p.0 p.1) (nonempty-append ps qs) ∙ laid-append p.0 p.1 (nonempty ps) (nonempty qs)
+nonempty-append (p ∷ ps) qs = ap (goes_on p.0 p.1) (nonempty-append ps qs) ∙ goes_on-append p.0 p.1 (nonempty ps) (nonempty qs)
 
 is_open-nonempty : (ps : List Pattern) (path : List (List ℕ)) → is_open ps path ≡ is_open (map pattern_from (nonempty ps)) path
 is_open-nonempty [] path = refl
@@ -124,47 +120,36 @@ first_root-append ((t ∷ ts, c) ∷ ps) qs = first_root-append ps qs
 abbrev read_entry : Bool → ShapeEntry → Pattern
 read_entry nothing e = (e.path, read_as nothing e.class)
 
-root_class-first_root : (nothing : Bool) (es : List ShapeEntry) (found : Option FieldClass) (root : FieldClass)
-    → root_class nothing es found root ≡ unwrap_or (first_or found (first_root (map (read_entry nothing) es))) (read_as nothing root)
-root_class-first_root nothing [] found root = ap (λ o. unwrap_or o (read_as nothing root)) (sym (first_or-none found))
-root_class-first_root nothing (e ∷ es) found root = go (root_class-first_root nothing es) e.path (read_as nothing e.class) found
+root_class-first_root : (nothing : Bool) (es : List ShapeEntry) (root : FieldClass) → root_class nothing es root ≡ unwrap_or (first_root (map (read_entry nothing) es)) (read_as nothing root)
+root_class-first_root nothing [] root = refl
+root_class-first_root nothing (e ∷ es) root = go (root_class-first_root nothing es root) e.path (read_as nothing e.class)
   where
-    go : ((found : Option FieldClass) (root : FieldClass) → root_class nothing es found root ≡ unwrap_or (first_or found (first_root (map (read_entry nothing) es))) (read_as nothing root))
-        → (path : List (List ℕ)) (c : FieldClass) (found : Option FieldClass)
-        → root_class nothing es (root_found path c found) root ≡ unwrap_or (first_or found (first_root ((path, c) ∷ map (read_entry nothing) es))) (read_as nothing root)
-    go rest [] c None = rest (Some c) root
-    go rest [] c (Some f) = rest (Some f) root
-    go rest (t ∷ ts) c found = rest found root
+    go : root_class nothing es root ≡ unwrap_or (first_root (map (read_entry nothing) es)) (read_as nothing root) → (path : List (List ℕ)) (c : FieldClass)
+        → root_or path c (root_class nothing es root) ≡ unwrap_or (first_root ((path, c) ∷ map (read_entry nothing) es)) (read_as nothing root)
+    go rest [] c = refl
+    go rest (t ∷ ts) c = rest
 
-started-nonempty : (nothing : Bool) (es : List ShapeEntry) (live : List Going) → started nothing es live ≡ reverse (nonempty (map (read_entry nothing) es)) ++ live
-started-nonempty nothing [] live = refl
-started-nonempty nothing (e ∷ es) live = go (started-nonempty nothing es) e.path (read_as nothing e.class)
-  where
-    go : ((live : List Going) → started nothing es live ≡ reverse (nonempty (map (read_entry nothing) es)) ++ live) → (path : List (List ℕ)) (c : FieldClass)
-        → started nothing es (laid path c live) ≡ reverse (laid path c (nonempty (map (read_entry nothing) es))) ++ live
-    go rest [] c = rest live
-    go rest (t ∷ ts) c = rest ((t, (ts, c)) ∷ live) ∙ sym (turned (t, (ts, c)) (nonempty (map (read_entry nothing) es)) live)
+entries-nonempty : (nothing : Bool) (es : List ShapeEntry) → entries_past [] nothing es ≡ nonempty (map (read_entry nothing) es)
+entries-nonempty nothing [] = refl
+entries-nonempty nothing (e ∷ es) = ap (goes_on e.path (read_as nothing e.class)) (entries-nonempty nothing es)
 
 -- the patterns before the entries, the entries, and the patterns behind them
 abbrev pub begun : Bool → List Pattern → List ShapeEntry → List Pattern → List Pattern
 begun nothing front es back = front ++ (map (read_entry nothing) es ++ back)
 
-begun_patterns : (nothing : Bool) (front back : List Pattern) (es : List ShapeEntry) (live : List Going) → reverse live ≡ nonempty front → reverse (built_in_before nothing []) ≡ nonempty back
-    → patterns_in false (built_in_before nothing (started nothing es live)) ≡ map pattern_from (nonempty (begun nothing front es back))
-begun_patterns nothing front back es live first last =
-    let mine = nonempty (map (read_entry nothing) es) in
-    let laid_out : reverse (started nothing es live) ≡ nonempty front ++ mine =
-    ap reverse (started-nonempty nothing es live) ∙ reverse-append (reverse mine) live ∙ (λ i. first i ++ reverse-reverse mine i) in
-    ap (map pattern_from) (reverse-append (built_in_before nothing []) (started nothing es live) ∙ (λ i. laid_out i ++ last i) ∙ append_assoc (nonempty front) mine (nonempty back)
+begun_patterns : (nothing : Bool) (front back : List Pattern) (es : List ShapeEntry) → map at_root (released_fields nothing) ≡ nonempty front → map at_root (built_in_fields nothing) ≡ nonempty back
+    → patterns_in (past nothing es []) ≡ map pattern_from (nonempty (begun nothing front es back))
+begun_patterns nothing front back es first last =
+    ap (map pattern_from) ((λ i. first i ++ (entries-nonempty nothing es i ++ last i))
     ∙ ap (λ l. nonempty front ++ l) (sym (nonempty-append (map (read_entry nothing) es) back)) ∙ sym (nonempty-append front (map (read_entry nothing) es ++ back)))
 
 begun_class : (nothing : Bool) (front back : List Pattern) (es : List ShapeEntry) (root : FieldClass) → first_root front ≡ None → first_root back ≡ None
-    → root_class nothing es None root ≡ class_at (read_as nothing root) (begun nothing front es back) []
+    → root_class nothing es root ≡ class_at (read_as nothing root) (begun nothing front es back) []
 begun_class nothing front back es root first last =
     let mine = map (read_entry nothing) es in
     let all : first_root (begun nothing front es back) ≡ first_root mine =
     first_root-append front (mine ++ back) ∙ ap (λ o. first_or o (first_root (mine ++ back))) first ∙ first_root-append mine back ∙ ap (first_or (first_root mine)) last ∙ first_or-none (first_root mine) in
-    root_class-first_root nothing es None root ∙ ap (λ o. unwrap_or o (read_as nothing root)) (sym all) ∙ sym (class_at-first_root (read_as nothing root) (begun nothing front es back))
+    root_class-first_root nothing es root ∙ ap (λ o. unwrap_or o (read_as nothing root)) (sym all) ∙ sym (class_at-first_root (read_as nothing root) (begun nothing front es back))
 
 -- an object and what is left of it have the same members, so they agree alike at an open root
 object_at : (fs : Fields) (name : List ℕ) → child_in name (Some (members fs)) ≡ child_in name (if has_no_fields fs then None else Some (members fs))
@@ -248,41 +233,41 @@ Whole = FieldClass × List Pattern × Bool × Option Meaning × Option Meaning �
 abbrev FitsWhole : Whole → Type 0
 FitsWhole z = Fits z.0 z.1 z.2 z.3 z.4 z.5
 
-module _ (nothing : Bool) (front back : List Pattern) (es : List ShapeEntry) (root : FieldClass) (live : List Going)
-    (first : reverse live ≡ nonempty front) (last : reverse (built_in_before nothing []) ≡ nonempty back) (none : first_root front ≡ None) (none' : first_root back ≡ None)
-    (past : is_open (begun nothing front es back) [] ≡ true) (spot : Spot) (old : Option Meaning) (asked answered : Meaning)
+module _ (nothing : Bool) (front back : List Pattern) (es : List ShapeEntry) (root : FieldClass)
+    (first : map at_root (released_fields nothing) ≡ nonempty front) (last : map at_root (built_in_fields nothing) ≡ nonempty back) (none : first_root front ≡ None) (none' : first_root back ≡ None)
+    (at_start : is_open (begun nothing front es back) [] ≡ true) (spot : Spot) (old : Option Meaning) (asked answered : Meaning)
     (o : form spot.old ≡ option_and_then left_root old) (a : form spot.asked ≡ left_root asked) (r : form spot.answered ≡ left_root answered) where
   abbrev All : List Pattern
   All = begun nothing front es back
 
-  same_whole : ◌≡◌ {A = Whole} (root_class nothing es None root, patterns_in false (built_in_before nothing (started nothing es live)), spot.had, form spot.old, form spot.asked, form spot.answered)
+  same_whole : ◌≡◌ {A = Whole} (root_class nothing es root, patterns_in (past nothing es []), spot.had, form spot.old, form spot.asked, form spot.answered)
       (class_at (read_as nothing root) All [], map pattern_from (nonempty All), spot.had, option_and_then left_root old, left_root asked, left_root answered)
-  same_whole = λ i. (begun_class nothing front back es root none none' i, begun_patterns nothing front back es live first last i, spot.had, o i, a i, r i)
+  same_whole = λ i. (begun_class nothing front back es root none none' i, begun_patterns nothing front back es first last i, spot.had, o i, a i, r i)
 
-  pub begun_to : FitsSpot (root_class nothing es None root) (patterns_in false (built_in_before nothing (started nothing es live))) spot
+  pub begun_to : FitsSpot (root_class nothing es root) (patterns_in (past nothing es [])) spot
       → Fits (read_as nothing root) All spot.had (option_map thin_root old) (Some (thin_root asked)) (Some (thin_root answered))
   begun_to h =
       let left = Fits-from (read_as nothing root) All spot.had (option_and_then left_root old) (left_root asked) (left_root answered) (subst FitsWhole same_whole h) in
-      Fits-root (read_as nothing root) All spot.had (option_and_then left_root old) (left_root asked) (left_root answered) (option_map thin_root old) (Some (thin_root asked)) (Some (thin_root answered)) past
+      Fits-root (read_as nothing root) All spot.had (option_and_then left_root old) (left_root asked) (left_root answered) (option_map thin_root old) (Some (thin_root asked)) (Some (thin_root answered)) at_start
       (same_back (option_map thin_root old) (option_and_then left_root old) (old_child old)) (same_back (Some (thin_root asked)) (left_root asked) (root_child asked)) (same_back (Some (thin_root answered)) (left_root answered) (root_child answered)) (old_kind old) (root_kind asked) (root_kind answered) left
 
   pub begun_from : Fits (read_as nothing root) All spot.had (option_map thin_root old) (Some (thin_root asked)) (Some (thin_root answered))
-      → FitsSpot (root_class nothing es None root) (patterns_in false (built_in_before nothing (started nothing es live))) spot
+      → FitsSpot (root_class nothing es root) (patterns_in (past nothing es [])) spot
   begun_from h =
-      let left = Fits-root (read_as nothing root) All spot.had (option_map thin_root old) (Some (thin_root asked)) (Some (thin_root answered)) (option_and_then left_root old) (left_root asked) (left_root answered) past
+      let left = Fits-root (read_as nothing root) All spot.had (option_map thin_root old) (Some (thin_root asked)) (Some (thin_root answered)) (option_and_then left_root old) (left_root asked) (left_root answered) at_start
       (old_child old) (root_child asked) (root_child answered) (old_left_kind old) (left_kind asked) (left_kind answered) h in
       subst FitsWhole (sym same_whole) (Fits-to (read_as nothing root) All spot.had (option_and_then left_root old) (left_root asked) (left_root answered) left)
 
 past_built_in : (es : List ShapeEntry) → is_open (map (read_entry false) es ++ built_in) [] ≡ true
 past_built_in es = is_open-append (map (read_entry false) es) built_in [] ∙ or_true (is_open (map (read_entry false) es) [])
 
-pub agrees_begun : (shape : Shape) (live : List Going) (spot : Spot) (old : Option Meaning) (asked answered : Meaning) → live ≡ [] → spot.had ≡ is_some old
+pub agrees_begun : (shape : Shape) (spot : Spot) (old : Option Meaning) (asked answered : Meaning) → spot.had ≡ is_some old
     → form spot.old ≡ option_and_then left_root old → form spot.asked ≡ left_root asked → form spot.answered ≡ left_root answered
-    → (FitsSpot (root_class false shape.entries None shape.root) (patterns_in false (built_in_before false (started false shape.entries live))) spot) ↔ Agrees shape old asked answered
-agrees_begun shape live spot old asked answered bare had o a r = (
+    → (FitsSpot (root_class false shape.entries shape.root) (patterns_in (past false shape.entries [])) spot) ↔ Agrees shape old asked answered
+agrees_begun shape spot old asked answered had o a r = (
   λ h. subst (λ b. Fits shape.root (patterns_of shape) b (option_map thin_root old) (Some (thin_root asked)) (Some (thin_root answered))) had
-      (begun_to false [] built_in shape.entries shape.root live (ap reverse bare) refl refl refl (past_built_in shape.entries) spot old asked answered o a r h),
-  λ h. begun_from false [] built_in shape.entries shape.root live (ap reverse bare) refl refl refl (past_built_in shape.entries) spot old asked answered o a r
+      (begun_to false [] built_in shape.entries shape.root refl refl refl refl (past_built_in shape.entries) spot old asked answered o a r h),
+  λ h. begun_from false [] built_in shape.entries shape.root refl refl refl refl (past_built_in shape.entries) spot old asked answered o a r
       (subst (λ b. Fits shape.root (patterns_of shape) b (option_map thin_root old) (Some (thin_root asked)) (Some (thin_root answered))) (sym had) h),
 )
 
@@ -294,55 +279,14 @@ unasked_all : (shape : Shape) → begun true released shape.entries (map unasked
 unasked_all shape =
     ap (λ l. released ++ l) (ap (λ l. l ++ map unasked_pattern built_in) (sym (unasked_entries shape.entries)) ∙ sym (map-append unasked_pattern (map pattern_of shape.entries) built_in))
 
-abbrev pub releasing : List Going
-releasing =
-    metadata_before (codes "generation") Owned (metadata_before (codes "finalizers") Owned (metadata_before (codes "deletionGracePeriodSeconds") Owned (metadata_before (codes "deletionTimestamp") Owned [])))
-
-pub keeps_begun : (shape : Shape) (live : List Going) (spot : Spot) (old answered : Meaning) → live ≡ releasing → spot.had ≡ true
+pub keeps_begun : (shape : Shape) (spot : Spot) (old answered : Meaning) → spot.had ≡ true
     → form spot.old ≡ left_root old → form spot.asked ≡ left_root old → form spot.answered ≡ left_root answered
-    → (FitsSpot (root_class true shape.entries None shape.root) (patterns_in false (built_in_before true (started true shape.entries live))) spot) ↔ Keeps shape old answered
-keeps_begun shape live spot old answered bare had o a r = (
+    → (FitsSpot (root_class true shape.entries shape.root) (patterns_in (past true shape.entries [])) spot) ↔ Keeps shape old answered
+keeps_begun shape spot old answered had o a r = (
   λ h. subst (λ b. Fits (unasked shape.root) (unasked_patterns shape) b (Some (thin_root old)) (Some (thin_root old)) (Some (thin_root answered))) had
       (subst (λ ps. Fits (unasked shape.root) ps spot.had (Some (thin_root old)) (Some (thin_root old)) (Some (thin_root answered))) (unasked_all shape)
-      (begun_to true released (map unasked_pattern built_in) shape.entries shape.root live (ap reverse bare) refl refl refl refl spot (Some old) old answered o a r h)),
-  λ h. begun_from true released (map unasked_pattern built_in) shape.entries shape.root live (ap reverse bare) refl refl refl refl spot (Some old) old answered o a r
+      (begun_to true released (map unasked_pattern built_in) shape.entries shape.root refl refl refl refl refl spot (Some old) old answered o a r h)),
+  λ h. begun_from true released (map unasked_pattern built_in) shape.entries shape.root refl refl refl refl refl spot (Some old) old answered o a r
       (subst (λ ps. Fits (unasked shape.root) ps spot.had (Some (thin_root old)) (Some (thin_root old)) (Some (thin_root answered))) (sym (unasked_all shape))
       (subst (λ b. Fits (unasked shape.root) (unasked_patterns shape) b (Some (thin_root old)) (Some (thin_root old)) (Some (thin_root answered))) (sym had) h)),
 )
-
--- one answer, by two names of its class and of its patterns
-pub moved : (answer : Bool) (class class' : FieldClass) (ps ps' : List Pattern) (spot : Spot) → class ≡ class' → ps ≡ ps' → (IsTrue answer ↔ FitsSpot class ps spot) → (IsTrue answer ↔ FitsSpot class' ps' spot)
-moved answer class class' ps ps' spot e e' h =
-    let P : FieldClass × List Pattern → Type 0 = λ z. FitsSpot z.0 z.1 spot in
-    let both : ◌≡◌ {A = FieldClass × List Pattern} (class, ps) (class', ps') = λ i. (e i, e' i) in
-    (λ yes. subst P both (h.0 yes), λ f. h.1 (subst P (sym both) f))
-
-pub is_empty : {A : Type 0} (xs : List A) → length xs < 1 → xs ≡ []
-is_empty [] lt = refl
-is_empty (x ∷ xs) lt = absurd (omega arith)
-
--- a list is its first item and the others
-pub front_is : {A : Type 0} (xs : List A) (x : A) → 0 < length xs → x ≡ get_or xs 0 x → x ∷ take (length xs - 1) (drop 1 xs) ≡ xs
-front_is [] x lt at = absurd (omega arith)
-front_is (y ∷ ys) x lt at =
-    let count : length (y ∷ ys) - 1 ≡ length ys = omega arith in
-    let rest : take (length (y ∷ ys) - 1) ys ≡ ys = ap (λ n. take n ys) count ∙ take-length ys in
-    λ i. at i ∷ rest i
-
-module _ (nothing : Bool) (es rest : List ShapeEntry) (e : ShapeEntry) (found : Option FieldClass) (root k : FieldClass) (live : List Going) (front : e ∷ rest ≡ es) (read : k ≡ read_as nothing e.class) where
-  pub class_root : e.path ≡ [] → root_class nothing rest (Some (unwrap_or found k)) root ≡ root_class nothing es found root
-  class_root bare =
-      ap (λ c. root_class nothing rest (Some (unwrap_or found c)) root) read
-      ∙ ap (λ p. root_class nothing rest (root_found p (read_as nothing e.class) found) root) (sym bare)
-      ∙ ap (λ l. root_class nothing l found root) front
-
-  pub laid_root : e.path ≡ [] → started nothing rest live ≡ started nothing es live
-  laid_root bare = ap (λ p. started nothing rest (laid p (read_as nothing e.class) live)) (sym bare) ∙ ap (λ l. started nothing l live) front
-
-  pub class_token : (t : List ℕ) (ts : List (List ℕ)) → t ∷ ts ≡ e.path → root_class nothing rest found root ≡ root_class nothing es found root
-  class_token t ts path = ap (λ p. root_class nothing rest (root_found p (read_as nothing e.class) found) root) path ∙ ap (λ l. root_class nothing l found root) front
-
-  pub laid_token : (t : List ℕ) (ts : List (List ℕ)) → t ∷ ts ≡ e.path → started nothing rest ((t, (ts, k)) ∷ live) ≡ started nothing es live
-  laid_token t ts path =
-      ap (λ c. started nothing rest ((t, (ts, c)) ∷ live)) read
-      ∙ ap (λ p. started nothing rest (laid p (read_as nothing e.class) live)) path ∙ ap (λ l. started nothing l live) front

@@ -1,11 +1,10 @@
 -- The patterns that go past one more token, and the class of a path behind it.
-use Rattle.std.proofs.Common.{◌≡◌, ℕ, suc, ◌<◌, ◌≤◌, Bool, true, false, ◌&&◌, ◌||◌, List, [], ◌∷◌, ◌++◌, length, map, reverse, Option, Some, None, IfSome, refl, sym, ap, ◌∙◌, arith, append_assoc, append-nil}
-use Rattle.std.specs.Prelude.{option_map, unwrap_or, nat_lt, not, if◌then◌else◌}
-use Rattle.std.proofs.lemmas.Bool.{ltb-true, ltb-false}
-use Rattle.std.proofs.lemmas.List.{reverse-append, reverse-reverse, map-append}
+use Rattle.std.proofs.Common.{◌≡◌, ℕ, suc, ◌<◌, ◌≤◌, Bool, true, false, ◌&&◌, ◌||◌, List, [], ◌∷◌, ◌++◌, length, map, Option, Some, None, IfSome, refl, sym, ap, ◌∙◌, arith}
+use Rattle.std.specs.Prelude.{option_map, unwrap_or, nat_lt, if◌then◌else◌}
+use Rattle.std.proofs.lemmas.Bool.{false≢true, ltb-true, ltb-false}
 use Rattle.path_shape.specs.declared.shape.FieldClass.{FieldClass}
 use Rattle.path_shape.specs.Patterns.{Pattern, covers, matches, goes_past, longer, longest, class_or, class_at, is_open}
-use Rattle.path_shape.specs.Walk.{Going, pattern_from, in_order, patterns_in, goes_on, narrow, pushed, ends, found_in}
+use Rattle.path_shape.specs.Walk.{Going, pattern_from, patterns_in, is_any, goes_on, narrow, ends_on, ending}
 
 abbrev pub Found : Type 0
 Found = ℕ × FieldClass
@@ -146,17 +145,16 @@ pub or_true : (a : Bool) → (a || true) ≡ true
 or_true true = refl
 or_true false = refl
 
-pub in_order-cons : (p : Going) (ps : List Going) → reverse (p ∷ ps) ≡ reverse ps ++ (p ∷ [])
-in_order-cons p ps = reverse-append (p ∷ []) ps
-
 -- where there is a pattern, the path is open
-pub some_open : (forward : Bool) (ps : List Going) (p : Going) (rest : List Going) → ps ≡ p ∷ rest → is_open (patterns_in forward ps) [] ≡ true
-some_open true ps p rest e = rw e refl
-some_open false ps p rest e =
-    rw e (ap (λ l. is_open (map pattern_from l) []) (in_order-cons p rest) ∙ ap (λ l. is_open l []) (map-append pattern_from (reverse rest) (p ∷ []))
-    ∙ is_open-append (map pattern_from (reverse rest)) (map pattern_from (p ∷ [])) [] ∙ or_true (is_open (map pattern_from (reverse rest)) []))
+pub any_open : (ps : List Going) → is_any ps ≡ true → is_open (patterns_in ps) [] ≡ true
+any_open [] any = absurd (false≢true any)
+any_open (p ∷ ps) any = refl
 
-goes_on-append : (ts : List (List ℕ)) (c : FieldClass) (ps qs : List Going) → goes_on ts c (ps ++ qs) ≡ goes_on ts c ps ++ qs
+pub none_left : (ps : List Going) → is_any ps ≡ false → ps ≡ []
+none_left [] any = refl
+none_left (p ∷ ps) any = absurd (false≢true (sym any))
+
+pub goes_on-append : (ts : List (List ℕ)) (c : FieldClass) (ps qs : List Going) → goes_on ts c (ps ++ qs) ≡ goes_on ts c ps ++ qs
 goes_on-append [] c ps qs = refl
 goes_on-append (t ∷ ts) c ps qs = refl
 
@@ -169,49 +167,6 @@ narrow-append name (p ∷ ps) qs = go (narrow-append name ps qs) (covers p.0 nam
     go rest true = ap (goes_on p.1.0 p.1.1) rest ∙ goes_on-append p.1.0 p.1.1 (narrow name ps) (narrow name qs)
     go rest false = rest
 
-pub turned : (p : Going) (ps kept : List Going) → reverse (p ∷ ps) ++ kept ≡ reverse ps ++ (p ∷ kept)
-turned p ps kept = ap (λ l. l ++ kept) (in_order-cons p ps) ∙ append_assoc (reverse ps) (p ∷ []) kept
-
-pushed_step : (name : List ℕ) (ts : List (List ℕ)) (c : FieldClass) (ps kept : List Going)
-    → ((kept : List Going) → pushed name ps kept ≡ reverse (narrow name ps) ++ kept)
-    → pushed name ps (goes_on ts c kept) ≡ reverse (goes_on ts c (narrow name ps)) ++ kept
-pushed_step name [] c ps kept rest = rest kept
-pushed_step name (t ∷ ts) c ps kept rest = rest ((t, (ts, c)) ∷ kept) ∙ sym (turned (t, (ts, c)) (narrow name ps) kept)
-
--- what is pushed lies turned round before what is kept
-pub pushed-narrow : (name : List ℕ) (ps kept : List Going) → pushed name ps kept ≡ reverse (narrow name ps) ++ kept
-pushed-narrow name [] kept = refl
-pushed-narrow name (p ∷ ps) kept = go (pushed-narrow name ps) (covers p.0 name)
-  where
-    go : ((kept : List Going) → pushed name ps kept ≡ reverse (narrow name ps) ++ kept) → (m : Bool)
-        → (if m then pushed name ps (goes_on p.1.0 p.1.1 kept) else pushed name ps kept) ≡ reverse (if m then goes_on p.1.0 p.1.1 (narrow name ps) else narrow name ps) ++ kept
-    go rest true = pushed_step name p.1.0 p.1.1 ps kept rest
-    go rest false = rest kept
-
-turned_one : (name : List ℕ) (p : Going) → reverse (narrow name (p ∷ [])) ≡ narrow name (p ∷ [])
-turned_one name p = go (covers p.0 name) p.1.0
-  where
-    go : (m : Bool) (ts : List (List ℕ)) → reverse (if m then goes_on ts p.1.1 [] else []) ≡ (if m then goes_on ts p.1.1 [] else [])
-    go true [] = refl
-    go true (t ∷ ts) = refl
-    go false ts = refl
-
-narrow-reverse : (name : List ℕ) (ps : List Going) → reverse (narrow name ps) ≡ narrow name (reverse ps)
-narrow-reverse name [] = refl
-narrow-reverse name (p ∷ ps) =
-    ap reverse (narrow-append name (p ∷ []) ps)
-    ∙ reverse-append (narrow name (p ∷ [])) (narrow name ps)
-    ∙ ap (λ l. l ++ reverse (narrow name (p ∷ []))) (narrow-reverse name ps)
-    ∙ ap (λ l. narrow name (reverse ps) ++ l) (turned_one name p)
-    ∙ sym (narrow-append name (reverse ps) (p ∷ []))
-    ∙ ap (narrow name) (sym (in_order-cons p ps))
-
--- a descent hands on the narrowed patterns, the other way round
-pub pushed_patterns : (forward : Bool) (name : List ℕ) (ps : List Going) → patterns_in (not forward) (pushed name ps []) ≡ map pattern_from (narrow name (in_order forward ps))
-pushed_patterns true name ps =
-    ap (λ l. map pattern_from (reverse l)) (pushed-narrow name ps [] ∙ append-nil (reverse (narrow name ps))) ∙ ap (map pattern_from) (reverse-reverse (narrow name ps))
-pushed_patterns false name ps = ap (map pattern_from) (pushed-narrow name ps [] ∙ append-nil (reverse (narrow name ps)) ∙ narrow-reverse name ps)
-
 abbrev pub first_or : Option FieldClass → Option FieldClass → Option FieldClass
 first_or None later = later
 first_or (Some found) later = Some found
@@ -220,35 +175,22 @@ pub first_or-none : (found : Option FieldClass) → first_or found None ≡ foun
 first_or-none None = refl
 first_or-none (Some found) = refl
 
-pub first_or-assoc : (a b c : Option FieldClass) → first_or (first_or a b) c ≡ first_or a (first_or b c)
-first_or-assoc None b c = refl
-first_or-assoc (Some a) b c = refl
-
--- the class of the first pattern that ends at one more token
-abbrev ended : List (List ℕ) → FieldClass → Option FieldClass → Option FieldClass
-ended [] class rest = Some class
-ended (t ∷ ts) class rest = rest
-
-abbrev first_ended : List ℕ → List Going → Option FieldClass
-first_ended name [] = None
-first_ended name (p ∷ ps) = if covers p.0 name then ended p.1.0 p.1.1 (first_ended name ps) else first_ended name ps
-
 one_step : (c : FieldClass) (rest : Option FieldClass) → ◌≡◌ {A = Option Found} (Some (longer (1, c) (option_map (λ k. (1, k)) rest))) (Some (1, c))
 one_step c None = refl
 one_step c (Some k) = refl
 
-longest-ended : (name : List ℕ) (ps : List Going) → longest (name ∷ []) (map pattern_from ps) ≡ option_map (λ k. (1, k)) (first_ended name ps)
+longest-ended : (name : List ℕ) (ps : List Going) → longest (name ∷ []) (map pattern_from ps) ≡ option_map (λ k. (1, k)) (ending name ps)
 longest-ended name [] = refl
 longest-ended name ((t, ([], c)) ∷ ps) = go (longest-ended name ps) (covers t name) refl
   where
-    go : longest (name ∷ []) (map pattern_from ps) ≡ option_map (λ k. (1, k)) (first_ended name ps) → (m : Bool) → covers t name ≡ m
-        → longest (name ∷ []) (map pattern_from ((t, ([], c)) ∷ ps)) ≡ option_map (λ k. (1, k)) (first_ended name ((t, ([], c)) ∷ ps))
-    go rest true m = rw m (ap (λ l. Some (longer (1, c) l)) rest ∙ one_step c (first_ended name ps))
+    go : longest (name ∷ []) (map pattern_from ps) ≡ option_map (λ k. (1, k)) (ending name ps) → (m : Bool) → covers t name ≡ m
+        → longest (name ∷ []) (map pattern_from ((t, ([], c)) ∷ ps)) ≡ option_map (λ k. (1, k)) (ending name ((t, ([], c)) ∷ ps))
+    go rest true m = rw m (ap (λ l. Some (longer (1, c) l)) rest ∙ one_step c (ending name ps))
     go rest false m = rw m rest
 longest-ended name ((t, (u ∷ us, c)) ∷ ps) = go (longest-ended name ps) (covers t name) refl
   where
-    go : longest (name ∷ []) (map pattern_from ps) ≡ option_map (λ k. (1, k)) (first_ended name ps) → (m : Bool) → covers t name ≡ m
-        → longest (name ∷ []) (map pattern_from ((t, (u ∷ us, c)) ∷ ps)) ≡ option_map (λ k. (1, k)) (first_ended name ((t, (u ∷ us, c)) ∷ ps))
+    go : longest (name ∷ []) (map pattern_from ps) ≡ option_map (λ k. (1, k)) (ending name ps) → (m : Bool) → covers t name ≡ m
+        → longest (name ∷ []) (map pattern_from ((t, (u ∷ us, c)) ∷ ps)) ≡ option_map (λ k. (1, k)) (ending name ((t, (u ∷ us, c)) ∷ ps))
     go rest true m = rw m rest
     go rest false m = rw m rest
 
@@ -256,58 +198,15 @@ class_or-ended : (class : FieldClass) (o : Option FieldClass) → class_or class
 class_or-ended class None = refl
 class_or-ended class (Some k) = refl
 
-class_at-one : (class : FieldClass) (name : List ℕ) (ps : List Going) → class_at class (map pattern_from ps) (name ∷ []) ≡ unwrap_or (first_ended name ps) class
-class_at-one class name ps = ap (class_or class) (longest-ended name ps) ∙ class_or-ended class (first_ended name ps)
+pub class_at-one : (class : FieldClass) (name : List ℕ) (ps : List Going) → class_at class (map pattern_from ps) (name ∷ []) ≡ unwrap_or (ending name ps) class
+class_at-one class name ps = ap (class_or class) (longest-ended name ps) ∙ class_or-ended class (ending name ps)
 
-found_forward : (name : List ℕ) (ps : List Going) (found : Option FieldClass) → found_in true name ps found ≡ first_or found (first_ended name ps)
-found_forward name [] found = sym (first_or-none found)
-found_forward name (p ∷ ps) found = go (found_forward name ps) (covers p.0 name) p.1.0 found
+pub ending-append : (name : List ℕ) (ps qs : List Going) → ending name (ps ++ qs) ≡ first_or (ending name ps) (ending name qs)
+ending-append name [] qs = refl
+ending-append name (p ∷ ps) qs = go (ending-append name ps qs) (covers p.0 name) p.1.0
   where
-    go : ((found : Option FieldClass) → found_in true name ps found ≡ first_or found (first_ended name ps)) → (m : Bool) (ts : List (List ℕ)) (found : Option FieldClass)
-        → (if m then found_in true name ps (ends true ts p.1.1 found) else found_in true name ps found) ≡ first_or found (if m then ended ts p.1.1 (first_ended name ps) else first_ended name ps)
-    go rest true [] None = rest (Some p.1.1)
-    go rest true [] (Some f) = rest (Some f)
-    go rest true (t ∷ ts) found = rest found
-    go rest false ts found = rest found
-
-first_ended-append : (name : List ℕ) (ps qs : List Going) → first_ended name (ps ++ qs) ≡ first_or (first_ended name ps) (first_ended name qs)
-first_ended-append name [] qs = refl
-first_ended-append name (p ∷ ps) qs = go (first_ended-append name ps qs) (covers p.0 name) p.1.0
-  where
-    go : first_ended name (ps ++ qs) ≡ first_or (first_ended name ps) (first_ended name qs) → (m : Bool) (ts : List (List ℕ))
-        → (if m then ended ts p.1.1 (first_ended name (ps ++ qs)) else first_ended name (ps ++ qs)) ≡ first_or (if m then ended ts p.1.1 (first_ended name ps) else first_ended name ps) (first_ended name qs)
+    go : ending name (ps ++ qs) ≡ first_or (ending name ps) (ending name qs) → (m : Bool) (ts : List (List ℕ))
+        → (if m then ends_on ts p.1.1 (ending name (ps ++ qs)) else ending name (ps ++ qs)) ≡ first_or (if m then ends_on ts p.1.1 (ending name ps) else ending name ps) (ending name qs)
     go rest true [] = refl
     go rest true (t ∷ ts) = rest
     go rest false ts = rest
-
-later_found : (name : List ℕ) (p : Going) (found : Option FieldClass) → (if covers p.0 name then ends false p.1.0 p.1.1 found else found) ≡ first_or (first_ended name (p ∷ [])) found
-later_found name p found = go (covers p.0 name) p.1.0 found
-  where
-    go : (m : Bool) (ts : List (List ℕ)) (found : Option FieldClass) → (if m then ends false ts p.1.1 found else found) ≡ first_or (if m then ended ts p.1.1 None else None) found
-    go true [] None = refl
-    go true [] (Some f) = refl
-    go true (t ∷ ts) found = refl
-    go false ts found = refl
-
-found_chosen : (name : List ℕ) (p : Going) (ps : List Going) (found : Option FieldClass)
-    → (if covers p.0 name then found_in false name ps (ends false p.1.0 p.1.1 found) else found_in false name ps found) ≡ found_in false name ps (if covers p.0 name then ends false p.1.0 p.1.1 found else found)
-found_chosen name p ps found = go (covers p.0 name)
-  where
-    go : (m : Bool) → (if m then found_in false name ps (ends false p.1.0 p.1.1 found) else found_in false name ps found) ≡ found_in false name ps (if m then ends false p.1.0 p.1.1 found else found)
-    go true = refl
-    go false = refl
-
-found_backward : (name : List ℕ) (ps : List Going) (found : Option FieldClass) → found_in false name ps found ≡ first_or (first_ended name (reverse ps)) found
-found_backward name [] found = refl
-found_backward name (p ∷ ps) found =
-    found_chosen name p ps found
-    ∙ ap (found_in false name ps) (later_found name p found)
-    ∙ found_backward name ps (first_or (first_ended name (p ∷ [])) found)
-    ∙ sym (first_or-assoc (first_ended name (reverse ps)) (first_ended name (p ∷ [])) found)
-    ∙ ap (λ o. first_or o found) (sym (first_ended-append name (reverse ps) (p ∷ [])) ∙ ap (first_ended name) (sym (in_order-cons p ps)))
-
--- a descent finds the class of the child's path
-pub found_class : (forward : Bool) (class : FieldClass) (name : List ℕ) (ps : List Going) → unwrap_or (found_in forward name ps None) class ≡ class_at class (patterns_in forward ps) (name ∷ [])
-found_class true class name ps = ap (λ o. unwrap_or o class) (found_forward name ps None) ∙ sym (class_at-one class name ps)
-found_class false class name ps =
-    ap (λ o. unwrap_or o class) (found_backward name ps None ∙ first_or-none (first_ended name (reverse ps))) ∙ sym (class_at-one class name (reverse ps))

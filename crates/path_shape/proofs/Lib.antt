@@ -4,6 +4,7 @@ pub mod EntryLemmas
 pub mod FormLemmas
 pub mod HoldLemmas
 pub mod Measures
+pub mod PassLemmas
 pub mod PathLemmas
 pub mod SameLemmas
 pub mod WalkLemmas

@@ -1,6 +1,7 @@
 -- Agreement at every path, one token at a time.
-use Rattle.std.proofs.Common.{◌≡◌, ℕ, ◌⊎◌, inl, inr, Bool, true, false, IsTrue, IsSome, List, [], ◌∷◌, ◌++◌, map, Option, Some, None, refl, sym, ap, subst, ◌∙◌, rules}
-use Rattle.std.specs.Prelude.{unwrap_or, not}
+use Rattle.std.proofs.Common.{◌≡◌, ℕ, ◌⊎◌, inl, inr, Bool, true, false, IsTrue, IsSome, List, [], ◌∷◌, ◌++◌, map, Option, Some, None, refl, sym, subst, ◌∙◌, rules}
+use Rattle.std.specs.Prelude.{unwrap_or, ◌↔◌}
+use Rattle.std.proofs.lemmas.Bool.{false≢true}
 use Rattle.json_tree.specs.Meaning.{Meaning}
 use Rattle.path_shape.specs.declared.shape.FieldClass.{FieldClass}
 use Rattle.path_shape.specs.declared.shape.FieldClass.TheVariants.{Asked, Defaulted, Owned, Kept}
@@ -9,10 +10,10 @@ use Rattle.path_shape.specs.declared.part.Part.TheVariants.{Absent, Member, Item
 use Rattle.path_shape.specs.declared.spot.Spot.{Spot}
 use Rattle.path_shape.specs.Forms.{child_in, at}
 use Rattle.path_shape.specs.Patterns.{Pattern, class_at, is_open}
-use Rattle.path_shape.specs.Agreement.{FitsOpen, FitsHere, FitsAt, Fits}
-use Rattle.path_shape.specs.Walk.{form, whole, Going, pattern_from, in_order, patterns_in, narrow, pushed, found_in, FitsSpot, FitsUnder, IsDone}
+use Rattle.path_shape.specs.Agreement.{FitsClosed, FitsOpen, FitsHere, FitsAt, Fits}
+use Rattle.path_shape.specs.Walk.{form, whole, Going, pattern_from, patterns_in, is_any, narrow, ending, FitsSpot, FitsUnder, IsDone}
 use Rattle.path_shape.proofs.FormLemmas.{left_none, child_none}
-use Rattle.path_shape.proofs.ClassLemmas.{class_at-down, is_open-down, class_at-root, some_open, pushed_patterns, found_class}
+use Rattle.path_shape.proofs.ClassLemmas.{class_at-down, is_open-down, class_at-root, class_at-one, any_open}
 
 module _ (class : FieldClass) (ps : List Going) (had : Bool) (o a r : Option Meaning) where
   abbrev Under : List ℕ → Type 0
@@ -89,52 +90,60 @@ some_or_none (Some t) = inl (search rules)
 abbrev pub Fields3 : Type 0
 Fields3 = Option Meaning × Option Meaning × Option Meaning
 
-module _ (class : FieldClass) (forward : Bool) (ps : List Going) (spot : Spot) where
-  every_name : ((name : List ℕ) → IsSome (child_in name (whole spot.old)) → IsDone Absent Absent class forward ps spot name)
-      → ((name : List ℕ) → IsSome (child_in name (whole spot.asked)) → IsDone spot.old Absent class forward ps spot name)
-      → ((name : List ℕ) → IsSome (child_in name (whole spot.answered)) → IsDone spot.old spot.asked class forward ps spot name)
-      → (name : List ℕ) → FitsUnder class forward ps spot name
+module _ (class : FieldClass) (ps : List Going) (spot : Spot) where
+  every_name : ((name : List ℕ) → IsSome (child_in name (whole spot.old)) → IsDone Absent Absent class ps spot name)
+      → ((name : List ℕ) → IsSome (child_in name (whole spot.asked)) → IsDone spot.old Absent class ps spot name)
+      → ((name : List ℕ) → IsSome (child_in name (whole spot.answered)) → IsDone spot.old spot.asked class ps spot name)
+      → (name : List ℕ) → FitsUnder class ps spot name
   every_name first second third name = of_old (some_or_none (child_in name (whole spot.old))) (some_or_none (child_in name (whole spot.asked))) (some_or_none (child_in name (whole spot.answered)))
     where
-      by_old : IsSome (child_in name (whole spot.old)) → FitsUnder class forward ps spot name
+      by_old : IsSome (child_in name (whole spot.old)) → FitsUnder class ps spot name
       by_old some = elim (first name some) [ inl h ↦ absurd (no_child h) | inr h ↦ elim h [ inl h ↦ absurd (no_child h) | inr h ↦ h ] ]
         where
           no_child : IsSome (child_in name (whole Absent)) → ⊥
           no_child h = search rules
 
-      by_asked : IsSome (child_in name (whole spot.asked)) → FitsUnder class forward ps spot name
+      by_asked : IsSome (child_in name (whole spot.asked)) → FitsUnder class ps spot name
       by_asked some = elim (second name some) [ inl h ↦ by_old h | inr h ↦ elim h [ inl h ↦ absurd (no_child h) | inr h ↦ h ] ]
         where
           no_child : IsSome (child_in name (whole Absent)) → ⊥
           no_child h = search rules
 
-      by_answered : IsSome (child_in name (whole spot.answered)) → FitsUnder class forward ps spot name
+      by_answered : IsSome (child_in name (whole spot.answered)) → FitsUnder class ps spot name
       by_answered some = elim (third name some) [ inl h ↦ by_old h | inr h ↦ elim h [ inl h ↦ by_asked h | inr h ↦ h ] ]
 
       of_old : IsSome (child_in name (whole spot.old)) ⊎ (child_in name (whole spot.old) ≡ None) → IsSome (child_in name (whole spot.asked)) ⊎ (child_in name (whole spot.asked) ≡ None)
-          → IsSome (child_in name (whole spot.answered)) ⊎ (child_in name (whole spot.answered) ≡ None) → FitsUnder class forward ps spot name
+          → IsSome (child_in name (whole spot.answered)) ⊎ (child_in name (whole spot.answered) ≡ None) → FitsUnder class ps spot name
       of_old (inl some) a r = by_old some
       of_old (inr none) (inl some) r = by_asked some
       of_old (inr none) (inr none') (inl some) = by_answered some
       of_old (inr none) (inr none') (inr none'') =
           let three : ◌≡◌ {A = Fields3} (None, None, None) (child_in name (form spot.old), child_in name (form spot.asked), child_in name (form spot.answered)) =
           λ i. (sym (absent_form spot.old name none) i, sym (absent_form spot.asked name none') i, sym (absent_form spot.answered name none'') i) in
-          let P : Fields3 → Type 0 = λ z. Fits (class_at class (patterns_in forward ps) (name ∷ [])) (map pattern_from (narrow name (in_order forward ps))) spot.had z.0 z.1 z.2 in
-          subst P three (Fits-none (class_at class (patterns_in forward ps) (name ∷ [])) (map pattern_from (narrow name (in_order forward ps))) spot.had)
+          let P : Fields3 → Type 0 = λ z. Fits (class_at class (patterns_in ps) (name ∷ [])) (patterns_in (narrow name ps)) spot.had z.0 z.1 z.2 in
+          subst P three (Fits-none (class_at class (patterns_in ps) (name ∷ [])) (patterns_in (narrow name ps)) spot.had)
 
-  pub fits_all : (p : Going) (rest : List Going) → ps ≡ p ∷ rest → FitsOpen class spot.had (form spot.old) (form spot.asked) (form spot.answered)
-      → ((name : List ℕ) → IsSome (child_in name (whole spot.old)) → IsDone Absent Absent class forward ps spot name)
-      → ((name : List ℕ) → IsSome (child_in name (whole spot.asked)) → IsDone spot.old Absent class forward ps spot name)
-      → ((name : List ℕ) → IsSome (child_in name (whole spot.answered)) → IsDone spot.old spot.asked class forward ps spot name)
-      → FitsSpot class (patterns_in forward ps) spot
-  fits_all p rest some here first second third =
-      Fits-up class (in_order forward ps) spot.had (form spot.old) (form spot.asked) (form spot.answered) (some_open forward ps p rest some) here (every_name first second third)
+  pub fits_all : is_any ps ≡ true → FitsOpen class spot.had (form spot.old) (form spot.asked) (form spot.answered)
+      → ((name : List ℕ) → IsSome (child_in name (whole spot.old)) → IsDone Absent Absent class ps spot name)
+      → ((name : List ℕ) → IsSome (child_in name (whole spot.asked)) → IsDone spot.old Absent class ps spot name)
+      → ((name : List ℕ) → IsSome (child_in name (whole spot.answered)) → IsDone spot.old spot.asked class ps spot name)
+      → FitsSpot class (patterns_in ps) spot
+  fits_all any here first second third =
+      Fits-up class ps spot.had (form spot.old) (form spot.asked) (form spot.answered) (any_open ps any) here (every_name first second third)
 
-  pub fits_open_part : (p : Going) (rest : List Going) → ps ≡ p ∷ rest → FitsSpot class (patterns_in forward ps) spot → FitsOpen class spot.had (form spot.old) (form spot.asked) (form spot.answered)
-  fits_open_part p rest some h = Fits-open class (in_order forward ps) spot.had (form spot.old) (form spot.asked) (form spot.answered) (some_open forward ps p rest some) h
+  pub fits_open_part : is_any ps ≡ true → FitsSpot class (patterns_in ps) spot → FitsOpen class spot.had (form spot.old) (form spot.asked) (form spot.answered)
+  fits_open_part any h = Fits-open class ps spot.had (form spot.old) (form spot.asked) (form spot.answered) (any_open ps any) h
 
-  pub fits_child : (p : Going) (rest : List Going) → ps ≡ p ∷ rest → FitsSpot class (patterns_in forward ps) spot → (name : List ℕ) → FitsUnder class forward ps spot name
-  fits_child p rest some h = Fits-under class (in_order forward ps) spot.had (form spot.old) (form spot.asked) (form spot.answered) (some_open forward ps p rest some) h
+  pub fits_child : is_any ps ≡ true → FitsSpot class (patterns_in ps) spot → (name : List ℕ) → FitsUnder class ps spot name
+  fits_child any h = Fits-under class ps spot.had (form spot.old) (form spot.asked) (form spot.answered) (any_open ps any) h
+
+-- where no pattern goes past a spot, the spot alone decides
+pub fits_none_past : (class : FieldClass) (ps : List Going) (spot : Spot) → ps ≡ []
+    → (FitsClosed class spot.had (form spot.old) (form spot.asked) (form spot.answered)) ↔ FitsSpot class (patterns_in ps) spot
+fits_none_past class ps spot none = (
+  λ h. subst (λ l. FitsSpot class (patterns_in l) spot) (sym none) (record { here = h; below = λ path token past. absurd (false≢true past) }),
+  λ f. (subst (λ l. FitsSpot class (patterns_in l) spot) none f).here,
+)
 
 abbrev Six : Type 0
 Six = FieldClass × List Pattern × Bool × Option Meaning × Option Meaning × Option Meaning
@@ -142,15 +151,16 @@ Six = FieldClass × List Pattern × Bool × Option Meaning × Option Meaning × 
 abbrev FitsSix : Six → Type 0
 FitsSix z = Fits z.0 z.1 z.2 z.3 z.4 z.5
 
--- what a descent answers of a child
-module _ (class : FieldClass) (forward : Bool) (ps kept : List Going) (spot child : Spot) (name : List ℕ)
-    (bare : kept ≡ []) (had : child.had ≡ spot.had) (old : form child.old ≡ child_in name (form spot.old)) (asked : form child.asked ≡ child_in name (form spot.asked)) (answered : form child.answered ≡ child_in name (form spot.answered)) where
-  same_six : ◌≡◌ {A = Six} (unwrap_or (found_in forward name ps None) class, patterns_in (not forward) (pushed name ps kept), child.had, form child.old, form child.asked, form child.answered)
-      (class_at class (patterns_in forward ps) (name ∷ []), map pattern_from (narrow name (in_order forward ps)), spot.had, child_in name (form spot.old), child_in name (form spot.asked), child_in name (form spot.answered))
-  same_six = λ i. (found_class forward class name ps i, (ap (λ k. patterns_in (not forward) (pushed name ps k)) bare ∙ pushed_patterns forward name ps) i, had i, old i, asked i, answered i)
+-- what the walk answers of a child
+module _ (class under : FieldClass) (ps below : List Going) (spot child : Spot) (name : List ℕ)
+    (found : under ≡ unwrap_or (ending name ps) class) (narrowed : below ≡ narrow name ps) (had : child.had ≡ spot.had)
+    (old : form child.old ≡ child_in name (form spot.old)) (asked : form child.asked ≡ child_in name (form spot.asked)) (answered : form child.answered ≡ child_in name (form spot.answered)) where
+  same_six : ◌≡◌ {A = Six} (under, patterns_in below, child.had, form child.old, form child.asked, form child.answered)
+      (class_at class (patterns_in ps) (name ∷ []), patterns_in (narrow name ps), spot.had, child_in name (form spot.old), child_in name (form spot.asked), child_in name (form spot.answered))
+  same_six = λ i. ((found ∙ sym (class_at-one class name ps)) i, patterns_in (narrowed i), had i, old i, asked i, answered i)
 
-  pub to_under : FitsSpot (unwrap_or (found_in forward name ps None) class) (patterns_in (not forward) (pushed name ps kept)) child → FitsUnder class forward ps spot name
+  pub to_under : FitsSpot under (patterns_in below) child → FitsUnder class ps spot name
   to_under h = subst FitsSix same_six h
 
-  pub from_under : FitsUnder class forward ps spot name → FitsSpot (unwrap_or (found_in forward name ps None) class) (patterns_in (not forward) (pushed name ps kept)) child
+  pub from_under : FitsUnder class ps spot name → FitsSpot under (patterns_in below) child
   from_under h = subst FitsSix (sym same_six) h

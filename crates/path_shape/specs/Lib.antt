@@ -3,7 +3,8 @@ pub mod Beginning
 pub mod Forms
 pub mod Holding
 pub mod Merge
+pub mod Names
+pub mod Passing
 pub mod Patterns
 pub mod Reading
-pub mod Tails
 pub mod Walk

@@ -1,5 +1,5 @@
 -- What the walk over the trees keeps, and what it means.
-use Rattle.std.specs.Prelude.{ℕ, ◌⊎◌, Bool, true, false, IsSome, List, [], ◌∷◌, reverse, map, Option, Some, None, if◌then◌else◌}
+use Rattle.std.specs.Prelude.{ℕ, ◌⊎◌, Bool, true, false, IsSome, List, [], ◌∷◌, map, Option, Some, None, if◌then◌else◌}
 use Rattle.json_tree.specs.Meaning.{Meaning, null, flag, whole as number, words, items, members, no_kids, no_fields}
 use Rattle.path_shape.specs.declared.part.Part.{Part}
 use Rattle.path_shape.specs.declared.part.Part.TheVariants.{Absent, Member, Item}
@@ -38,13 +38,12 @@ Going = List ℕ × (List (List ℕ) × FieldClass)
 abbrev pub pattern_from : Going → Pattern
 pattern_from p = (p.0 ∷ p.1.0, p.1.1)
 
--- the list lies in the order of the patterns, or turned round
-abbrev pub in_order : Bool → List Going → List Going
-in_order true ps = ps
-in_order false ps = reverse ps
+abbrev pub patterns_in : List Going → List Pattern
+patterns_in ps = map pattern_from ps
 
-abbrev pub patterns_in : Bool → List Going → List Pattern
-patterns_in forward ps = map pattern_from (in_order forward ps)
+abbrev pub is_any : List Going → Bool
+is_any [] = false
+is_any (p ∷ ps) = true
 
 -- what goes on past one more token
 abbrev pub goes_on : List (List ℕ) → FieldClass → List Going → List Going
@@ -55,36 +54,25 @@ abbrev pub narrow : List ℕ → List Going → List Going
 narrow name [] = []
 narrow name (p ∷ ps) = if covers p.0 name then goes_on p.1.0 p.1.1 (narrow name ps) else narrow name ps
 
--- the same, laid before others one by one
-abbrev pub pushed : List ℕ → List Going → List Going → List Going
-pushed name [] kept = kept
-pushed name (p ∷ ps) kept = if covers p.0 name then pushed name ps (goes_on p.1.0 p.1.1 kept) else pushed name ps kept
+-- the class of the first that ends at one more token
+abbrev pub ends_on : List (List ℕ) → FieldClass → Option FieldClass → Option FieldClass
+ends_on [] class rest = Some class
+ends_on (token ∷ tokens) class rest = rest
 
--- of two patterns that end at a path, the class of the one that counts
-abbrev pub sooner : Bool → Option FieldClass → FieldClass → FieldClass
-sooner forward None class = class
-sooner true (Some found) class = found
-sooner false (Some found) class = class
-
--- the class of what ends at one more token, beside what was found before
-abbrev pub ends : Bool → List (List ℕ) → FieldClass → Option FieldClass → Option FieldClass
-ends forward [] class found = Some (sooner forward found class)
-ends forward (token ∷ tokens) class found = found
-
-abbrev pub found_in : Bool → List ℕ → List Going → Option FieldClass → Option FieldClass
-found_in forward name [] found = found
-found_in forward name (p ∷ ps) found = if covers p.0 name then found_in forward name ps (ends forward p.1.0 p.1.1 found) else found_in forward name ps found
+abbrev pub ending : List ℕ → List Going → Option FieldClass
+ending name [] = None
+ending name (p ∷ ps) = if covers p.0 name then ends_on p.1.0 p.1.1 (ending name ps) else ending name ps
 
 abbrev pub FitsSpot : FieldClass → List Pattern → Spot → Type 0
 FitsSpot class patterns spot = Fits class patterns spot.had (form spot.old) (form spot.asked) (form spot.answered)
 
 -- the parts of a child fit
-abbrev pub FitsUnder : FieldClass → Bool → List Going → Spot → List ℕ → Type 0
-FitsUnder class forward ps spot name =
-    Fits (class_at class (patterns_in forward ps) (name ∷ [])) (map pattern_from (narrow name (in_order forward ps))) spot.had
+abbrev pub FitsUnder : FieldClass → List Going → Spot → List ℕ → Type 0
+FitsUnder class ps spot name =
+    Fits (class_at class (patterns_in ps) (name ∷ [])) (patterns_in (narrow name ps)) spot.had
     (child_in name (form spot.old)) (child_in name (form spot.asked)) (child_in name (form spot.answered))
 
 -- a child that was seen before, or whose parts fit
-abbrev pub IsDone : Part → Part → FieldClass → Bool → List Going → Spot → List ℕ → Type 0
-IsDone done done_too class forward ps spot name =
-    IsSome (child_in name (whole done)) ⊎ (IsSome (child_in name (whole done_too)) ⊎ FitsUnder class forward ps spot name)
+abbrev pub IsDone : Part → Part → FieldClass → List Going → Spot → List ℕ → Type 0
+IsDone done done_too class ps spot name =
+    IsSome (child_in name (whole done)) ⊎ (IsSome (child_in name (whole done_too)) ⊎ FitsUnder class ps spot name)

@@ -1,11 +1,11 @@
-ghost use Rattle.std.specs.Prelude.{◌≡◌, ◌↔◌, IsTrue, true, false, option_map, option_and_then, unwrap_or};
+ghost use Rattle.std.specs.Prelude.{◌≡◌, ◌↔◌, [], IsTrue, option_map, option_and_then};
 ghost use Rattle.path_shape.specs.Agreement.{Agrees, Keeps};
-ghost use Rattle.path_shape.specs.Patterns.{unasked};
+ghost use Rattle.path_shape.specs.Beginning.{root_class};
 ghost use Rattle.path_shape.specs.Forms.{left_root};
+ghost use Rattle.path_shape.specs.Passing.{past};
 ghost use Rattle.path_shape.specs.Walk.{form, patterns_in, FitsSpot};
-ghost use Rattle.path_shape.specs.Beginning.{read_as, root_class, started, kept_before, built_in_before};
 
-use crate::live::{Live, Tail};
+use crate::live::{Live, Way, read_as};
 use crate::part::Part;
 use crate::shape::{FieldClass, Shape, ShapeEntry};
 use crate::spot::Spot;
@@ -23,14 +23,7 @@ pub fn agrees(shape: &Shape, old: Option<&Tree>, asked: &Tree, answered: &Tree) 
         asked: Part::root(asked),
         answered: Part::root(answered),
     };
-    start(
-        shape.entries.as_slice(),
-        &Live::none(),
-        None,
-        shape.root,
-        false,
-        spot,
-    )
+    fits_all(shape.entries.as_slice(), shape.root, false, spot)
 }
 
 /// Whether an answered object is the old one but for the marks of a deletion, its finalizers, its generation and
@@ -44,19 +37,7 @@ pub fn keeps(shape: &Shape, old: &Tree, answered: &Tree) -> bool
         asked: Part::root(old),
         answered: Part::root(answered),
     };
-    let none = Live::none();
-    let time = Live::in_metadata("deletionTimestamp", FieldClass::Owned, &none);
-    let period = Live::in_metadata("deletionGracePeriodSeconds", FieldClass::Owned, &time);
-    let finalizers = Live::in_metadata("finalizers", FieldClass::Owned, &period);
-    let generation = Live::in_metadata("generation", FieldClass::Owned, &finalizers);
-    start(
-        shape.entries.as_slice(),
-        &generation,
-        None,
-        shape.root,
-        true,
-        spot,
-    )
+    fits_all(shape.entries.as_slice(), shape.root, true, spot)
 }
 
 fn root_of<'a>(tree: Option<&'a Tree>) -> Part<'a>
@@ -68,87 +49,27 @@ fn root_of<'a>(tree: Option<&'a Tree>) -> Part<'a>
     }
 }
 
-// How a class is read where nothing is asked, and else.
-fn read_as(unasked: bool, class: FieldClass) -> FieldClass
-    ensures { result ≡ read_as unasked class }
+// The class of the root: that of the first entry for it, or else the shape's.
+fn root_class(entries: &[ShapeEntry], root: FieldClass, unasked: bool) -> FieldClass
+    ensures { result ≡ root_class unasked entries.now root }
 {
-    match class {
-        FieldClass::Owned => FieldClass::Owned,
-        FieldClass::Kept => FieldClass::Kept,
-        FieldClass::Asked => {
-            if unasked {
-                FieldClass::Kept
-            } else {
-                FieldClass::Asked
-            }
-        }
-        FieldClass::Defaulted => {
-            if unasked {
-                FieldClass::Kept
-            } else {
-                FieldClass::Defaulted
-            }
+    for entry in entries {
+        if entry.path.is_empty() {
+            return read_as(unasked, entry.class);
         }
     }
+    read_as(unasked, root)
 }
 
-// Lays the patterns of the entries before those that are there, so that the list lies turned round. An entry for
-// the root gives its class.
-fn start<'l>(
-    entries: &'l [ShapeEntry],
-    live: &'l Live<'l>,
-    found: Option<FieldClass>,
-    root: FieldClass,
-    unasked: bool,
-    spot: Spot<'_>,
-) -> bool
-    ensures { IsTrue result ↔ FitsSpot (root_class unasked entries.now found root) (patterns_in false (built_in_before unasked (started unasked entries.now live.now))) spot.entry }
+// Whether all parts fit, from the root on.
+fn fits_all(entries: &[ShapeEntry], root: FieldClass, unasked: bool, spot: Spot<'_>) -> bool
+    ensures { IsTrue result ↔ FitsSpot (root_class unasked entries.now root) (patterns_in (past unasked entries.now [])) spot.entry }
 {
-    match entries {
-        [] => {
-            let class = found.unwrap_or(read_as(unasked, root));
-            fits_built_in(live, class, unasked, spot)
-        }
-        [entry, rest @ ..] => {
-            let class = read_as(unasked, entry.class);
-            match entry.path.as_slice() {
-                [] => start(
-                    rest,
-                    &*live,
-                    Some(found.unwrap_or(class)),
-                    root,
-                    unasked,
-                    spot,
-                ),
-                [token, behind @ ..] => {
-                    let more = Live::linked(token.as_str(), Tail::Tokens(behind), class, &*live);
-                    start(rest, &more, found, root, unasked, spot)
-                }
-            }
-        }
-    }
-}
-
-// Lays the built-in patterns before the others, and walks.
-fn fits_built_in<'l>(live: &'l Live<'l>, class: FieldClass, unasked: bool, spot: Spot<'_>) -> bool
-    ensures { IsTrue result ↔ FitsSpot class (patterns_in false (built_in_before unasked live.now)) spot.entry }
-{
-    let defaulted = read_as(unasked, FieldClass::Defaulted);
-    let name = Live::in_metadata("name", defaulted, &*live);
-    let namespace = Live::in_metadata("namespace", defaulted, &name);
-    let revision = Live::in_metadata("resourceVersion", FieldClass::Owned, &namespace);
-    let generation = Live::in_metadata("generation", FieldClass::Owned, &revision);
-    let link = Live::in_metadata("selfLink", FieldClass::Owned, &generation);
-    fits_kept(&link, class, spot)
-}
-
-// The same for those of what the server keeps.
-fn fits_kept<'l>(live: &'l Live<'l>, class: FieldClass, spot: Spot<'_>) -> bool
-    ensures { IsTrue result ↔ FitsSpot class (patterns_in false (kept_before live.now)) spot.entry }
-{
-    let uid = Live::in_metadata("uid", FieldClass::Kept, &*live);
-    let creation = Live::in_metadata("creationTimestamp", FieldClass::Kept, &uid);
-    let deletion = Live::in_metadata("deletionTimestamp", FieldClass::Kept, &creation);
-    let period = Live::in_metadata("deletionGracePeriodSeconds", FieldClass::Kept, &deletion);
-    fits(&period, false, class, spot)
+    let way = Way::root();
+    let live = Live {
+        unasked,
+        entries,
+        way: &way,
+    };
+    fits(live, root_class(entries, root, unasked), spot)
 }
