@@ -14,7 +14,8 @@ use Rattle.std.proofs.lemmas.List.Elements.{Contains-append_left, Contains-push,
 use Rattle.std.proofs.lemmas.List.Sorted.{Contains-permutation, IsPermutation-sym}
 use Rattle.std.proofs.lemmas.Map.Lookups.{exact_bytes}
 use Rattle.base_types.specs.declared.key.ObjectKey.{ObjectKey}
-use Rattle.clouds.specs.Kept.{AddsAt, items_at, items_of, key_order, text_order}
+use Rattle.clouds.specs.Items.{AddsAt, items_at, items_of}
+use Rattle.clouds.specs.Kept.{key_order, text_order}
 
 -- a list has one item more
 pub record Grows {X : Type 0} (old new : List X) (item : X) : Type 0 where

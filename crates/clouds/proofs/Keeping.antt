@@ -13,13 +13,17 @@ use Rattle.base_types.specs.declared.key.Cover.{Cover}
 use Rattle.base_types.specs.declared.key.ObjectKey.{ObjectKey}
 use Rattle.clouds.specs.declared.span.KeyRevision.{KeyRevision}
 use Rattle.clouds.specs.declared.span.OpaqueSpan.{OpaqueSpan}
+use Rattle.clouds.specs.declared.wide.Wide.{Wide}
 use Rattle.clouds.specs.Clouds.{IsHiddenBy}
 use Rattle.clouds.specs.FirstPlace.{HoldsNowhere, IsFirstPlace, IsLeastPlace, earlier_of}
 use Rattle.clouds.specs.Hiding.{AreRevisionsOf, HidesKey, ReachesKey, revision_of}
-use Rattle.clouds.specs.Kept.{AddsAt, AreFiled, AreRecorded, items_at, key_order, text_order}
+use Rattle.clouds.specs.Items.{AddsAt, items_at}
+use Rattle.clouds.specs.Kept.{AreFiled, AreRecorded, key_order}
 use Rattle.clouds.specs.Latest.{IsLatest}
+use Rattle.clouds.specs.Wide.{AddsWide, AnyWide}
 use Rattle.clouds.proofs.Adding.{same_key, same_key_from}
 use Rattle.clouds.proofs.FirstPlaces.{Either, IsFirstPlace-either, IsFirstPlace-same}
+use Rattle.clouds.proofs.Fronts.{AnyWide-folder, AnyWide-weaker}
 use Rattle.clouds.proofs.Searching.{latest_from_unseen, unseen_from_latest}
 
 -- the first elements, and one more
@@ -34,14 +38,14 @@ Covers-exact cover key other names covers = same_key other key
     (subst (λ n. MatchOption n (Unit {0}) (λ namespace. other.namespace ≡ namespace)) names.namespace covers.namespace)
     (subst (λ n. TakesName n other.name) names.name covers.name)
 
-pub AreFiled-named : (named after : BTreeMap ObjectKey (List OpaqueSpan)) (wide : BTreeMap (List ℕ) (List OpaqueSpan)) (spans : List OpaqueSpan) (key : ObjectKey) (span : OpaqueSpan)
+pub AreFiled-named : (named after : BTreeMap ObjectKey (List OpaqueSpan)) (wide : Wide) (spans : List OpaqueSpan) (key : ObjectKey) (span : OpaqueSpan)
     → NamesExactly span.cover key → AddsAt key_order named after key span → AreFiled named wide spans → AreFiled after wide (spans ++ span ∷ [])
 AreFiled-named named after wide spans key span names adds filed = record {
   among_named = λ k s among. ⊎_elim
       (λ old. Contains-append_left spans (span ∷ []) s (filed.among_named k s old))
       (λ new. subst (λ x. Contains (spans ++ span ∷ []) x) (sym new.1) (Contains-push spans span))
       (adds.only k s among);
-  among_wide = λ resource s among. Contains-append_left spans (span ∷ []) s (filed.among_wide resource s among);
+  among_wide = λ folder s among. Contains-append_left spans (span ∷ []) s (filed.among_wide folder s among);
   found = λ s k among covers. ⊎_elim
       (λ old. ⊎_elim (λ there. inl (adds.kept k s there)) (λ there. inr there) (filed.found s k old covers))
       (λ is.
@@ -50,28 +54,25 @@ AreFiled-named named after wide spans key span names adds filed = record {
       (Contains-push_cases spans span s among);
 }
 
-pub AreFiled-wide : (named : BTreeMap ObjectKey (List OpaqueSpan)) (wide after : BTreeMap (List ℕ) (List OpaqueSpan)) (spans : List OpaqueSpan) (resource : List ℕ) (span : OpaqueSpan)
-    → resource ≡ span.cover.resource → AddsAt text_order wide after resource span → AreFiled named wide spans → AreFiled named after (spans ++ span ∷ [])
-AreFiled-wide named wide after spans resource span is_its adds filed = record {
+pub AreFiled-wide : (named : BTreeMap ObjectKey (List OpaqueSpan)) (wide after : Wide) (spans : List OpaqueSpan) (span : OpaqueSpan)
+    → AddsWide wide after span → AreFiled named wide spans → AreFiled named after (spans ++ span ∷ [])
+AreFiled-wide named wide after spans span adds filed = record {
   among_named = λ k s among. Contains-append_left spans (span ∷ []) s (filed.among_named k s among);
-  among_wide = λ r s among. ⊎_elim
-      (λ old. Contains-append_left spans (span ∷ []) s (filed.among_wide r s old))
-      (λ new. subst (λ x. Contains (spans ++ span ∷ []) x) (sym new.1) (Contains-push spans span))
-      (adds.only r s among);
+  among_wide = λ folder s among. ⊎_elim
+      (λ old. Contains-append_left spans (span ∷ []) s (filed.among_wide folder s old))
+      (λ is. subst (λ x. Contains (spans ++ span ∷ []) x) (sym is) (Contains-push spans span))
+      (adds.only folder s among);
   found = λ s k among covers. ⊎_elim
-      (λ old. ⊎_elim (λ there. inl there) (λ there. inr (adds.kept k.resource s there)) (filed.found s k old covers))
-      (λ is.
-      let covers_span : Covers span.cover k = subst (λ (x : OpaqueSpan). Covers x.cover k) (sym is) covers in
-      let one : k.resource ≡ resource = covers_span.resource ∙ sym is_its in
-      inr (subst (λ r. Contains (items_at text_order after r) s) (sym one) (subst (λ x. Contains (items_at text_order after resource) x) is adds.added)))
+      (λ old. ⊎_elim (λ there. inl there) (λ there. inr (adds.kept k s there)) (filed.found s k old covers))
+      (λ is. inr (subst (λ x. AnyWide after k (λ other. other ≡ x)) is (adds.added k (subst (λ (x : OpaqueSpan). Covers x.cover k) (sym is) covers))))
       (Contains-push_cases spans span s among);
 }
 
-pub AreFiled-permuted : (named : BTreeMap ObjectKey (List OpaqueSpan)) (wide : BTreeMap (List ℕ) (List OpaqueSpan)) (spans order : List OpaqueSpan) → IsPermutation spans order
+pub AreFiled-permuted : (named : BTreeMap ObjectKey (List OpaqueSpan)) (wide : Wide) (spans order : List OpaqueSpan) → IsPermutation spans order
     → AreFiled named wide order → AreFiled named wide spans
 AreFiled-permuted named wide spans order same filed = record {
   among_named = λ k s among. Contains-permutation order spans s (IsPermutation-sym spans order same) (filed.among_named k s among);
-  among_wide = λ r s among. Contains-permutation order spans s (IsPermutation-sym spans order same) (filed.among_wide r s among);
+  among_wide = λ folder s among. Contains-permutation order spans s (IsPermutation-sym spans order same) (filed.among_wide folder s among);
   found = λ s k among covers. filed.found s k (Contains-permutation spans order s same among) covers;
 }
 
@@ -105,19 +106,19 @@ AreRevisionsOf-at recorded given key revisions all is = λ n. (
   (λ among. subst (λ l. Contains l n) is (all.found (revision_of key n) among)),
 )
 
--- what holds of some span that covers the key is found under the key or under its resource
-pub Any-filed : (named : BTreeMap ObjectKey (List OpaqueSpan)) (wide : BTreeMap (List ℕ) (List OpaqueSpan)) (spans : List OpaqueSpan) (key : ObjectKey) (P : OpaqueSpan → Type 0)
-    → AreFiled named wide spans → ((s : OpaqueSpan) → P s → Covers s.cover key) → Any P spans → Any P (items_at key_order named key) ⊎ Any P (items_at text_order wide key.resource)
+-- what holds of some span that covers the key is found under the key, or where a look-up of the key finds it
+pub Any-filed : (named : BTreeMap ObjectKey (List OpaqueSpan)) (wide : Wide) (spans : List OpaqueSpan) (key : ObjectKey) (P : OpaqueSpan → Type 0)
+    → AreFiled named wide spans → ((s : OpaqueSpan) → P s → Covers s.cover key) → Any P spans → Any P (items_at key_order named key) ⊎ AnyWide wide key P
 Any-filed named wide spans key P filed covers any = ⊎_elim
     (λ there. inl (Any-contains P (items_at key_order named key) any.1 there any.4))
-    (λ there. inr (Any-contains P (items_at text_order wide key.resource) any.1 there any.4))
+    (λ there. inr (AnyWide-weaker wide key (λ s. s ≡ any.1) P (λ s is. subst P (sym is) any.4) there))
     (filed.found any.1 key (any.0, any.2, any.3) (covers any.1 any.4))
 
-pub Any-given : (named : BTreeMap ObjectKey (List OpaqueSpan)) (wide : BTreeMap (List ℕ) (List OpaqueSpan)) (spans : List OpaqueSpan) (key : ObjectKey) (P : OpaqueSpan → Type 0)
-    → AreFiled named wide spans → Any P (items_at key_order named key) ⊎ Any P (items_at text_order wide key.resource) → Any P spans
+pub Any-given : (named : BTreeMap ObjectKey (List OpaqueSpan)) (wide : Wide) (spans : List OpaqueSpan) (key : ObjectKey) (P : OpaqueSpan → Type 0)
+    → AreFiled named wide spans → Any P (items_at key_order named key) ⊎ AnyWide wide key P → Any P spans
 Any-given named wide spans key P filed either = ⊎_elim
     (λ any. Any-contains P spans any.1 (filed.among_named key any.1 (any.0, any.2, any.3)) any.4)
-    (λ any. Any-contains P spans any.1 (filed.among_wide key.resource any.1 (any.0, any.2, any.3)) any.4)
+    (λ any. let held = AnyWide-folder wide key P any in Any-contains P spans held.0 (filed.among_wide held.1 held.0 held.2) held.3)
     either
 
 -- the key's revisions as numbers, and among all revisions
@@ -147,14 +148,14 @@ reach_from_clouded spans given revisions key place latest are is any =
     Any-weaker (IsHiddenBy given key place) (ReachesKey key place latest) spans
     (λ span hidden. let hides = HidesKey-hidden given revisions key place span are hidden in (hides.0, hides.1, latest_from_unseen revisions place latest span.high is hides.2)) any
 
-pub first_clouded : (named : BTreeMap ObjectKey (List OpaqueSpan)) (wide : BTreeMap (List ℕ) (List OpaqueSpan)) (spans : List OpaqueSpan) (given : List KeyRevision) (revisions : List ℕ)
+pub first_clouded : (named : BTreeMap ObjectKey (List OpaqueSpan)) (wide : Wide) (spans : List OpaqueSpan) (given : List KeyRevision) (revisions : List ℕ)
     (key : ObjectKey) (low high : ℕ) (a b : Option ℕ) → AreFiled named wide spans → AreRevisionsOf given key revisions
     → IsFirstPlace (λ n. Any (HidesKey revisions key n) (items_at key_order named key)) low high a
-    → IsFirstPlace (λ n. Any (HidesKey revisions key n) (items_at text_order wide key.resource)) low high b
+    → IsFirstPlace (λ n. AnyWide wide key (HidesKey revisions key n)) low high b
     → IsFirstPlace (λ n. Any (IsHiddenBy given key n) spans) low high (earlier_of a b)
 first_clouded named wide spans given revisions key low high a b filed are first_named first_wide =
     let P : ℕ → Type 0 = λ n. Any (HidesKey revisions key n) (items_at key_order named key) in
-    let Q : ℕ → Type 0 = λ n. Any (HidesKey revisions key n) (items_at text_order wide key.resource) in
+    let Q : ℕ → Type 0 = λ n. AnyWide wide key (HidesKey revisions key n) in
     IsFirstPlace-same (Either P Q) (λ n. Any (IsHiddenBy given key n) spans) low high (earlier_of a b)
     (λ n either. Any-weaker (HidesKey revisions key n) (IsHiddenBy given key n) spans (λ span hides. IsHiddenBy-key given revisions key n span are hides)
     (Any-given named wide spans key (HidesKey revisions key n) filed either))

@@ -1,7 +1,9 @@
 pub mod Covered
 pub mod Adding
 pub mod FirstPlaces
+pub mod Fronts
 pub mod Joined
 pub mod Keeping
+pub mod Numbering
 pub mod Quantified
 pub mod Searching

@@ -1,7 +1,9 @@
 pub mod Clouds
 pub mod FirstPlace
 pub mod Hiding
+pub mod Items
 pub mod Kept
 pub mod Latest
 pub mod Marks
+pub mod Wide
 pub mod Writes

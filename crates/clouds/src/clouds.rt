@@ -85,7 +85,7 @@ impl Clouds {
         ensures { IsTrue result ↔ Any (ReachesKey key.now place revision) self.now.spans }
     {
         reach(self.filed.named.get(key), key, place, revision)
-            || reach(self.filed.wide.get(&key.resource), key, place, revision)
+            || self.filed.wide.reach(key, place, revision)
     }
 
     /// Whether nothing is known of the key's object at the place.
@@ -106,13 +106,7 @@ impl Clouds {
         let revisions = self.revisions_of(key);
         earlier(
             first_place(self.filed.named.get(key), key, revisions, low, high),
-            first_place(
-                self.filed.wide.get(&key.resource),
-                key,
-                revisions,
-                low,
-                high,
-            ),
+            self.filed.wide.first_place(key, revisions, low, high),
         )
     }
 

@@ -2,20 +2,22 @@ ghost use Rattle.std.specs.Prelude.{◌≡◌, [], ◌∷◌, ◌++◌, IfOk, On
 ghost use Rattle.std.specs.List.Sorted.{IsPermutation};
 ghost use Rattle.clouds.specs.declared.span.KeyRevision.{KeyRevision};
 ghost use Rattle.clouds.specs.declared.span.OpaqueSpan.{OpaqueSpan};
-ghost use Rattle.clouds.specs.Kept.{AddsAt, AreFiled, AreRecorded, key_order};
+ghost use Rattle.clouds.specs.Items.{AddsAt};
+ghost use Rattle.clouds.specs.Kept.{AreFiled, AreRecorded, key_order};
 
 use crate::recorded::Recorded;
 use crate::span::{KeyRevision, OpaqueSpan};
-use crate::unrecorded::Unrecorded;
+use crate::unrecorded::{Unrecorded, add_span};
+use crate::wide::Wide;
 use base_types::{CoverName, ObjectKey, OutOfMemory, Text, exact_key};
 use std::alloc::Global;
 use std::collections::BTreeMap;
 
-/// The unrecorded writes that one key names, by this key, and the others by their resource.
+/// The unrecorded writes that one key names, by this key, and the others by what their covers take.
 #[derive(Drop)]
 pub struct Filed {
     pub named: BTreeMap<ObjectKey, Unrecorded>,
-    pub wide: BTreeMap<Text, Unrecorded>,
+    pub wide: Wide,
 }
 
 // What spans are sorted by, so that those of one cover come together, by their lows.
@@ -61,26 +63,6 @@ fn by_cover(alloc: Global, spans: &[OpaqueSpan]) -> Result<Vec<&OpaqueSpan>, Out
     Ok(order)
 }
 
-fn add_span<K: Ord + Drop>(
-    alloc: Global,
-    spans: &mut BTreeMap<K, Unrecorded>,
-    key: K,
-    span: &OpaqueSpan,
-) -> Result<(), OutOfMemory>
-    ensures { OnOk result (AddsAt K.cmp spans.old spans.new key span.now) }
-{
-    match spans.get_mut(&key) {
-        Some(held) => {
-            held.add(alloc, span)?;
-            return Ok(());
-        }
-        None => {
-            let _none = spans.insert(key, Unrecorded::of(alloc, span)?)?;
-        }
-    }
-    Ok(())
-}
-
 fn file(alloc: Global, filed: &mut Filed, span: &OpaqueSpan) -> Result<(), OutOfMemory>
     ensures { OnOk result ((spans : List OpaqueSpan) → AreFiled filed.old.named filed.old.wide spans
         → AreFiled filed.new.named filed.new.wide (spans ++ span.now ∷ [])) }
@@ -89,8 +71,7 @@ fn file(alloc: Global, filed: &mut Filed, span: &OpaqueSpan) -> Result<(), OutOf
         add_span(alloc, &mut filed.named, key, span)?;
         return Ok(());
     }
-    let resource = span.cover.resource.clone()?;
-    add_span(alloc, &mut filed.wide, resource, span)?;
+    filed.wide.add(alloc, span)?;
     Ok(())
 }
 
@@ -99,7 +80,7 @@ fn file_each(alloc: Global, spans: &[&OpaqueSpan]) -> Result<Filed, OutOfMemory>
 {
     let mut filed = Filed {
         named: BTreeMap::new(alloc),
-        wide: BTreeMap::new(alloc),
+        wide: Wide::new(alloc),
     };
     for span in spans {
         file(alloc, &mut filed, span)?;

@@ -4,10 +4,13 @@
 mod clouds;
 mod cover;
 mod filing;
+mod lengths;
 mod mark;
+mod numbers;
 mod recorded;
 mod span;
 mod unrecorded;
+mod wide;
 
 pub use clouds::Clouds;
 pub use span::{KeyRevision, KeyRevisions, OpaqueSpan, OpaqueSpans};

@@ -1,7 +1,7 @@
 ghost use Rattle.std.specs.Prelude.{◌≡◌, ◌≤◌, ◌↔◌, [], ◌∷◌, ◌++◌, IsTrue, IfOk, OnOk, Any};
 ghost use Rattle.std.specs.List.Sorted.{IsNonDecreasing};
 ghost use Rattle.clouds.specs.FirstPlace.{IsFirstPlace, earlier_of};
-ghost use Rattle.clouds.specs.Kept.{items_of};
+ghost use Rattle.clouds.specs.Items.{AddsAt, items_of};
 ghost use Rattle.std.specs.Option.{option_copied};
 ghost use Rattle.clouds.specs.Hiding.{HidesKey, ReachesKey};
 
@@ -9,6 +9,7 @@ use crate::cover::CoverSpans;
 use crate::span::OpaqueSpan;
 use base_types::{ObjectKey, OutOfMemory};
 use std::alloc::Global;
+use std::collections::BTreeMap;
 use std::marker::Model;
 
 /// Unrecorded writes, those of one cover together where they come one after another in order.
@@ -75,6 +76,27 @@ impl Unrecorded {
         }
         first
     }
+}
+
+/// Files a span under a key.
+pub fn add_span<K: Ord + Drop>(
+    alloc: Global,
+    spans: &mut BTreeMap<K, Unrecorded>,
+    key: K,
+    span: &OpaqueSpan,
+) -> Result<(), OutOfMemory>
+    ensures { OnOk result (AddsAt K.cmp spans.old spans.new key span.now) }
+{
+    match spans.get_mut(&key) {
+        Some(held) => {
+            held.add(alloc, span)?;
+            return Ok(());
+        }
+        None => {
+            let _none = spans.insert(key, Unrecorded::of(alloc, span)?)?;
+        }
+    }
+    Ok(())
 }
 
 // Whether that holds of a span of some part.

@@ -1,4 +1,3 @@
-use Rattle.std.proofs.Common.{◌≡◌, rules}
 use Rattle.clouds.proofs.Keeping.{AreFiled-named, AreFiled-wide}
 use Rattle.clouds.proofs.filing.file.Goals as goal
 
@@ -8,6 +7,4 @@ returns-in-Some c =
     λ spans filed. AreFiled-named _ _ _ spans c.in-Some.key c.args.span.now names c.in_ok-add_span.ensures filed
 
 pub returns : goal.returns
-returns c =
-    let copy : c.in_ok-resource.resource ≡ c.args.span.now.cover.resource = search rules in
-    λ spans filed. AreFiled-wide _ _ _ spans c.in_ok-resource.resource c.args.span.now copy c.in_ok-add_span-2.ensures filed
+returns c = λ spans filed. AreFiled-wide _ _ _ spans c.args.span.now c.in_ok-add.ensures filed

@@ -15,7 +15,7 @@ returns-then-reach c =
 pub returns-else-reach : goal.returns-else-reach
 returns-else-reach c =
     let named = rw c.get.ensures.value at c.reach.ensures in
-    let wide = rw c.get-else-reach.ensures.value at c.reach-else-reach.ensures in
+    let wide = c.reach-else-reach.ensures in
     rw (← c.self.view_is) (
       (λ yes. Any-given _ _ _ c.args.key.now (ReachesKey c.args.key.now c.args.place c.args.revision) c.self.invariant.filed (inr (wide.0 yes))),
       (λ any. ⊎_elim

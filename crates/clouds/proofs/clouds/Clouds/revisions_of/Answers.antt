@@ -1,5 +1,5 @@
 use Rattle.std.proofs.Common.{ap, sym, ◌∙◌}
-use Rattle.clouds.specs.Kept.{items_of}
+use Rattle.clouds.specs.Items.{items_of}
 use Rattle.clouds.proofs.Keeping.{AreRevisionsOf-at}
 use Rattle.clouds.proofs.clouds.Clouds.revisions_of.Goals as goal
 

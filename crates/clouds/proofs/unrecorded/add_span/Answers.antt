@@ -1,7 +1,7 @@
 use Rattle.std.proofs.Common.{◌≡◌, [], ap, rules, subst, sym}
-use Rattle.clouds.specs.Kept.{items_at, items_of}
+use Rattle.clouds.specs.Items.{items_at, items_of}
 use Rattle.clouds.proofs.Adding.{AddsAt-updates, Grows, Grows-push}
-use Rattle.clouds.proofs.filing.add_span.Goals as goal
+use Rattle.clouds.proofs.unrecorded.add_span.Goals as goal
 
 pub returns-in-Some : goal.returns-in-Some
 returns-in-Some g c =
