@@ -1,5 +1,5 @@
 -- Spans that are found by the fronts of a key's name.
-use Rattle.std.proofs.Common.{◌≡◌, ℕ, ◌+◌, ◌<◌, ◌≤◌, ◌⊎◌, ◌↔◌, ⊎_elim, inl, inr, Option, Some, None, List, [], ◌∷◌, ◌++◌, length, get_or, take, refl, sym, ◌∙◌, subst, ap, arith}
+use Rattle.std.proofs.Common.{◌≡◌, ℕ, ◌+◌, ◌<◌, ◌≤◌, ◌⊎◌, ⊎_elim, inl, inr, Option, Some, None, List, [], ◌∷◌, ◌++◌, length, get_or, take, refl, sym, ◌∙◌, subst, ap, arith}
 use Rattle.std.specs.BTreeMap.{BTreeMap}
 use Rattle.std.specs.Cmp.{IsTotalOrder, nat_cmp_total}
 use Rattle.std.specs.Cmp.Lexicographic.{options_total}
@@ -21,14 +21,15 @@ use Rattle.clouds.specs.declared.wide.Scope.{Scope}
 use Rattle.clouds.specs.declared.wide.Wide.{Wide}
 use Rattle.clouds.specs.FirstPlace.{IsFirstPlace, earlier_of}
 use Rattle.clouds.specs.Items.{AddsAt, items_at}
-use Rattle.clouds.specs.Wide.{AddsWide, AnyIn, AnyWide, Extends, IsNumbered, any_scope, folder_order, front_of, number_of, own_scope, scope_from, scope_order, spans_at, spans_of_front}
+use Rattle.clouds.specs.Upto.{AreUpto}
+use Rattle.clouds.specs.Wide.{AddsWide, AnyIn, AnyWide, Extends, IsNumbered, any_scope, folder_order, front_of, lengths_of, number_of, own_scope, scope_from, scope_order, spans_at, spans_by}
 use Rattle.clouds.proofs.FirstPlaces.{Either, IsFirstPlace-either, IsFirstPlace-same}
 use Rattle.clouds.proofs.Quantified.{Any-append_cases, Any-append_left, Any-append_right, Any-cons_cases}
 use Rattle.clouds.proofs.Searching.{Parts, is_upto}
 
-pub Contains-upto : (lengths upto : List ℕ) (most count : ℕ) → upto ≡ take count lengths → Parts (is_upto most) lengths count → count ≤ length lengths
-    → (l : ℕ) → Contains upto l ↔ (Contains lengths l × (l ≤ most))
-Contains-upto lengths upto most count is parts within l = ((λ among. fits (subst (λ xs. Contains xs l) is among)), (λ both. subst (λ xs. Contains xs l) (sym is) (front both.0 both.1)))
+pub AreUpto-take : (lengths upto : List ℕ) (most count : ℕ) → upto ≡ take count lengths → Parts (is_upto most) lengths count → count ≤ length lengths
+    → AreUpto lengths most upto
+AreUpto-take lengths upto most count is parts within l = ((λ among. fits (subst (λ xs. Contains xs l) is among)), (λ both. subst (λ xs. Contains xs l) (sym is) (front both.0 both.1)))
   where
     fits : Contains (take count lengths) l → Contains lengths l × (l ≤ most)
     fits among =
@@ -50,13 +51,13 @@ Contains-upto lengths upto most count is parts within l = ((λ among. fits (subs
         (cases_lt among.0 count)
 
 -- between the lengths up to the most and all lengths
-pub Any-from_upto : (P : ℕ → Type 0) (lengths upto : List ℕ) (most : ℕ) → ((l : ℕ) → Contains upto l ↔ (Contains lengths l × (l ≤ most))) → Any P upto
+pub Any-from_upto : (P : ℕ → Type 0) (lengths upto : List ℕ) (most : ℕ) → AreUpto lengths most upto → Any P upto
     → Any (λ l. (l ≤ most) × P l) lengths
 Any-from_upto P lengths upto most are any =
     let both = (are any.1).0 (any.0, any.2, any.3) in
     Any-contains (λ l. (l ≤ most) × P l) lengths any.1 both.0 (both.1, any.4)
 
-pub Any-upto : (P : ℕ → Type 0) (lengths upto : List ℕ) (most : ℕ) → ((l : ℕ) → Contains upto l ↔ (Contains lengths l × (l ≤ most)))
+pub Any-upto : (P : ℕ → Type 0) (lengths upto : List ℕ) (most : ℕ) → AreUpto lengths most upto
     → Any (λ l. (l ≤ most) × P l) lengths → Any P upto
 Any-upto P lengths upto most are any = Any-contains P upto any.1 ((are any.1).1 ((any.0, any.2, any.3), any.4.0)) any.4.1
 
@@ -81,8 +82,8 @@ IsFirstPlace-next Q low high counts i d a b within first next =
 AnyIn-weaker : (wide : Wide) (key : ObjectKey) (scope : Option Scope) (P Q : OpaqueSpan → Type 0) → ((s : OpaqueSpan) → P s → Q s) → AnyIn wide key scope P → AnyIn wide key scope Q
 AnyIn-weaker wide key None P Q weaker any = any
 AnyIn-weaker wide key (Some scope) P Q weaker any =
-    Any-weaker (λ count. (count ≤ length key.name) × Any P (spans_of_front wide scope (take count key.name))) (λ count. (count ≤ length key.name) × Any Q (spans_of_front wide scope (take count key.name)))
-    (items_at scope_order wide.lengths scope) (λ count both. (both.0, Any-weaker P Q (spans_of_front wide scope (take count key.name)) weaker both.1)) any
+    Any-weaker (λ count. (count ≤ length key.name) × Any P (spans_by wide scope key count)) (λ count. (count ≤ length key.name) × Any Q (spans_by wide scope key count))
+    (lengths_of wide scope) (λ count both. (both.0, Any-weaker P Q (spans_by wide scope key count) weaker both.1)) any
 
 pub AnyWide-weaker : (wide : Wide) (key : ObjectKey) (P Q : OpaqueSpan → Type 0) → ((s : OpaqueSpan) → P s → Q s) → AnyWide wide key P → AnyWide wide key Q
 AnyWide-weaker wide key P Q weaker any = ⊎_elim
@@ -129,7 +130,7 @@ module _ (old new : Wide) (scope : Scope) (front : ℕ) (span : OpaqueSpan) (cou
 
   scoped_kept : (s : Scope) (key : ObjectKey) (P : OpaqueSpan → Type 0) → AnyIn old key (Some s) P → AnyIn new key (Some s) P
   scoped_kept s key P any =
-      Any-contains (λ n. (n ≤ length key.name) × Any P (spans_of_front new s (take n key.name))) (items_at scope_order new.lengths s) any.1
+      Any-contains (λ n. (n ≤ length key.name) × Any P (spans_by new s key n)) (lengths_of new s) any.1
       (lengths.kept s any.1 (any.0, any.2, any.3))
       (any.4.0, at_kept s (number_of old.numbers (take any.1 key.name)) (number_of new.numbers (take any.1 key.name)) P (extends (take any.1 key.name)) any.4.1)
 
@@ -186,7 +187,7 @@ AddsWide-made old new span scope front extends of_group of_resource of_namespace
   where
     here : (key : ObjectKey) → Covers span.cover key → AnyIn new key (Some scope) (λ s. s ≡ span)
     here key covers =
-        Any-contains (λ n. (n ≤ length key.name) × Any (λ s. s ≡ span) (spans_of_front new scope (take n key.name))) (items_at scope_order new.lengths scope) (length (front_of span.cover.name))
+        Any-contains (λ n. (n ≤ length key.name) × Any (λ s. s ≡ span) (spans_by new scope key n)) (lengths_of new scope) (length (front_of span.cover.name))
         lengths.added (
           front_within span.cover.name key.name covers.name,
           subst (λ o. Any (λ s. s ≡ span) (spans_at new scope o)) (sym (ap (number_of new.numbers) (take_front span.cover.name key.name covers.name) ∙ of_front))

@@ -1,9 +1,9 @@
 -- The numbers of texts, when one text gets another.
-use Rattle.std.proofs.Common.{◌≡◌, ℕ, ⊎_elim, Bool, true, false, Option, Some, None, List, refl, sym, ◌∙◌, subst, ap}
+use Rattle.std.proofs.Common.{◌≡◌, ℕ, ⊎_elim, Bool, true, false, Option, Some, None, List, sym, ◌∙◌, subst}
 use Rattle.std.specs.BTreeMap.{BTreeMap, Updates}
 use Rattle.std.specs.Cmp.Lexicographic.{bytes_decides, nat_list_eq_equiv, slice_cmp}
 use Rattle.std.specs.Map.{AreApart, IsKeyTest, KeepsOthers, lookup}
-use Rattle.std.specs.Ordering.{eq_by_cmp, is_eq, nat_cmp}
+use Rattle.std.specs.Ordering.{is_eq, nat_cmp}
 use Rattle.std.specs.Str.{bytes_eq}
 use Rattle.std.specs.declared.vec.Vec.{Vec}
 use Rattle.std.proofs.lemmas.Bool.{cases_Bool}

@@ -5,5 +5,6 @@ pub mod Items
 pub mod Kept
 pub mod Latest
 pub mod Marks
+pub mod Upto
 pub mod Wide
 pub mod Writes

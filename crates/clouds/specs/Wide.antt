@@ -66,11 +66,21 @@ spans_at wide scope (Some front) = items_at folder_order wide.spans (record { sc
 abbrev pub spans_of_front : Wide → Scope → List ℕ → List OpaqueSpan
 spans_of_front wide scope front = spans_at wide scope (number_of wide.numbers front)
 
+-- those whose front is so many bytes of the key's name
+abbrev pub spans_by : Wide → Scope → ObjectKey → ℕ → List OpaqueSpan
+spans_by wide scope key count = spans_of_front wide scope (take count key.name)
+
+-- of some span whose front is the key's name up to one of these counts
+abbrev pub AnyOf : Wide → Scope → ObjectKey → List ℕ → (OpaqueSpan → Type 0) → Type 0
+AnyOf wide scope key counts P = Any (λ count. Any P (spans_by wide scope key count)) counts
+
+abbrev pub lengths_of : Wide → Scope → List ℕ
+lengths_of wide scope = items_at scope_order wide.lengths scope
+
 -- of some span whose front is as long as one of the scope and begins the key's name
 abbrev pub AnyIn : Wide → ObjectKey → Option Scope → (OpaqueSpan → Type 0) → Type 0
 AnyIn wide key None P = ⊥
-AnyIn wide key (Some scope) P =
-    Any (λ count. (count ≤ length key.name) × Any P (spans_of_front wide scope (take count key.name))) (items_at scope_order wide.lengths scope)
+AnyIn wide key (Some scope) P = Any (λ count. (count ≤ length key.name) × Any P (spans_by wide scope key count)) (lengths_of wide scope)
 
 -- of some span that a look-up of the key finds
 abbrev pub AnyWide : Wide → ObjectKey → (OpaqueSpan → Type 0) → Type 0

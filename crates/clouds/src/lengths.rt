@@ -1,5 +1,6 @@
-ghost use Rattle.std.specs.Prelude.{◌≡◌, ◌≤◌, ◌↔◌, ◌⊎◌, ◌∷◌, [], List, ℕ, IfOk, OnOk, Contains};
+ghost use Rattle.std.specs.Prelude.{◌≡◌, ◌↔◌, ◌⊎◌, ◌∷◌, [], List, ℕ, IfOk, OnOk, Contains};
 ghost use Rattle.std.specs.List.Sorted.{IsNonDecreasing};
+ghost use Rattle.clouds.specs.Upto.{AreUpto};
 
 use base_types::OutOfMemory;
 use std::alloc::Global;
@@ -42,7 +43,7 @@ impl Lengths {
 
     /// The lengths up to the most.
     pub fn upto(&self, most: usize) -> &[usize]
-        ensures { (length : ℕ) → Contains result.now length ↔ (Contains self.now length × (length ≤ most)) }
+        ensures { AreUpto self.now most result.now }
     {
         let count = self.lengths.partition_point(|length| *length <= most);
         let (upto, _) = self.lengths.split_at(count);

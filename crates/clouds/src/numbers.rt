@@ -1,4 +1,4 @@
-ghost use Rattle.std.specs.Prelude.{◌≡◌, Some, IfOk, OnOk};
+ghost use Rattle.std.specs.Prelude.{◌≡◌, IfOk, OnOk};
 ghost use Rattle.clouds.specs.Wide.{Extends, number_of};
 
 use base_types::OutOfMemory;
@@ -15,7 +15,7 @@ pub fn number_at(numbers: &Numbers, text: &[u8]) -> Option<u64>
     numbers.get(text).copied()
 }
 
-/// The text's number, a new one if it has none.
+/// The text's number, a new one if it has none. That two texts have two numbers serves speed alone.
 pub fn give_number(alloc: Global, numbers: &mut Numbers, text: &[u8]) -> Result<u64, OutOfMemory>
     ensures number { IfOk result (λ number. number_of numbers.new text.now ≡ Some number) }
     ensures kept { OnOk result (Extends numbers.old numbers.new) }

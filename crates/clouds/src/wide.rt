@@ -1,11 +1,13 @@
-ghost use Rattle.std.specs.Prelude.{◌≡◌, ◌≤◌, ◌↔◌, ℕ, Some, None, take, length, IsTrue, IfOk, OnOk, Any, Contains};
+ghost use Rattle.std.specs.Prelude.{◌≡◌, ◌≤◌, ◌↔◌, take, IsTrue, IfOk, OnOk, Any};
 ghost use Rattle.std.specs.BTreeMap.{IsEmpty};
 ghost use Rattle.std.specs.List.Sorted.{IsNonDecreasing};
 ghost use Rattle.std.specs.Option.{option_copied};
 ghost use Rattle.clouds.specs.FirstPlace.{IsFirstPlace};
 ghost use Rattle.clouds.specs.Hiding.{HidesKey, ReachesKey};
-ghost use Rattle.clouds.specs.Items.{AddsAt, items_at, items_of};
-ghost use Rattle.clouds.specs.Wide.{AddsWide, AnyIn, AnyWide, Extends, IsNumbered, any_scope, front_of, number_of, own_scope, scope_order, spans_of_front};
+ghost use Rattle.clouds.specs.Items.{AddsAt, items_of};
+ghost use Rattle.clouds.specs.Upto.{AreUpto};
+ghost use Rattle.clouds.specs.Wide.{AddsWide, AnyIn, AnyOf, AnyWide, Extends, IsNumbered, scope_order};
+ghost use Rattle.clouds.specs.Wide.{any_scope, front_of, lengths_of, number_of, own_scope, spans_by, spans_of_front};
 
 use crate::lengths::Lengths;
 use crate::numbers::{Numbers, give_number, number_at};
@@ -157,7 +159,7 @@ impl Wide {
     }
 
     fn lengths_upto(&self, scope: Scope, most: usize) -> &[usize]
-        ensures { (count : ℕ) → Contains result.now count ↔ (Contains (items_at scope_order self.now.lengths scope) count × (count ≤ most)) }
+        ensures { AreUpto (lengths_of self.now scope) most result.now }
     {
         match self.lengths.get(&scope) {
             Some(lengths) => lengths.upto(most),
@@ -180,7 +182,7 @@ impl Wide {
         place: u64,
         revision: u64,
     ) -> bool
-        ensures { IsTrue result ↔ Any (ReachesKey key.now place revision) (spans_of_front self.now scope (take count key.now.name)) }
+        ensures { IsTrue result ↔ Any (ReachesKey key.now place revision) (spans_by self.now scope key.now count) }
     {
         let front = front_of_name(&key.name, count);
         reach(self.spans_of_front(scope, front), key, place, revision)
@@ -194,7 +196,7 @@ impl Wide {
         place: u64,
         revision: u64,
     ) -> bool
-        ensures { IsTrue result ↔ Any (λ count. Any (ReachesKey key.now place revision) (spans_of_front self.now scope (take count key.now.name))) counts.now }
+        ensures { IsTrue result ↔ AnyOf self.now scope key.now counts.now (ReachesKey key.now place revision) }
     {
         counts.iter().any(|count| self.front_reaches(scope, key, *count, place, revision))
     }
@@ -235,7 +237,8 @@ impl Wide {
     ) -> Option<u64>
         requires order { IsNonDecreasing revisions.now }
         requires range { low ≤ high }
-        ensures { IsFirstPlace (λ place. Any (λ count. Any (HidesKey revisions.now key.now place) (spans_of_front self.now scope (take count key.now.name))) counts.now) low high result }
+        ensures { IsFirstPlace (λ place. AnyOf self.now scope key.now counts.now (HidesKey revisions.now key.now place))
+            low high result }
     {
         let mut first = None;
         for count in counts {
@@ -255,7 +258,8 @@ impl Wide {
     ) -> Option<u64>
         requires order { IsNonDecreasing revisions.now }
         requires range { low ≤ high }
-        ensures { IsFirstPlace (λ place. AnyIn self.now key.now scope (HidesKey revisions.now key.now place)) low high result }
+        ensures { IsFirstPlace (λ place. AnyIn self.now key.now scope (HidesKey revisions.now key.now place))
+            low high result }
     {
         let scope = scope?;
         let counts = self.lengths_upto(scope, key.name.len());
@@ -272,7 +276,8 @@ impl Wide {
     ) -> Option<u64>
         requires order { IsNonDecreasing revisions.now }
         requires range { low ≤ high }
-        ensures { IsFirstPlace (λ place. AnyWide self.now key.now (HidesKey revisions.now key.now place)) low high result }
+        ensures { IsFirstPlace (λ place. AnyWide self.now key.now (HidesKey revisions.now key.now place))
+            low high result }
     {
         earlier(
             self.first_in_scope(self.own_scope(key), key, revisions, low, high),

@@ -1,0 +1,5 @@
+use Rattle.std.specs.Prelude.{◌≤◌, ◌↔◌, ℕ, List, Contains}
+
+-- those of the lengths that are up to the most
+abbrev pub AreUpto : List ℕ → ℕ → List ℕ → Type 0
+AreUpto lengths most upto = (length : ℕ) → Contains upto length ↔ (Contains lengths length × (length ≤ most))
