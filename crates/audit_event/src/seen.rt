@@ -4,6 +4,7 @@ ghost use Rattle.audit_event.specs.Keeping.{identity_of, SameOrigin, SamePath, S
 use crate::event::{Body, Event, Events};
 use crate::fault::SeenFault;
 use base_types::{OutOfMemory, Pairs, RequestAttrs, Stage, Text, Texts, User};
+use hash_seed::{Seed, Seeded};
 use indexmap::IndexSet;
 use packed_tree::Packed;
 use std::alloc::Global;
@@ -29,7 +30,7 @@ pub(crate) struct Identity {
 #[derive(Drop)]
 pub struct Seen {
     kept: Vec<Event>,
-    identities: IndexSet<Identity>,
+    identities: IndexSet<Identity, Seeded>,
 }
 
 impl Model for Seen {
@@ -169,7 +170,7 @@ fn keep(kept: &mut Vec<Event>, event: Event)
 
 // Admits an event. The identities stand beside the events that they are of.
 fn admit(
-    identities: &mut IndexSet<Identity>,
+    identities: &mut IndexSet<Identity, Seeded>,
     kept: &mut Vec<Event>,
     event: Event,
 ) -> Result<Admitted, SeenFault>
@@ -192,12 +193,13 @@ fn admit(
 }
 
 impl Seen {
-    pub fn new(alloc: Global) -> Result<Seen, OutOfMemory>
+    /// No kept events yet. The hashes of audit IDs begin with the seed.
+    pub fn new(alloc: Global, seed: Seed) -> Result<Seen, OutOfMemory>
         ensures { IfOk result (λ seen. seen ≡ []) }
     {
         Ok(Seen {
             kept: Vec::new(alloc),
-            identities: IndexSet::new(alloc),
+            identities: IndexSet::with_hasher(alloc, Seeded::new(seed)),
         })
     }
 

@@ -11,6 +11,7 @@ use crate::pointing::{member_of, pointed};
 use crate::rebuilding::rebuild;
 use crate::store::Store;
 use base_types::OutOfMemory;
+use hash_seed::Seed;
 use json_tree::{Pointer, Tree};
 use std::alloc::Global;
 use std::marker::Model;
@@ -38,14 +39,14 @@ impl Model for Pool {
 }
 
 impl Pool {
-    /// A pool without trees that may hold `limit` of them.
-    pub fn new(alloc: Global, limit: u32) -> Result<Pool, OutOfMemory>
+    /// A pool without trees that may hold `limit` of them. The hashes of what it holds begin with the seed.
+    pub fn new(alloc: Global, limit: u32, seed: Seed) -> Result<Pool, OutOfMemory>
         ensures limit { IfOk result (λ pool. pool.limit ≡ limit) }
         ensures trees { IfOk result (λ pool. pool.trees ≡ []) }
     {
         Ok(Pool {
             alloc,
-            store: Store::new(alloc, limit),
+            store: Store::new(alloc, limit, seed),
         })
     }
 

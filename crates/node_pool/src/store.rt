@@ -9,6 +9,7 @@ ghost use Rattle.node_pool.specs.Within.{IsWithin, name_at, tree_of};
 use crate::fault::PoolFault;
 use crate::form::Level;
 use base_types::{OutOfMemory, Text};
+use hash_seed::{Seed, Seeded};
 use indexmap::IndexSet;
 use std::alloc::Global;
 use std::marker::Model;
@@ -17,8 +18,8 @@ use std::marker::Model;
 #[derive(Drop)]
 pub struct Store {
     limit: u32,
-    names: IndexSet<Text>,
-    levels: IndexSet<Level>,
+    names: IndexSet<Text, Seeded>,
+    levels: IndexSet<Level, Seeded>,
 }
 
 impl Model for Store {
@@ -34,15 +35,15 @@ impl Model for Store {
 }
 
 impl Store {
-    pub fn new(alloc: Global, limit: u32) -> Store
+    pub fn new(alloc: Global, limit: u32, seed: Seed) -> Store
         ensures limit { result.limit ≡ limit }
         ensures names { result.names ≡ [] }
         ensures trees { result.trees ≡ [] }
     {
         Store {
             limit,
-            names: IndexSet::new(alloc),
-            levels: IndexSet::new(alloc),
+            names: IndexSet::with_hasher(alloc, Seeded::new(seed)),
+            levels: IndexSet::with_hasher(alloc, Seeded::new(seed)),
         }
     }
 
@@ -106,7 +107,7 @@ impl Store {
 }
 
 // The position of a name, which is put behind the others where it is new.
-fn numbered(names: &mut IndexSet<Text>, name: &Text) -> Result<usize, OutOfMemory>
+fn numbered(names: &mut IndexSet<Text, Seeded>, name: &Text) -> Result<usize, OutOfMemory>
     ensures begins { Begins names.old.keys names.new.keys }
     ensures distinct { AreDistinct names.old.keys → AreDistinct names.new.keys }
     ensures number { IfOk result (λ n. slice_get names.new.keys n ≡ Some name.now) }
@@ -119,7 +120,11 @@ fn numbered(names: &mut IndexSet<Text>, name: &Text) -> Result<usize, OutOfMemor
 }
 
 // The position of a level, which is put behind the others where it is new and there is room.
-fn inserted(levels: &mut IndexSet<Level>, limit: u32, level: Level) -> Result<u32, PoolFault>
+fn inserted(
+    levels: &mut IndexSet<Level, Seeded>,
+    limit: u32,
+    level: Level,
+) -> Result<u32, PoolFault>
     requires room { length levels.old.keys ≤ limit }
     ensures keys { OnOk result (levels.new.keys ≡ insert_key flat_eq levels.old.keys level) }
     ensures number { IfOk result (λ n. slice_get levels.new.keys n ≡ Some level) }

@@ -2,6 +2,7 @@ ghost use Rattle.std.specs.Prelude.{◌≡◌, ◌+◌, ◌≤◌, ◌<◌, ◌^
 
 use audit_event::{Admitted, Event, Seen, SeenFault, read_event};
 use base_types::Bytes;
+use hash_seed::Seed;
 use line_reader::Line;
 use std::alloc::Global;
 use std::test::Fail;
@@ -40,7 +41,7 @@ fn admit_at(
 
 #[test]
 fn repeats_and_differences(rt: HostRuntime) -> Result<(), Fail> {
-    let mut seen = Seen::new(rt.alloc())?;
+    let mut seen = Seen::new(rt.alloc(), Seed::of(b""))?;
     let fresh = admit_at(rt.alloc(), &mut seen, 1, "")?;
     assert_eq!(rt; fresh, Ok(Admitted::Fresh));
     let repeated = admit_at(rt.alloc(), &mut seen, 2, r#""x":1,"#)?;
@@ -55,7 +56,7 @@ fn repeats_and_differences(rt: HostRuntime) -> Result<(), Fail> {
 
 #[test]
 fn unread_bodies_repeat(rt: HostRuntime) -> Result<(), Fail> {
-    let mut seen = Seen::new(rt.alloc())?;
+    let mut seen = Seen::new(rt.alloc(), Seed::of(b""))?;
     let fresh = admit_at(rt.alloc(), &mut seen, 1, r#""responseObject":[1.5],"#)?;
     assert_eq!(rt; fresh, Ok(Admitted::Fresh));
     let repeated = admit_at(rt.alloc(), &mut seen, 2, r#""responseObject":{"a":-0},"#)?;

@@ -1,6 +1,7 @@
 ghost use Rattle.std.specs.Prelude.{◌<◌, IfSome, length};
 
 use crate::reading::{is_tree, read};
+use hash_seed::Seed;
 use json_tree::read_pointer;
 use node_pool::{NodeId, Pool, PoolFault};
 use std::marker::{Send, Sync};
@@ -32,7 +33,7 @@ fn number(rt: &(impl Abort + AllocGlobal), pool: &mut Pool, text: &str) -> Optio
 
 #[test]
 fn a_tree_has_one_number(rt: HostRuntime) {
-    let mut pool = Pool::new(rt.alloc(), 2).expect(&rt, "memory");
+    let mut pool = Pool::new(rt.alloc(), 2, Seed::of(b"")).expect(&rt, "memory");
     shared(&pool);
     for (text, wanted, len) in &NUMBERS {
         let found = number(&rt, &mut pool, text);
@@ -111,7 +112,7 @@ fn check_parts(rt: &(impl Abort + AllocGlobal), pool: &Pool, node: NodeId)
 #[test]
 fn parts_are_found(rt: HostRuntime) {
     let object = read(&rt, OBJECT);
-    let mut pool = Pool::new(rt.alloc(), 100).expect(&rt, "memory");
+    let mut pool = Pool::new(rt.alloc(), 100, Seed::of(b"")).expect(&rt, "memory");
     let node = pool.intern(&object).expect(&rt, "room");
     drop(object);
     assert_eq!(rt; pool.len(), 7);
