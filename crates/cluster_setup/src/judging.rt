@@ -9,6 +9,7 @@ ghost use Rattle.cluster_setup.specs.Making.{setup_tree};
 
 use crate::assembling::{Given, setup_tree};
 use base_types::OutOfMemory;
+use hash_seed::Seed;
 use json_tree::{Tree, TreeFault, equal, from_value, to_value};
 use serde_json::Value;
 use setup_file::{SetupFault, SetupRule, read_setup};
@@ -62,7 +63,7 @@ fn accept(alloc: Global, tree: &Tree) -> Result<String, SetupFault>
     if !is_tree_of(alloc, text.as_bytes(), tree)? {
         return Err(SetupFault::Rule(SetupRule::S1));
     }
-    match read_setup(alloc, text.as_bytes()) {
+    match read_setup(alloc, text.as_bytes(), Seed::of(text.as_bytes())) {
         Ok(setup) => {
             drop(setup);
             Ok(text)

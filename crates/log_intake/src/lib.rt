@@ -11,5 +11,5 @@ mod stop;
 
 pub use law::{one_reading_law, one_setup_law};
 pub use log::read_log;
-pub use setup::read_setup_named;
+pub use setup::{SetupRead, read_setup_named};
 pub use stop::{LogStop, SetupStop};

@@ -7,6 +7,7 @@ use crate::stop::LogStop;
 use audit_event::{Events, Seen};
 use base_types::OutOfMemory;
 use edge_io::Desk;
+use hash_seed::Seed;
 use judge_pool::Gate;
 use line_reader::LineReader;
 use std::alloc::Global;
@@ -15,7 +16,8 @@ use std::thread::Threads;
 
 /// Reads the events of a log from a desk, by name, in batches of lines. Several threads decode a batch; each
 /// line's index in it enters the gate before the line is decoded. A batch is decoded and its events are admitted
-/// before more is asked of the desk, so that a refusal in it comes before a read fault behind it.
+/// before more is asked of the desk, so that a refusal in it comes before a read fault behind it. The hashes of audit
+/// IDs begin with the seed.
 #[tactic(auto, using(crate::proofs::LogFacts::nothing_read_from))]
 pub fn read_log<R: Threads + Sync, D: Desk, G: Gate>(
     rt: &R,
@@ -23,6 +25,7 @@ pub fn read_log<R: Threads + Sync, D: Desk, G: Gate>(
     desk: &mut D,
     name: &str,
     buffer: &mut [u8],
+    seed: Seed,
     gate: &G,
 ) -> Result<Events, LogStop>
     requires some { 0 < length buffer.old }
@@ -34,7 +37,7 @@ pub fn read_log<R: Threads + Sync, D: Desk, G: Gate>(
         Ok(reader) => reader,
         Err(OutOfMemory) => return Err(LogStop::OutOfMemory),
     };
-    let mut seen = match Seen::new(alloc) {
+    let mut seen = match Seen::new(alloc, seed) {
         Ok(seen) => seen,
         Err(OutOfMemory) => return Err(LogStop::OutOfMemory),
     };

@@ -2,6 +2,7 @@ ghost use Rattle.std.specs.Prelude.{◌≡◌, ◌==◌, IfOk, map, bytes_eq};
 ghost use Rattle.setup_file.specs.Distinct.{are_distinct, pair_eq, key_eq};
 
 use base_types::{ObjectKey, OutOfMemory, Revision, Text};
+use hash_seed::{Seed, Seeded};
 use std::alloc::Global;
 use std::collections::HashSet;
 
@@ -31,11 +32,16 @@ pub fn are_pairs_distinct(alloc: Global, pairs: &[(&Text, &Text)]) -> Result<boo
     Ok(true)
 }
 
-/// Whether no two keys are equal.
-pub fn are_keys_distinct(alloc: Global, keys: &[&ObjectKey]) -> Result<bool, OutOfMemory>
+/// Whether no two keys are equal. Their hashes begin with the seed, since the names in them are chosen by whoever
+/// creates objects.
+pub fn are_keys_distinct(
+    alloc: Global,
+    keys: &[&ObjectKey],
+    seed: Seed,
+) -> Result<bool, OutOfMemory>
     ensures { IfOk result (λ are. are ≡ are_distinct key_eq (map (λ key. key.now) keys.now)) }
 {
-    let mut seen = HashSet::new(alloc);
+    let mut seen = HashSet::with_hasher(alloc, Seeded::new(seed));
     for key in keys {
         if !seen.insert(*key)? {
             return Ok(false);

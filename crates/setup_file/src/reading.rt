@@ -21,6 +21,7 @@ use crate::resources::read_resources;
 use crate::setup::Setup;
 use crate::snapshot::read_snapshot;
 use audit_policy::{Policy, PolicyFault, read_policy};
+use hash_seed::Seed;
 use json_tree::{Tree, TreeFault, from_value};
 use serde_json::Value;
 use std::alloc::Global;
@@ -129,14 +130,14 @@ fn policy_at(alloc: Global, tree: &Tree) -> Result<Policy, SetupFault>
 }
 
 // Reads a setup of a version that is known.
-fn setup_with(alloc: Global, tree: &Tree) -> Result<Setup, SetupFault>
+fn setup_with(alloc: Global, tree: &Tree, seed: Seed) -> Result<Setup, SetupFault>
     ensures setup { IfOk result (λ setup. setup_with tree.now ≡ Ok setup) }
     ensures cause { IfErr result (IsCause (setup_with tree.now)) }
 {
     let clocks = read_clocks(tree)?;
     let policy = policy_at(alloc, tree)?;
     let resources = read_resources(alloc, tree)?;
-    let snapshot = read_snapshot(alloc, clocks.start, resources.as_slice(), tree)?;
+    let snapshot = read_snapshot(alloc, clocks.start, resources.as_slice(), tree, seed)?;
     let Some(authorization) = read_authorization(alloc, tree)? else {
         return Err(SetupFault::Rule(SetupRule::S14));
     };
@@ -169,7 +170,7 @@ fn setup_with(alloc: Global, tree: &Tree) -> Result<Setup, SetupFault>
     })
 }
 
-fn setup_of(alloc: Global, tree: &Tree) -> Result<Setup, SetupFault>
+fn setup_of(alloc: Global, tree: &Tree, seed: Seed) -> Result<Setup, SetupFault>
     ensures setup { IfOk result (λ setup. setup_of tree.now ≡ Ok setup) }
     ensures cause { IfErr result (IsCause (setup_of tree.now)) }
 {
@@ -179,7 +180,7 @@ fn setup_of(alloc: Global, tree: &Tree) -> Result<Setup, SetupFault>
     if !is_version(1, tree) && !is_version(2, tree) {
         return Err(SetupFault::Rule(SetupRule::S3));
     }
-    setup_with(alloc, tree)
+    setup_with(alloc, tree, seed)
 }
 
 // The tree of a text, or the first rule.
@@ -200,12 +201,13 @@ fn tree_of(alloc: Global, bytes: &[u8]) -> Result<Tree, SetupFault>
     }
 }
 
-/// Reads a setup: one JSON object. Of the rules that it breaks, the first in their order is the fault.
-pub fn read_setup(alloc: Global, bytes: &[u8]) -> Result<Setup, SetupFault>
+/// Reads a setup: one JSON object. Of the rules that it breaks, the first in their order is the fault. The hashes of
+/// keys begin with the seed.
+pub fn read_setup(alloc: Global, bytes: &[u8], seed: Seed) -> Result<Setup, SetupFault>
     ensures setup { IfOk result (λ setup. ReadsAs bytes.now (Ok setup)) }
     ensures sound { IfOk result IsSound }
     ensures cause { (rule : SetupRule) → result ≡ Err (Rule rule) → ReadsAs bytes.now (Err rule) }
 {
     let tree = tree_of(alloc, bytes)?;
-    setup_of(alloc, &tree)
+    setup_of(alloc, &tree, seed)
 }

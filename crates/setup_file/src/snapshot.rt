@@ -12,6 +12,7 @@ use crate::objects::{has_no, has_text_at, object_with};
 use crate::resources::tracked_as;
 use crate::setup::{Snapshot, SnapshotObject, Tracked};
 use base_types::{OutOfMemory, Revision};
+use hash_seed::Seed;
 use json_tree::Tree;
 use std::alloc::Global;
 
@@ -106,14 +107,18 @@ fn read_entries(
     Ok(Some(objects))
 }
 
-fn have_distinct_keys(alloc: Global, objects: &[SnapshotObject]) -> Result<bool, OutOfMemory>
+fn have_distinct_keys(
+    alloc: Global,
+    objects: &[SnapshotObject],
+    seed: Seed,
+) -> Result<bool, OutOfMemory>
     ensures { IfOk result (λ have. have ≡ are_distinct key_eq (map (λ object. object.key) objects.now)) }
 {
     let mut keys = Vec::with_capacity(alloc, objects.len())?;
     for object in objects {
         keys.push(&object.key)?;
     }
-    are_keys_distinct(alloc, &keys)
+    are_keys_distinct(alloc, &keys, seed)
 }
 
 fn have_distinct_uids(alloc: Global, objects: &[SnapshotObject]) -> Result<bool, OutOfMemory>
@@ -149,10 +154,11 @@ fn are_at_start(
     alloc: Global,
     start: Revision,
     objects: &[SnapshotObject],
+    seed: Seed,
 ) -> Result<bool, OutOfMemory>
     ensures { IfOk result (λ are. are ≡ are_at_start start objects.now) }
 {
-    let keys = have_distinct_keys(alloc, objects)?;
+    let keys = have_distinct_keys(alloc, objects, seed)?;
     let uids = have_distinct_uids(alloc, objects)?;
     let revisions = have_distinct_revisions(alloc, objects)?;
     Ok(keys && uids && revisions && are_below(start, objects))
@@ -164,6 +170,7 @@ pub fn read_snapshot(
     start: Revision,
     resources: &[Tracked],
     tree: &Tree,
+    seed: Seed,
 ) -> Result<Snapshot, SetupFault>
     ensures snapshot { IfOk result (λ snapshot. snapshot_at start resources.now tree.now ≡ Ok snapshot) }
     ensures cause { IfErr result (IsCause (snapshot_at start resources.now tree.now)) }
@@ -174,7 +181,7 @@ pub fn read_snapshot(
     let Some(objects) = read_entries(alloc, resources, list.all.as_slice())? else {
         return Err(SetupFault::Rule(SetupRule::S12));
     };
-    if !are_at_start(alloc, start, objects.as_slice())? {
+    if !are_at_start(alloc, start, objects.as_slice(), seed)? {
         return Err(SetupFault::Rule(SetupRule::S13));
     }
     Ok(objects)

@@ -1,6 +1,7 @@
 // What the tests are given: trees, events and setups of JSON texts.
 use audit_event::{Event, read_item};
 use base_types::Text;
+use hash_seed::Seed;
 use json_tree::{Tree, from_value};
 use serde_json::Value;
 use setup_file::{Setup, read_setup};
@@ -22,7 +23,7 @@ pub(crate) fn event_of(rt: &(impl Abort + AllocGlobal), text: &str, line: u64) -
 }
 
 pub(crate) fn setup_of(rt: &(impl Abort + AllocGlobal), text: &str) -> Setup {
-    read_setup(rt.alloc(), text.as_bytes()).expect(rt, "a setup")
+    read_setup(rt.alloc(), text.as_bytes(), Seed::of(b"")).expect(rt, "a setup")
 }
 
 pub(crate) fn push(rt: &impl Abort, text: &mut String, more: &str) {

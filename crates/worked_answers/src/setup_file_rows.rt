@@ -1,5 +1,6 @@
 use crate::given::{assert_count, assert_text, push, setup_of};
 use SetupRule::{S1, S2, S3, S4, S5, S6, S7, S8, S9, S10, S11, S12, S13, S14, S15};
+use hash_seed::Seed;
 use setup_file::{Setup, SetupFault, SetupRule, read_setup};
 use std::process::Abort;
 
@@ -173,7 +174,7 @@ fn text_with(rt: &(impl Abort + AllocGlobal), member: &str, value: &str) -> Stri
 }
 
 fn broken_rule(rt: &(impl Abort + AllocGlobal), text: &str) -> Option<SetupRule> {
-    match read_setup(rt.alloc(), text.as_bytes()).err() {
+    match read_setup(rt.alloc(), text.as_bytes(), Seed::of(b"")).err() {
         None => None,
         Some(SetupFault::Rule(rule)) => Some(rule),
         Some(SetupFault::OutOfMemory) => panic!(rt; "memory"),

@@ -3,6 +3,7 @@ ghost use Rattle.std.specs.Prelude.{◌≡◌, ◌<◌, length, IfOk};
 use audit_event::Events;
 use base_types::{Bytes, Text};
 use edge_io::{InputFile, InputFiles, MemoryDesk};
+use hash_seed::Seed;
 use judge_pool::FreeGate;
 use log_intake::{LogStop, read_log, read_setup_named};
 use std::alloc::{AllocError, Global};
@@ -114,7 +115,15 @@ fn told<R: Threads + Sync>(
 {
     let mut desk = desk_of(alloc, log, cut, failing)?;
     let mut buffer = buffer_of(alloc)?;
-    let answer = read_log(rt, alloc, &mut desk, "f", &mut buffer, &FreeGate);
+    let answer = read_log(
+        rt,
+        alloc,
+        &mut desk,
+        "f",
+        &mut buffer,
+        Seed::of(b""),
+        &FreeGate,
+    );
     text_of(alloc, &answer)
 }
 

@@ -6,7 +6,7 @@ use Rattle.setup_file.proofs.Seen.{seen_in, distinct_new, new_step, unseen, put_
 use Rattle.setup_file.proofs.distinct.are_keys_distinct.Goals as goal
 
 pub loop-key-init : goal.loop-key-init
-loop-key-init c = rw c.new-seen.ensures.empty (distinct_new {K = (Bor ObjectKey)} key_eq (λ key. key.now) (map (λ (key : Bor ObjectKey). key.now) c.args.keys.now))
+loop-key-init c = rw c.with_hasher-seen.ensures.empty (distinct_new {K = (Bor ObjectKey)} key_eq (λ key. key.now) (map (λ (key : Bor ObjectKey). key.now) c.args.keys.now))
 
 pub loop-key-preserved : goal.loop-key-preserved
 loop-key-preserved c =
