@@ -15,8 +15,9 @@ use crate::stop::Stop;
 use crate::told::Told;
 use audit_event::Events;
 use edge_io::Desk;
+use hash_seed::Seed;
 use judge_pool::Gate;
-use log_intake::{LogStop, SetupStop, read_log, read_setup_named};
+use log_intake::{LogStop, SetupRead, SetupStop, read_log, read_setup_named};
 use setup_file::Setup;
 use std::alloc::{AllocError, Global};
 use std::marker::Sync;
@@ -51,12 +52,12 @@ pub fn read_context<R: Threads + Sync, D: Desk, H: Gate>(
     let Ok(mut buffer) = piece_buffer(alloc) else {
         return Err(Stop::OutOfMemory);
     };
-    let setup = match read_setup_named(alloc, desk, setup, &mut buffer) {
-        Ok(setup) => setup,
+    let (setup, seed) = match read_setup_named(alloc, desk, setup, &mut buffer) {
+        Ok(SetupRead { setup, seed }) => (setup, seed),
         Err(stop) => return refused_setup(stop),
     };
-    match read_log(rt, alloc, desk, log, &mut buffer, lines) {
-        Ok(events) => told_by(rt, alloc, setup, events),
+    match read_log(rt, alloc, desk, log, &mut buffer, seed, lines) {
+        Ok(events) => told_by(rt, alloc, setup, events, seed),
         Err(stop) => refused_log(stop),
     }
 }
@@ -102,6 +103,7 @@ fn told_by<R: Threads + Sync>(
     alloc: Global,
     setup: Setup,
     events: Events,
+    seed: Seed,
 ) -> Result<Told, Stop>
     requires setup { IsSound setup }
     requires few { length setup.checkpoints ≤ most_checkpoints }
@@ -109,8 +111,8 @@ fn told_by<R: Threads + Sync>(
     ensures found { IfOk result (IsFoundIn (with_chains setup events) events) }
     ensures no_fault { IsErrOf result Stop.ReadFault → ⊥ }
 {
-    let chained = with_chains(alloc, setup, &events)?;
-    match Context::build(rt, alloc, chained, events) {
+    let chained = with_chains(alloc, setup, &events, seed)?;
+    match Context::build(rt, alloc, chained, events, seed) {
         Ok(context) => Ok(Told::Context(context)),
         Err(BuildFault::PoolFull) => Ok(Told::Refused(Refusal::PastLimit(Limit::PoolSize))),
         Err(BuildFault::OutOfMemory) => Err(Stop::OutOfMemory),

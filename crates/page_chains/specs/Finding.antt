@@ -1,8 +1,7 @@
 -- What is known of the first page that a token leads to.
 use Rattle.std.specs.Prelude.{◌≡◌, ℕ, Bool, List, Option, Some, None, option_and_then, filter, slice_get}
-use Rattle.std.specs.declared.hash.FoldHasher.{FoldHasher}
-use Rattle.std.specs.declared.hash.BuildHasherDefault.{BuildHasherDefault}
 use Rattle.std.specs.HashMap.{HashMap, get}
+use Rattle.hash_seed.specs.declared.seed.Seeded.{Seeded}
 use Rattle.page_chains.specs.declared.page.Asked.{Asked}
 use Rattle.page_chains.specs.declared.page.Asked.TheVariants.{First, Next, Unclear}
 use Rattle.page_chains.specs.declared.page.Page.{Page}
@@ -11,7 +10,7 @@ use Rattle.page_chains.specs.Chains.{key_with, asks, earliest}
 
 -- places of pages by their keys
 abbrev pub Places : Type 0
-Places = HashMap PageKey ℕ (BuildHasherDefault FoldHasher)
+Places = HashMap PageKey ℕ Seeded
 
 -- the key by which a page was asked for
 abbrev pub key_asked : Page → Asked → Option PageKey

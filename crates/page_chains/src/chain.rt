@@ -15,6 +15,7 @@ use crate::reaching::reached_after;
 use crate::reading::parts_of;
 use audit_event::Events;
 use base_types::{OutOfMemory, Text};
+use hash_seed::Seed;
 use json_tree::copy;
 use setup_file::{Checkpoint, Checkpoints, Setup, Snapshot, SnapshotObject};
 use std::alloc::Global;
@@ -142,11 +143,11 @@ fn put(found: &mut Checkpoints, more: Option<Checkpoint>) -> Result<(), OutOfMem
     Ok(())
 }
 
-fn chains_in(alloc: Global, pages: &[Page]) -> Result<Checkpoints, OutOfMemory>
+fn chains_in(alloc: Global, pages: &[Page], seed: Seed) -> Result<Checkpoints, OutOfMemory>
     ensures chains { IfOk result (λ found. found ≡ chains_in pages.now) }
     ensures few { IfOk result (λ found. length found ≤ length pages.now) }
 {
-    let links = links_of(alloc, pages)?;
+    let links = links_of(alloc, pages, seed)?;
     let last = reached_after(alloc, &links, pages.len().saturating_sub(1))?;
     let mut found = Checkpoints::new(alloc);
     for first in 0..pages.len() {
@@ -159,8 +160,13 @@ fn chains_in(alloc: Global, pages: &[Page]) -> Result<Checkpoints, OutOfMemory>
 }
 
 /// Puts the lists that clients read in pages together: each chain of pages is a whole list at one revision, which is
-/// no earlier than the log. The events stand in the order of their lines.
-pub fn chains(alloc: Global, setup: &Setup, events: &Events) -> Result<Checkpoints, OutOfMemory>
+/// no earlier than the log. The events stand in the order of their lines. The hashes of tokens begin with the seed.
+pub fn chains(
+    alloc: Global,
+    setup: &Setup,
+    events: &Events,
+    seed: Seed,
+) -> Result<Checkpoints, OutOfMemory>
     ensures chains { IfOk result (λ found. found ≡ chains_of setup.now events.now) }
     ensures each { IfOk result (AreChains (pages_of setup.now events.now)) }
     ensures few { IfOk result (λ found. length found ≤ length events.now) }
@@ -169,6 +175,6 @@ pub fn chains(alloc: Global, setup: &Setup, events: &Events) -> Result<Checkpoin
     ensures sound { All IsSound events.now → IfOk result (All (IsLaterList setup.now.start setup.now.resources)) }
 {
     let parts = parts_of(alloc, setup, events.as_slice())?;
-    let found = chains_in(alloc, parts.as_slice())?;
+    let found = chains_in(alloc, parts.as_slice(), seed)?;
     Ok(found)
 }

@@ -6,11 +6,12 @@ ghost use Rattle.page_chains.specs.Links.{IsLink, AreLinks};
 
 use crate::page::{Asked, Page, PageKey};
 use base_types::{OutOfMemory, Text};
+use hash_seed::{Seed, Seeded};
 use std::alloc::Global;
 use std::collections::HashMap;
 
 /// Places of pages by their keys.
-pub type Places = HashMap<PageKey, usize>;
+pub type Places = HashMap<PageKey, usize, Seeded>;
 
 fn key_with(page: &Page, token: &Text) -> Result<PageKey, OutOfMemory>
     ensures { IfOk result (λ key. key ≡ key_with page.now token.now) }
@@ -79,10 +80,10 @@ fn keep_sooner(pages: &[Page], places: &mut Places, place: usize) -> Result<(), 
 }
 
 // Finds the first page, in the order of judgement, that each token leads to.
-fn first_places(alloc: Global, pages: &[Page]) -> Result<Places, OutOfMemory>
+fn first_places(alloc: Global, pages: &[Page], seed: Seed) -> Result<Places, OutOfMemory>
     ensures { IfOk result (λ places. FindsFirst (⟦<PageKey as PartialEq>⟧.eq) pages.now pages.now places) }
 {
-    let mut places = HashMap::new(alloc);
+    let mut places = HashMap::with_hasher(alloc, Seeded::new(seed));
     for place in 0..pages.len() {
         keep_sooner(pages, &mut places, place)?;
     }
@@ -107,10 +108,10 @@ fn link_of(pages: &[Page], places: &Places, place: usize) -> Result<usize, OutOf
 }
 
 /// Where each page leads to.
-pub fn links_of(alloc: Global, pages: &[Page]) -> Result<Vec<usize>, OutOfMemory>
+pub fn links_of(alloc: Global, pages: &[Page], seed: Seed) -> Result<Vec<usize>, OutOfMemory>
     ensures { IfOk result (λ links. AreLinks pages.now links.items) }
 {
-    let places = first_places(alloc, pages)?;
+    let places = first_places(alloc, pages, seed)?;
     let mut links = Vec::with_capacity(alloc, pages.len())?;
     for place in 0..pages.len() {
         links.push(link_of(pages, &places, place)?)?;

@@ -29,6 +29,7 @@ use crate::uses::{Uses, uses_of};
 use audit_event::Events;
 use base_types::{ObjectKey, OutOfMemory, Reason};
 use clouds::Clouds;
+use hash_seed::Seed;
 use node_pool::Pool;
 use object_past::{Past, Removals, Versions};
 use object_versions::{Judged, LogPast, past_of};
@@ -213,6 +214,7 @@ fn gather<R: Threads + Sync>(
     setup: &Setup,
     events: &Events,
     limit: u32,
+    seed: Seed,
 ) -> Result<Gathered, BuildFault>
     requires setup { IsSound setup.now }
     requires events { All IsSoundEvent events.now }
@@ -222,14 +224,14 @@ fn gather<R: Threads + Sync>(
     ensures full { result ≡ Err BuildFault.PoolFull → limit < length (pooled setup.now events.now) }
     ensures fits { IfOk result (λ gathered. length (pooled setup.now events.now) ≤ limit) }
 {
-    let mut pool = Pool::new(alloc, limit)?;
+    let mut pool = Pool::new(alloc, limit, seed)?;
     let log = log_of(rt, alloc, &mut pool, setup, events)?;
     let found = found_of(alloc, setup, events, &pool, &log)?;
     Ok(Gathered { pool, log, found })
 }
 
 // A context of its parts.
-fn joined(setup: Setup, events: Events, gathered: Gathered) -> Context
+fn joined(setup: Setup, events: Events, gathered: Gathered, seed: Seed) -> Context
     requires { IsFound setup events gathered.pool.trees gathered.log gathered.found }
     ensures setup { result.setup ≡ setup }
     ensures events { result.events ≡ events }
@@ -265,17 +267,19 @@ fn joined(setup: Setup, events: Events, gathered: Gathered) -> Context
         faults,
         keys,
         uses,
+        seed,
     }
 }
 
 impl Context {
     /// What a setup and the events of a log say together. The objects may have 50,000,000 distinct values, lists and
-    /// members among them. Several threads classify the events.
+    /// members among them. Several threads classify the events. The hashes of what the pool holds begin with the seed.
     pub fn build<R: Threads + Sync>(
         rt: &R,
         alloc: Global,
         setup: Setup,
         events: Events,
+        seed: Seed,
     ) -> Result<Context, BuildFault>
         requires setup { IsSound setup }
         requires events { All IsSoundEvent events }
@@ -287,7 +291,7 @@ impl Context {
         ensures full { result ≡ Err BuildFault.PoolFull → 50000000 < length (pooled setup events) }
         ensures fits { IfOk result (λ context. length (pooled setup events) ≤ 50000000) }
     {
-        Context::build_within(rt, alloc, setup, events, MOST_NODES)
+        Context::build_within(rt, alloc, setup, events, MOST_NODES, seed)
     }
 
     /// The same, where the objects may have `limit` distinct values.
@@ -297,6 +301,7 @@ impl Context {
         setup: Setup,
         events: Events,
         limit: u32,
+        seed: Seed,
     ) -> Result<Context, BuildFault>
         requires setup { IsSound setup }
         requires events { All IsSoundEvent events }
@@ -308,7 +313,7 @@ impl Context {
         ensures full { result ≡ Err BuildFault.PoolFull → limit < length (pooled setup events) }
         ensures fits { IfOk result (λ context. length (pooled setup events) ≤ limit) }
     {
-        let gathered = gather(rt, alloc, &setup, &events, limit)?;
-        Ok(joined(setup, events, gathered))
+        let gathered = gather(rt, alloc, &setup, &events, limit, seed)?;
+        Ok(joined(setup, events, gathered, seed))
     }
 }

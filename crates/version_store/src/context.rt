@@ -11,6 +11,7 @@ use crate::uses::Uses;
 use audit_event::{Event, Events};
 use base_types::{ObjectKey, Range, Reason};
 use clouds::Clouds;
+use hash_seed::Seed;
 use node_pool::Pool;
 use object_past::{Past, Version};
 use rbac_timeline::Timeline;
@@ -36,6 +37,8 @@ pub struct Context {
     pub(crate) keys: Vec<ObjectKey>,
     // Where each uid comes first, for those who try other objects before a write.
     pub(crate) uses: Uses,
+    // What the hashes of keys begin with.
+    pub(crate) seed: Seed,
 }
 
 // Written out, so that a function that lets a context go has one call and not the steps of each field; so are those
@@ -56,6 +59,7 @@ impl Drop for Context {
             faults: _,
             keys: _,
             uses: _,
+            seed: _,
         } = self;
         drop(setup);
         drop(pool);
@@ -141,6 +145,11 @@ impl Context {
         ensures sound { IsSound self.now.setup }
     {
         &self.setup
+    }
+
+    /// What the hashes of keys begin with.
+    pub fn seed(&self) -> Seed {
+        self.seed
     }
 
     /// The events of the log by line.

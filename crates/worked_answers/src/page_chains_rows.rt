@@ -1,5 +1,6 @@
 use crate::given::{assert_text, event_of, push, setup_of};
 use audit_event::{Event, Events};
+use hash_seed::Seed;
 use page_chains::chains;
 use setup_file::{Checkpoint, Checkpoints};
 use std::process::Abort;
@@ -174,7 +175,7 @@ fn chains_of(
 ) -> Checkpoints {
     let events = log_of(rt, lists, first, apart);
     let setup = setup_of(rt, SETUP);
-    let found = chains(rt.alloc(), &setup, &events);
+    let found = chains(rt.alloc(), &setup, &events, Seed::of(b""));
     drop(setup);
     drop(events);
     found.expect(rt, "memory")

@@ -5,6 +5,7 @@ ghost use Rattle.std.specs.Prelude.{◌≡◌, length, All, IfOk};
 ghost use Rattle.audit_event.specs.Events.{IsSound};
 
 use audit_event::{Event, Events, read_item};
+use hash_seed::Seed;
 use node_pool::Pool;
 use serde_json::Value;
 use setup_file::read_setup;
@@ -158,12 +159,12 @@ fn tell<R: Threads + Sync>(
     stage: &str,
     times: (&str, &str),
 ) -> Result<Told, Fail> {
-    let setup = read_setup(alloc, SETUP.as_bytes())?;
+    let setup = read_setup(alloc, SETUP.as_bytes(), Seed::of(b""))?;
     if !setup.checkpoints.is_empty() {
         return Ok(nothing());
     }
     let events = log_with(alloc, request, users, stage, times)?;
-    let mut pool = Pool::new(alloc, 100)?;
+    let mut pool = Pool::new(alloc, 100, Seed::of(b""))?;
     let log = log_of(rt, alloc, &mut pool, &setup, &events)?;
     Ok(match log.events.as_slice().first() {
         Some(event) => told_of(event, pool.len()),

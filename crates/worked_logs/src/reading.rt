@@ -3,6 +3,7 @@ ghost use Rattle.audit_event.specs.Events.{IsSound};
 ghost use Rattle.version_store.specs.Log.{AreLines};
 
 use audit_event::{Event, Events, read_item};
+use hash_seed::Seed;
 use serde_json::Value;
 use setup_file::read_setup;
 use std::alloc::Global;
@@ -52,12 +53,13 @@ pub(crate) fn context<R: Threads + Sync>(
     log: &str,
     limit: u32,
 ) -> Result<Option<Context>, Fail> {
-    let setup = read_setup(alloc, setup.as_bytes())?;
+    let seed = Seed::of(setup.as_bytes());
+    let setup = read_setup(alloc, setup.as_bytes(), seed)?;
     if setup.checkpoints.len() > 100 {
         return Err("too many checkpoints".into());
     }
     let events = events(alloc, log)?;
-    match Context::build_within(rt, alloc, setup, events, limit) {
+    match Context::build_within(rt, alloc, setup, events, limit, seed) {
         Ok(context) => Ok(Some(context)),
         Err(BuildFault::PoolFull) => Ok(None),
         Err(BuildFault::OutOfMemory) => Err("no memory".into()),
