@@ -4,19 +4,24 @@ ghost use Rattle.base_types.specs.Keys.{same_key};
 ghost use Rattle.local_bounds.specs.Keys.{AreKeysOf, is_among};
 
 use base_types::{ObjectKey, OutOfMemory};
+use hash_seed::{Seed, Seeded};
 use std::alloc::Global;
 use std::collections::HashSet;
 use write_groups::Item;
 
 /// Keys of a list's items.
-pub type Keys<'a> = HashSet<&'a ObjectKey>;
+pub type Keys<'a> = HashSet<&'a ObjectKey, Seeded>;
 
 /// The keys of the items; None where two items have one key.
-pub fn distinct_keys<'a>(alloc: Global, items: &'a [Item]) -> Result<Option<Keys<'a>>, OutOfMemory>
+pub fn distinct_keys<'a>(
+    alloc: Global,
+    items: &'a [Item],
+    seed: Seed,
+) -> Result<Option<Keys<'a>>, OutOfMemory>
     ensures some { IfOk result (λ found. IfSome found (λ keys. AllPairs (λ a b. a.key ≢ b.key) items.now × AreKeysOf items.now keys)) }
     ensures none { IfOk result (λ found. IfNone found (AllPairs (λ a b. a.key ≢ b.key) items.now → ⊥)) }
 {
-    let mut keys = HashSet::new(alloc);
+    let mut keys = HashSet::with_hasher(alloc, Seeded::new(seed));
     for item in items {
         if !keys.insert(&item.key)? {
             return Ok(None);

@@ -93,7 +93,7 @@ pub fn list_asking<L: Listable>(
     if place < window.low || window.high < place {
         return Ok(Asking::Never);
     }
-    let Some(shown) = distinct_keys(alloc, listing.items.as_slice())? else {
+    let Some(shown) = distinct_keys(alloc, listing.items.as_slice(), known.seed)? else {
         return Ok(Asking::Never);
     };
     let lacked = lacked_keys(alloc, known.past, listing, &shown)?;

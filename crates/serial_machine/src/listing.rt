@@ -13,19 +13,24 @@ ghost use Rattle.write_groups.specs.Modelled.{item_of, listing_of};
 use crate::replies::is_shown;
 use crate::scene::Scene;
 use base_types::{ObjectKey, OutOfMemory};
+use hash_seed::{Seed, Seeded};
 use std::alloc::Global;
 use std::collections::HashSet;
 use write_groups::{Item, Listing};
 
 /// Keys of a list's items.
-type Shown<'a> = HashSet<&'a ObjectKey>;
+type Shown<'a> = HashSet<&'a ObjectKey, Seeded>;
 
 // The keys of the items; None where two items have one key.
-fn shown_keys<'a>(alloc: Global, items: &'a [Item]) -> Result<Option<Shown<'a>>, OutOfMemory>
+fn shown_keys<'a>(
+    alloc: Global,
+    items: &'a [Item],
+    seed: Seed,
+) -> Result<Option<Shown<'a>>, OutOfMemory>
     ensures some { IfOk result (λ found. IfSome found (λ shown. AllPairs (λ a b. a.key ≢ b.key) items.now × AreShown items.now shown)) }
     ensures none { IfOk result (λ found. IfNone found (AllPairs (λ a b. a.key ≢ b.key) items.now → ⊥)) }
 {
-    let mut shown = HashSet::new(alloc);
+    let mut shown = HashSet::with_hasher(alloc, Seeded::new(seed));
     for item in items {
         if !shown.insert(&item.key)? {
             return Ok(None);
@@ -144,7 +149,7 @@ pub fn is_list_right(
     if place != listing.revision.get() {
         return Ok(false);
     }
-    let Some(shown) = shown_keys(alloc, listing.items.as_slice())? else {
+    let Some(shown) = shown_keys(alloc, listing.items.as_slice(), scene.context.seed())? else {
         return Ok(false);
     };
     if !are_listed(scene, number, place, listing.items.as_slice())? {
