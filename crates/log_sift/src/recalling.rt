@@ -9,6 +9,7 @@ use crate::answer::LeftCause;
 use audit_event::{Event, Malformed, Seen, SeenFault};
 use base_types::{Bytes, OutOfMemory, Stage, Text};
 use batch_decode::{Decoded, decode_line};
+use hash_seed::{Seed, Seeded};
 use indexmap::IndexMap;
 use line_reader::Line;
 use std::alloc::Global;
@@ -32,7 +33,7 @@ pub struct Home {
 }
 
 /// Where the kept events stand, in the order in which they were kept.
-pub type Homes = IndexMap<Identity, Home>;
+pub type Homes = IndexMap<Identity, Home, Seeded>;
 
 /// Where the event of an identity stands.
 pub fn home_of(homes: &Homes, identity: &Identity) -> Option<Home>
@@ -77,7 +78,8 @@ fn event_at(alloc: Global, log: &[u8], home: Home) -> Result<Event, OutOfMemory>
 fn seen_one(alloc: Global, event: Event) -> Result<Seen, OutOfMemory>
     ensures { IfOk result (λ seen. seen ≡ event ∷ []) }
 {
-    let mut seen = Seen::new(alloc)?;
+    // A table of two events at most needs no secret.
+    let mut seen = Seen::new(alloc, Seed::of(b""))?;
     match seen.admit(event) {
         Ok(_) => Ok(seen),
         Err(_) => Err(OutOfMemory),

@@ -7,7 +7,11 @@ use crate::cutting::cut_line;
 use crate::keeping::sift_line;
 use crate::recalling::Homes;
 use base_types::OutOfMemory;
+use hash_seed::{Seed, Seeded};
 use std::alloc::Global;
+
+/// The hashes of audit IDs begin with a seed of so many bytes of the log.
+const SEED_BYTES: usize = 65_536;
 
 // Puts the bytes between two indexes behind the stretches that stay, where there are any.
 fn add_stretch(stays: &mut Stretches, start: usize, end: usize) -> Result<(), OutOfMemory>
@@ -80,12 +84,18 @@ fn sift_lines(
     Ok(())
 }
 
+// The seed of the log's first bytes: there is no setup here. The times and audit IDs in them aren't chosen by whoever
+// wants other audit IDs to collide.
+fn seed_of(log: &[u8]) -> Seed {
+    Seed::of(&log[..log.len().min(SEED_BYTES)])
+}
+
 /// What becomes of each line of a log: a line stays where its events can be taken behind those of the lines before it that
 /// stay. No event of a line that is left out is kept.
 pub fn sift(alloc: Global, log: &[u8]) -> Result<Sifting, OutOfMemory>
     ensures { IfOk result (λ sifting. (fates : List Became) × IsSifting log.now fates sifting) }
 {
-    let mut homes = Homes::new(alloc);
+    let mut homes = Homes::with_hasher(alloc, Seeded::new(seed_of(log)));
     let mut sifting = Sifting {
         stays: Stretches::new(alloc),
         left: LeftLines::new(alloc),
