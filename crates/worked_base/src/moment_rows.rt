@@ -56,32 +56,55 @@ fn a_list_can_go_back(rt: HostRuntime) -> Result<(), Fail> {
     Ok(())
 }
 
-/// No thing, one without an end, a read that a write crosses though no list does, and ties of lines.
-#[test]
-fn edges(rt: HostRuntime) -> Result<(), Fail> {
-    let alloc = rt.alloc();
-    let found = |moments: Moments, count: usize| match moments {
-        Moments::Found(moments) => moments.len() == count,
-        Moments::Crossed { .. } => false,
-    };
-    assert!(rt; found(settle_moments(alloc, &[])?, 0));
-    let open = [thing(1, 5, 5, 23, NO_END), thing(2, 1, 1, 30, 30)];
-    assert!(rt; found(settle_moments(alloc, &open)?, 2));
-    let write_too_late = [thing(1, 3, 4, 23, 25), thing(2, 5, 6, 22, 22)];
-    match settle_moments(alloc, &write_too_late)? {
-        Moments::Crossed { first, second } => assert_eq!(rt; (first, second), (2, 1)),
-        Moments::Found(_) => assert!(rt; false, "the revision was seen before it was made"),
+/// How many things have moments; none where two cross.
+fn found(moments: &Moments) -> Option<usize> {
+    match moments {
+        Moments::Found(moments) => Some(moments.len()),
+        Moments::Crossed { .. } => None,
     }
-    let twice = [
+}
+
+/// The lines of two things that cross, where some do.
+fn crossed(moments: &Moments) -> Option<(u64, u64)> {
+    match moments {
+        Moments::Found(_) => None,
+        Moments::Crossed { first, second } => Some((*first, *second)),
+    }
+}
+
+#[test]
+fn no_thing_and_one_without_an_end(rt: HostRuntime) -> Result<(), Fail> {
+    let alloc = rt.alloc();
+    assert_eq!(rt; found(&settle_moments(alloc, &[])?), Some(0));
+    let open = [thing(1, 5, 5, 23, NO_END), thing(2, 1, 1, 30, 30)];
+    assert_eq!(rt; found(&settle_moments(alloc, &open)?), Some(2));
+    Ok(())
+}
+
+/// The revision was seen before it was made.
+#[test]
+fn a_write_that_comes_too_late(rt: HostRuntime) -> Result<(), Fail> {
+    let things = [thing(1, 3, 4, 23, 25), thing(2, 5, 6, 22, 22)];
+    assert_eq!(rt;
+        crossed(&settle_moments(rt.alloc(), &things)?),
+        Some((2, 1))
+    );
+    Ok(())
+}
+
+/// Both writes come after both reads: the first lines are told.
+#[test]
+fn ties_of_lines(rt: HostRuntime) -> Result<(), Fail> {
+    let things = [
         thing(1, 9, 9, 2, 2),
         thing(2, 9, 9, 2, 2),
         thing(3, 1, 1, 3, 3),
         thing(4, 1, 1, 3, 3),
     ];
-    match settle_moments(alloc, &twice)? {
-        Moments::Crossed { first, second } => assert_eq!(rt; (first, second), (1, 3)),
-        Moments::Found(_) => assert!(rt; false, "both writes come after both reads"),
-    }
+    assert_eq!(rt;
+        crossed(&settle_moments(rt.alloc(), &things)?),
+        Some((1, 3))
+    );
     Ok(())
 }
 
