@@ -18,7 +18,8 @@ use Rattle.clouds.specs.Clouds.{IsHiddenBy}
 use Rattle.clouds.specs.FirstPlace.{HoldsNowhere, IsFirstPlace, IsLeastPlace, earlier_of}
 use Rattle.clouds.specs.Hiding.{AreRevisionsOf, HidesKey, ReachesKey, revision_of}
 use Rattle.clouds.specs.Items.{AddsAt, items_at}
-use Rattle.clouds.specs.Kept.{AreFiled, AreRecorded, key_order}
+use Rattle.clouds.specs.Filed.{AreFiled, AreRecorded}
+use Rattle.clouds.specs.Kept.{key_order}
 use Rattle.clouds.specs.Latest.{IsLatest}
 use Rattle.clouds.specs.Wide.{AddsWide, AnyWide}
 use Rattle.clouds.proofs.Adding.{same_key, same_key_from}

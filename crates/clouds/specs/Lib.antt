@@ -1,4 +1,5 @@
 pub mod Clouds
+pub mod Filed
 pub mod FirstPlace
 pub mod Hiding
 pub mod Items

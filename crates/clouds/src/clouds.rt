@@ -28,7 +28,7 @@ impl Model for Clouds {
 
     ghost Value = { Writes };
 
-    ghost use Rattle.clouds.specs.Kept.{AreKept};
+    ghost use Rattle.clouds.specs.Filed.{AreKept};
 
     ghost view = { λ c. record { spans = map (λ s. s.value) c.spans.value.items; revisions = map (λ r. r.value) c.revisions.value.items } };
 

@@ -3,7 +3,8 @@ ghost use Rattle.std.specs.List.Sorted.{IsPermutation};
 ghost use Rattle.clouds.specs.declared.span.KeyRevision.{KeyRevision};
 ghost use Rattle.clouds.specs.declared.span.OpaqueSpan.{OpaqueSpan};
 ghost use Rattle.clouds.specs.Items.{AddsAt};
-ghost use Rattle.clouds.specs.Kept.{AreFiled, AreRecorded, key_order};
+ghost use Rattle.clouds.specs.Filed.{AreFiled, AreRecorded};
+ghost use Rattle.clouds.specs.Kept.{key_order};
 
 use crate::recorded::Recorded;
 use crate::span::{KeyRevision, OpaqueSpan};

@@ -1,5 +1,5 @@
 use Rattle.std.proofs.Common.{map, take}
-use Rattle.clouds.specs.Kept.{AreFiled}
+use Rattle.clouds.specs.Filed.{AreFiled}
 use Rattle.clouds.proofs.filing.file_each.Given as goal
 
 -- the spans so far are filed

@@ -1,5 +1,5 @@
 use Rattle.std.proofs.Common.{subst, sym}
-use Rattle.clouds.specs.Kept.{AreRecorded}
+use Rattle.clouds.specs.Filed.{AreRecorded}
 use Rattle.clouds.proofs.Keeping.{AreRecorded-more, taken_more}
 use Rattle.clouds.proofs.filing.record_each.Goals as goal
 

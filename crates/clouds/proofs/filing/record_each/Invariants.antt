@@ -1,5 +1,5 @@
 use Rattle.std.proofs.Common.{map, take}
-use Rattle.clouds.specs.Kept.{AreRecorded}
+use Rattle.clouds.specs.Filed.{AreRecorded}
 use Rattle.clouds.proofs.filing.record_each.Given as goal
 
 -- the revisions so far are kept
