@@ -1,5 +1,5 @@
 -- What goes past a path, by its entries and its built-in fields.
-use Rattle.std.proofs.Common.{◌≡◌, ℕ, ◌+◌, ◌-◌, ◌<◌, Bool, true, false, ◌||◌, List, [], ◌∷◌, ◌++◌, length, get_or, take, drop, map, Option, Some, None, bytes_eq, refl, sym, ap, ◌∙◌, arith, add-one}
+use Rattle.std.proofs.Common.{◌≡◌, ℕ, ◌+◌, ◌-◌, ◌^◌, ◌<◌, ◌≤◌, min, Bool, true, false, ◌||◌, List, [], ◌∷◌, ◌++◌, length, get_or, take, drop, map, Option, Some, None, bytes_eq, refl, sym, ap, ◌∙◌, arith, add-one}
 use Rattle.std.proofs.Math.Seq.{take-length, take-suc}
 use Rattle.std.specs.Prelude.{option_and_then, codes, unwrap_or, if◌then◌else◌}
 use Rattle.std.proofs.lemmas.Bool.{false≢true}
@@ -230,3 +230,37 @@ without_last way nothing es e i lt at is =
 
 pub past-same : (nothing : Bool) (es es' : List ShapeEntry) (way : List (List ℕ)) → entries_past way nothing es ≡ entries_past way nothing es' → past nothing es way ≡ past nothing es' way
 past-same nothing es es' way same = ap (λ l. fields_past way (released_fields nothing) ++ (l ++ fields_past way (built_in_fields nothing))) same
+
+behind-length : (way tokens rest : List (List ℕ)) → behind way tokens ≡ Some rest → length tokens ≡ length way + length rest
+behind-length [] tokens rest is = let same : tokens ≡ rest = cc in let count = ap length same in omega arith
+behind-length (name ∷ above) tokens rest is = go (behind above tokens) (behind-length above tokens) is
+  where
+    go : (o : Option (List (List ℕ))) → ((left : List (List ℕ)) → o ≡ Some left → length tokens ≡ length above + length left) → option_and_then (cut name) o ≡ Some rest
+        → length tokens ≡ length (name ∷ above) + length rest
+    go None before is = absurd (let none : None ≡ Some rest = is in cc)
+    go (Some []) before is = absurd (let none : None ≡ Some rest = is in cc)
+    go (Some (t ∷ ts)) before is = further (covers t name) (before (t ∷ ts) refl) is
+      where
+        further : (m : Bool) → length tokens ≡ length above + length (t ∷ ts) → (if m then Some ts else None) ≡ Some rest → length tokens ≡ length (name ∷ above) + length rest
+        further true long is = let same : ts ≡ rest = cc in let count = ap length same in omega arith
+        further false long is = absurd (let none : None ≡ Some rest = is in cc)
+
+-- what ends under a path has one token more
+ends-length : (name : List ℕ) (way tokens : List (List ℕ)) → ends_at name (behind way tokens) ≡ true → length tokens ≡ length way + 1
+ends-length name way tokens is = go (behind way tokens) (behind-length way tokens) is
+  where
+    go : (o : Option (List (List ℕ))) → ((rest : List (List ℕ)) → o ≡ Some rest → length tokens ≡ length way + length rest) → ends_at name o ≡ true → length tokens ≡ length way + 1
+    go None before is = absurd (false≢true is)
+    go (Some []) before is = absurd (false≢true is)
+    go (Some (t ∷ [])) before is = before (t ∷ []) refl
+    go (Some (t ∷ u ∷ us)) before is = absurd (false≢true is)
+
+pub of_another_length : (name : List ℕ) (way tokens : List (List ℕ)) → (length tokens ≡ length way + 1 → ⊥) → ends_at name (behind way tokens) ≡ false
+of_another_length name way tokens other = go (ends_at name (behind way tokens)) refl
+  where
+    go : (m : Bool) → ends_at name (behind way tokens) ≡ m → m ≡ false
+    go true is = absurd (other (ends-length name way tokens is))
+    go false is = refl
+
+pub last_depth : (count level depth : ℕ) → depth ≡ min level (2 ^ 64 - 1) → count ≡ level + 1 → count ≤ 2 ^ 64 - 1 → count - 1 ≡ depth
+last_depth count level depth is longer fits = omega arith

@@ -1,4 +1,4 @@
-ghost use Rattle.std.specs.Prelude.{◌≡◌, [], ◌∷◌, Bool, option_map, unwrap_or};
+ghost use Rattle.std.specs.Prelude.{◌≡◌, ◌-◌, ◌^◌, [], ◌∷◌, Bool, length, min, option_map, unwrap_or};
 ghost use Rattle.path_shape.specs.Beginning.{read_as};
 ghost use Rattle.path_shape.specs.Passing.{cut, behind, is_past, any_past, ends_at, entry_class, built_in_class, released_class, is_root, is_metadata, entries_past, past_of};
 ghost use Rattle.path_shape.specs.Patterns.{covers};
@@ -238,6 +238,27 @@ pub fn read_as(unasked: bool, class: FieldClass) -> FieldClass
     }
 }
 
+// How many names a path has. The number stops at 2^64 - 1.
+fn depth_of(way: &Way<'_>) -> usize
+    ensures { result ≡ min (length way.now) (2 ^ 64 - 1) }
+{
+    match &way.last {
+        None => 0,
+        Some(step) => depth_of(step.above).saturating_add(1),
+    }
+}
+
+// Whether a pattern ends under a name of a path of this depth. Most have another length, which is asked first.
+fn ends_under(tokens: &[Text], way: &Way<'_>, depth: usize, name: &str) -> bool
+    requires { depth ≡ min (length way.now) (2 ^ 64 - 1) }
+    ensures { result ≡ ends_at name.now (behind way.now tokens.now) }
+{
+    if tokens.len().saturating_sub(1) != depth {
+        return false;
+    }
+    ends_at(name, behind(tokens, way))
+}
+
 // The class of the first entry that ends under a name.
 fn entry_class(
     entries: &[ShapeEntry],
@@ -247,8 +268,9 @@ fn entry_class(
 ) -> Option<FieldClass>
     ensures { result ≡ entry_class way.now name.now unasked entries.now }
 {
+    let depth = depth_of(way);
     for entry in entries {
-        if ends_at(name, behind(entry.path.as_slice(), way)) {
+        if ends_under(entry.path.as_slice(), way, depth, name) {
             return Some(read_as(unasked, entry.class));
         }
     }
