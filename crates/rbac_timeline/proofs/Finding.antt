@@ -12,7 +12,8 @@ use Rattle.base_types.specs.declared.key.CoverName.{CoverName}
 use Rattle.base_types.specs.declared.key.CoverName.TheVariants.{Any as AnyName, Exact, Prefix}
 use Rattle.base_types.specs.declared.key.ObjectKey.{ObjectKey}
 use Rattle.clouds.specs.FirstPlace.{HoldsNowhere, IsLeastPlace}
-use Rattle.clouds.specs.Kept.{AddsAt, items_at, text_order}
+use Rattle.clouds.specs.Items.{AddsAt, items_at}
+use Rattle.clouds.specs.Kept.{text_order}
 use Rattle.clouds.specs.Writes.{Writes}
 use Rattle.clouds.specs.declared.span.OpaqueSpan.{OpaqueSpan}
 use Rattle.clouds.proofs.Adding.{same_key}

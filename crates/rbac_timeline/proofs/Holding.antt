@@ -7,7 +7,8 @@ use denote.Ref.{Bor}
 use Rattle.std.proofs.lemmas.Bool.{cases_order}
 use Rattle.std.proofs.lemmas.List.{get_or_default}
 use Rattle.base_types.specs.declared.key.ObjectKey.{ObjectKey}
-use Rattle.clouds.specs.Kept.{items_at, key_order}
+use Rattle.clouds.specs.Items.{items_at}
+use Rattle.clouds.specs.Kept.{key_order}
 use Rattle.rbac_timeline.specs.declared.history.Gap.{Gap}
 use Rattle.rbac_timeline.specs.declared.history.Stored.{Stored}
 use Rattle.rbac_timeline.specs.declared.version.RbacEnd.{RbacEnd}

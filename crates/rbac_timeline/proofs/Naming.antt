@@ -5,7 +5,8 @@ use Rattle.std.proofs.lemmas.Bool.{cond-true, or_cases, or_left, or_right}
 use Rattle.std.proofs.lemmas.List.Elements.{Contains-append_cases, Contains-append_left, Contains-append_right}
 use Rattle.base_types.proofs.Quantifiers.{Any-contains, Any-map, Any-unmap}
 use Rattle.base_types.specs.declared.key.ObjectKey.{ObjectKey}
-use Rattle.clouds.specs.Kept.{items_at, text_order}
+use Rattle.clouds.specs.Items.{items_at}
+use Rattle.clouds.specs.Kept.{text_order}
 use Rattle.base_types.specs.declared.request.RequestAttrs.{RequestAttrs}
 use Rattle.base_types.specs.declared.request.User.{User as Asker}
 use Rattle.rbac_rules.specs.declared.binding.Binding.{Binding}

@@ -4,7 +4,8 @@ use Rattle.std.specs.BTreeMap.{BTreeMap}
 use Rattle.std.specs.List.{Contains}
 use Rattle.std.proofs.lemmas.List.Elements.{Contains-append_left, Contains-push, Contains-push_cases}
 use Rattle.base_types.specs.declared.key.ObjectKey.{ObjectKey}
-use Rattle.clouds.specs.Kept.{AddsAt, items_at, key_order}
+use Rattle.clouds.specs.Items.{AddsAt, items_at}
+use Rattle.clouds.specs.Kept.{key_order}
 use Rattle.clouds.specs.Writes.{Writes}
 use Rattle.clouds.specs.declared.span.KeyRevision.{KeyRevision}
 use Rattle.clouds.specs.declared.span.OpaqueSpan.{OpaqueSpan}

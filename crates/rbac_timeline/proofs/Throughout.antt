@@ -10,7 +10,8 @@ use Rattle.base_types.specs.declared.key.ObjectKey.{ObjectKey}
 use Rattle.base_types.specs.declared.request.RequestAttrs.{RequestAttrs}
 use Rattle.base_types.specs.declared.request.User.{User}
 use Rattle.clouds.specs.FirstPlace.{HoldsNowhere, IsLeastPlace}
-use Rattle.clouds.specs.Kept.{items_at, key_order}
+use Rattle.clouds.specs.Items.{items_at}
+use Rattle.clouds.specs.Kept.{key_order}
 use Rattle.rbac_rules.specs.declared.binding.Binding.{Binding}
 use Rattle.rbac_timeline.specs.declared.history.Content.{Content}
 use Rattle.rbac_timeline.specs.declared.history.Content.TheVariants.{Bound as BoundTo}

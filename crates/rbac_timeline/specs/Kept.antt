@@ -4,7 +4,8 @@ use Rattle.std.specs.BTreeMap.{BTreeMap}
 use Rattle.base_types.specs.declared.key.ObjectKey.{ObjectKey}
 use Rattle.base_types.specs.declared.request.RequestAttrs.{RequestAttrs}
 use Rattle.base_types.specs.declared.request.User.{User}
-use Rattle.clouds.specs.Kept.{items_at, key_order}
+use Rattle.clouds.specs.Items.{items_at}
+use Rattle.clouds.specs.Kept.{key_order}
 use Rattle.clouds.specs.Writes.{Writes}
 use Rattle.rbac_rules.specs.Granting.{Grants}
 use Rattle.rbac_rules.specs.Matching.{IsAccount, Matches}

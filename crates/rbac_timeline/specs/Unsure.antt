@@ -4,7 +4,8 @@ use Rattle.base_types.specs.Covers.{NamesExactly}
 use Rattle.base_types.specs.declared.key.ObjectKey.{ObjectKey}
 use Rattle.base_types.specs.declared.request.RequestAttrs.{RequestAttrs}
 use Rattle.clouds.specs.Clouds.{IsClouded}
-use Rattle.clouds.specs.Kept.{items_at, text_order}
+use Rattle.clouds.specs.Items.{items_at}
+use Rattle.clouds.specs.Kept.{text_order}
 use Rattle.clouds.specs.Writes.{Writes}
 use Rattle.clouds.specs.declared.span.OpaqueSpan.{OpaqueSpan}
 use Rattle.rbac_timeline.specs.declared.kind.Kind.{Kind}

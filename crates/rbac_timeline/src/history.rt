@@ -1,7 +1,8 @@
 ghost use Rattle.std.specs.Prelude.{◌≡◌, ◌≢◌, ◌<◌, ◌≤◌, [], ◌∷◌, Some, IfOk, IfSome, IfNone, OnOk, List, Contains, true, false, length, nat_le};
 ghost use Rattle.std.specs.List.Sorted.{IsNonDecreasingBy, IsPartitionPoint, IsPermutation};
 ghost use Rattle.std.specs.BTreeMap.{Updates};
-ghost use Rattle.clouds.specs.Kept.{AddsAt, key_order};
+ghost use Rattle.clouds.specs.Items.{AddsAt};
+ghost use Rattle.clouds.specs.Kept.{key_order};
 
 use crate::first::last_before;
 use crate::kind::{is_cluster_binding, kind_of_key, role_key};

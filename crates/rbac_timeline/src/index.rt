@@ -1,7 +1,8 @@
 ghost use Rattle.std.specs.Prelude.{◌≡◌, ℕ, ◌∷◌, ◌++◌, [], List, Some, None, IfOk, OnOk, map};
 ghost use Rattle.std.specs.BTreeMap.{Updates, get};
 ghost use Rattle.base_types.specs.declared.key.ObjectKey.{ObjectKey};
-ghost use Rattle.clouds.specs.Kept.{AddsAt, items_at, text_order};
+ghost use Rattle.clouds.specs.Items.{AddsAt, items_at};
+ghost use Rattle.clouds.specs.Kept.{text_order};
 ghost use Rattle.rbac_timeline.specs.Index.{AreRising};
 ghost use Rattle.rbac_timeline.specs.Indexed.{AddsAccount, ByText as Names, HasOneMore, IsIndexed, Mention, account_keys, account_user, keys_of, mention_of, mentions_of};
 

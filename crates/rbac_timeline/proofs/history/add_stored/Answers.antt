@@ -1,6 +1,7 @@
 use Rattle.std.proofs.Common.{◌≡◌, [], ◌∷◌, Some, ap, rules, subst, sym}
 use Rattle.std.specs.BTreeMap.{Updates}
-use Rattle.clouds.specs.Kept.{items_at, items_of, key_order}
+use Rattle.clouds.specs.Items.{items_at, items_of}
+use Rattle.clouds.specs.Kept.{key_order}
 use Rattle.clouds.proofs.Adding.{AddsAt-updates, Grows, Grows-permuted, Grows-push, key_order_total}
 use Rattle.rbac_timeline.proofs.history.add_stored.Goals as goal
 

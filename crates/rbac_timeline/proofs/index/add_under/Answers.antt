@@ -1,6 +1,7 @@
 use Rattle.std.proofs.Common.{◌≡◌, [], ap, rules, subst, sym}
 use Rattle.std.proofs.lemmas.Cmp.{nat_list_cmp_total}
-use Rattle.clouds.specs.Kept.{items_at, items_of, text_order}
+use Rattle.clouds.specs.Items.{items_at, items_of}
+use Rattle.clouds.specs.Kept.{text_order}
 use Rattle.clouds.proofs.Adding.{AddsAt-updates, Grows}
 use Rattle.rbac_timeline.proofs.Rising.{Grows-more}
 use Rattle.rbac_timeline.proofs.index.add_under.Goals as goal

@@ -1,5 +1,6 @@
 use Rattle.std.proofs.Common.{◌≡◌, [], ap, sym}
-use Rattle.clouds.specs.Kept.{items_at, items_of, key_order}
+use Rattle.clouds.specs.Items.{items_at, items_of}
+use Rattle.clouds.specs.Kept.{key_order}
 use Rattle.rbac_timeline.proofs.Holding.{IfNone-version, IfSome-version, no_version, none_in_empty}
 use Rattle.rbac_timeline.proofs.timeline.Timeline.latest.Goals as goal
 

@@ -1,5 +1,6 @@
 use Rattle.std.proofs.Common.{◌≡◌, [], ap, refl, sym}
-use Rattle.clouds.specs.Kept.{items_at, items_of, key_order}
+use Rattle.clouds.specs.Items.{items_at, items_of}
+use Rattle.clouds.specs.Kept.{key_order}
 use Rattle.rbac_timeline.proofs.Holding.{IsRemovalOf-found, no_gap}
 use Rattle.std.proofs.Common.{None}
 use Rattle.rbac_timeline.proofs.timeline.Timeline.removal.Goals as goal

@@ -1,6 +1,7 @@
 use Rattle.std.proofs.Common.{◌≡◌, ℕ, ◌<◌, List, [], length, ap, arith, sym}
 use Rattle.std.specs.List.{Contains}
-use Rattle.clouds.specs.Kept.{items_at, items_of, key_order}
+use Rattle.clouds.specs.Items.{items_at, items_of}
+use Rattle.clouds.specs.Kept.{key_order}
 use Rattle.rbac_timeline.specs.declared.history.Stored.{Stored}
 use Rattle.rbac_timeline.specs.Lasting.{NoneBegins}
 use Rattle.rbac_timeline.proofs.Throughout.{IsLast-all, IsLast-map, NoneBegins-stored}
