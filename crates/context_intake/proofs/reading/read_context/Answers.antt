@@ -20,15 +20,15 @@ returns-in-Err-clause-log_left g c = λ s refusal ts refused. c.in-Err.ensures.o
 
 pub returns-in-Ok-read_log-clause-log_left : goal.returns-in-Ok-read_log-clause-log_left
 returns-in-Ok-read_log-clause-log_left g c = λ s refusal ts refused.
-    absurd (setup_one_way s c.in-Ok-read_setup_named.setup refusal (c.in-Ok-read_setup_named.ensures.reads.answers s ts) refused)
+    absurd (setup_one_way s c.in-Ok-read_setup_named.field-0.setup refusal (c.in-Ok-read_setup_named.ensures.reads.answers s ts) refused)
 
 pub returns-clause-log_left : goal.returns-clause-log_left
 returns-clause-log_left g c = λ s refusal ts refused.
-    absurd (setup_one_way s c.in-Ok-read_setup_named.setup refusal (c.in-Ok-read_setup_named.ensures.reads.answers s ts) refused)
+    absurd (setup_one_way s c.in-Ok-read_setup_named.field-0.setup refusal (c.in-Ok-read_setup_named.ensures.reads.answers s ts) refused)
 
 pub returns-in-Ok-read_log-clause-told : goal.returns-in-Ok-read_log-clause-told
 returns-in-Ok-read_log-clause-told g c =
-    told_events (g.D.Desk.left c.args.desk.now) c.args.setup.now c.args.log.now c.told_by.result c.in-Ok-read_setup_named.setup (g.D.Desk.left c.read_setup_named.new.desk c.args.log.now) c.in-Ok-read_log.events c.in-Ok-read_setup_named.ensures.reads.answers
+    told_events (g.D.Desk.left c.args.desk.now) c.args.setup.now c.args.log.now c.told_by.result c.in-Ok-read_setup_named.field-0.setup (g.D.Desk.left c.read_setup_named.new.desk c.args.log.now) c.in-Ok-read_log.events c.in-Ok-read_setup_named.ensures.reads.answers
     (c.in-Ok-read_setup_named.ensures.others c.args.log.now (λ e. c.requires (sym e))) c.in-Ok-read_log.ensures.reads.answers c.told_by.ensures.found
 
 pub returns-in-Ok-read_log-clause-setup_taken : goal.returns-in-Ok-read_log-clause-setup_taken
@@ -39,7 +39,7 @@ returns-in-Ok-read_log-clause-log_taken g c = log_as _ _ _ _ _ (c.in-Ok-read_set
 
 pub returns-clause-told : goal.returns-clause-told
 returns-clause-told g c =
-    told_log (g.D.Desk.left c.args.desk.now) c.args.setup.now c.args.log.now c.refused_log.result c.in-Ok-read_setup_named.setup (g.D.Desk.left c.read_setup_named.new.desk c.args.log.now) c.in-Err-read_log.stop c.in-Ok-read_setup_named.ensures.reads.answers
+    told_log (g.D.Desk.left c.args.desk.now) c.args.setup.now c.args.log.now c.refused_log.result c.in-Ok-read_setup_named.field-0.setup (g.D.Desk.left c.read_setup_named.new.desk c.args.log.now) c.in-Err-read_log.stop c.in-Ok-read_setup_named.ensures.reads.answers
     (c.in-Ok-read_setup_named.ensures.others c.args.log.now (λ e. c.requires (sym e))) c.in-Err-read_log.ensures.reads.answers c.refused_log.ensures.refused
 
 pub returns-clause-setup_taken : goal.returns-clause-setup_taken
