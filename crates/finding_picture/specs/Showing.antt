@@ -1,5 +1,5 @@
 -- What an event's answer shows, and what its request asks of the object before.
-use Rattle.std.specs.Prelude.{ℕ, true, false, 𝔹, List, [], ◌∷◌, ◌++◌, Option, Some, None, codes, length}
+use Rattle.std.specs.Prelude.{ℕ, true, false, Bool, List, [], ◌∷◌, ◌++◌, Option, Some, None, codes, length}
 use Rattle.markup.specs.Pieces.{fixed, number, told, shown}
 use Rattle.write_groups.specs.declared.event.Item.{Item}
 use Rattle.write_groups.specs.declared.event.Listing.{Listing}
@@ -16,7 +16,7 @@ item_text item = shown (
 unfoldable pub removed_text : List ℕ → List ℕ
 removed_text uid = shown (fixed (codes "<dt>Shows</dt><dd>that it removed the object of UID <code>") ∷ told uid ∷ fixed (codes "</code></dd>\n") ∷ [])
 
-abbrev pub whole_words : 𝔹 → List ℕ
+abbrev pub whole_words : Bool → List ℕ
 whole_words true = codes ", which are all"
 whole_words false = codes ", and maybe not all"
 
