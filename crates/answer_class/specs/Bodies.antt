@@ -1,8 +1,8 @@
 -- What the bodies of an event say (Kubernetes API, `meta/v1`, ObjectMeta, DeleteOptions and Preconditions).
 use Rattle.std.specs.Prelude.{ℕ, ℤ, pos, ◌&&◌, ◌||◌, Bool, false, not, List, Option, Some, None, codes, int_lt}
-use Rattle.json_tree.specs.Meaning.{Meaning}
-use Rattle.json_tree.specs.Parts.{member_of, is_null, whole_of, items_of}
-use Rattle.json_tree.specs.Texts.{◌>>=◌}
+use Rattle.base_types.specs.Meaning.{Meaning}
+use Rattle.base_types.specs.Parts.{member_of, is_null, whole_of, items_of}
+use Rattle.base_types.specs.Texts.{◌>>=◌}
 use Rattle.base_types.specs.declared.request.RequestAttrs.{RequestAttrs}
 use Rattle.audit_event.specs.declared.event.Body.{Body}
 use Rattle.audit_event.specs.declared.event.Event.{Event}

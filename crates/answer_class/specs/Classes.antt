@@ -1,9 +1,9 @@
 -- What an event says of the cluster: this is the table of classes read as one decision after another, and Table is the
 -- table itself, whose rows the numbers below name.
 use Rattle.std.specs.Prelude.{ℕ, ◌&&◌, ◌||◌, Bool, true, false, not, List, [], Option, Some, None, codes, bytes_eq, nat_lt, if◌then◌else◌}
-use Rattle.json_tree.specs.Meaning.{Meaning}
-use Rattle.json_tree.specs.Parts.{member_of}
-use Rattle.json_tree.specs.Texts.{◌>>=◌}
+use Rattle.base_types.specs.Meaning.{Meaning}
+use Rattle.base_types.specs.Parts.{member_of}
+use Rattle.base_types.specs.Texts.{◌>>=◌}
 use Rattle.base_types.specs.declared.key.ObjectKey.{ObjectKey}
 use Rattle.base_types.specs.declared.request.RequestAttrs.{RequestAttrs}
 use Rattle.audit_event.specs.declared.event.Event.{Event}

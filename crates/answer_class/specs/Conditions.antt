@@ -1,8 +1,8 @@
 -- The preconditions of a request (Kubernetes API concepts, "Resource versions"; `meta/v1`, Preconditions).
 use Rattle.std.specs.Prelude.{◌||◌, Bool, Option, Some, None, codes, is_some, if◌then◌else◌}
-use Rattle.json_tree.specs.Meaning.{Meaning}
-use Rattle.json_tree.specs.Parts.{member_of}
-use Rattle.json_tree.specs.Texts.{◌>>=◌}
+use Rattle.base_types.specs.Meaning.{Meaning}
+use Rattle.base_types.specs.Parts.{member_of}
+use Rattle.base_types.specs.Texts.{◌>>=◌}
 use Rattle.audit_event.specs.declared.event.Body.{Body}
 use Rattle.audit_event.specs.declared.event.Event.{Event}
 use Rattle.setup_file.specs.Forms.{filled_at, revision_at}

@@ -1,6 +1,6 @@
 -- Which objects a list with a label selector has (Kubernetes "Labels and Selectors").
 use Rattle.std.specs.Prelude.{Bool, true, List, Option, Some, None, codes}
-use Rattle.json_tree.specs.Meaning.{Meaning}
+use Rattle.base_types.specs.Meaning.{Meaning}
 use Rattle.label_select.specs.Meeting.{matches}
 use Rattle.label_select.specs.declared.selector.Requirement.{Requirement}
 use Rattle.answer_class.specs.Bodies.{metadata_at}

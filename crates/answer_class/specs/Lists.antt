@@ -1,8 +1,8 @@
 -- Answers to list requests (Kubernetes API concepts, "Retrieving large results sets in chunks"; "Field Selectors";
 -- "Labels and Selectors").
 use Rattle.std.specs.Prelude.{ℕ, ◌&&◌, ◌||◌, Bool, true, false, not, List, [], ◌∷◌, Option, Some, None, filter, codes, bytes_eq, is_some, nat_lt, if◌then◌else◌}
-use Rattle.json_tree.specs.Parts.{member_of}
-use Rattle.json_tree.specs.Texts.{◌>>=◌}
+use Rattle.base_types.specs.Parts.{member_of}
+use Rattle.base_types.specs.Texts.{◌>>=◌}
 use Rattle.label_select.specs.Readings.{selector_of}
 use Rattle.label_select.specs.declared.selector.Requirement.{Requirement}
 use Rattle.base_types.specs.declared.request.Pair.{Pair}

@@ -1,7 +1,7 @@
 -- The table of classes: twenty rows, of which the first that applies to an event gives its class. Each row is named by
 -- what it stands for, and gives an answer where it applies.
 use Rattle.std.specs.Prelude.{◌&&◌, ◌||◌, Bool, true, false, not, List, [], ◌∷◌, Option, Some, None, nat_lt, if◌then◌else◌}
-use Rattle.json_tree.specs.Texts.{◌>>=◌}
+use Rattle.base_types.specs.Texts.{◌>>=◌}
 use Rattle.audit_event.specs.declared.event.Event.{Event}
 use Rattle.setup_file.specs.declared.setup.Setup.{Setup}
 use Rattle.setup_file.specs.declared.setup.SnapshotObject.{SnapshotObject}

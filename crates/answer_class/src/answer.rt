@@ -1,5 +1,5 @@
+use base_types::json::Tree;
 use base_types::{Cover, ObjectKey, Revision, Text};
-use json_tree::Tree;
 use label_select::Selector;
 use setup_file::{Snapshot, SnapshotObject};
 

@@ -1,12 +1,12 @@
 ghost use Rattle.std.specs.Prelude.{◌≡◌, IfOk, option_map, option_and_then};
-ghost use Rattle.json_tree.specs.Parts.{member_of};
+ghost use Rattle.base_types.specs.Parts.{member_of};
 ghost use Rattle.audit_event.specs.Bodies.{kept};
 ghost use Rattle.answer_class.specs.Bodies.{has_items, is_positive, is_there, metadata_at, is_deleted, is_finalizing, is_ended, answered_object, asks_dry};
 
 use crate::request::Verb;
 use audit_event::{Body, Event};
 use base_types::OutOfMemory;
-use json_tree::Tree;
+use base_types::json::Tree;
 use packed_tree::PackedRef;
 use setup_file::{SnapshotObject, Tracked, read_object};
 use std::alloc::Global;

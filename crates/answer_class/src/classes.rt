@@ -18,8 +18,8 @@ use crate::request::{
 };
 use crate::times::{is_before, is_early, is_late};
 use audit_event::{Event, Status};
+use base_types::json::Tree;
 use base_types::{ObjectKey, OutOfMemory, RequestAttrs, Text};
-use json_tree::Tree;
 use setup_file::{ListRead, Setup, SnapshotObject, Tracked, tracked_of};
 use std::alloc::Global;
 

@@ -3,7 +3,7 @@ ghost use Rattle.answer_class.specs.Labels.{is_selected, is_listable};
 
 use crate::answer::Answer;
 use crate::bodies::metadata_at;
-use json_tree::Tree;
+use base_types::json::Tree;
 use label_select::{Selector, matches};
 
 fn is_selected(selector: &Option<Selector>, tree: &Tree) -> bool

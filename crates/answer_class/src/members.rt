@@ -1,5 +1,5 @@
 ghost use Rattle.std.specs.Prelude.{◌≡◌, option_map};
-ghost use Rattle.json_tree.specs.Texts.{text_at};
+ghost use Rattle.base_types.specs.Texts.{text_at};
 ghost use Rattle.setup_file.specs.Forms.{non_empty, filled_at, revision_of, revision_at};
 
 use base_types::{Revision, read_revision};

@@ -1,7 +1,7 @@
 -- The trees of bodies.
 use Rattle.std.proofs.Common.{◌≡◌, Some, subst}
-use Rattle.json_tree.specs.Meaning.{Meaning}
-use Rattle.json_tree.specs.Values.{InRange}
+use Rattle.base_types.specs.Meaning.{Meaning}
+use Rattle.base_types.specs.Values.{InRange}
 use Rattle.audit_event.specs.Bodies.{kept, IsSoundBody}
 use Rattle.audit_event.specs.declared.event.Body.{Body}
 use Rattle.audit_event.specs.declared.event.Body.TheVariants.{Absent, Kept, Unread}

@@ -1,8 +1,8 @@
 -- What an event records of a request's and a response's object.
 use Rattle.std.specs.Prelude.{ℕ, Bool, true, false, List, Option, Some, None, codes}
 use Rattle.serde_json.specs.Data.{Data}
-use Rattle.json_tree.specs.Meaning.{Meaning}
-use Rattle.json_tree.specs.Values.{of_data, InRange}
+use Rattle.base_types.specs.Meaning.{Meaning}
+use Rattle.base_types.specs.Values.{of_data, InRange}
 use Rattle.audit_event.specs.declared.event.Body.{Body}
 use Rattle.audit_event.specs.declared.event.Body.TheVariants.{Absent, Kept, Unread}
 use Rattle.audit_event.specs.Members.{present}

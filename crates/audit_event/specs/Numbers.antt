@@ -1,7 +1,7 @@
 -- The numbers of an event outside its bodies.
 use Rattle.std.specs.Prelude.{ℕ, Bool, true, ◌&&◌, ◌||◌, List, is_some, bytes_eq, codes}
 use Rattle.serde_json.specs.Data.{Data, null, boolean, number, string, array, object, Members, no_members, member}
-use Rattle.json_tree.specs.Values.{of_data}
+use Rattle.base_types.specs.Values.{of_data}
 
 abbrev pub is_body : List ℕ → Bool
 is_body name = bytes_eq name (codes "requestObject") || bytes_eq name (codes "responseObject")

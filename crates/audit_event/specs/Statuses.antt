@@ -2,7 +2,7 @@
 use Rattle.std.specs.Prelude.{ℕ, ◌==◌, ◌&&◌, Bool, List, Option, Some, None, option_and_then, nat_le, bytes_eq, codes, if◌then◌else◌}
 use Rattle.serde_json.specs.Data.{Data}
 use Rattle.serde_json.specs.Find.{get, as_number, as_u64, as_object}
-use Rattle.json_tree.specs.Texts.{◌>>=◌}
+use Rattle.base_types.specs.Texts.{◌>>=◌}
 use Rattle.base_types.specs.declared.request.Stage.{Stage}
 use Rattle.base_types.specs.declared.request.Stage.TheVariants.{Received, Started, Complete, Panic}
 use Rattle.audit_event.specs.declared.event.Status.{Status}

@@ -7,7 +7,7 @@ use Rattle.base_types.specs.declared.revision.Moment.{Moment}
 use Rattle.audit_event.specs.declared.times.Times.{Times}
 use Rattle.audit_event.specs.Members.{text_at}
 use Rattle.base_types.specs.Moments.{IsMoment}
-use Rattle.json_tree.specs.Texts.{◌>>=◌}
+use Rattle.base_types.specs.Texts.{◌>>=◌}
 
 -- the instant of a text that `jiff` reads as a timestamp, in nanoseconds
 abbrev pub instant_of : List ℕ → Option ℤ

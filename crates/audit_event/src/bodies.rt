@@ -4,7 +4,7 @@ ghost use Rattle.audit_event.specs.Bodies.{body_of, kept, is_kept, IsSoundBody};
 
 use crate::event::Body;
 use base_types::OutOfMemory;
-use json_tree::TreeFault;
+use base_types::json::TreeFault;
 use packed_tree::{Packed, pack};
 use serde_json::Value;
 use std::alloc::Global;

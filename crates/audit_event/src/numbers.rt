@@ -1,6 +1,6 @@
 ghost use Rattle.std.specs.Prelude.{◌≡◌, is_some};
 ghost use Rattle.serde_json.specs.View.{view, items_view, members_view};
-ghost use Rattle.json_tree.specs.Values.{of_items, of_members};
+ghost use Rattle.base_types.specs.Values.{of_items, of_members};
 ghost use Rattle.audit_event.specs.Numbers.{is_body, has_tree, members_have_trees, has_whole_numbers};
 
 use serde_json::{Map, Value};

@@ -1,6 +1,6 @@
 -- The rules of a policy, read one after another.
 use Rattle.std.proofs.Common.{◌≡◌, ℕ, ◌+◌, ◌<◌, List, [], ◌∷◌, ◌++◌, length, get_or, drop, Option, Some, None, Result, Ok, Err, refl, sym, ap, ◌∙◌, suc, add-one, drop-cons, append_assoc}
-use Rattle.json_tree.specs.Meaning.{Meaning}
+use Rattle.base_types.specs.Meaning.{Meaning}
 use Rattle.audit_policy.specs.declared.policy.AuditRule.{AuditRule}
 use Rattle.audit_policy.specs.Forms.{rule_of, rules_from, then_rules}
 

@@ -4,8 +4,8 @@ ghost use Rattle.audit_policy.specs.Forms.{level_named, with_stage, no_stages, s
 use crate::policy::{
     AuditRule, AuditRules, GroupResources, GroupResourcesList, Policy, PolicyFault,
 };
+use base_types::json::{Tree, Trees};
 use base_types::{Level, OutOfMemory, PolicyLevel, StageSet, Text};
-use json_tree::{Tree, Trees};
 use std::alloc::Global;
 
 fn level_named(name: &str) -> Option<PolicyLevel>

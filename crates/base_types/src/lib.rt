@@ -3,6 +3,7 @@
 
 mod claim;
 mod escaping;
+pub mod json;
 mod key;
 mod listed;
 mod matching;

@@ -1,7 +1,7 @@
 -- What a list that was found adds to a setup.
 use Rattle.std.proofs.Common.{◌≡◌, ℕ, ◌++◌, List, [], ◌∷◌, Option, Some, ap, ◌∙◌, codes}
 use Rattle.std.specs.Prelude.{map}
-use Rattle.json_tree.specs.Meaning.{Meaning}
+use Rattle.base_types.specs.Meaning.{Meaning}
 use Rattle.cluster_setup.specs.declared.table.Form.{Form}
 use Rattle.cluster_setup.specs.Files.{word, listed, group_of}
 use Rattle.cluster_setup.specs.Making.{entry_of, form_for, entries_from, object_entry, objects_from}

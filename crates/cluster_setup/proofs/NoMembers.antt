@@ -1,7 +1,7 @@
 -- An object without members has its names in order.
 use Rattle.std.proofs.Common.{[]}
 use Rattle.std.specs.List.Sorted.{IsStrictlySortedBy}
-use Rattle.json_tree.specs.Names.{AreSorted}
+use Rattle.base_types.specs.Names.{AreSorted}
 
 pub no_members_sorted : AreSorted []
 unfolding IsStrictlySortedBy

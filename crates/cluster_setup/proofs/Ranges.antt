@@ -7,11 +7,11 @@ use Rattle.std.specs.Cmp.Lexicographic.{slice_cmp}
 use Rattle.std.proofs.lemmas.Bool.{cond_both}
 use Rattle.std.proofs.lemmas.List.Concat.{flat_map-cons}
 use Rattle.std.proofs.lemmas.List.Elements.{All-nil, All-head, All-tail}
-use Rattle.json_tree.specs.Edits.{put}
-use Rattle.json_tree.specs.Meaning.{Meaning, null, flag, whole, words, items, members, Fields, no_fields, field, kids_of}
-use Rattle.json_tree.specs.Parts.{member_of, is_null, items_of}
-use Rattle.json_tree.specs.Texts.{items_or_none}
-use Rattle.json_tree.specs.Values.{IsInteger, InRange, KidsInRange, FieldsInRange}
+use Rattle.base_types.specs.Edits.{put}
+use Rattle.base_types.specs.Meaning.{Meaning, null, flag, whole, words, items, members, Fields, no_fields, field, kids_of}
+use Rattle.base_types.specs.Parts.{member_of, is_null, items_of}
+use Rattle.base_types.specs.Texts.{items_or_none}
+use Rattle.base_types.specs.Values.{IsInteger, InRange, KidsInRange, FieldsInRange}
 use Rattle.setup_file.proofs.InRange.{member_in_range, items_in_range}
 use Rattle.cluster_setup.specs.declared.table.Form.{Form}
 use Rattle.cluster_setup.specs.declared.table.Form.TheVariants.{Merged, Plain, Bound, Pods, Usual}

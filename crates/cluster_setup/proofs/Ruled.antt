@@ -1,7 +1,7 @@
 -- How a resource is judged, put member by member.
 use Rattle.std.proofs.Common.{◌≡◌, ℕ, Bool, List, ap, ◌∙◌, codes}
-use Rattle.json_tree.specs.Edits.{put}
-use Rattle.json_tree.specs.Meaning.{Meaning, flag, items, Fields, kids_of}
+use Rattle.base_types.specs.Edits.{put}
+use Rattle.base_types.specs.Meaning.{Meaning, flag, items, Fields, kids_of}
 use Rattle.cluster_setup.specs.Making.{say}
 use Rattle.cluster_setup.specs.Parts.{with_rules}
 

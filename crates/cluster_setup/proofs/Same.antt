@@ -2,8 +2,8 @@
 use Rattle.std.proofs.Common.{◌≡◌, ℕ, inl, inr, List, Some, Ok, Err, sym, ap, ◌∙◌}
 use Rattle.serde_json.specs.Data.{Data}
 use Rattle.serde_json.specs.Read.{read}
-use Rattle.json_tree.specs.Meaning.{Meaning}
-use Rattle.json_tree.specs.Values.{of_data}
+use Rattle.base_types.specs.Meaning.{Meaning}
+use Rattle.base_types.specs.Values.{of_data}
 use Rattle.setup_file.specs.declared.fault.SetupRule.{SetupRule}
 use Rattle.setup_file.specs.Reading.{IsTreeOf, ReadsAs, setup_of}
 use Rattle.setup_file.proofs.Chains.{same_some}

@@ -5,9 +5,9 @@ use Rattle.std.specs.List.{flat_map}
 use Rattle.std.specs.Result.{result_ok}
 use Rattle.audit_policy.specs.declared.policy.Policy.{Policy}
 use Rattle.audit_policy.specs.Forms.{policy_of}
-use Rattle.json_tree.specs.Meaning.{Meaning, items, flag, kids_of}
-use Rattle.json_tree.specs.Parts.{member_of, items_of}
-use Rattle.json_tree.proofs.Lists.{kids_list-kids_of}
+use Rattle.base_types.specs.Meaning.{Meaning, items, flag, kids_of}
+use Rattle.base_types.specs.Parts.{member_of, items_of}
+use Rattle.base_types.proofs.Lists.{kids_list-kids_of}
 use Rattle.setup_file.specs.declared.authorization.Authorization.{Authorization}
 use Rattle.setup_file.specs.declared.clocks.Clocks.{Clocks}
 use Rattle.setup_file.specs.declared.clocks.Start.{Start}

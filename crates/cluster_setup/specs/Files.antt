@@ -1,9 +1,9 @@
 -- What the files are that a setup is made of (Kubernetes API concepts: "Resource URIs", "Collections"; `APIResourceList`).
 use Rattle.std.specs.Prelude.{ℕ, ◌==◌, Bool, true, false, not, ◌&&◌, ◌||◌, List, [], ◌∷◌, Option, Some, None, is_some, bytes_eq, codes, option_map, if◌then◌else◌}
 use Rattle.std.specs.List.{before_first, after_first, find}
-use Rattle.json_tree.specs.Meaning.{Meaning}
-use Rattle.json_tree.specs.Parts.{member_of}
-use Rattle.json_tree.specs.Texts.{◌>>=◌, text_at, items_or_none}
+use Rattle.base_types.specs.Meaning.{Meaning}
+use Rattle.base_types.specs.Parts.{member_of}
+use Rattle.base_types.specs.Texts.{◌>>=◌, text_at, items_or_none}
 use Rattle.setup_file.specs.Forms.{revision_at}
 
 abbrev pub or_empty : Option (List ℕ) → List ℕ

@@ -1,8 +1,8 @@
 -- Which resource a list is of.
 use Rattle.std.specs.Prelude.{ℕ, ◌++◌, Bool, ◌&&◌, List, Option, None, is_some, bytes_eq, codes, option_map, if◌then◌else◌}
 use Rattle.std.specs.List.{list_any, find}
-use Rattle.json_tree.specs.Meaning.{Meaning}
-use Rattle.json_tree.specs.Texts.{◌>>=◌}
+use Rattle.base_types.specs.Meaning.{Meaning}
+use Rattle.base_types.specs.Texts.{◌>>=◌}
 use Rattle.cluster_setup.specs.Files.{word, listed, group_of, is_whole_name, is_discovery, is_listing}
 
 -- the kind of lists is the kind with `List` behind it

@@ -2,10 +2,10 @@
 use Rattle.std.specs.Prelude.{ℕ, pos, ◌++◌, Bool, true, false, List, [], ◌∷◌, Option, Some, None, map, is_some, bytes_eq, codes, if◌then◌else◌}
 use Rattle.std.specs.List.{flat_map, list_any}
 use Rattle.base_types.specs.Matching.{combined}
-use Rattle.json_tree.specs.Edits.{put}
-use Rattle.json_tree.specs.Meaning.{Meaning, null, flag, whole, words, items, members, no_kids, kid, Fields, no_fields, kids_of}
-use Rattle.json_tree.specs.Parts.{member_of, flag_of}
-use Rattle.json_tree.specs.Texts.{◌>>=◌}
+use Rattle.base_types.specs.Edits.{put}
+use Rattle.base_types.specs.Meaning.{Meaning, null, flag, whole, words, items, members, no_kids, kid, Fields, no_fields, kids_of}
+use Rattle.base_types.specs.Parts.{member_of, flag_of}
+use Rattle.base_types.specs.Texts.{◌>>=◌}
 use Rattle.cluster_setup.specs.declared.table.Form.{Form}
 use Rattle.cluster_setup.specs.declared.table.Form.TheVariants.{Merged, Plain, Bound, Pods, Usual}
 use Rattle.cluster_setup.specs.Files.{word, listed, group_of, version_of}

@@ -1,8 +1,8 @@
 -- Parts of what is made, as the code puts them together.
 use Rattle.std.specs.Borrow.{Bor}
 use Rattle.std.specs.Prelude.{ℕ, pos, Bool, List, fold, map, codes}
-use Rattle.json_tree.specs.Edits.{put}
-use Rattle.json_tree.specs.Meaning.{Meaning, flag, whole, items, Fields, no_fields, kids_of}
+use Rattle.base_types.specs.Edits.{put}
+use Rattle.base_types.specs.Meaning.{Meaning, flag, whole, items, Fields, no_fields, kids_of}
 use Rattle.cluster_setup.specs.declared.shapes.Shape.{Shape}
 use Rattle.cluster_setup.specs.Files.{group_of, version_of, word}
 use Rattle.cluster_setup.specs.Making.{say, shape, start_tree, with_idle, with_lag}

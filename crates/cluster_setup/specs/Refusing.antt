@@ -1,7 +1,7 @@
 -- What is wrong with a file, and with which file first.
 use Rattle.std.specs.Prelude.{◌≡◌, ◌-◌, ◌+◌, ℕ, Bool, ◌&&◌, List, [], ◌∷◌, length, take, Option, Some, None, is_some, is_none, bytes_eq, codes, slice_get, if◌then◌else◌}
 use Rattle.std.specs.List.{AllZip}
-use Rattle.json_tree.specs.Meaning.{Meaning}
+use Rattle.base_types.specs.Meaning.{Meaning}
 use Rattle.setup_file.specs.Reading.{IsTreeOf}
 use Rattle.cluster_setup.specs.declared.fault.FileFault.{FileFault}
 use Rattle.cluster_setup.specs.declared.fault.FileFault.TheVariants.{Kind, Pages, Unknown, Version, Twice, Revision}

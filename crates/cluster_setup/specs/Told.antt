@@ -2,7 +2,7 @@
 use Rattle.std.specs.Prelude.{◌≡◌, ℕ, Bool, List, [], ◌∷◌, Some, None, Ok, codes, option_and_then}
 use Rattle.std.specs.List.{flat_map}
 use Rattle.audit_policy.specs.Forms.{policy_of}
-use Rattle.json_tree.specs.Meaning.{Meaning}
+use Rattle.base_types.specs.Meaning.{Meaning}
 use Rattle.setup_file.specs.declared.setup.Setup.{Setup}
 use Rattle.setup_file.specs.Forms.{moment_of, revision_of}
 use Rattle.setup_file.specs.Reading.{ReadsAs}

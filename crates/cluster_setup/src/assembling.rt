@@ -1,5 +1,5 @@
 ghost use Rattle.std.specs.Prelude.{◌≡◌, IfOk, OnOk};
-ghost use Rattle.json_tree.specs.Meaning.{fields_of};
+ghost use Rattle.base_types.specs.Meaning.{fields_of};
 ghost use Rattle.std.specs.List.{flat_map};
 ghost use Rattle.cluster_setup.specs.Making.{entries_of, objects_of, start_tree, setup_tree, with_lag};
 ghost use Rattle.cluster_setup.specs.Parts.{with_content, with_start};
@@ -8,7 +8,7 @@ use crate::building::{flag, object, put, said, whole};
 use crate::entries::entries_in;
 use crate::objects::objects_in;
 use base_types::OutOfMemory;
-use json_tree::{MemberList, Tree, copy};
+use base_types::json::{MemberList, Tree, copy};
 use std::alloc::Global;
 
 /// By how many nanoseconds an authoriser's caches may be behind (`lagNanos`): a second.

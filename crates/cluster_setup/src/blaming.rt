@@ -1,5 +1,5 @@
 ghost use Rattle.std.specs.Prelude.{◌≡◌, ◌≤◌, ◌<◌, ℕ, length, take, All, IfOk, IfErr};
-ghost use Rattle.json_tree.specs.Values.{InRange};
+ghost use Rattle.base_types.specs.Values.{InRange};
 ghost use Rattle.setup_file.specs.declared.fault.SetupRule.{SetupRule as AnyRule};
 ghost use Rattle.setup_file.specs.declared.fault.SetupFault.TheVariants.{Rule};
 ghost use Rattle.cluster_setup.specs.Answers.{Breaks, IsAccepted, IsBlamed, OrMemory, blamed};

@@ -1,11 +1,11 @@
 ghost use Rattle.std.specs.Prelude.{◌≡◌, [], IfOk, OnOk};
-ghost use Rattle.json_tree.specs.Edits.{put};
-ghost use Rattle.json_tree.specs.Meaning.{words, items, members, kids_of, fields_of, flag, whole};
+ghost use Rattle.base_types.specs.Edits.{put};
+ghost use Rattle.base_types.specs.Meaning.{words, items, members, kids_of, fields_of, flag, whole};
 ghost use Rattle.cluster_setup.specs.Making.{say};
 ghost use Rattle.cluster_setup.specs.Parts.{said};
 
+use base_types::json::{MemberList, Node, Tree, Trees};
 use base_types::{OutOfMemory, Text};
-use json_tree::{MemberList, Node, Tree, Trees};
 use std::alloc::Global;
 
 /// The tree of a text.

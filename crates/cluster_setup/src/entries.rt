@@ -1,6 +1,6 @@
 ghost use Rattle.std.specs.Prelude.{◌≡◌, ◌++◌, IfOk, OnOk, codes};
 ghost use Rattle.std.specs.List.{flat_map};
-ghost use Rattle.json_tree.specs.Meaning.{fields_of, items, kids_of};
+ghost use Rattle.base_types.specs.Meaning.{fields_of, items, kids_of};
 ghost use Rattle.cluster_setup.specs.Files.{word};
 ghost use Rattle.cluster_setup.specs.Making.{shapes_of, status_shapes_of, same_subresource, idle_subresource, is_named, is_served, with_status, with_idle, subresources_of, is_namespaced, entry_of, form_for, entries_of};
 ghost use Rattle.cluster_setup.specs.Parts.{names_of, with_all_idle, with_rules};
@@ -11,8 +11,8 @@ use crate::finding::{Found, found_for};
 use crate::shapes::{shape_list, shapes_of, status_shapes_of};
 use crate::table::{Form, form_of, patch_of};
 use crate::words::{group_of, listed, version_of, word};
+use base_types::json::{MemberList, Tree};
 use base_types::{OutOfMemory, is_combined};
-use json_tree::{MemberList, Tree};
 use std::alloc::Global;
 
 /// The subresources that write nothing.

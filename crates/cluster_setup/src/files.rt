@@ -1,10 +1,10 @@
 ghost use Rattle.std.specs.Prelude.{◌≡◌, option_map, is_some};
-ghost use Rattle.json_tree.specs.Parts.{member_of};
+ghost use Rattle.base_types.specs.Parts.{member_of};
 ghost use Rattle.cluster_setup.specs.Files.{is_discovery, has_items, is_listing, has_remaining, has_more, list_revision, start_word};
 
 use crate::words::{metadata_word, word};
 use base_types::Revision;
-use json_tree::Tree;
+use base_types::json::Tree;
 use setup_file::revision_at;
 
 /// Whether a file has the resources that the API server has of a group's version.

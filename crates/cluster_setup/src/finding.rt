@@ -3,7 +3,7 @@ ghost use Rattle.cluster_setup.specs.Found.{is_list_of, is_entry_for, entry_in, 
 
 use crate::files::{is_discovery, is_listing};
 use crate::words::{group_of, is_whole_name, listed, word};
-use json_tree::Tree;
+use base_types::json::Tree;
 
 /// The `APIResourceList` that has a resource, and its entry there.
 #[derive(Clone, Copy)]

@@ -1,6 +1,6 @@
 ghost use Rattle.std.specs.Prelude.{◌≡◌, ◌↔◌, Err, All, IfOk, IfSome, IfNone, IsTrue, string_bytes};
-ghost use Rattle.json_tree.specs.Meaning.{Meaning};
-ghost use Rattle.json_tree.specs.Values.{InRange};
+ghost use Rattle.base_types.specs.Meaning.{Meaning};
+ghost use Rattle.base_types.specs.Values.{InRange};
 ghost use Rattle.setup_file.specs.Reading.{IsTreeOf};
 ghost use Rattle.setup_file.specs.declared.fault.SetupRule.{SetupRule as AnyRule};
 ghost use Rattle.setup_file.specs.declared.fault.SetupFault.TheVariants.{Rule};
@@ -9,8 +9,8 @@ ghost use Rattle.cluster_setup.specs.Making.{setup_tree};
 
 use crate::assembling::{Given, setup_tree};
 use base_types::OutOfMemory;
+use base_types::json::{Tree, TreeFault, equal, from_value, to_value};
 use hash_seed::Seed;
-use json_tree::{Tree, TreeFault, equal, from_value, to_value};
 use serde_json::Value;
 use setup_file::{SetupFault, SetupRule, read_setup};
 use std::alloc::Global;

@@ -1,8 +1,8 @@
 ghost use Rattle.std.specs.Prelude.{◌≡◌, ◌<◌, ◌+◌, ℕ, None, All, OnOk, length, take, IfOk, IfErr, IfSome, IfNone, string_bytes, is_some, true};
 ghost use Rattle.std.specs.Result.{result_ok};
 ghost use Rattle.audit_policy.specs.Forms.{policy_of};
-ghost use Rattle.json_tree.specs.Meaning.{Meaning};
-ghost use Rattle.json_tree.specs.Values.{InRange};
+ghost use Rattle.base_types.specs.Meaning.{Meaning};
+ghost use Rattle.base_types.specs.Values.{InRange};
 ghost use Rattle.setup_file.specs.Forms.{moment_of};
 ghost use Rattle.setup_file.specs.Reading.{IsTreeOf};
 ghost use Rattle.cluster_setup.specs.Answers.{IsTextOf, IsBlamed, IsPolicy, IsSetupText, IsRefused, IsMade, IsReadOut, IsUnread, Refuses, OrMemory};
@@ -17,8 +17,8 @@ use crate::files::start_word;
 use crate::judging::{accept_shown, read_tree};
 use crate::refusing::first_refused;
 use audit_policy::{PolicyFault, read_policy};
+use base_types::json::Tree;
 use base_types::{Bytes, OutOfMemory};
-use json_tree::Tree;
 use setup_file::moment;
 use std::alloc::Global;
 

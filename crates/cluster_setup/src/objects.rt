@@ -1,13 +1,13 @@
 ghost use Rattle.std.specs.Prelude.{◌≡◌, ◌++◌, IfOk, OnOk, map};
 ghost use Rattle.std.specs.List.{flat_map};
-ghost use Rattle.json_tree.specs.Meaning.{items, kids_of};
+ghost use Rattle.base_types.specs.Meaning.{items, kids_of};
 ghost use Rattle.cluster_setup.specs.Making.{put_in, filled, whole_item, object_entry, objects_of};
 
 use crate::building::{items, object, put, said, say};
 use crate::finding::found_for;
 use crate::words::{group_of, listed, word};
 use base_types::OutOfMemory;
-use json_tree::{Node, Tree, copy};
+use base_types::json::{Node, Tree, copy};
 use std::alloc::Global;
 
 fn put_in(alloc: Global, tree: &mut Tree, name: &str, text: &str) -> Result<(), OutOfMemory>

@@ -6,7 +6,7 @@ use crate::fault::{FileFault, SetupRefusal};
 use crate::files::{has_more, is_discovery, is_listing, list_revision, start_word};
 use crate::finding::{is_elsewhere, is_listed_again, source_of};
 use crate::words::metadata_word;
-use json_tree::Tree;
+use base_types::json::Tree;
 
 // Whether a list was read at the revision of the first list.
 fn is_at_start(trees: &[Tree], list: &Tree) -> bool

@@ -5,7 +5,7 @@ ghost use Rattle.cluster_setup.specs.Parts.{shape_list, shape_tree};
 use crate::building::{items, object, said};
 use crate::table::Form;
 use base_types::OutOfMemory;
-use json_tree::Tree;
+use base_types::json::Tree;
 use std::alloc::Global;
 
 /// An entry of `shapes`.

@@ -3,7 +3,7 @@ ghost use Rattle.std.specs.List.{before_first, after_first};
 ghost use Rattle.cluster_setup.specs.Files.{or_empty, word, or_no_items, listed, metadata_word, is_slash, group_of, version_of, is_whole_name};
 
 use base_types::Text;
-use json_tree::Tree;
+use base_types::json::Tree;
 
 fn or_empty(text: Option<&Text>) -> &str
     ensures { result.now ≡ or_empty (option_map (λ text. text.now) text.entry) }

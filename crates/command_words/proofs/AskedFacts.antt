@@ -8,7 +8,7 @@ use Rattle.base_types.specs.declared.request.User.{User}
 use Rattle.base_types.proofs.KeyLemmas.{key_spelling_injective}
 use Rattle.history_query.specs.declared.question.Question.{Question}
 use Rattle.history_query.specs.declared.question.Question.TheVariants.{Show, Versions, State, Blame, Can}
-use Rattle.json_tree.specs.Pointers.{pointer_of}
+use Rattle.base_types.specs.Pointers.{pointer_of}
 use Rattle.request_attrs.specs.Attributes.{attributes}
 use Rattle.command_words.specs.Asking.{AreCanWords, IsKeyWord, IsPlaceWord, SpellsQuestion, groups_of, verb_of}
 use Rattle.command_words.specs.Command.{Ask, Asked, IsAsked, Judge, Make, Spells, Strict, Verify}

@@ -7,7 +7,7 @@ use Rattle.base_types.specs.declared.request.RequestAttrs.{RequestAttrs}
 use Rattle.base_types.specs.declared.request.User.{User}
 use Rattle.history_query.specs.declared.question.Question.{Question}
 use Rattle.history_query.specs.declared.question.Question.TheVariants.{Show, Versions, State, Blame, Can}
-use Rattle.json_tree.specs.Pointers.{pointer_of}
+use Rattle.base_types.specs.Pointers.{pointer_of}
 use Rattle.request_attrs.specs.Attributes.{attributes}
 use Rattle.request_attrs.specs.Refusals.{IsReadable}
 use Rattle.verdict_text.specs.Words.{IsNumber}

@@ -4,9 +4,9 @@ ghost use Rattle.command_words.specs.Asking.{BeginsQuestion, IsPlaceWord, IsQues
 ghost use Rattle.command_words.specs.Command.{IsAskRead};
 
 use crate::words::{Command, are_names};
+use base_types::json::{Pointer, PointerFault, read_pointer};
 use base_types::{OutOfMemory, Text, Texts, User, read_key};
 use history_query::Question;
-use json_tree::{Pointer, PointerFault, read_pointer};
 use request_attrs::{UriFault, attrs_of};
 use std::alloc::Global;
 use verdict_text::read_number;

@@ -4,9 +4,9 @@ use Rattle.std.specs.Prelude.{⊤}
 use Rattle.std.specs.List.{filter_map}
 use Rattle.std.proofs.lemmas.Option.{same_Some}
 use Rattle.base_types.specs.Revisions.{IsRevision}
-use Rattle.json_tree.specs.Meaning.{Meaning}
-use Rattle.json_tree.specs.Parts.{items_of, member_of}
-use Rattle.json_tree.specs.Texts.{text_at}
+use Rattle.base_types.specs.Meaning.{Meaning}
+use Rattle.base_types.specs.Parts.{items_of, member_of}
+use Rattle.base_types.specs.Texts.{text_at}
 use Rattle.audit_event.specs.declared.event.Event.{Event}
 use Rattle.answer_class.specs.Classes.{class_of}
 use Rattle.answer_class.specs.declared.answer.Answer.{Answer}

@@ -5,7 +5,7 @@ use Rattle.std.proofs.lemmas.List.{length-map}
 use Rattle.std.proofs.lemmas.Option.{slice_get_within}
 use Rattle.base_types.specs.Revisions.{IsRevision}
 use Rattle.base_types.specs.declared.request.RequestAttrs.{RequestAttrs}
-use Rattle.json_tree.specs.Meaning.{Meaning}
+use Rattle.base_types.specs.Meaning.{Meaning}
 use Rattle.audit_event.specs.declared.event.Event.{Event}
 use Rattle.answer_class.specs.Classes.{class_of}
 use Rattle.answer_class.specs.Requests.{first_value}

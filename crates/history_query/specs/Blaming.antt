@@ -2,8 +2,8 @@
 use Rattle.std.specs.Prelude.{◌≡◌, ◌≤◌, ℕ, List, [], ◌∷◌, ◌++◌, Option, Some, None, codes, decimal, option_and_then, option_map, slice_get, Contains}
 use Rattle.audit_event.specs.declared.event.Event.{Event}
 use Rattle.base_types.specs.declared.key.ObjectKey.{ObjectKey}
-use Rattle.json_tree.specs.Meaning.{Meaning}
-use Rattle.json_tree.specs.Pointers.{pointed}
+use Rattle.base_types.specs.Meaning.{Meaning}
+use Rattle.base_types.specs.Pointers.{pointed}
 use Rattle.object_past.specs.declared.version.Version.{Version}
 use Rattle.verdict_text.specs.Words.{ended, spaced}
 use Rattle.version_store.specs.Known.{Known}

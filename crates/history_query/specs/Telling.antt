@@ -3,8 +3,8 @@ use Rattle.std.specs.Prelude.{◌≡◌, ◌<◌, ◌⊎◌, ℕ, List, [], Opti
 use Rattle.audit_event.specs.declared.event.Event.{Event}
 use Rattle.base_types.specs.Escapes.{escaped}
 use Rattle.base_types.specs.declared.key.ObjectKey.{ObjectKey}
-use Rattle.json_tree.specs.Meaning.{Meaning}
-use Rattle.json_tree.specs.Values.{data_of}
+use Rattle.base_types.specs.Meaning.{Meaning}
+use Rattle.base_types.specs.Values.{data_of}
 use Rattle.object_past.specs.declared.version.Maker.{Maker}
 use Rattle.object_past.specs.declared.version.Maker.TheVariants as maker
 use Rattle.serde_json.specs.Written.{compact_text}

@@ -5,8 +5,8 @@ ghost use Rattle.history_query.specs.Blaming.{IsBlame, IsBlameText, IsPresentBla
 use crate::json::append_json;
 use crate::sight::{Sight, sight_of};
 use crate::telling::{append_user, append_who, is_untold};
+use base_types::json::Pointer;
 use base_types::{Bytes, ObjectKey, OutOfMemory};
-use json_tree::Pointer;
 use node_pool::{NodeId, Pool};
 use object_past::Version;
 use std::alloc::Global;

@@ -1,12 +1,12 @@
 ghost use Rattle.std.specs.Prelude.{◌≡◌, ◌≤◌, ◌<◌, ◌++◌, length, slice_get, Some, IfOk, OnOk, string_bytes};
-ghost use Rattle.json_tree.specs.Meaning.{Meaning};
-ghost use Rattle.json_tree.specs.Values.{InRange, data_of};
+ghost use Rattle.base_types.specs.Meaning.{Meaning};
+ghost use Rattle.base_types.specs.Values.{InRange, data_of};
 ghost use Rattle.serde_json.specs.Data.{depth};
 ghost use Rattle.serde_json.specs.Read.{max_depth, read};
 ghost use Rattle.history_query.specs.Telling.{json_at, json_text};
 
 use base_types::OutOfMemory;
-use json_tree::{Tree, to_value};
+use base_types::json::{Tree, to_value};
 use node_pool::{NodeId, Pool};
 use std::alloc::Global;
 

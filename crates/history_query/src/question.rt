@@ -6,8 +6,8 @@ use crate::deciding::can;
 use crate::listing::versions;
 use crate::showing::show;
 use crate::standing::state;
+use base_types::json::Pointer;
 use base_types::{Bytes, ObjectKey, OutOfMemory, RequestAttrs, User};
-use json_tree::Pointer;
 use std::alloc::Global;
 use version_store::Context;
 

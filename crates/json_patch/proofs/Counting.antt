@@ -2,9 +2,9 @@
 use Rattle.std.proofs.Common.{◌≡◌, ℕ, zero, suc, ◌+◌, ◌-◌, ◌^◌, ◌<◌, ◌≤◌, min, max, Bool, true, false, List, [], ◌∷◌, length, Option, Some, None, Ok, Err, option_and_then, ◌⊎◌, inl, inr, refl, ap, arith}
 use Rattle.std.proofs.lemmas.Bool.{lt-ltb, le-ltb, cases_lt}
 use Rattle.std.specs.Prelude.{bytes_eq, if◌then◌else◌}
-use Rattle.json_tree.specs.Meaning.{Meaning, null, flag, whole, words, items, members, Kids, no_kids, kid, Fields, no_fields, field}
-use Rattle.json_tree.specs.Parts.{lookup}
-use Rattle.json_tree.specs.Pointers.{index_of, kid_at, child_of, pointed}
+use Rattle.base_types.specs.Meaning.{Meaning, null, flag, whole, words, items, members, Kids, no_kids, kid, Fields, no_fields, field}
+use Rattle.base_types.specs.Parts.{lookup}
+use Rattle.base_types.specs.Pointers.{index_of, kid_at, child_of, pointed}
 use Rattle.json_patch.specs.Changes.{IsChange, IsWithin, Tells}
 use Rattle.json_patch.specs.Edits.{IsEdited, went_of}
 use Rattle.json_patch.specs.Limits.{depth, kids_depth, fields_depth, values, within_limits}

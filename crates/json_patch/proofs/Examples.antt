@@ -1,6 +1,6 @@
 -- Worked examples: RFC 6902 appendix A, and the causes.
 use Rattle.std.proofs.Common.{◌≡◌, ℕ, List, [], ◌∷◌, Ok, Err, codes, refl, pos}
-use Rattle.json_tree.specs.Meaning.{Meaning, null, whole, words, items, members, no_kids, kid, no_fields, field, kids_of}
+use Rattle.base_types.specs.Meaning.{Meaning, null, whole, words, items, members, no_kids, kid, no_fields, field, kids_of}
 use Rattle.json_patch.specs.declared.fault.ApplyCause.TheVariants.{IntoItself, NoValue, NoParent, BadIndex, Differs}
 use Rattle.json_patch.specs.declared.fault.ApplyFault.TheVariants.{Operation}
 use Rattle.json_patch.specs.declared.fault.PatchFault.TheVariants.{NotList, BadOperation}

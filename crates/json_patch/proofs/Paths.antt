@@ -1,14 +1,14 @@
 -- A change below a child of a document.
 use Rattle.std.proofs.Common.{◌≡◌, ℕ, ◌+◌, ◌<◌, List, ◌∷◌, length, get_or, set, Option, Some, None, Result, Ok, Err, option_map, option_and_then, unwrap_or, refl, sym, ap, subst, ◌∙◌, arith}
-use Rattle.json_tree.specs.Edits.{put}
-use Rattle.json_tree.specs.Meaning.{Meaning, items, members, kids_of, fields_of, kids_list}
-use Rattle.json_tree.specs.Names.{AreSorted}
-use Rattle.json_tree.specs.Pointers.{index_of, child_of, pointed}
-use Rattle.json_tree.specs.Search.{IsNamedAt}
-use Rattle.json_tree.proofs.Indices.{item_read}
-use Rattle.json_tree.proofs.Ordered.{lookup_found}
-use Rattle.json_tree.proofs.Lists.{kids_list-kids_of}
-use Rattle.json_tree.proofs.Placing.{put_changed}
+use Rattle.base_types.specs.Edits.{put}
+use Rattle.base_types.specs.Meaning.{Meaning, items, members, kids_of, fields_of, kids_list}
+use Rattle.base_types.specs.Names.{AreSorted}
+use Rattle.base_types.specs.Pointers.{index_of, child_of, pointed}
+use Rattle.base_types.specs.Search.{IsNamedAt}
+use Rattle.base_types.proofs.Indices.{item_read}
+use Rattle.base_types.proofs.Ordered.{lookup_found}
+use Rattle.base_types.proofs.Lists.{kids_list-kids_of}
+use Rattle.base_types.proofs.Placing.{put_changed}
 use Rattle.json_patch.specs.Edits.{edited, change_of, missing_of, RefusedBy}
 use Rattle.json_patch.specs.Effects.{and_then, changed_at, when_there, place_of, added_in, without_child, removed_in, replaced_in}
 use Rattle.json_patch.specs.Targets.{parent_of, last_of, with_child, put_at}

@@ -9,13 +9,13 @@ use Rattle.std.specs.List.{AllByRecursion}
 use Rattle.std.specs.List.Sorted.{IsStrictlySortedBy}
 use Rattle.std.specs.Prelude.{if◌then◌else◌}
 use Rattle.std.proofs.lemmas.Slice.Eq.{bytes_eq-Decides}
-use Rattle.json_tree.specs.Edits.{put}
-use Rattle.json_tree.specs.Meaning.{Meaning, Fields, no_fields, field, items, members, kids_of, fields_of}
-use Rattle.json_tree.specs.Names.{names, AreSorted}
-use Rattle.json_tree.specs.Parts.{lookup}
-use Rattle.json_tree.specs.Stored.{fields_without}
-use Rattle.json_tree.proofs.Ordered.{bytes_eq-Less, bytes_eq-Greater, bytes_eq-self, same_name}
-use Rattle.json_tree.proofs.Placing.{above-below, below-above}
+use Rattle.base_types.specs.Edits.{put}
+use Rattle.base_types.specs.Meaning.{Meaning, Fields, no_fields, field, items, members, kids_of, fields_of}
+use Rattle.base_types.specs.Names.{names, AreSorted}
+use Rattle.base_types.specs.Parts.{lookup}
+use Rattle.base_types.specs.Stored.{fields_without}
+use Rattle.base_types.proofs.Ordered.{bytes_eq-Less, bytes_eq-Greater, bytes_eq-self, same_name}
+use Rattle.base_types.proofs.Placing.{above-below, below-above}
 use Rattle.json_patch.specs.Edits.{IsAsDeep, IsEdited, went_of, came_of}
 use Rattle.json_patch.specs.declared.edit.Edit.{Edit}
 use Rattle.json_patch.specs.declared.edit.Edit.TheVariants.{Add, Remove, Replace}

@@ -1,6 +1,6 @@
 -- What an operation does to the size of a document, in numbers that stop at 2 ^ 64 - 1.
 use Rattle.std.specs.Prelude.{◌≡◌, ℕ, ◌+◌, ◌-◌, ◌^◌, ◌<◌, ◌≤◌, ◌↔◌, min, max, Result, Err}
-use Rattle.json_tree.specs.Meaning.{Meaning}
+use Rattle.base_types.specs.Meaning.{Meaning}
 use Rattle.json_patch.specs.declared.applying.Change.{Change}
 use Rattle.json_patch.specs.declared.fault.ApplyFault.{ApplyFault}
 use Rattle.json_patch.specs.declared.fault.ApplyFault.TheVariants.{Operation, OutOfMemory}

@@ -1,6 +1,6 @@
 -- A change under the last token of a target location, and what it does to the size of a document.
 use Rattle.std.specs.Prelude.{◌≡◌, ℕ, ◌+◌, ◌≤◌, max, List, [], ◌∷◌, Option, Some, None, IsSome, Result, Ok, Err}
-use Rattle.json_tree.specs.Meaning.{Meaning}
+use Rattle.base_types.specs.Meaning.{Meaning}
 use Rattle.json_patch.specs.declared.edit.Edit.{Edit}
 use Rattle.json_patch.specs.declared.edit.Edit.TheVariants.{Add, Remove, Replace}
 use Rattle.json_patch.specs.declared.fault.ApplyCause.{ApplyCause}

@@ -1,10 +1,10 @@
 -- What one operation makes of a document (RFC 6902 section 4), or why it can't be done.
 use Rattle.std.specs.Prelude.{ℕ, List, [], ◌∷◌, length, Option, Some, None, option_map, option_and_then, unwrap_or, Result, Ok, Err, insert, remove, bytes_eq, codes, nat_le, if◌then◌else◌}
-use Rattle.json_tree.specs.Edits.{put}
-use Rattle.json_tree.specs.Meaning.{Meaning, null, flag, whole, words, items, members, kids_of, kids_list}
-use Rattle.json_tree.specs.Pointers.{index_of, child_of, pointed}
-use Rattle.json_tree.specs.Same.{same}
-use Rattle.json_tree.specs.Stored.{fields_without}
+use Rattle.base_types.specs.Edits.{put}
+use Rattle.base_types.specs.Meaning.{Meaning, null, flag, whole, words, items, members, kids_of, kids_list}
+use Rattle.base_types.specs.Pointers.{index_of, child_of, pointed}
+use Rattle.base_types.specs.Same.{same}
+use Rattle.base_types.specs.Stored.{fields_without}
 use Rattle.json_patch.specs.declared.fault.ApplyCause.{ApplyCause}
 use Rattle.json_patch.specs.declared.fault.ApplyCause.TheVariants.{IntoItself, NoValue, NoParent, BadIndex, Differs}
 use Rattle.json_patch.specs.declared.op.Op.{Op}

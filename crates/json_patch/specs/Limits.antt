@@ -1,6 +1,6 @@
 -- How deep and how large a document is, and what is too much.
 use Rattle.std.specs.Prelude.{ℕ, suc, ◌+◌, max, nat_lt, Result, Ok, Err, if◌then◌else◌}
-use Rattle.json_tree.specs.Meaning.{Meaning, null, flag, whole, words, items, members, Kids, no_kids, kid, Fields, no_fields, field}
+use Rattle.base_types.specs.Meaning.{Meaning, null, flag, whole, words, items, members, Kids, no_kids, kid, Fields, no_fields, field}
 use Rattle.json_patch.specs.declared.fault.ApplyCause.{ApplyCause}
 use Rattle.json_patch.specs.declared.fault.ApplyCause.TheVariants.{Deep, Large}
 

@@ -1,6 +1,6 @@
 -- What a list of operations makes of a document: each in turn, or the first that can't be done (RFC 6902 section 5).
 use Rattle.std.specs.Prelude.{ℕ, ◌+◌, List, [], ◌∷◌, Result, Ok, Err}
-use Rattle.json_tree.specs.Meaning.{Meaning}
+use Rattle.base_types.specs.Meaning.{Meaning}
 use Rattle.json_patch.specs.declared.fault.ApplyCause.{ApplyCause}
 use Rattle.json_patch.specs.declared.fault.ApplyFault.{ApplyFault}
 use Rattle.json_patch.specs.declared.fault.ApplyFault.TheVariants.{Operation}

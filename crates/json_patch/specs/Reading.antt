@@ -1,14 +1,14 @@
 -- A JSON Patch document (RFC 6902 sections 3 and 4): a list of operations, each an object with `op` and the members
 -- of that operation. Other members are ignored.
 use Rattle.std.specs.Prelude.{◌≡◌, ℕ, ◌+◌, List, [], ◌∷◌, length, Option, Some, None, option_map, option_and_then, Result, Ok, Err, bytes_eq, codes, nat_lt, if◌then◌else◌}
-use Rattle.json_tree.specs.Meaning.{Meaning}
-use Rattle.json_tree.specs.Parts.{member_of, items_of}
-use Rattle.json_tree.specs.Pointers.{pointer_of}
+use Rattle.base_types.specs.Meaning.{Meaning}
+use Rattle.base_types.specs.Parts.{member_of, items_of}
+use Rattle.base_types.specs.Pointers.{pointer_of}
 use Rattle.json_patch.specs.declared.fault.PatchFault.{PatchFault}
 use Rattle.json_patch.specs.declared.fault.PatchFault.TheVariants.{NotList, TooMany, BadOperation, OutOfMemory}
 use Rattle.json_patch.specs.declared.op.Op.{Op}
 use Rattle.json_patch.specs.declared.op.Op.TheVariants.{Add, Remove, Replace, Move, Copy, Test}
-use Rattle.json_tree.specs.Texts.{text_at}
+use Rattle.base_types.specs.Texts.{text_at}
 
 -- a member whose value is the text of a pointer
 abbrev pub pointer_at : List ℕ → Meaning → Option (List (List ℕ))

@@ -1,8 +1,8 @@
 -- The target location of an operation (RFC 6902 section 3), and a document that is changed there.
 use Rattle.std.specs.Prelude.{ℕ, Bool, true, false, ◌&&◌, List, [], ◌∷◌, option_map, unwrap_or, set, bytes_eq}
-use Rattle.json_tree.specs.Edits.{put}
-use Rattle.json_tree.specs.Meaning.{Meaning, null, flag, whole, words, items, members, kids_of, kids_list}
-use Rattle.json_tree.specs.Pointers.{index_of, child_of}
+use Rattle.base_types.specs.Edits.{put}
+use Rattle.base_types.specs.Meaning.{Meaning, null, flag, whole, words, items, members, kids_of, kids_list}
+use Rattle.base_types.specs.Pointers.{index_of, child_of}
 
 -- the pointer to the parent, and the last token, of a pointer with these tokens
 abbrev pub parent_of : List ℕ → List (List ℕ) → List (List ℕ)

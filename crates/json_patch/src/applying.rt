@@ -1,6 +1,6 @@
 ghost use Rattle.std.specs.Prelude.{◌≡◌, ◌-◌, ◌^◌, min, Ok, IfOk, IfErr};
 ghost use Rattle.std.specs.Option.{ForSome};
-ghost use Rattle.json_tree.specs.Meaning.{Meaning};
+ghost use Rattle.base_types.specs.Meaning.{Meaning};
 ghost use Rattle.json_patch.specs.Changes.{IsChange, IsWithin, Tells, IsFaultOf};
 ghost use Rattle.json_patch.specs.Edits.{edited_at, came_of, deep_of, went_of, RefusedBy};
 ghost use Rattle.json_patch.specs.Effects.{effect, moved, copied, tested, done};
@@ -11,8 +11,8 @@ use crate::edit::{Edit, Refusal, edit_path};
 use crate::fault::{ApplyCause, ApplyFault};
 use crate::op::{Op, Patch};
 use crate::size::{Size, size_of};
+use base_types::json::{Pointer, Tree, copy, get};
 use base_types::{OutOfMemory, Text};
-use json_tree::{Pointer, Tree, copy, get};
 use std::alloc::Global;
 
 /// The most containers that may stand one inside another.

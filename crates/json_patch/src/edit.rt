@@ -1,15 +1,15 @@
 ghost use Rattle.std.specs.Prelude.{◌≡◌, ◌+◌, ◌<◌, ℕ, Ok, IfOk, IfErr, OnOk, length, [], ◌∷◌, Some};
-ghost use Rattle.json_tree.specs.Edits.{put};
-ghost use Rattle.json_tree.specs.Meaning.{items, members, kids_of, fields_of};
-ghost use Rattle.json_tree.specs.Names.{AreSorted};
-ghost use Rattle.json_tree.specs.Parts.{lookup};
-ghost use Rattle.json_tree.specs.Pointers.{child_of, pointed};
+ghost use Rattle.base_types.specs.Edits.{put};
+ghost use Rattle.base_types.specs.Meaning.{items, members, kids_of, fields_of};
+ghost use Rattle.base_types.specs.Names.{AreSorted};
+ghost use Rattle.base_types.specs.Parts.{lookup};
+ghost use Rattle.base_types.specs.Pointers.{child_of, pointed};
 ghost use Rattle.json_patch.specs.Edits.{edited_at, change_of, missing_of, edited, RefusedBy, IsTaken, IsEdited};
 ghost use Rattle.json_patch.specs.Effects.{place_of};
 
 use crate::fault::ApplyCause;
+use base_types::json::{MemberList, Node, Tree, Trees, read_index};
 use base_types::{OutOfMemory, Text};
-use json_tree::{MemberList, Node, Tree, Trees, read_index};
 use std::alloc::{AllocFailed, Global};
 use std::mem;
 

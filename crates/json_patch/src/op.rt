@@ -1,6 +1,6 @@
 ghost use Rattle.std.specs.Prelude.{◌≡◌, ◌≤◌, length};
 
-use json_tree::{Pointer, Tree};
+use base_types::json::{Pointer, Tree};
 use std::marker::Model;
 
 /// One operation of a JSON Patch (RFC 6902 section 4).

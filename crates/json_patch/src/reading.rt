@@ -1,11 +1,11 @@
 ghost use Rattle.std.specs.Prelude.{◌≡◌, ℕ, List, Ok, IfOk, IfErr, codes};
 ghost use Rattle.json_patch.specs.Reading.{pointer_at, pair_of, op_of, patch_of, IsPatchFault};
-ghost use Rattle.json_tree.specs.Parts.{member_of};
+ghost use Rattle.base_types.specs.Parts.{member_of};
 
 use crate::fault::PatchFault;
 use crate::op::{Op, Patch};
 use base_types::OutOfMemory;
-use json_tree::{Pointer, PointerFault, Tree, copy, read_pointer};
+use base_types::json::{Pointer, PointerFault, Tree, copy, read_pointer};
 use std::alloc::Global;
 
 /// The most operations that a patch may have.

@@ -1,8 +1,8 @@
 ghost use Rattle.std.specs.Prelude.{◌≡◌, ◌-◌, ◌^◌, min};
-ghost use Rattle.json_tree.specs.Meaning.{kids_of, fields_of};
+ghost use Rattle.base_types.specs.Meaning.{kids_of, fields_of};
 ghost use Rattle.json_patch.specs.Limits.{depth, kids_depth, fields_depth, values, kids_values, fields_values};
 
-use json_tree::{MemberList, Node, Tree, Trees};
+use base_types::json::{MemberList, Node, Tree, Trees};
 
 /// How large a tree is. The numbers stop at 2^64 - 1.
 #[derive(Clone, Copy)]

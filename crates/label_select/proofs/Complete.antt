@@ -4,7 +4,7 @@ use Rattle.std.specs.List.{list_all}
 use Rattle.std.proofs.lemmas.Bool.{false_from_ne_true}
 use Rattle.std.proofs.lemmas.Bool.Decides.{Decides-eqb}
 use Rattle.std.proofs.lemmas.Slice.Eq.{bytes_eq-Decides}
-use Rattle.json_tree.specs.Texts.{◌>>=◌}
+use Rattle.base_types.specs.Texts.{◌>>=◌}
 use Rattle.label_select.specs.Bytes.{is_in_class, front, behind, after}
 use Rattle.label_select.specs.Grammar.{spaces, IsKey, IsValue, SpellsValue, SpellsItems, SpellsValues, SpellsList, SpellsTest, SpellsMissing, SpellsTested, SpellsBy, SpellsRequirement, SpellsJoined, Spells}
 use Rattle.label_select.specs.Readings.{choose, is_empty, is_key, key_at, value_at, values_by, values_in, list_at, test_by, test_at, requirement_by, requirement_at, joined_by, selector_in, selector_of}

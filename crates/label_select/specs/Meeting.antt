@@ -3,9 +3,9 @@
 use Rattle.std.specs.Prelude.{ℕ, Bool, true, false, not, List, Option, Some, None, bytes_eq}
 use Rattle.std.specs.List.{list_all}
 use Rattle.base_types.specs.Matching.{has_text}
-use Rattle.json_tree.specs.Meaning.{Meaning}
-use Rattle.json_tree.specs.Parts.{member_of, text_of}
-use Rattle.json_tree.specs.Texts.{◌>>=◌}
+use Rattle.base_types.specs.Meaning.{Meaning}
+use Rattle.base_types.specs.Parts.{member_of, text_of}
+use Rattle.base_types.specs.Texts.{◌>>=◌}
 use Rattle.label_select.specs.declared.selector.Test.{Test}
 use Rattle.label_select.specs.declared.selector.Test.TheVariants.{Exists, Missing, Is, IsNot, In, NotIn}
 use Rattle.label_select.specs.declared.selector.Requirement.{Requirement}

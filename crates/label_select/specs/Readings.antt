@@ -1,6 +1,6 @@
 -- The requirements that a text spells, where it is a selector, found from its beginning on.
 use Rattle.std.specs.Prelude.{ℕ, zero, suc, ◌+◌, ◌==◌, Bool, ◌&&◌, not, List, [], ◌∷◌, Option, Some, None, length, bytes_eq, codes, if◌then◌else◌}
-use Rattle.json_tree.specs.Texts.{◌>>=◌}
+use Rattle.base_types.specs.Texts.{◌>>=◌}
 use Rattle.label_select.specs.Bytes.{front, behind, after}
 use Rattle.label_select.specs.declared.bytes.Class.TheVariants.{Space, Value, Key}
 use Rattle.label_select.specs.declared.selector.Test.{Test}

@@ -2,8 +2,8 @@ ghost use Rattle.std.specs.Prelude.{◌≡◌, option_map};
 ghost use Rattle.label_select.specs.Meeting.{label_of, allows_missing, allows_value, is_met, matches};
 
 use crate::selector::{Requirement, Selector, Test};
+use base_types::json::Tree;
 use base_types::{Text, has_text};
-use json_tree::Tree;
 
 fn label_of<'a>(key: &Text, labels: Option<&'a Tree>) -> Option<&'a Text>
     ensures { option_map (λ text. text.now) result ≡ label_of key.now (option_map (λ tree. tree.now) labels.entry) }

@@ -1,8 +1,8 @@
 -- A setup that breaks no rule has few checkpoints.
 use Rattle.std.proofs.Common.{◌≡◌, ℕ, ◌+◌, ◌≤◌, List, [], ◌∷◌, length, Option, Some, None, Ok, Err, inl, inr, codes, nat_le, subst, ap, arith}
 use Rattle.std.proofs.lemmas.Bool.{leb-true}
-use Rattle.json_tree.specs.Meaning.{Meaning}
-use Rattle.json_tree.specs.Parts.{items_of, member_of}
+use Rattle.base_types.specs.Meaning.{Meaning}
+use Rattle.base_types.specs.Parts.{items_of, member_of}
 use Rattle.setup_file.specs.declared.fault.SetupRule.TheVariants.{S1, S2, S3, S14, S15}
 use Rattle.setup_file.specs.declared.setup.Checkpoint.{Checkpoint}
 use Rattle.setup_file.specs.declared.setup.Setup.{Setup}

@@ -1,7 +1,7 @@
 -- A setup reads as one setup, or is refused in one way.
 use Rattle.std.proofs.Common.{◌≡◌, ℕ, inl, inr, List, Some, Result, Ok, Err, refl, sym, ◌∙◌, ap, arith}
-use Rattle.json_tree.specs.Meaning.{Meaning}
-use Rattle.json_tree.specs.Values.{of_data}
+use Rattle.base_types.specs.Meaning.{Meaning}
+use Rattle.base_types.specs.Values.{of_data}
 use Rattle.setup_file.specs.declared.fault.SetupRule.{SetupRule}
 use Rattle.setup_file.specs.declared.setup.Setup.{Setup}
 use Rattle.setup_file.specs.Reading.{IsTreeOf, ReadsAs, setup_of}

@@ -6,7 +6,7 @@ use Rattle.audit_event.specs.declared.event.Event.{Event}
 use Rattle.history_model.proofs.Members.{all_at, at_in}
 use Rattle.history_model.specs.Events as model
 use Rattle.history_model.specs.Histories.{History, IsEvent}
-use Rattle.json_tree.specs.Meaning.{Meaning}
+use Rattle.base_types.specs.Meaning.{Meaning}
 use Rattle.setup_file.specs.declared.setup.Setup.{Setup}
 use Rattle.version_store.proofs.LogLemmas.{Standing, of_event, of_checkpoint, standing}
 use Rattle.version_store.specs.Logged.{AreLogged}

@@ -1,7 +1,7 @@
 -- Threads may share a tree.
 use Rattle.std.proofs.Crossing as owned
-use Rattle.json_tree.proofs.tree.Member.TheLaws.TheKnot as knot
-use Rattle.json_tree.specs.contracts.tree.Tree as tree
+use Rattle.base_types.proofs.json.tree.Member.TheLaws.TheKnot as knot
+use Rattle.base_types.specs.contracts.json.tree.Tree as tree
 use denote.Param.Send.{IsSync, sendable}
 
 pub tree_shared : IsSync tree.the_row

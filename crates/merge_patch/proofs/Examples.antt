@@ -1,6 +1,6 @@
 -- The table of RFC 7386 appendix A, and its section 3.
 use Rattle.std.proofs.Common.{◌≡◌, ℕ, List, Some, None, codes, refl, pos}
-use Rattle.json_tree.specs.Meaning.{Meaning, null, whole, words, items, members, no_kids, kid, no_fields, field}
+use Rattle.base_types.specs.Meaning.{Meaning, null, whole, words, items, members, no_kids, kid, no_fields, field}
 use Rattle.merge_patch.specs.Merging.{merged}
 
 abbrev text : List ℕ → Meaning

@@ -9,14 +9,14 @@ use Rattle.std.specs.Cmp.Lexicographic.{slice_cmp, nat_list_cmp_total}
 use Rattle.std.specs.List.{AllByRecursion}
 use Rattle.std.specs.List.Sorted.{IsStrictlySortedBy}
 use Rattle.std.proofs.lemmas.List.{take_at, drop_at, set_at, take_more, drop_more, get_or_default}
-use Rattle.json_tree.specs.Edits.{put}
-use Rattle.json_tree.specs.Meaning.{Meaning, Fields, fields_of}
-use Rattle.json_tree.specs.Names.{names, AreSorted}
-use Rattle.json_tree.specs.Parts.{lookup, is_null}
-use Rattle.json_tree.specs.Search.{IsNamedAt, IsPlaceFor}
-use Rattle.json_tree.proofs.Ordered.{same_name, lookup_found, lookup_absent}
-use Rattle.json_tree.proofs.Placing.{above-below, below-above, put_found, put_absent, without_found, without_absent, sorted_inserted, sorted_removed}
-use Rattle.json_tree.proofs.Removing.{sorted-set}
+use Rattle.base_types.specs.Edits.{put}
+use Rattle.base_types.specs.Meaning.{Meaning, Fields, fields_of}
+use Rattle.base_types.specs.Names.{names, AreSorted}
+use Rattle.base_types.specs.Parts.{lookup, is_null}
+use Rattle.base_types.specs.Search.{IsNamedAt, IsPlaceFor}
+use Rattle.base_types.proofs.Ordered.{same_name, lookup_found, lookup_absent}
+use Rattle.base_types.proofs.Placing.{above-below, below-above, put_found, put_absent, without_found, without_absent, sorted_inserted, sorted_removed}
+use Rattle.base_types.proofs.Removing.{sorted-set}
 use Rattle.merge_patch.specs.Merging.{merged, merged_fields, changed}
 use Rattle.merge_patch.specs.Walking.{AllBelow, StartsNotBelow, IsFirstValue, behind}
 

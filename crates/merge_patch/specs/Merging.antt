@@ -1,9 +1,9 @@
 -- JSON Merge Patch: the function `MergePatch(Target, Patch)` of RFC 7386 section 2.
 use Rattle.std.specs.Prelude.{ℕ, List, Option, Some, None, if◌then◌else◌}
-use Rattle.json_tree.specs.Edits.{put}
-use Rattle.json_tree.specs.Meaning.{Meaning, null, flag, whole, words, items, members, Fields, no_fields, field}
-use Rattle.json_tree.specs.Parts.{lookup, is_null}
-use Rattle.json_tree.specs.Stored.{fields_without}
+use Rattle.base_types.specs.Edits.{put}
+use Rattle.base_types.specs.Meaning.{Meaning, null, flag, whole, words, items, members, Fields, no_fields, field}
+use Rattle.base_types.specs.Parts.{lookup, is_null}
+use Rattle.base_types.specs.Stored.{fields_without}
 
 -- the target's members; a target that isn't there, or is no object, counts as an empty object
 abbrev pub object_of : Option Meaning → Fields

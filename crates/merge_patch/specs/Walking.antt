@@ -4,8 +4,8 @@ use Rattle.std.specs.List.{AllByRecursion}
 use Rattle.std.specs.Ordering.{nat_cmp}
 use Rattle.std.specs.Cmp.Lexicographic.{slice_cmp}
 use Rattle.std.specs.declared.cmp.Ordering.TheVariants.{Less}
-use Rattle.json_tree.specs.Meaning.{Meaning}
-use Rattle.json_tree.specs.Names.{names}
+use Rattle.base_types.specs.Meaning.{Meaning}
+use Rattle.base_types.specs.Names.{names}
 
 -- each of these names is below the name
 abbrev pub AllBelow : List ℕ → List (List ℕ × Meaning) → Type 0

@@ -2,13 +2,13 @@ ghost use Rattle.std.specs.Prelude.{◌≡◌, ◌++◌, ◌≤◌, ℕ, List, I
 ghost use Rattle.std.specs.Ordering.{nat_cmp};
 ghost use Rattle.std.specs.Cmp.Lexicographic.{slice_cmp};
 ghost use Rattle.std.specs.declared.cmp.Ordering.TheVariants.{Less};
-ghost use Rattle.json_tree.specs.Meaning.{fields_of};
-ghost use Rattle.json_tree.specs.Names.{AreSorted};
+ghost use Rattle.base_types.specs.Meaning.{fields_of};
+ghost use Rattle.base_types.specs.Names.{AreSorted};
 ghost use Rattle.merge_patch.specs.Merging.{object_of, merged, merged_fields, changed};
 ghost use Rattle.merge_patch.specs.Walking.{AllBelow, StartsNotBelow, IsFirstValue, behind};
 
+use base_types::json::{Member, MemberList, Node, Tree, copy};
 use base_types::{OutOfMemory, Text};
-use json_tree::{Member, MemberList, Node, Tree, copy};
 use std::alloc::Global;
 
 /// The target after a merge patch (RFC 7386 section 2). It costs one walk over target and patch.

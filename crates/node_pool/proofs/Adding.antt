@@ -8,8 +8,8 @@ use Rattle.std.proofs.lemmas.List.{append-nil, length-take}
 use Rattle.std.proofs.lemmas.List.Quantifiers.{position-Some}
 use Rattle.std.proofs.lemmas.Option.{slice_get-get_or}
 use Rattle.indexmap.specs.IndexSet.{insert_key}
-use Rattle.json_tree.specs.Meaning.{Meaning}
-use Rattle.json_tree.specs.Same.{same, same-Decides}
+use Rattle.base_types.specs.Meaning.{Meaning}
+use Rattle.base_types.specs.Same.{same, same-Decides}
 use Rattle.node_pool.specs.Flat.{Flat, flat_eq, flat_eq-Decides}
 use Rattle.node_pool.specs.Kept.{AreKept}
 use Rattle.node_pool.specs.Pooled.{AreDistinct}

@@ -6,8 +6,8 @@ use Rattle.std.specs.Ordering.{nat_cmp}
 use Rattle.std.specs.Cmp.Lexicographic.{slice_cmp}
 use Rattle.std.proofs.lemmas.List.{append-nil, get_or_append_left}
 use Rattle.std.proofs.lemmas.Option.{slice_get-get_or}
-use Rattle.json_tree.specs.Meaning.{Meaning, null, items, members, kids_of, fields_of}
-use Rattle.json_tree.proofs.Lists.{items-inj, members-inj}
+use Rattle.base_types.specs.Meaning.{Meaning, null, items, members, kids_of, fields_of}
+use Rattle.base_types.proofs.Lists.{items-inj, members-inj}
 use Rattle.node_pool.specs.Flat.{Flat, flat_null, flat_flag, flat_whole, flat_words, flat_items, flat_members}
 use Rattle.node_pool.specs.Pooled.{AreDistinct}
 use Rattle.node_pool.specs.Subtrees.{Begins}

@@ -8,14 +8,14 @@ use Rattle.std.specs.declared.cmp.Ordering.{Ordering}
 use Rattle.std.specs.Cmp.Lexicographic.{slice_cmp}
 use Rattle.std.proofs.lemmas.List.{get_or-map}
 use Rattle.std.proofs.lemmas.Option.{slice_get-get_or, slice_get_within, slice_get-map}
-use Rattle.json_tree.specs.Meaning.{Meaning, null, items, members, kids_of, fields_of}
-use Rattle.json_tree.specs.Names.{names, AreSorted}
-use Rattle.json_tree.specs.Parts.{lookup}
-use Rattle.json_tree.specs.Pointers.{kid_at, index_of, child_of}
-use Rattle.json_tree.specs.Search.{IsNamedAt}
-use Rattle.json_tree.proofs.Indices.{kid_at-kids_of}
-use Rattle.json_tree.proofs.Lists.{items-inj, members-inj}
-use Rattle.json_tree.proofs.Ordered.{found_at, place_at, lookup_found, lookup_absent}
+use Rattle.base_types.specs.Meaning.{Meaning, null, items, members, kids_of, fields_of}
+use Rattle.base_types.specs.Names.{names, AreSorted}
+use Rattle.base_types.specs.Parts.{lookup}
+use Rattle.base_types.specs.Pointers.{kid_at, index_of, child_of}
+use Rattle.base_types.specs.Search.{IsNamedAt}
+use Rattle.base_types.proofs.Indices.{kid_at-kids_of}
+use Rattle.base_types.proofs.Lists.{items-inj, members-inj}
+use Rattle.base_types.proofs.Ordered.{found_at, place_at, lookup_found, lookup_absent}
 use Rattle.node_pool.specs.Flat.{Flat, flat_items, flat_members}
 use Rattle.node_pool.specs.Within.{name_at, tree_at, name_of, field_at, tree_of, looked_up, told, IsFieldWithin, IsWithin}
 use Rattle.node_pool.proofs.Levels.{kids_grow, fields_grow}

@@ -8,8 +8,8 @@ use Rattle.std.specs.Cmp.Lexicographic.{slice_cmp}
 use Rattle.std.proofs.lemmas.List.{append-nil, take_more, map-append}
 use Rattle.std.proofs.lemmas.List.Sums.{fold-append}
 use Rattle.std.proofs.lemmas.Option.{get_or_from_slice_get, slice_get_within}
-use Rattle.json_tree.specs.Meaning.{Meaning, null, kids_of, fields_of}
-use Rattle.json_tree.specs.Names.{names, AreSorted}
+use Rattle.base_types.specs.Meaning.{Meaning, null, kids_of, fields_of}
+use Rattle.base_types.specs.Names.{names, AreSorted}
 use Rattle.node_pool.specs.Kept.{Kept, Grows}
 use Rattle.node_pool.specs.Subtrees.{inside, inside_kids, inside_fields, subtrees, with_tree, interned, Begins}
 use Rattle.node_pool.specs.Within.{name_at, tree_at, name_of, field_at, IsFieldWithin}

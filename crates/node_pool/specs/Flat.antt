@@ -8,7 +8,7 @@ use Rattle.std.specs.Cmp.Lexicographic.{pointwise}
 use Rattle.std.proofs.lemmas.Bool.{false≢true}
 use Rattle.std.proofs.lemmas.Bool.Decides.{Decides-int_eq, Decides-eqb, Decides-like, Decides-and, same_from_decides}
 use Rattle.std.proofs.lemmas.Slice.Eq.{bytes_eq-Decides, slice_eq-Decides}
-use Rattle.json_tree.specs.Same.{bool_eq}
+use Rattle.base_types.specs.Same.{bool_eq}
 use Rattle.node_pool.specs.declared.form.Form.{Form}
 use Rattle.node_pool.specs.declared.form.Form.TheVariants.{Null, Flag, Whole, Words, Items, Members}
 

@@ -1,8 +1,8 @@
 -- What the functions inside the crate see of a pool: also the names, which no tree's number shows.
 use Rattle.std.specs.Prelude.{◌≡◌, ℕ, ◌<◌, ◌≤◌, ◌^◌, List, [], length, refl}
 use Rattle.std.specs.Coded.{Coded, code_by, coded×, coded_ℕ, coded_list}
-use Rattle.json_tree.specs.Meaning.{Meaning}
-use Rattle.json_tree.specs.Code.{coded_meaning, coded_bytes}
+use Rattle.base_types.specs.Meaning.{Meaning}
+use Rattle.base_types.specs.Code.{coded_meaning, coded_bytes}
 use Rattle.node_pool.specs.Flat.{Flat}
 use Rattle.node_pool.specs.Pooled.{AreDistinct}
 use Rattle.node_pool.specs.Subtrees.{Begins}

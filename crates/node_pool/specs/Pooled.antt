@@ -1,8 +1,8 @@
 -- What a contract sees of a pool.
 use Rattle.std.specs.Prelude.{◌≡◌, ℕ, List, Some, slice_get, refl}
 use Rattle.std.specs.Coded.{Coded, code_by, coded×, coded_ℕ, coded_list}
-use Rattle.json_tree.specs.Meaning.{Meaning}
-use Rattle.json_tree.specs.Code.{coded_meaning}
+use Rattle.base_types.specs.Meaning.{Meaning}
+use Rattle.base_types.specs.Code.{coded_meaning}
 
 -- the trees in the order of their numbers, and how many there may be
 pub record Pooled : Type 0 where

@@ -4,7 +4,7 @@ use Rattle.std.specs.List.{AllByRecursion}
 use Rattle.std.specs.List.Sorted.{IsStrictlySortedBy}
 use Rattle.std.specs.Ordering.{nat_cmp}
 use Rattle.std.specs.Cmp.Lexicographic.{slice_cmp}
-use Rattle.json_tree.specs.Meaning.{Meaning, null, flag, whole, words, items, members, kids_of, fields_of}
+use Rattle.base_types.specs.Meaning.{Meaning, null, flag, whole, words, items, members, kids_of, fields_of}
 use Rattle.node_pool.specs.Flat.{Flat, flat_null, flat_flag, flat_whole, flat_words, flat_items, flat_members}
 
 abbrev pub name_at : List (List ℕ) → ℕ → List ℕ

@@ -3,7 +3,7 @@ ghost use Rattle.node_pool.specs.Within.{looked_up, told};
 
 use crate::form::Form;
 use crate::store::Store;
-use json_tree::{Member, MemberList, Node, Tree, Trees};
+use base_types::json::{Member, MemberList, Node, Tree, Trees};
 
 /// Whether the tree of a number is this tree.
 #[cycle(equals)]

@@ -1,7 +1,7 @@
 ghost use Rattle.std.specs.Prelude.{◌≡◌, ◌<◌, ◌≤◌, Some, Err, fold, length, map, slice_get, OnOk, IfOk};
 ghost use Rattle.std.specs.List.{AllByRecursion};
-ghost use Rattle.json_tree.specs.Meaning.{kids_of, fields_of};
-ghost use Rattle.json_tree.specs.Names.{AreSorted};
+ghost use Rattle.base_types.specs.Meaning.{kids_of, fields_of};
+ghost use Rattle.base_types.specs.Names.{AreSorted};
 ghost use Rattle.node_pool.specs.Kept.{Grows};
 ghost use Rattle.node_pool.specs.Subtrees.{inside, inside_kids, inside_fields, interned, with_tree};
 ghost use Rattle.node_pool.specs.Within.{tree_at, field_at, tree_of, IsWithin, IsFieldWithin};
@@ -9,7 +9,7 @@ ghost use Rattle.node_pool.specs.Within.{tree_at, field_at, tree_of, IsWithin, I
 use crate::fault::PoolFault;
 use crate::form::{Form, Level};
 use crate::store::Store;
-use json_tree::{MemberList, Node, Tree, Trees};
+use base_types::json::{MemberList, Node, Tree, Trees};
 use std::alloc::Global;
 
 /// Puts a tree and what is within it into the store, as far as each is new, and answers the tree's number. After a

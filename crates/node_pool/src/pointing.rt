@@ -3,15 +3,15 @@ ghost use Rattle.std.specs.List.{AllByRecursion};
 ghost use Rattle.std.specs.List.Sorted.{IsBinarySearchResult, IsSearchInRange, IsStrictlySortedBy};
 ghost use Rattle.std.specs.Ordering.{nat_cmp};
 ghost use Rattle.std.specs.Cmp.Lexicographic.{slice_cmp};
-ghost use Rattle.json_tree.specs.Meaning.{fields_of};
-ghost use Rattle.json_tree.specs.Parts.{lookup, member_of};
-ghost use Rattle.json_tree.specs.Pointers.{child_of, index_of, pointed as pointed_tree};
+ghost use Rattle.base_types.specs.Meaning.{fields_of};
+ghost use Rattle.base_types.specs.Parts.{lookup, member_of};
+ghost use Rattle.base_types.specs.Pointers.{child_of, index_of, pointed as pointed_tree};
 ghost use Rattle.node_pool.specs.Within.{field_at, name_of, name_at, IsFieldWithin};
 
 use crate::form::Form;
 use crate::store::Store;
 use base_types::Text;
-use json_tree::{Pointer, read_index};
+use base_types::json::{Pointer, read_index};
 use std::cmp::Ordering;
 
 /// The number of what a pointer identifies within the tree of a number (RFC 6901 section 4).

@@ -1,6 +1,6 @@
 ghost use Rattle.std.specs.Prelude.{◌≡◌, ◌<◌, ◌≤◌, ◌↔◌, [], Some, Err, length, slice_get, option_and_then, OnOk, OnErr, IfOk, IfSome, IsTrue};
-ghost use Rattle.json_tree.specs.Parts.{member_of};
-ghost use Rattle.json_tree.specs.Pointers.{pointed as pointed_tree};
+ghost use Rattle.base_types.specs.Parts.{member_of};
+ghost use Rattle.base_types.specs.Pointers.{pointed as pointed_tree};
 ghost use Rattle.node_pool.specs.Pooled.{AreDistinct};
 ghost use Rattle.node_pool.specs.Subtrees.{interned};
 
@@ -11,8 +11,8 @@ use crate::pointing::{member_of, pointed};
 use crate::rebuilding::rebuild;
 use crate::store::Store;
 use base_types::OutOfMemory;
+use base_types::json::{Pointer, Tree};
 use hash_seed::Seed;
-use json_tree::{Pointer, Tree};
 use std::alloc::Global;
 use std::marker::Model;
 

@@ -7,8 +7,8 @@ ghost use Rattle.node_pool.specs.Within.{looked_up, told, name_of, IsFieldWithin
 
 use crate::form::Form;
 use crate::store::Store;
+use base_types::json::{Member, MemberList, Node, Tree, Trees};
 use base_types::{OutOfMemory, Text};
-use json_tree::{Member, MemberList, Node, Tree, Trees};
 use std::alloc::Global;
 
 /// The tree of a number, as a tree of its own.

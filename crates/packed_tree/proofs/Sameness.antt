@@ -3,7 +3,7 @@ use Rattle.std.proofs.Common.{◌≡◌, ℕ, List, ap, sym, ◌∙◌}
 use Rattle.std.specs.Prelude.{bytes_eq}
 use Rattle.std.proofs.lemmas.Bool.Decides.{Decides-like, same_from_decides}
 use Rattle.std.proofs.lemmas.Slice.Eq.{bytes_eq-Decides}
-use Rattle.json_tree.specs.Same.{same, same-Decides}
+use Rattle.base_types.specs.Same.{same, same-Decides}
 use Rattle.packed_tree.specs.Encoding.{encode}
 use Rattle.packed_tree.specs.Decoding.{decode}
 use Rattle.packed_tree.specs.Sound.{IsPacked}

@@ -1,8 +1,8 @@
 ghost use Rattle.std.specs.Prelude.{◌≡◌, IfOk};
 
 use crate::reading::{PackedItems, PackedMembers, PackedRef, Shown};
+use base_types::json::{Member, MemberList, Node, Tree, Trees};
 use base_types::{OutOfMemory, Text};
-use json_tree::{Member, MemberList, Node, Tree, Trees};
 use std::alloc::Global;
 
 /// The tree of a packed value.

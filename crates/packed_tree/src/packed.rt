@@ -1,11 +1,11 @@
 ghost use Rattle.std.specs.Prelude.{◌≡◌, Some, None, Err, IfOk};
 ghost use Rattle.serde_json.specs.View.{view};
-ghost use Rattle.json_tree.specs.Values.{of_data, InRange};
+ghost use Rattle.base_types.specs.Values.{of_data, InRange};
 
 use crate::packing::push_value;
 use crate::reading::{PackedRef, reader};
 use base_types::OutOfMemory;
-use json_tree::{Tree, TreeFault};
+use base_types::json::{Tree, TreeFault};
 use serde_json::Value;
 use std::alloc::Global;
 use std::marker::Model;
@@ -18,8 +18,8 @@ pub struct Packed {
 }
 
 impl Model for Packed {
-    ghost use Rattle.json_tree.specs.Meaning.{Meaning};
-    ghost use Rattle.json_tree.specs.Code.{coded_meaning};
+    ghost use Rattle.base_types.specs.Meaning.{Meaning};
+    ghost use Rattle.base_types.specs.Code.{coded_meaning};
     ghost use Rattle.packed_tree.specs.Decoding.{decode};
     ghost use Rattle.packed_tree.specs.Sound.{IsPacked};
 
@@ -32,7 +32,7 @@ impl Model for Packed {
     ghost invariant = { λ p. IsPacked p.bytes.items };
 }
 
-/// The packed form of a JSON value. As with `json_tree::from_value`, numbers that `serde_json` reads as
+/// The packed form of a JSON value. As with `base_types::json::from_value`, numbers that `serde_json` reads as
 /// floating point, as `1.0`, `-0` and `1e2`, are refused.
 pub fn pack(alloc: Global, value: &Value) -> Result<Packed, TreeFault>
     ensures ok { IfOk result (λ packed. of_data (view value.now) ≡ Some packed) }
@@ -63,7 +63,7 @@ impl Packed {
 
 /// Equal values have equal bytes, so these alone are compared.
 impl PartialEq for Packed {
-    ghost use Rattle.json_tree.specs.Same.{same, same-equiv};
+    ghost use Rattle.base_types.specs.Same.{same, same-equiv};
     ghost use Rattle.std.specs.Cmp.{partial_equiv_from_equiv};
 
     ghost eq = { same };
@@ -77,7 +77,7 @@ impl PartialEq for Packed {
 }
 
 impl Eq for Packed {
-    ghost use Rattle.json_tree.specs.Same.{same-equiv};
+    ghost use Rattle.base_types.specs.Same.{same-equiv};
 
     ghost laws = { same-equiv };
 }

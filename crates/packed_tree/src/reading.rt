@@ -1,7 +1,7 @@
 ghost use Rattle.std.specs.Prelude.{◌≡◌, ◌++◌, ◌∷◌, [], IsTrue, ◌↔◌, IfOk, IfNone, option_map, option_to_list};
-ghost use Rattle.json_tree.specs.Meaning.{fields_of};
-ghost use Rattle.json_tree.specs.Names.{AreSorted};
-ghost use Rattle.json_tree.specs.Parts.{lookup, member_of, is_null, whole_of, text_of, items_of, members_of};
+ghost use Rattle.base_types.specs.Meaning.{fields_of};
+ghost use Rattle.base_types.specs.Names.{AreSorted};
+ghost use Rattle.base_types.specs.Parts.{lookup, member_of, is_null, whole_of, text_of, items_of, members_of};
 ghost use Rattle.packed_tree.specs.Decoding.{decode};
 ghost use Rattle.packed_tree.specs.Showing.{meaning_of};
 ghost use Rattle.packed_tree.specs.Sound.{IsSound};
@@ -10,7 +10,7 @@ use crate::building::build;
 use crate::framing::cut;
 use crate::scalars::{below_zero, not_below_zero, str_of};
 use base_types::OutOfMemory;
-use json_tree::Tree;
+use base_types::json::Tree;
 use std::alloc::Global;
 use std::marker::Model;
 
@@ -33,8 +33,8 @@ pub struct PackedMembers<'a> {
 }
 
 impl<'a> Model for PackedRef<'a> {
-    ghost use Rattle.json_tree.specs.Meaning.{Meaning};
-    ghost use Rattle.json_tree.specs.Code.{coded_meaning};
+    ghost use Rattle.base_types.specs.Meaning.{Meaning};
+    ghost use Rattle.base_types.specs.Code.{coded_meaning};
     ghost use Rattle.packed_tree.specs.Decoding.{decode};
     ghost use Rattle.packed_tree.specs.Sound.{IsSound};
 
@@ -50,8 +50,8 @@ impl<'a> Model for PackedRef<'a> {
 impl<'a> Model for PackedItems<'a> {
     ghost use Rattle.std.specs.Prelude.{List};
     ghost use Rattle.std.specs.Coded.{coded_list};
-    ghost use Rattle.json_tree.specs.Meaning.{Meaning, kids_list};
-    ghost use Rattle.json_tree.specs.Code.{coded_meaning};
+    ghost use Rattle.base_types.specs.Meaning.{Meaning, kids_list};
+    ghost use Rattle.base_types.specs.Code.{coded_meaning};
     ghost use Rattle.packed_tree.specs.Decoding.{kids_in};
     ghost use Rattle.packed_tree.specs.Sound.{AreKidsSound};
 
@@ -67,9 +67,9 @@ impl<'a> Model for PackedItems<'a> {
 impl<'a> Model for PackedMembers<'a> {
     ghost use Rattle.std.specs.Prelude.{List, ℕ};
     ghost use Rattle.std.specs.Coded.{coded_list, coded×};
-    ghost use Rattle.json_tree.specs.Meaning.{Meaning, fields_list};
-    ghost use Rattle.json_tree.specs.Code.{coded_meaning, coded_bytes};
-    ghost use Rattle.json_tree.specs.Names.{AreSorted};
+    ghost use Rattle.base_types.specs.Meaning.{Meaning, fields_list};
+    ghost use Rattle.base_types.specs.Code.{coded_meaning, coded_bytes};
+    ghost use Rattle.base_types.specs.Names.{AreSorted};
     ghost use Rattle.packed_tree.specs.Decoding.{fields_in};
     ghost use Rattle.packed_tree.specs.Sound.{AreFieldsSound};
 

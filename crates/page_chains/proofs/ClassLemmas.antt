@@ -3,8 +3,8 @@
 use Rattle.std.proofs.Common.{◌≡◌, ℕ, ◌<◌, ◌≤◌, Bool, true, false, ◌&&◌, ◌||◌, List, [], ◌∷◌, Option, Some, None, refl, sym, ap, subst, ◌∙◌, if◌then◌else◌, codes, arith}
 use Rattle.std.specs.Prelude.{IsSome, ⊤, nat_lt, is_some}
 use Rattle.std.proofs.lemmas.Bool.{true≢false, false≢true, and_parts, or_parts, ltb-false}
-use Rattle.json_tree.specs.Parts.{member_of}
-use Rattle.json_tree.specs.Texts.{◌>>=◌}
+use Rattle.base_types.specs.Parts.{member_of}
+use Rattle.base_types.specs.Texts.{◌>>=◌}
 use Rattle.audit_event.specs.declared.event.Event.{Event}
 use Rattle.setup_file.specs.Forms.{revision_at}
 use Rattle.setup_file.specs.Lists.{list_of}

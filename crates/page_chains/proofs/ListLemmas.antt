@@ -1,9 +1,9 @@
 -- What a list was read of: its revision is that of the metadata, and its items are those of the tree.
 use Rattle.std.proofs.Common.{◌≡◌, ℕ, List, Option, Some, None, subst, codes}
-use Rattle.json_tree.specs.Meaning.{Meaning}
-use Rattle.json_tree.specs.Parts.{member_of}
+use Rattle.base_types.specs.Meaning.{Meaning}
+use Rattle.base_types.specs.Parts.{member_of}
 use Rattle.setup_file.specs.Forms.{revision_at}
-use Rattle.json_tree.specs.Texts.{items_or_none}
+use Rattle.base_types.specs.Texts.{items_or_none}
 use Rattle.setup_file.specs.Lists.{objects_in, list_with, list_of}
 use Rattle.setup_file.specs.Objects.{has_text_at}
 use Rattle.setup_file.specs.declared.lists.ListRead.{ListRead}

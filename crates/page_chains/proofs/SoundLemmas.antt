@@ -2,8 +2,8 @@
 use Rattle.std.proofs.Common.{◌≡◌, ◌≤◌, Bool, true, false, List, ◌∷◌, Option, Some, None, refl, sym, subst, if◌then◌else◌, codes}
 use Rattle.std.specs.Prelude.{IsSome, All, is_some}
 use Rattle.std.specs.List.{flat_map}
-use Rattle.json_tree.specs.Parts.{member_of}
-use Rattle.json_tree.specs.Values.{InRange}
+use Rattle.base_types.specs.Parts.{member_of}
+use Rattle.base_types.specs.Values.{InRange}
 use Rattle.audit_event.specs.Bodies.{kept}
 use Rattle.audit_event.specs.Events.{IsSound}
 use Rattle.audit_event.specs.declared.event.Event.{Event}

@@ -14,9 +14,9 @@ use crate::page::{Asked, Page};
 use crate::reaching::reached_after;
 use crate::reading::parts_of;
 use audit_event::Events;
+use base_types::json::copy;
 use base_types::{OutOfMemory, Text};
 use hash_seed::Seed;
-use json_tree::copy;
 use setup_file::{Checkpoint, Checkpoints, Setup, Snapshot, SnapshotObject};
 use std::alloc::Global;
 

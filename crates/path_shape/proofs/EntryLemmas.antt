@@ -1,6 +1,6 @@
 -- The entries of a shape, read one after another.
 use Rattle.std.proofs.Common.{◌≡◌, ℕ, ◌+◌, ◌<◌, List, [], ◌∷◌, ◌++◌, length, get_or, drop, Some, Result, Ok, Err, refl, sym, ap, ◌∙◌, suc, add-one, drop-cons, append_assoc}
-use Rattle.json_tree.specs.Meaning.{Meaning}
+use Rattle.base_types.specs.Meaning.{Meaning}
 use Rattle.path_shape.specs.declared.shape.ShapeEntry.{ShapeEntry}
 use Rattle.path_shape.specs.Reading.{entry_of, entries_from, then_entries}
 

@@ -6,12 +6,12 @@ use Rattle.std.specs.declared.cmp.Ordering.TheVariants.{Less, Greater}
 use Rattle.std.specs.Cmp.Lexicographic.{slice_cmp, nat_list_cmp_total}
 use Rattle.std.specs.List.{AllByRecursion}
 use Rattle.std.specs.List.Sorted.{IsStrictlySortedBy}
-use Rattle.json_tree.specs.Meaning.{Meaning, null, flag, whole, words, items, members, Kids, no_kids, kid, Fields, no_fields, field, kids_of, fields_of}
-use Rattle.json_tree.specs.Names.{names, AreSorted}
-use Rattle.json_tree.specs.Parts.{lookup}
-use Rattle.json_tree.specs.Pointers.{child_of, kid_at, index_of}
+use Rattle.base_types.specs.Meaning.{Meaning, null, flag, whole, words, items, members, Kids, no_kids, kid, Fields, no_fields, field, kids_of, fields_of}
+use Rattle.base_types.specs.Names.{names, AreSorted}
+use Rattle.base_types.specs.Parts.{lookup}
+use Rattle.base_types.specs.Pointers.{child_of, kid_at, index_of}
 use Rattle.std.proofs.lemmas.Slice.Eq.{bytes_eq-Decides}
-use Rattle.json_tree.proofs.Ordered.{bytes_eq-Greater}
+use Rattle.base_types.proofs.Ordered.{bytes_eq-Greater}
 use Rattle.path_shape.specs.Forms.{says_nothing, has_no_kids, thin, thin_kids, thin_fields, left_of, child_in}
 
 abbrev pub Entry : Type 0

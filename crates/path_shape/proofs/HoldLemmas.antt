@@ -4,8 +4,8 @@ use Rattle.std.specs.Prelude.{option_and_then, option_map, if◌then◌else◌, 
 use Rattle.std.specs.Borrow.{Bor}
 use Rattle.path_shape.proofs.FormLemmas.{silent_step, loud_step}
 use Rattle.std.proofs.lemmas.Bool.{false≢true}
-use Rattle.json_tree.specs.Meaning.{Meaning, null, flag, whole, words, items, members, no_kids, kid, Fields, no_fields, field, kids_of, fields_of}
-use Rattle.json_tree.specs.Parts.{member_of}
+use Rattle.base_types.specs.Meaning.{Meaning, null, flag, whole, words, items, members, no_kids, kid, Fields, no_fields, field, kids_of, fields_of}
+use Rattle.base_types.specs.Parts.{member_of}
 use Rattle.path_shape.specs.Forms.{says_nothing, has_no_fields, thin, thin_kids, thin_fields, left_of, is_held_by, is_held_by_child, are_held_in_turn, are_held_by_name}
 use Rattle.path_shape.specs.Holding.{object_or_null}
 

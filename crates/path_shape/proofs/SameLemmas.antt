@@ -5,9 +5,9 @@ use Rattle.std.specs.Ordering.{nat_cmp, ordering_reverse}
 use Rattle.std.specs.declared.cmp.Ordering.TheVariants.{Less}
 use Rattle.std.specs.Cmp.Lexicographic.{slice_cmp, nat_list_cmp_total}
 use Rattle.std.proofs.lemmas.Bool.{false≢true}
-use Rattle.json_tree.specs.Meaning.{Meaning, Kids, no_kids, kid, Fields, no_fields, field, kids_of, fields_of, items, members}
-use Rattle.json_tree.specs.Names.{AreSorted}
-use Rattle.json_tree.specs.Parts.{lookup}
+use Rattle.base_types.specs.Meaning.{Meaning, Kids, no_kids, kid, Fields, no_fields, field, kids_of, fields_of, items, members}
+use Rattle.base_types.specs.Names.{AreSorted}
+use Rattle.base_types.specs.Parts.{lookup}
 use Rattle.path_shape.specs.Forms.{says_nothing, has_no_kids, has_no_fields, thin, thin_kids, thin_fields, left_of}
 use Rattle.path_shape.specs.declared.sameness.Turn.TheVariants.{Both, First, Second, Differ}
 use Rattle.path_shape.specs.Merge.{IsTurn}

@@ -6,10 +6,10 @@ use Rattle.std.proofs.Math.Seq.{take-suc}
 use Rattle.std.proofs.lemmas.Bool.{false≢true, cases_lt}
 use Rattle.std.proofs.lemmas.Fmt.{decimal-digits_value}
 use Rattle.std.proofs.lemmas.Slice.Eq.{bytes_eq-Decides}
-use Rattle.json_tree.proofs.Indices.{own, index_parts}
-use Rattle.json_tree.specs.Meaning.{Meaning, kids_of, fields_of}
-use Rattle.json_tree.specs.Parts.{lookup}
-use Rattle.json_tree.specs.Pointers.{is_index, index_of, kid_at}
+use Rattle.base_types.proofs.Indices.{own, index_parts}
+use Rattle.base_types.specs.Meaning.{Meaning, kids_of, fields_of}
+use Rattle.base_types.specs.Parts.{lookup}
+use Rattle.base_types.specs.Pointers.{is_index, index_of, kid_at}
 
 -- an index has one spelling
 pub index_spelled : (token : List ℕ) (n : ℕ) → index_of token ≡ Some n → n < 2 ^ 64 → token ≡ decimal n

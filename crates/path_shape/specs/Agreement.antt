@@ -1,6 +1,6 @@
 -- When an answered object agrees with what was asked and with the object before.
 use Rattle.std.specs.Prelude.{◌≡◌, ℕ, ⊤, Bool, true, false, IsTrue, List, [], ◌∷◌, ◌++◌, Option, Some, None, is_some, option_map}
-use Rattle.json_tree.specs.Meaning.{Meaning, null, flag, whole, words, items, members, no_kids, no_fields}
+use Rattle.base_types.specs.Meaning.{Meaning, null, flag, whole, words, items, members, no_kids, no_fields}
 use Rattle.path_shape.specs.declared.shape.FieldClass.{FieldClass}
 use Rattle.path_shape.specs.declared.shape.FieldClass.TheVariants.{Asked, Defaulted, Owned, Kept}
 use Rattle.path_shape.specs.declared.shape.Shape.{Shape}

@@ -1,10 +1,10 @@
 -- The thin form of a tree: what is left where each member whose value is null, an empty object or an empty list is
 -- dropped, from the inside out. Items of lists stay.
 use Rattle.std.specs.Prelude.{ℕ, Bool, true, false, ◌&&◌, List, [], ◌∷◌, Option, Some, None, option_and_then, if◌then◌else◌}
-use Rattle.json_tree.specs.Meaning.{Meaning, null, flag, whole, words, items, members, Kids, no_kids, kid, Fields, no_fields, field}
-use Rattle.json_tree.specs.Parts.{is_null, member_of}
-use Rattle.json_tree.specs.Pointers.{child_of}
-use Rattle.json_tree.specs.Same.{same}
+use Rattle.base_types.specs.Meaning.{Meaning, null, flag, whole, words, items, members, Kids, no_kids, kid, Fields, no_fields, field}
+use Rattle.base_types.specs.Parts.{is_null, member_of}
+use Rattle.base_types.specs.Pointers.{child_of}
+use Rattle.base_types.specs.Same.{same}
 
 abbrev pub has_no_kids : Kids → Bool
 has_no_kids no_kids = true

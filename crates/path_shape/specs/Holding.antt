@@ -1,6 +1,6 @@
 -- How an answer stands to what is asked at a place.
 use Rattle.std.specs.Prelude.{◌≡◌, Bool, true, false, Option, Some, None}
-use Rattle.json_tree.specs.Meaning.{Meaning, null, members, Fields}
+use Rattle.base_types.specs.Meaning.{Meaning, null, members, Fields}
 use Rattle.path_shape.specs.declared.holding.Holding.{Holding}
 use Rattle.path_shape.specs.declared.holding.Holding.TheVariants.{Silent, Held, Missing}
 use Rattle.path_shape.specs.Forms.{says_nothing, is_held_by_child}

@@ -3,7 +3,7 @@ use Rattle.std.specs.Prelude.{◌≡◌, ℕ, ◌⊎◌, true, false, List}
 use Rattle.std.specs.Ordering.{nat_cmp}
 use Rattle.std.specs.declared.cmp.Ordering.TheVariants.{Less, Greater}
 use Rattle.std.specs.Cmp.Lexicographic.{slice_cmp}
-use Rattle.json_tree.specs.Meaning.{Meaning}
+use Rattle.base_types.specs.Meaning.{Meaning}
 use Rattle.path_shape.specs.declared.sameness.Turn.{Turn}
 use Rattle.path_shape.specs.declared.sameness.Turn.TheVariants.{Both, First, Second, Differ}
 use Rattle.path_shape.specs.Forms.{thin, left_of, says_nothing}

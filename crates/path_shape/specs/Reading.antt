@@ -1,10 +1,10 @@
 -- What is a list of a shape's entries.
 use Rattle.std.specs.Prelude.{◌≡◌, ⊤, ℕ, ◌+◌, ◌-◌, ◌^◌, Bool, ◌||◌, List, [], ◌∷◌, Option, Some, None, Result, Ok, Err, min, bytes_eq, codes, if◌then◌else◌}
 use Rattle.std.specs.List.{list_all}
-use Rattle.json_tree.specs.Meaning.{Meaning}
-use Rattle.json_tree.specs.Parts.{items_of, members_of}
-use Rattle.json_tree.specs.Pointers.{pointer_of}
-use Rattle.json_tree.specs.Texts.{◌>>=◌, text_at}
+use Rattle.base_types.specs.Meaning.{Meaning}
+use Rattle.base_types.specs.Parts.{items_of, members_of}
+use Rattle.base_types.specs.Pointers.{pointer_of}
+use Rattle.base_types.specs.Texts.{◌>>=◌, text_at}
 use Rattle.path_shape.specs.declared.shape.FieldClass.{FieldClass}
 use Rattle.path_shape.specs.declared.shape.FieldClass.TheVariants.{Asked, Defaulted, Owned, Kept}
 use Rattle.path_shape.specs.declared.shape.ShapeEntry.{ShapeEntry}

@@ -1,6 +1,6 @@
 -- What the walk over the trees keeps, and what it means.
 use Rattle.std.specs.Prelude.{ℕ, ◌⊎◌, Bool, true, false, IsSome, List, [], ◌∷◌, map, Option, Some, None, if◌then◌else◌}
-use Rattle.json_tree.specs.Meaning.{Meaning, null, flag, whole as number, words, items, members, no_kids, no_fields}
+use Rattle.base_types.specs.Meaning.{Meaning, null, flag, whole as number, words, items, members, no_kids, no_fields}
 use Rattle.path_shape.specs.declared.part.Part.{Part}
 use Rattle.path_shape.specs.declared.part.Part.TheVariants.{Absent, Member, Item}
 use Rattle.path_shape.specs.declared.shape.FieldClass.{FieldClass}

@@ -10,7 +10,7 @@ use crate::part::Part;
 use crate::shape::{FieldClass, Shape, ShapeEntry};
 use crate::spot::Spot;
 use crate::walk::fits;
-use json_tree::Tree;
+use base_types::json::Tree;
 
 /// Whether an answered object is the old one with what was asked, and with what the server may set or fill in,
 /// field by field. A tree that isn't an object counts as an empty one. It takes no memory.

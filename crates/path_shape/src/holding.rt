@@ -1,6 +1,6 @@
 ghost use Rattle.std.specs.Prelude.{◌≡◌, ◌↔◌, IsTrue, false, Some, option_map, if◌then◌else◌};
-ghost use Rattle.json_tree.specs.Parts.{lookup, member_of};
-ghost use Rattle.json_tree.specs.Meaning.{Meaning, kids_of, fields_of, flag, whole, words, items, members, Kids, Fields};
+ghost use Rattle.base_types.specs.Parts.{lookup, member_of};
+ghost use Rattle.base_types.specs.Meaning.{Meaning, kids_of, fields_of, flag, whole, words, items, members, Kids, Fields};
 ghost use Rattle.path_shape.specs.Agreement.{Holds};
 ghost use Rattle.path_shape.specs.Forms.{says_nothing, thin, thin_kids, thin_fields, left_of, is_held_by, is_held_by_child, are_held_in_turn};
 ghost use Rattle.path_shape.specs.Walk.{form, whole as tree_of};
@@ -8,7 +8,7 @@ ghost use Rattle.path_shape.specs.Holding.{IsHolding, is_missing, object_or_null
 
 use crate::part::{Part, is_empty_list, is_silent};
 use base_types::Text;
-use json_tree::{MemberList, Node, Tree, Trees};
+use base_types::json::{MemberList, Node, Tree, Trees};
 
 /// How an answer stands to what is asked at a place.
 #[derive(Clone, Copy)]

@@ -5,7 +5,7 @@ ghost use Rattle.path_shape.specs.Walk.{form, meant_kind};
 
 use crate::part::{Part, is_empty_list};
 use base_types::Text;
-use json_tree::{Node, Tree};
+use base_types::json::{Node, Tree};
 
 /// The kind of a part: object, list, or the scalar itself.
 #[derive(Clone, Copy)]

@@ -36,7 +36,7 @@ pub struct Live<'a> {
 impl<'a> Model for Step<'a> {
     ghost use Rattle.std.specs.Prelude.{ℕ, ◌*◌, List, ◌∷◌, length};
     ghost use Rattle.std.specs.Coded.{coded_list};
-    ghost use Rattle.json_tree.specs.Code.{coded_bytes};
+    ghost use Rattle.base_types.specs.Code.{coded_bytes};
 
     ghost Value = { List (List ℕ) };
 
@@ -50,7 +50,7 @@ impl<'a> Model for Step<'a> {
 impl<'a> Model for Way<'a> {
     ghost use Rattle.std.specs.Prelude.{ℕ, ◌+◌, ◌*◌, List, length};
     ghost use Rattle.std.specs.Coded.{coded_list};
-    ghost use Rattle.json_tree.specs.Code.{coded_bytes};
+    ghost use Rattle.base_types.specs.Code.{coded_bytes};
     ghost use Rattle.path_shape.specs.Names.{none_or};
 
     ghost Value = { List (List ℕ) };

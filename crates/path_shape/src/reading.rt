@@ -1,13 +1,13 @@
 ghost use Rattle.std.specs.Prelude.{◌≡◌, ◌+◌, ◌-◌, ◌^◌, min, Ok, Err, IfOk, IfErr};
-ghost use Rattle.json_tree.specs.Parts.{items_of};
-ghost use Rattle.json_tree.specs.Pointers.{pointer_of};
-ghost use Rattle.json_tree.specs.Meaning.{Meaning};
+ghost use Rattle.base_types.specs.Parts.{items_of};
+ghost use Rattle.base_types.specs.Pointers.{pointer_of};
+ghost use Rattle.base_types.specs.Meaning.{Meaning};
 ghost use Rattle.path_shape.specs.Reading.{class_named, is_known, entry_of, entries_from, shape_entries, IsEntriesCause, IsCause};
 ghost use Rattle.std.specs.List.{list_all};
 
 use crate::shape::{FieldClass, Shape, ShapeEntries, ShapeEntry, ShapeFault};
+use base_types::json::{MemberList, Pointer, PointerFault, Tree, read_pointer};
 use base_types::{OutOfMemory, Text};
-use json_tree::{MemberList, Pointer, PointerFault, Tree, read_pointer};
 use std::alloc::Global;
 
 fn class_named(name: &str) -> Option<FieldClass>

@@ -1,11 +1,11 @@
 ghost use Rattle.std.specs.Prelude.{◌≡◌, ◌↔◌, IsTrue, Some};
-ghost use Rattle.json_tree.specs.Meaning.{kids_of, fields_of};
+ghost use Rattle.base_types.specs.Meaning.{kids_of, fields_of};
 ghost use Rattle.path_shape.specs.Forms.{thin, thin_kids, thin_fields, left_of};
 ghost use Rattle.path_shape.specs.Walk.{form};
 ghost use Rattle.path_shape.specs.Merge.{IsTurn};
 
 use crate::part::{Part, are_silent_from, is_silent};
-use json_tree::{Member, MemberList, Node, Tree, Trees};
+use base_types::json::{Member, MemberList, Node, Tree, Trees};
 use std::cmp::Ordering;
 
 /// Whether the same is left of two parts.

@@ -1,5 +1,5 @@
+use base_types::json::Pointer;
 use base_types::{Listed, OutOfMemory};
-use json_tree::Pointer;
 use thiserror::Error;
 
 /// What the API server does with a field that a write asks for.

@@ -1,7 +1,7 @@
 ghost use Rattle.std.specs.Prelude.{◌≡◌, ◌↔◌, ℕ, IsTrue, IsSome, List};
-ghost use Rattle.json_tree.specs.Meaning.{kids_of, fields_of, items};
-ghost use Rattle.json_tree.specs.Parts.{lookup};
-ghost use Rattle.json_tree.specs.Pointers.{child_of};
+ghost use Rattle.base_types.specs.Meaning.{kids_of, fields_of, items};
+ghost use Rattle.base_types.specs.Parts.{lookup};
+ghost use Rattle.base_types.specs.Pointers.{child_of};
 ghost use Rattle.path_shape.specs.Forms.{child_in};
 ghost use Rattle.path_shape.specs.Passing.{past_of};
 ghost use Rattle.path_shape.specs.Walk.{whole, patterns_in, FitsSpot, FitsUnder, IsDone};
@@ -10,8 +10,8 @@ use crate::live::{Live, Way, going_past};
 use crate::part::Part;
 use crate::shape::FieldClass;
 use crate::spot::{Spot, fits_closed, fits_open};
+use base_types::json::{MemberList, Node, Tree, Trees};
 use itoa::Buffer;
-use json_tree::{MemberList, Node, Tree, Trees};
 
 /// Whether a spot and all below it fit their classes, by the patterns that go past its path. It goes no deeper
 /// than the trees do, however many patterns there are.

@@ -1,9 +1,9 @@
 -- Which trees are a Role or a binding (Kubernetes `rbac.authorization.k8s.io/v1`: Role, ClusterRole, RoleBinding and
 -- ClusterRoleBinding), and what they hold. Other members than those named here are ignored, `aggregationRule` among them.
 use Rattle.std.specs.Prelude.{ℕ, ◌==◌, Bool, true, false, List, [], ◌∷◌, Option, Some, None, length, unwrap_or, bytes_eq, codes, if◌then◌else◌}
-use Rattle.json_tree.specs.Meaning.{Meaning}
-use Rattle.json_tree.specs.Parts.{member_of, is_null, text_of, members_of}
-use Rattle.json_tree.specs.Texts.{◌>>=◌, texts_at, text_at, items_or_none}
+use Rattle.base_types.specs.Meaning.{Meaning}
+use Rattle.base_types.specs.Parts.{member_of, is_null, text_of, members_of}
+use Rattle.base_types.specs.Texts.{◌>>=◌, texts_at, text_at, items_or_none}
 use Rattle.rbac_rules.specs.declared.role.PolicyRule.{PolicyRule}
 use Rattle.rbac_rules.specs.declared.binding.Subject.{Subject}
 use Rattle.rbac_rules.specs.declared.binding.Subject.TheVariants.{User, Group, ServiceAccount}

@@ -3,8 +3,8 @@ ghost use Rattle.rbac_rules.specs.Forms.{rule_of, rules_in, role_of, namespace_o
 
 use crate::binding::{Binding, Subject, Subjects};
 use crate::role::{PolicyRule, PolicyRules};
+use base_types::json::Tree;
 use base_types::{OutOfMemory, Text};
-use json_tree::Tree;
 use std::alloc::Global;
 use thiserror::Error;
 

@@ -6,9 +6,9 @@ use Rattle.std.proofs.lemmas.Bool.{and_parts}
 use Rattle.std.proofs.lemmas.List.{append-nil, append_assoc}
 use Rattle.std.proofs.lemmas.List.Folds.{list_all-append}
 use Rattle.std.proofs.lemmas.Slice.Eq.{bytes_eq-Decides}
-use Rattle.json_tree.specs.Meaning.{Meaning, null, flag, whole, words, items, members, Kids, no_kids, kid, Fields, no_fields, field}
-use Rattle.json_tree.specs.Parts.{lookup}
-use Rattle.json_tree.specs.Pointers.{child_of, index_of, kid_at}
+use Rattle.base_types.specs.Meaning.{Meaning, null, flag, whole, words, items, members, Kids, no_kids, kid, Fields, no_fields, field}
+use Rattle.base_types.specs.Parts.{lookup}
+use Rattle.base_types.specs.Pointers.{child_of, index_of, kid_at}
 use Rattle.path_shape.specs.Forms.{at}
 use Rattle.request_bodies.specs.Agreeing.{Child, index_text, children_in, children_of_items, children_of_members, children}
 use Rattle.request_bodies.proofs.IndexTexts.{index_spelled}

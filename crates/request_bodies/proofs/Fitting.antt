@@ -3,8 +3,8 @@ use Rattle.std.proofs.Common.{◌≡◌, ℕ, Bool, true, false, not, ◌||◌, 
 use Rattle.std.specs.Bool.{Decides}
 use Rattle.std.proofs.lemmas.Bool.{false≢true}
 use Rattle.std.proofs.lemmas.Bool.Decides.{Decides-like}
-use Rattle.json_tree.specs.Meaning.{Meaning}
-use Rattle.json_tree.specs.Same.{same, same-Decides}
+use Rattle.base_types.specs.Meaning.{Meaning}
+use Rattle.base_types.specs.Same.{same, same-Decides}
 use Rattle.path_shape.specs.declared.shape.FieldClass.{FieldClass}
 use Rattle.path_shape.specs.declared.shape.FieldClass.TheVariants.{Asked, Defaulted, Owned, Kept}
 use Rattle.path_shape.specs.Agreement.{kind_of, kind, Holds, HasKind, FitsClosed, FitsOpen, FitsHere, FitsAt}

@@ -8,8 +8,8 @@ use Rattle.std.proofs.lemmas.Int.Digits.{digits_of_step}
 use Rattle.std.proofs.lemmas.List.{map-append, append-nil, append_assoc}
 use Rattle.std.proofs.lemmas.Str.{digit_value_digit}
 use Rattle.std.proofs.lemmas.Str.Parse.{digit_from_value}
-use Rattle.json_tree.proofs.Indices.{own, index_parts}
-use Rattle.json_tree.specs.Pointers.{is_index, index_of}
+use Rattle.base_types.proofs.Indices.{own, index_parts}
+use Rattle.base_types.specs.Pointers.{is_index, index_of}
 use Rattle.request_bodies.specs.Agreeing.{index_text}
 
 abbrev digits_text : ℕ → List ℕ

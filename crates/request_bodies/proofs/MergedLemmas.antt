@@ -9,13 +9,13 @@ use Rattle.std.specs.List.{AllByRecursion}
 use Rattle.std.specs.List.Sorted.{IsStrictlySortedBy}
 use Rattle.std.proofs.lemmas.Bool.{false≢true}
 use Rattle.std.proofs.lemmas.Slice.Eq.{bytes_eq-Decides}
-use Rattle.json_tree.specs.Edits.{put}
-use Rattle.json_tree.specs.Meaning.{Meaning, null, flag, whole, words, items, members, Fields, no_fields, field, fields_list}
-use Rattle.json_tree.specs.Names.{names, AreSorted}
-use Rattle.json_tree.specs.Parts.{lookup, is_null}
-use Rattle.json_tree.specs.Stored.{fields_without}
-use Rattle.json_tree.proofs.Ordered.{bytes_eq-self, same_name}
-use Rattle.json_tree.proofs.Placing.{below-above}
+use Rattle.base_types.specs.Edits.{put}
+use Rattle.base_types.specs.Meaning.{Meaning, null, flag, whole, words, items, members, Fields, no_fields, field, fields_list}
+use Rattle.base_types.specs.Names.{names, AreSorted}
+use Rattle.base_types.specs.Parts.{lookup, is_null}
+use Rattle.base_types.specs.Stored.{fields_without}
+use Rattle.base_types.proofs.Ordered.{bytes_eq-self, same_name}
+use Rattle.base_types.proofs.Placing.{below-above}
 use Rattle.merge_patch.specs.Merging.{merged, merged_fields}
 use Rattle.setup_file.specs.Objects.{api_version_of}
 use Rattle.setup_file.specs.declared.setup.Tracked.{Tracked}

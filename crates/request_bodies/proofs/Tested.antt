@@ -5,7 +5,7 @@ use Rattle.std.specs.Bool.{Decides}
 use Rattle.std.specs.List.{list_all}
 use Rattle.std.proofs.lemmas.Bool.{and_parts, and_from}
 use Rattle.std.proofs.lemmas.List.Folds.{list_all-append}
-use Rattle.json_tree.specs.Meaning.{Meaning}
+use Rattle.base_types.specs.Meaning.{Meaning}
 use Rattle.path_shape.specs.declared.shape.FieldClass.{FieldClass}
 use Rattle.path_shape.specs.declared.shape.Shape.{Shape}
 use Rattle.path_shape.specs.Agreement.{FitsAt, Fits, Agrees, Keeps}

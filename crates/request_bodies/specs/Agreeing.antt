@@ -3,8 +3,8 @@
 use Rattle.std.specs.Prelude.{ℕ, suc, ◌+◌, ◌==◌, Bool, true, false, not, ◌&&◌, ◌||◌, List, [], ◌∷◌, ◌++◌, map, Option, Some, None, is_some, option_map, codes, if◌then◌else◌}
 use Rattle.std.specs.Int.Digits.{digits_of}
 use Rattle.std.specs.List.{list_all}
-use Rattle.json_tree.specs.Meaning.{Meaning, null, flag, whole, words, items, members, Kids, no_kids, kid, Fields, no_fields, field}
-use Rattle.json_tree.specs.Same.{same}
+use Rattle.base_types.specs.Meaning.{Meaning, null, flag, whole, words, items, members, Kids, no_kids, kid, Fields, no_fields, field}
+use Rattle.base_types.specs.Same.{same}
 use Rattle.path_shape.specs.declared.shape.FieldClass.{FieldClass}
 use Rattle.path_shape.specs.declared.shape.FieldClass.TheVariants.{Asked, Defaulted, Owned, Kept}
 use Rattle.path_shape.specs.declared.shape.Shape.{Shape}

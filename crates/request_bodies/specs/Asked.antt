@@ -2,9 +2,9 @@
 use Rattle.std.specs.Prelude.{List, Option, Some, None, is_some, Result, Ok, Err, if◌then◌else◌}
 use Rattle.std.specs.List.{list_any}
 use Rattle.audit_event.specs.Bodies.{kept}
-use Rattle.json_tree.specs.Meaning.{Meaning}
-use Rattle.json_tree.specs.Parts.{items_of}
-use Rattle.json_tree.specs.Stored.{stored}
+use Rattle.base_types.specs.Meaning.{Meaning}
+use Rattle.base_types.specs.Parts.{items_of}
+use Rattle.base_types.specs.Stored.{stored}
 use Rattle.json_patch.specs.Patches.{applied}
 use Rattle.json_patch.specs.Reading.{patch_of}
 use Rattle.json_patch.specs.declared.fault.ApplyFault.{ApplyFault}

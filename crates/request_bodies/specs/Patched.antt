@@ -1,10 +1,10 @@
 -- Objects that are patched. Versions are kept without their version and kind, which a patch may read and write, so that
 -- they are put in before it and taken out behind it.
 use Rattle.std.specs.Prelude.{⊤, ℕ, Bool, false, ◌&&◌, ◌||◌, List, [], ◌∷◌, bytes_eq, codes}
-use Rattle.json_tree.specs.Edits.{put}
-use Rattle.json_tree.specs.Meaning.{Meaning, null, flag, whole, words, items, members, fields_list}
-use Rattle.json_tree.specs.Names.{AreSorted}
-use Rattle.json_tree.specs.Stored.{without}
+use Rattle.base_types.specs.Edits.{put}
+use Rattle.base_types.specs.Meaning.{Meaning, null, flag, whole, words, items, members, fields_list}
+use Rattle.base_types.specs.Names.{AreSorted}
+use Rattle.base_types.specs.Stored.{without}
 use Rattle.json_patch.specs.declared.op.Op.{Op}
 use Rattle.json_patch.specs.declared.op.Op.TheVariants.{Add, Remove, Replace, Move, Copy, Test}
 use Rattle.setup_file.specs.Objects.{api_version_of}

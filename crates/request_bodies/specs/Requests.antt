@@ -1,10 +1,10 @@
 -- What an audited write is for, and what it sends (Kubernetes API concepts, "Resource URIs"; "Authorization", "Request
 -- verbs").
 use Rattle.std.specs.Prelude.{ℕ, ◌==◌, Bool, false, not, ◌||◌, List, length, Option, Some, None, bytes_eq, codes, option_map, if◌then◌else◌}
-use Rattle.json_tree.specs.Meaning.{Meaning}
+use Rattle.base_types.specs.Meaning.{Meaning}
 use Rattle.base_types.specs.declared.request.RequestAttrs.{RequestAttrs}
 use Rattle.path_shape.specs.declared.shape.Shape.{Shape}
-use Rattle.json_tree.specs.Texts.{text_at}
+use Rattle.base_types.specs.Texts.{text_at}
 use Rattle.setup_file.specs.Objects.{api_version_of}
 use Rattle.setup_file.specs.Requests.{subresource_named}
 use Rattle.setup_file.specs.declared.setup.Subresource.{Subresource}

@@ -1,6 +1,6 @@
 -- When the answer to a write is what its body asked of the object before.
 use Rattle.std.specs.Prelude.{◌≡◌, ⊤, Bool, true, false, IfSome, Option, Some, None}
-use Rattle.json_tree.specs.Meaning.{Meaning}
+use Rattle.base_types.specs.Meaning.{Meaning}
 use Rattle.audit_event.specs.declared.event.Event.{Event}
 use Rattle.path_shape.specs.Agreement.{Agrees, Keeps}
 use Rattle.path_shape.specs.declared.shape.Shape.{Shape}

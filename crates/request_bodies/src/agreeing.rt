@@ -1,10 +1,10 @@
 ghost use Rattle.std.specs.Prelude.{◌≡◌, ◌↔◌, true, Option, option_map};
-ghost use Rattle.json_tree.specs.Meaning.{Meaning};
+ghost use Rattle.base_types.specs.Meaning.{Meaning};
 ghost use Rattle.path_shape.specs.Agreement.{Agrees, Keeps};
 ghost use Rattle.path_shape.specs.declared.shape.Shape.{Shape as Fields};
 ghost use Rattle.request_bodies.specs.Agreeing.{does_agree, does_keep};
 
-use json_tree::Tree;
+use base_types::json::Tree;
 use path_shape::{Shape, agrees, keeps};
 
 /// The tests of agreement that compute are the relations: it is enough to look at the root and at each child that one

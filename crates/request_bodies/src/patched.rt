@@ -1,15 +1,15 @@
 ghost use Rattle.std.specs.Prelude.{◌≡◌, Some, OnOk, IfOk};
 ghost use Rattle.std.specs.List.{list_any};
-ghost use Rattle.json_tree.specs.Meaning.{words};
-ghost use Rattle.json_tree.specs.Stored.{without};
+ghost use Rattle.base_types.specs.Meaning.{words};
+ghost use Rattle.base_types.specs.Stored.{without};
 ghost use Rattle.merge_patch.specs.Merging.{merged};
 ghost use Rattle.setup_file.specs.Objects.{api_version_of};
 ghost use Rattle.setup_file.specs.declared.setup.Tracked.{Tracked as Resource};
 ghost use Rattle.request_bodies.specs.Patched.{IsOrdered, put_in, typed, untyped, is_managed, touches_managed};
 
+use base_types::json::{Node, Pointer, Tree, copy};
 use base_types::{OutOfMemory, Text};
 use json_patch::{Op, Patch};
-use json_tree::{Node, Pointer, Tree, copy};
 use merge_patch::merge;
 use setup_file::Tracked;
 use std::alloc::Global;

@@ -1,5 +1,5 @@
 ghost use Rattle.std.specs.Prelude.{◌≡◌, option_map, bytes_eq};
-ghost use Rattle.json_tree.specs.Texts.{text_at};
+ghost use Rattle.base_types.specs.Texts.{text_at};
 ghost use Rattle.setup_file.specs.Objects.{api_version_of};
 ghost use Rattle.request_bodies.specs.Requests.{shape_of, write_of, is_created, is_another, is_of_another};
 

@@ -1,5 +1,5 @@
 ghost use Rattle.std.specs.Prelude.{◌≡◌, ◌↔◌, true, IfOk, Option, option_map};
-ghost use Rattle.json_tree.specs.Meaning.{Meaning};
+ghost use Rattle.base_types.specs.Meaning.{Meaning};
 ghost use Rattle.audit_event.specs.declared.event.Event.{Event as AuditEvent};
 ghost use Rattle.setup_file.specs.declared.setup.Setup.{Setup as Given};
 ghost use Rattle.request_bodies.specs.Right.{IsBodyRight, does_keep_all, is_asked, is_body_right};
@@ -9,7 +9,7 @@ use crate::asked::{Asking, asked_of};
 use crate::requests::shape_of;
 use audit_event::Event;
 use base_types::OutOfMemory;
-use json_tree::Tree;
+use base_types::json::Tree;
 use path_shape::Shape;
 use setup_file::{Setup, tracked_of};
 use std::alloc::Global;

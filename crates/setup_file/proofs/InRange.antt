@@ -4,10 +4,10 @@ use Rattle.std.specs.Prelude.{codes, bytes_eq}
 use Rattle.std.specs.List.{All}
 use Rattle.std.proofs.lemmas.Bool.{cond_both}
 use Rattle.std.proofs.lemmas.List.Elements.{All-nil, All-cons}
-use Rattle.json_tree.specs.Meaning.{Meaning, null, flag, whole, words, items, members, Kids, no_kids, kid, kids_list, Fields, no_fields, field}
-use Rattle.json_tree.specs.Parts.{lookup, member_of, items_of}
-use Rattle.json_tree.specs.Stored.{fields_without, without, fields_with, with, stored}
-use Rattle.json_tree.specs.Values.{InRange, KidsInRange, FieldsInRange}
+use Rattle.base_types.specs.Meaning.{Meaning, null, flag, whole, words, items, members, Kids, no_kids, kid, kids_list, Fields, no_fields, field}
+use Rattle.base_types.specs.Parts.{lookup, member_of, items_of}
+use Rattle.base_types.specs.Stored.{fields_without, without, fields_with, with, stored}
+use Rattle.base_types.specs.Values.{InRange, KidsInRange, FieldsInRange}
 use Rattle.setup_file.proofs.Chains.{same_some, either}
 
 lookup_in_range : (name : List ℕ) (fields : Fields) (tree : Meaning) → FieldsInRange fields → lookup name fields ≡ Some tree → InRange tree

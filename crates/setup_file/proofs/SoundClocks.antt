@@ -2,8 +2,8 @@
 use Rattle.std.proofs.Common.{◌≡◌, ℕ, ℤ, pos, negsuc, ◌^◌, ◌≤◌, nat_le, int_lt, [], ◌∷◌, inl, inr, Option, Some, None, IfSome, Ok, subst, ap, arith, codes}
 use Rattle.std.proofs.lemmas.Bool.{leb-true}
 use Rattle.base_types.specs.declared.revision.Moment.{Moment}
-use Rattle.json_tree.specs.Meaning.{Meaning}
-use Rattle.json_tree.specs.Parts.{member_of, text_of, whole_of}
+use Rattle.base_types.specs.Meaning.{Meaning}
+use Rattle.base_types.specs.Parts.{member_of, text_of, whole_of}
 use Rattle.setup_file.specs.declared.clocks.Clocks.{Clocks}
 use Rattle.setup_file.specs.declared.clocks.Start.{Start}
 use Rattle.setup_file.specs.declared.fault.SetupRule.TheVariants.{S4, S5, S6}

@@ -3,15 +3,15 @@ use Rattle.std.proofs.Common.{◌≡◌, ℕ, ◌+◌, nat_le, ◌&&◌, ◌||�
 use Rattle.std.specs.List.{All}
 use Rattle.std.proofs.lemmas.Bool.{and_parts, leb-true}
 use Rattle.std.proofs.lemmas.List.Elements.{All-nil, All-cons, All-head, All-tail}
-use Rattle.json_tree.specs.Meaning.{Meaning}
-use Rattle.json_tree.specs.Parts.{member_of, items_of, is_null}
-use Rattle.json_tree.specs.Values.{InRange}
+use Rattle.base_types.specs.Meaning.{Meaning}
+use Rattle.base_types.specs.Parts.{member_of, items_of, is_null}
+use Rattle.base_types.specs.Values.{InRange}
 use Rattle.setup_file.specs.declared.lists.ListRead.{ListRead}
 use Rattle.setup_file.specs.declared.setup.Checkpoint.{Checkpoint}
 use Rattle.setup_file.specs.declared.setup.SnapshotObject.{SnapshotObject}
 use Rattle.setup_file.specs.declared.setup.Tracked.{Tracked}
 use Rattle.setup_file.specs.Checkpoints.{is_no_text, is_whole_at, checkpoint_of, checkpoints_from, few_checkpoints, checkpoints_of}
-use Rattle.json_tree.specs.Texts.{text_at, items_or_none}
+use Rattle.base_types.specs.Texts.{text_at, items_or_none}
 use Rattle.setup_file.specs.Forms.{filled_at, revision_at, is_form}
 use Rattle.setup_file.specs.Lists.{objects_in, list_with, list_of}
 use Rattle.setup_file.specs.Objects.{has_text_at, is_of_kind, namespace_in, is_under, is_in_namespace, object_of}

@@ -3,15 +3,15 @@ use Rattle.std.proofs.Common.{◌≡◌, ◌≢◌, ◌↔◌, ℕ, ◌≤◌, n
 use Rattle.std.specs.List.{All, list_all}
 use Rattle.std.proofs.lemmas.Bool.{and_parts, leb-true}
 use Rattle.std.proofs.lemmas.List.Elements.{All-nil, All-cons}
-use Rattle.json_tree.specs.Meaning.{Meaning}
-use Rattle.json_tree.specs.Parts.{member_of, items_of}
-use Rattle.json_tree.specs.Stored.{stored}
-use Rattle.json_tree.specs.Values.{InRange}
+use Rattle.base_types.specs.Meaning.{Meaning}
+use Rattle.base_types.specs.Parts.{member_of, items_of}
+use Rattle.base_types.specs.Stored.{stored}
+use Rattle.base_types.specs.Values.{InRange}
 use Rattle.setup_file.specs.declared.fault.SetupRule.TheVariants.{S12, S13}
 use Rattle.setup_file.specs.declared.setup.SnapshotObject.{SnapshotObject}
 use Rattle.setup_file.specs.declared.setup.Tracked.{Tracked}
 use Rattle.setup_file.specs.Distinct.{are_distinct, key_eq}
-use Rattle.json_tree.specs.Texts.{text_at}
+use Rattle.base_types.specs.Texts.{text_at}
 use Rattle.setup_file.specs.Forms.{non_empty, filled_at, revision_at, is_form}
 use Rattle.setup_file.specs.Reading.{chained, snapshot_at}
 use Rattle.setup_file.specs.Resources.{tracked_as}

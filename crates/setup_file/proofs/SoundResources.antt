@@ -4,8 +4,8 @@ use Rattle.std.specs.Prelude.{⊤}
 use Rattle.std.specs.List.{AllPairs, list_all}
 use Rattle.std.proofs.lemmas.Bool.{and_parts}
 use Rattle.std.proofs.lemmas.Slice.Eq.{bytes_eq-Decides}
-use Rattle.json_tree.specs.Meaning.{Meaning}
-use Rattle.json_tree.specs.Parts.{member_of, items_of}
+use Rattle.base_types.specs.Meaning.{Meaning}
+use Rattle.base_types.specs.Parts.{member_of, items_of}
 use Rattle.path_shape.specs.declared.shape.FieldClass.TheVariants.{Asked}
 use Rattle.setup_file.specs.declared.fault.SetupRule.TheVariants.{S8, S9, S10, S11}
 use Rattle.setup_file.specs.declared.resources.Entry.{Entry}

@@ -1,8 +1,8 @@
 -- A setup that breaks no rule is sound.
 use Rattle.std.proofs.Common.{◌≡◌, Ok, codes, subst}
-use Rattle.json_tree.specs.Meaning.{Meaning}
-use Rattle.json_tree.specs.Parts.{member_of}
-use Rattle.json_tree.specs.Values.{InRange}
+use Rattle.base_types.specs.Meaning.{Meaning}
+use Rattle.base_types.specs.Parts.{member_of}
+use Rattle.base_types.specs.Values.{InRange}
 use Rattle.setup_file.specs.declared.fault.SetupRule.TheVariants.{S2, S3, S14, S15}
 use Rattle.setup_file.specs.declared.setup.Setup.{Setup}
 use Rattle.setup_file.specs.Authorization.{authorization_of, is_authorized}

@@ -1,9 +1,9 @@
 -- Whether recorded decisions are judged, and for whom (Kubernetes "Using RBAC Authorization").
 use Rattle.std.specs.Prelude.{ℕ, Bool, true, false, ◌&&◌, ◌||◌, List, [], ◌∷◌, Option, Some, None, is_some, bytes_eq, codes, if◌then◌else◌}
 use Rattle.std.specs.List.{list_all}
-use Rattle.json_tree.specs.Meaning.{Meaning}
-use Rattle.json_tree.specs.Parts.{member_of, flag_of}
-use Rattle.json_tree.specs.Texts.{◌>>=◌, texts_of}
+use Rattle.base_types.specs.Meaning.{Meaning}
+use Rattle.base_types.specs.Parts.{member_of, flag_of}
+use Rattle.base_types.specs.Texts.{◌>>=◌, texts_of}
 use Rattle.rbac_rules.specs.Forms.{role_of, binding_of}
 use Rattle.setup_file.specs.declared.authorization.Authorization.{Authorization}
 use Rattle.setup_file.specs.declared.setup.Tracked.{Tracked}

@@ -1,9 +1,9 @@
 -- Where and when a log begins and ends, and how its times may be off.
 use Rattle.std.specs.Prelude.{ℕ, ℤ, pos, negsuc, ◌^◌, [], ◌∷◌, Option, Some, None, nat_le, int_lt, codes, if◌then◌else◌}
 use Rattle.base_types.specs.declared.revision.Moment.{Moment}
-use Rattle.json_tree.specs.Meaning.{Meaning}
-use Rattle.json_tree.specs.Parts.{member_of, text_of, whole_of}
-use Rattle.json_tree.specs.Texts.{◌>>=◌}
+use Rattle.base_types.specs.Meaning.{Meaning}
+use Rattle.base_types.specs.Parts.{member_of, text_of, whole_of}
+use Rattle.base_types.specs.Texts.{◌>>=◌}
 use Rattle.setup_file.specs.declared.clocks.Start.{Start}
 use Rattle.setup_file.specs.Forms.{revision_at, moment_of, is_form}
 

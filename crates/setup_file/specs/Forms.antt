@@ -5,9 +5,9 @@ use Rattle.std.specs.Result.{result_ok}
 use Rattle.std.specs.Str.Parse.{digits_value}
 use Rattle.base_types.specs.declared.revision.Moment.{Moment}
 use Rattle.jiff_fmt.specs.Temporal.{parse_timestamp}
-use Rattle.json_tree.specs.Meaning.{Meaning}
-use Rattle.json_tree.specs.Parts.{members_of}
-use Rattle.json_tree.specs.Texts.{◌>>=◌, text_at}
+use Rattle.base_types.specs.Meaning.{Meaning}
+use Rattle.base_types.specs.Parts.{members_of}
+use Rattle.base_types.specs.Texts.{◌>>=◌, text_at}
 
 abbrev pub non_empty : List ℕ → Option (List ℕ)
 non_empty [] = None

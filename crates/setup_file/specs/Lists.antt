@@ -1,8 +1,8 @@
 -- Lists of objects (Kubernetes API concepts, "Collections").
 use Rattle.std.specs.Prelude.{ℕ, Bool, true, false, not, List, [], ◌∷◌, Option, Some, None, codes, if◌then◌else◌}
-use Rattle.json_tree.specs.Meaning.{Meaning}
-use Rattle.json_tree.specs.Parts.{member_of, text_of, is_null}
-use Rattle.json_tree.specs.Texts.{◌>>=◌, items_or_none}
+use Rattle.base_types.specs.Meaning.{Meaning}
+use Rattle.base_types.specs.Parts.{member_of, text_of, is_null}
+use Rattle.base_types.specs.Texts.{◌>>=◌, items_or_none}
 use Rattle.setup_file.specs.declared.lists.ListRead.{ListRead}
 use Rattle.setup_file.specs.declared.setup.Tracked.{Tracked}
 use Rattle.setup_file.specs.declared.setup.SnapshotObject.{SnapshotObject}

@@ -1,10 +1,10 @@
 -- Objects of a resource (Kubernetes API concepts, "Objects": `apiVersion`, `kind` and `metadata`).
 use Rattle.std.specs.Prelude.{ℕ, Bool, true, false, ◌&&◌, ◌||◌, List, [], ◌∷◌, Option, Some, None, bytes_eq, codes, is_none, if◌then◌else◌}
 use Rattle.base_types.specs.Matching.{combined}
-use Rattle.json_tree.specs.Meaning.{Meaning}
-use Rattle.json_tree.specs.Parts.{member_of}
-use Rattle.json_tree.specs.Stored.{stored}
-use Rattle.json_tree.specs.Texts.{◌>>=◌, text_at}
+use Rattle.base_types.specs.Meaning.{Meaning}
+use Rattle.base_types.specs.Parts.{member_of}
+use Rattle.base_types.specs.Stored.{stored}
+use Rattle.base_types.specs.Texts.{◌>>=◌, text_at}
 use Rattle.setup_file.specs.declared.setup.Tracked.{Tracked}
 use Rattle.setup_file.specs.declared.setup.SnapshotObject.{SnapshotObject}
 use Rattle.setup_file.specs.Forms.{filled_at, revision_at}

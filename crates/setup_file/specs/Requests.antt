@@ -1,9 +1,9 @@
 -- What a request is for, of what the setup tracks (Kubernetes API concepts, "Resource URIs"), and what a patch sends.
 use Rattle.std.specs.Prelude.{ℕ, Bool, not, ◌&&◌, List, Option, None, find, bytes_eq, codes, is_some, if◌then◌else◌}
 use Rattle.std.specs.List.{list_any}
-use Rattle.json_tree.specs.Meaning.{Meaning}
-use Rattle.json_tree.specs.Parts.{members_of}
-use Rattle.json_tree.specs.Texts.{text_at}
+use Rattle.base_types.specs.Meaning.{Meaning}
+use Rattle.base_types.specs.Parts.{members_of}
+use Rattle.base_types.specs.Texts.{text_at}
 use Rattle.base_types.specs.declared.request.Pair.{Pair}
 use Rattle.base_types.specs.declared.request.RequestAttrs.{RequestAttrs}
 use Rattle.setup_file.specs.Resources.{tracked_as}

@@ -2,9 +2,9 @@
 use Rattle.std.specs.Prelude.{ℕ, Bool, true, false, ◌&&◌, List, [], ◌∷◌, Option, Some, None, map, option_map, is_some, bytes_eq, codes, if◌then◌else◌}
 use Rattle.std.specs.Result.{result_ok}
 use Rattle.std.specs.List.{find}
-use Rattle.json_tree.specs.Meaning.{Meaning}
-use Rattle.json_tree.specs.Parts.{member_of, text_of, flag_of, items_of}
-use Rattle.json_tree.specs.Texts.{◌>>=◌, text_at}
+use Rattle.base_types.specs.Meaning.{Meaning}
+use Rattle.base_types.specs.Parts.{member_of, text_of, flag_of, items_of}
+use Rattle.base_types.specs.Texts.{◌>>=◌, text_at}
 use Rattle.path_shape.specs.declared.shape.FieldClass.{FieldClass}
 use Rattle.path_shape.specs.declared.shape.FieldClass.TheVariants.{Asked, Kept}
 use Rattle.path_shape.specs.declared.shape.Shape.{Shape}

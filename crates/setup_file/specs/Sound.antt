@@ -1,7 +1,7 @@
 -- What those who take a setup may rest on.
 use Rattle.std.specs.Prelude.{◌≡◌, ◌≢◌, ◌≤◌, ◌↔◌, ◌^◌, ℕ, true, IfSome, List, [], Some, All, AllPairs}
 use Rattle.base_types.specs.Moments.{IsMoment}
-use Rattle.json_tree.specs.Values.{InRange}
+use Rattle.base_types.specs.Values.{InRange}
 use Rattle.setup_file.specs.declared.setup.Setup.{Setup}
 use Rattle.setup_file.specs.declared.setup.Tracked.{Tracked}
 use Rattle.setup_file.specs.declared.setup.SnapshotObject.{SnapshotObject}

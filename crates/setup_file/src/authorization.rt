@@ -6,8 +6,8 @@ ghost use Rattle.setup_file.specs.Resources.{tracked_as};
 
 use crate::resources::tracked_as;
 use crate::setup::{SnapshotObject, Tracked};
+use base_types::json::Tree;
 use base_types::{OutOfMemory, Text, Texts};
-use json_tree::Tree;
 use rbac_rules::{RbacFault, read_binding, read_role};
 use std::alloc::Global;
 

@@ -5,8 +5,8 @@ use crate::form::is_form;
 use crate::lists::{ListRead, read_list};
 use crate::resources::tracked_as;
 use crate::setup::{Checkpoint, Checkpoints, Tracked};
+use base_types::json::Tree;
 use base_types::{OutOfMemory, Revision, Text};
-use json_tree::Tree;
 use std::alloc::Global;
 
 /// The most checkpoints that a setup may have.

@@ -1,12 +1,12 @@
 ghost use Rattle.std.specs.Prelude.{◌≡◌, codes, option_map};
-ghost use Rattle.json_tree.specs.Parts.{member_of};
+ghost use Rattle.base_types.specs.Parts.{member_of};
 ghost use Rattle.setup_file.specs.Clocks.{time_of, start_of, until_of, nanos_within, nanos_of};
 ghost use Rattle.setup_file.specs.Reading.{clocks_of};
 
 use crate::fault::SetupRule;
 use crate::form::{is_form, moment, revision_at};
+use base_types::json::Tree;
 use base_types::{Moment, Revision};
-use json_tree::Tree;
 
 /// Where and when a log begins and ends, and by how much times may be off.
 #[derive(Clone, Copy)]

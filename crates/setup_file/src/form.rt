@@ -2,9 +2,9 @@ ghost use Rattle.std.specs.Prelude.{◌≡◌, map, option_map, bytes_eq};
 ghost use Rattle.std.specs.List.{list_any};
 ghost use Rattle.setup_file.specs.Forms.{non_empty, filled_at, revision_of, revision_at, moment_of, has_only, is_form};
 
+use base_types::json::{MemberList, Tree};
 use base_types::{Moment, Revision, Text, read_revision};
 use jiff::Timestamp;
-use json_tree::{MemberList, Tree};
 
 /// The revision of a text that is canonical: a decimal number from 1 to 2^64 - 2 without leading zeros.
 pub fn canonical(text: &Text) -> Option<Revision>

@@ -1,12 +1,12 @@
 ghost use Rattle.std.specs.Prelude.{◌≡◌, IfOk, option_map};
-ghost use Rattle.json_tree.specs.Parts.{member_of};
+ghost use Rattle.base_types.specs.Parts.{member_of};
 ghost use Rattle.setup_file.specs.Lists.{objects_in, is_blank, goes_on, list_with, list_of};
 
 use crate::form::revision_at;
 use crate::objects::{has_text_at, read_object};
 use crate::setup::{Snapshot, Tracked};
+use base_types::json::Tree;
 use base_types::{OutOfMemory, Revision, Text};
-use json_tree::Tree;
 use std::alloc::Global;
 
 /// A list of objects as it was answered, whole or a page of it.

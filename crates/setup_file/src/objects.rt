@@ -1,11 +1,11 @@
 ghost use Rattle.std.specs.Prelude.{◌≡◌, IfOk, option_map, bytes_eq, codes};
-ghost use Rattle.json_tree.specs.Stored.{stored};
+ghost use Rattle.base_types.specs.Stored.{stored};
 ghost use Rattle.setup_file.specs.Objects.{api_version_of, has_text_at, has_no, is_of_kind, namespace_in, is_under, is_in_namespace, object_of};
 
 use crate::form::{filled_at, revision_at};
 use crate::setup::{SnapshotObject, Tracked};
+use base_types::json::{Tree, copy, stored_form};
 use base_types::{ObjectKey, OutOfMemory, Revision, Text, is_combined};
-use json_tree::{Tree, copy, stored_form};
 use std::alloc::Global;
 
 /// Whether the member is there with this text.

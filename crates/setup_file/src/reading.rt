@@ -1,10 +1,10 @@
 ghost use Rattle.std.specs.Prelude.{◌≡◌, Ok, Err, IfOk, IfErr, map, is_some};
 ghost use Rattle.std.specs.List.{list_all};
-ghost use Rattle.json_tree.specs.Parts.{member_of};
+ghost use Rattle.base_types.specs.Parts.{member_of};
 ghost use Rattle.setup_file.specs.declared.fault.SetupRule.{SetupRule};
 ghost use Rattle.setup_file.specs.declared.fault.SetupFault.TheVariants.{Rule};
-ghost use Rattle.json_tree.specs.Meaning.{Meaning};
-ghost use Rattle.json_tree.specs.Values.{InRange};
+ghost use Rattle.base_types.specs.Meaning.{Meaning};
+ghost use Rattle.base_types.specs.Values.{InRange};
 ghost use Rattle.setup_file.specs.declared.fault.SetupRule.TheVariants.{S1};
 ghost use Rattle.setup_file.specs.Forms.{is_form};
 ghost use Rattle.setup_file.specs.Reading.{is_version, known, known_2, has_known, has_all, is_setup_form, is_known_version, policy_at, setup_with, setup_of, IsTreeOf, ReadsAs};
@@ -21,8 +21,8 @@ use crate::resources::read_resources;
 use crate::setup::Setup;
 use crate::snapshot::read_snapshot;
 use audit_policy::{Policy, PolicyFault, read_policy};
+use base_types::json::{Tree, TreeFault, from_value};
 use hash_seed::Seed;
-use json_tree::{Tree, TreeFault, from_value};
 use serde_json::Value;
 use std::alloc::Global;
 

@@ -3,8 +3,8 @@ ghost use Rattle.setup_file.specs.Requests.{tracked_of, subresource_named, has_q
 
 use crate::resources::tracked_as;
 use crate::setup::{Setup, Subresource, Tracked};
+use base_types::json::Tree;
 use base_types::{RequestAttrs, Text};
-use json_tree::Tree;
 
 /// The tracked resource that a request is for.
 pub fn tracked_of<'a>(setup: &'a Setup, attrs: &RequestAttrs) -> Option<&'a Tracked>

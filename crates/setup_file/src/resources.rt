@@ -1,6 +1,6 @@
 ghost use Rattle.std.specs.Prelude.{◌≡◌, IfOk, IfErr, option_map, option_and_then, codes};
 ghost use Rattle.std.specs.List.{list_all};
-ghost use Rattle.json_tree.specs.Parts.{member_of, flag_of};
+ghost use Rattle.base_types.specs.Parts.{member_of, flag_of};
 ghost use Rattle.setup_file.specs.Resources.{merges_as, merges_of, entry_of, entries_in, are_apart, shape_or_root, shape_at, has_shape, effect_as, subresource_of, subresources_in, are_named_apart, subresources_or_none, tracked_of, tracked_in, tracked_as};
 ghost use Rattle.setup_file.specs.Reading.{resources_at};
 ghost use Rattle.setup_file.specs.Steps.{IsCause};
@@ -9,8 +9,8 @@ use crate::distinct::{are_pairs_distinct, are_texts_distinct};
 use crate::fault::{SetupFault, SetupRule};
 use crate::form::{filled_at, is_form};
 use crate::setup::{Subresource, Subresources, Tracked, TrackedList};
+use base_types::json::Tree;
 use base_types::{OutOfMemory, Text};
-use json_tree::Tree;
 use path_shape::{FieldClass, Shape, ShapeEntries, ShapeFault};
 use std::alloc::Global;
 

@@ -1,6 +1,6 @@
 use audit_policy::Policy;
+use base_types::json::Tree;
 use base_types::{Listed, Moment, ObjectKey, Revision, Text, Texts};
-use json_tree::Tree;
 use path_shape::Shape;
 
 /// What is known of a cluster apart from its log: where and when the log begins, how its clocks may be

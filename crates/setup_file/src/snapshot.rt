@@ -11,9 +11,9 @@ use crate::form::{filled_at, is_form, revision_at};
 use crate::objects::{has_no, has_text_at, object_with};
 use crate::resources::tracked_as;
 use crate::setup::{Snapshot, SnapshotObject, Tracked};
+use base_types::json::Tree;
 use base_types::{OutOfMemory, Revision};
 use hash_seed::Seed;
-use json_tree::Tree;
 use std::alloc::Global;
 
 // The namespace of an object: one of a namespaced resource has one, and one of a cluster-wide resource none.

@@ -23,7 +23,7 @@ use Rattle.history_model.specs.Makers.{item_of as shown_item}
 use Rattle.history_model.specs.Makers.{AreVersions, IsMadeVersion, IsShowing, IsSnapshotVersion}
 use Rattle.history_model.specs.Readable.{IsReadable}
 use Rattle.history_model.specs.Windows.{lowest, highest}
-use Rattle.json_tree.specs.Meaning.{Meaning}
+use Rattle.base_types.specs.Meaning.{Meaning}
 use Rattle.object_past.specs.Modelled.{recorded, version_of}
 use Rattle.object_past.specs.Past.{AreEnds, Recorded}
 use Rattle.object_past.specs.declared.removal.Removal.{Removal}

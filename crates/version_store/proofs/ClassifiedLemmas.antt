@@ -2,7 +2,7 @@
 use Rattle.std.proofs.Common.{◌≡◌, ℕ, ◌+◌, List, Option, [], ◌∷◌, ◌++◌, length, refl, sym, ap, subst, ◌∙◌, arith, append_assoc, length-append}
 use Rattle.std.proofs.lemmas.List.{append-nil}
 use Rattle.std.proofs.lemmas.Slice.Zip.{AllZip-long}
-use Rattle.json_tree.specs.Meaning.{Meaning}
+use Rattle.base_types.specs.Meaning.{Meaning}
 use Rattle.node_pool.specs.Subtrees.{Begins}
 use Rattle.label_select.specs.declared.selector.Requirement.{Requirement}
 use Rattle.audit_event.specs.declared.event.Event.{Event}

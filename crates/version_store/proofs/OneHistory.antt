@@ -21,8 +21,8 @@ use Rattle.history_model.specs.Histories as past
 use Rattle.history_model.specs.Histories.{History}
 use Rattle.history_model.specs.Readable.{HaveOneLog}
 use Rattle.history_model.specs.Windows.{low_end_of, high_end_of, lowest_of, highest_of}
-use Rattle.json_tree.specs.Meaning.{Meaning}
-use Rattle.json_tree.specs.Same.{same, same-Decides}
+use Rattle.base_types.specs.Meaning.{Meaning}
+use Rattle.base_types.specs.Same.{same, same-Decides}
 use Rattle.node_pool.proofs.Fronts.{AreDistinct-nil, AreDistinct-snoc}
 use Rattle.node_pool.specs.Pooled.{AreDistinct}
 use Rattle.node_pool.specs.Subtrees.{interned, subtrees, with_tree}

@@ -4,9 +4,9 @@ use Rattle.std.specs.Prelude.{fold, is_some}
 use Rattle.std.specs.List.{flat_map, list_any}
 use Rattle.std.proofs.lemmas.List.Concat.{flat_map-cons}
 use Rattle.std.proofs.lemmas.List.Elements.{All-nil, All-cons, All-head, All-tail, All-append, All-push, All-map}
-use Rattle.json_tree.specs.Meaning.{Meaning, null, flag, whole, words, items, members, Kids, no_kids, kid, Fields, no_fields, field}
-use Rattle.json_tree.specs.Same.{same}
-use Rattle.json_tree.specs.Values.{InRange, KidsInRange, FieldsInRange}
+use Rattle.base_types.specs.Meaning.{Meaning, null, flag, whole, words, items, members, Kids, no_kids, kid, Fields, no_fields, field}
+use Rattle.base_types.specs.Same.{same}
+use Rattle.base_types.specs.Values.{InRange, KidsInRange, FieldsInRange}
 use Rattle.node_pool.specs.Subtrees.{inside, inside_kids, inside_fields, subtrees, with_tree, interned}
 use Rattle.audit_event.specs.Bodies.{kept}
 use Rattle.audit_event.specs.Events as audit

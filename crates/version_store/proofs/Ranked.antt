@@ -14,7 +14,7 @@ use Rattle.base_types.specs.declared.key.ObjectKey.{ObjectKey}
 use Rattle.clouds.proofs.Adding.{key_order_total, same_key_from}
 use Rattle.clouds.specs.Kept.{key_order}
 use Rattle.history_model.proofs.Members.{here, there, in_cons, not_in_none, all_at, all_from, at_apart, pairs_head, pairs_tail, pairs_cons, in_at, at_in}
-use Rattle.json_tree.specs.Meaning.{Meaning}
+use Rattle.base_types.specs.Meaning.{Meaning}
 use Rattle.object_past.specs.declared.version.Version.{Version}
 use Rattle.rbac_timeline.specs.Kinds.{kind_of_key}
 use Rattle.rbac_timeline.specs.Sound.{IsBefore}

@@ -4,7 +4,7 @@ use Rattle.std.proofs.lemmas.List.Kept.{AllPairs-filter}
 use Rattle.std.proofs.lemmas.Option.{same_Some, slice_get-get_or}
 use Rattle.base_types.proofs.Quantifiers.{Any-contains}
 use Rattle.history_model.proofs.Members.{all_at, all_from, pairs_head, pairs_tail, pairs_cons, in_at}
-use Rattle.json_tree.specs.Meaning.{Meaning, null}
+use Rattle.base_types.specs.Meaning.{Meaning, null}
 use Rattle.object_past.specs.Past.{AreEnds}
 use Rattle.object_past.specs.declared.removal.Removal.{Removal}
 use Rattle.object_past.specs.declared.version.Version.{Version}

@@ -3,8 +3,8 @@ use Rattle.std.proofs.Crossing as owned
 use Rattle.answer_class.specs.contracts.answer.Answer as answer
 use Rattle.audit_event.specs.contracts.event.Event as event
 use Rattle.base_types.specs.contracts.text.Text as text
-use Rattle.json_tree.proofs.tree.Member.TheLaws.TheKnot as knot
-use Rattle.json_tree.specs.contracts.tree.Tree as tree
+use Rattle.base_types.proofs.json.tree.Member.TheLaws.TheKnot as knot
+use Rattle.base_types.specs.contracts.json.tree.Tree as tree
 use Rattle.label_select.specs.contracts.selector.Requirement as requirement
 use Rattle.setup_file.specs.contracts.setup.Setup as setup
 use Rattle.setup_file.specs.contracts.setup.SnapshotObject as object

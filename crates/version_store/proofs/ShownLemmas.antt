@@ -1,7 +1,7 @@
 -- What an answer shows stays the same while the pool grows.
 use Rattle.std.proofs.Common.{◌≡◌, ℕ, ◌+◌, ◌<◌, Bool, true, List, [], ◌∷◌, ◌++◌, length, get_or, take, refl, sym, subst}
 use Rattle.std.proofs.lemmas.Slice.Zip.{all_zipped_more}
-use Rattle.json_tree.specs.Meaning.{Meaning}
+use Rattle.base_types.specs.Meaning.{Meaning}
 use Rattle.node_pool.specs.Subtrees.{Begins}
 use Rattle.node_pool.proofs.Fronts.{slice_get-Begins}
 use Rattle.setup_file.specs.declared.setup.Checkpoint.{Checkpoint}

@@ -7,7 +7,7 @@ use Rattle.answer_class.specs.declared.answer.Answer.{Answer}
 use Rattle.answer_class.specs.declared.answer.Answer.TheVariants as class
 use Rattle.audit_event.specs.declared.event.Event.{Event}
 use Rattle.history_model.specs.Events as model
-use Rattle.json_tree.specs.Meaning.{Meaning}
+use Rattle.base_types.specs.Meaning.{Meaning}
 use Rattle.setup_file.specs.declared.setup.Checkpoint.{Checkpoint}
 use Rattle.setup_file.specs.declared.setup.Setup.{Setup}
 use Rattle.setup_file.specs.declared.setup.SnapshotObject.{SnapshotObject}

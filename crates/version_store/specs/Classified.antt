@@ -1,7 +1,7 @@
 -- What a setup says of an event alone, and what a log says with it once the trees of its answer have numbers.
 use Rattle.std.specs.Prelude.{◌≡◌, ◌++◌, List, length}
 use Rattle.std.specs.List.{AllZip, flat_map}
-use Rattle.json_tree.specs.Meaning.{Meaning}
+use Rattle.base_types.specs.Meaning.{Meaning}
 use Rattle.audit_event.specs.declared.event.Event.{Event}
 use Rattle.setup_file.specs.declared.setup.Setup.{Setup}
 use Rattle.answer_class.specs.Classes.{class_of}

@@ -8,7 +8,7 @@ use Rattle.clouds.specs.Writes.{Writes}
 use Rattle.history_model.specs.Events as model
 use Rattle.history_model.specs.Histories.{IsEvent}
 use Rattle.history_model.specs.Readable.{IsReadable}
-use Rattle.json_tree.specs.Values.{InRange}
+use Rattle.base_types.specs.Values.{InRange}
 use Rattle.object_versions.specs.Modelled.{AreCloudsOf}
 use Rattle.object_versions.specs.Hidden.{unrecorded_in}
 use Rattle.setup_file.specs.Sound.{IsSound}

@@ -2,7 +2,7 @@
 use Rattle.std.specs.Prelude.{Bool, List}
 use Rattle.std.specs.Global.{Vec}
 use Rattle.audit_event.specs.declared.event.Event.{Event}
-use Rattle.json_tree.specs.Meaning.{Meaning}
+use Rattle.base_types.specs.Meaning.{Meaning}
 use Rattle.object_versions.specs.declared.log_past.LogPast.{LogPast}
 use Rattle.setup_file.specs.declared.setup.Setup.{Setup}
 use Rattle.version_store.specs.Contexts.{IsContext}

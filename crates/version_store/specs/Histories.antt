@@ -7,7 +7,7 @@ use Rattle.audit_event.specs.declared.event.Event.{Event}
 use Rattle.base_types.specs.declared.placed.Places.{Places}
 use Rattle.base_types.specs.declared.request.Decision.{Decision}
 use Rattle.history_model.specs.Histories as past
-use Rattle.json_tree.specs.Meaning.{Meaning}
+use Rattle.base_types.specs.Meaning.{Meaning}
 use Rattle.object_past.specs.Modelled.{recorded, version_of}
 use Rattle.rbac_timeline.specs.Deciding.{is_possible}
 use Rattle.rbac_timeline.specs.Known as rbac

@@ -1,7 +1,7 @@
 -- What a context holds: the setup and the log, and what is found of them.
 use Rattle.std.specs.Prelude.{ℕ, List}
 use Rattle.audit_event.specs.declared.event.Event.{Event}
-use Rattle.json_tree.specs.Meaning.{Meaning}
+use Rattle.base_types.specs.Meaning.{Meaning}
 use Rattle.object_past.specs.declared.removal.Removal.{Removal}
 use Rattle.object_past.specs.declared.version.Version.{Version}
 use Rattle.rbac_timeline.specs.Known as rbac

@@ -1,7 +1,7 @@
 -- The trees of objects that are kept, each once.
 use Rattle.std.specs.Prelude.{List, [], ◌∷◌, ◌++◌, fold, map}
 use Rattle.std.specs.List.{flat_map}
-use Rattle.json_tree.specs.Meaning.{Meaning}
+use Rattle.base_types.specs.Meaning.{Meaning}
 use Rattle.node_pool.specs.Subtrees.{interned}
 use Rattle.audit_event.specs.declared.event.Event.{Event}
 use Rattle.setup_file.specs.declared.setup.Checkpoint.{Checkpoint}

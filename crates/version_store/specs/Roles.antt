@@ -3,7 +3,7 @@ use Rattle.std.specs.Prelude.{◌≡◌, ◌+◌, ℕ, Bool, List, [], ◌∷◌
 use Rattle.std.specs.List.{filter_map}
 use Rattle.std.specs.declared.cmp.Ordering.{Ordering}
 use Rattle.base_types.specs.declared.key.ObjectKey.{ObjectKey}
-use Rattle.json_tree.specs.Meaning.{Meaning}
+use Rattle.base_types.specs.Meaning.{Meaning}
 use Rattle.object_past.specs.declared.removal.Removal.{Removal}
 use Rattle.object_past.specs.declared.version.Version.{Version}
 use Rattle.rbac_rules.specs.Forms.{role_of, binding_of}

@@ -3,7 +3,7 @@ ghost use Rattle.version_store.specs.Histories.{body_test, made_node, made_tree}
 
 use audit_event::Event;
 use base_types::OutOfMemory;
-use json_tree::Tree;
+use base_types::json::Tree;
 use node_pool::{NodeId, Pool};
 use object_versions::Bodies;
 use request_bodies::is_body_right;

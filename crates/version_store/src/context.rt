@@ -78,7 +78,7 @@ impl Shared for Context {}
 
 impl Model for Context {
     ghost use Rattle.audit_event.specs.contracts.event.Event as event_row;
-    ghost use Rattle.json_tree.specs.Code.{coded_meaning};
+    ghost use Rattle.base_types.specs.Code.{coded_meaning};
     ghost use Rattle.setup_file.specs.contracts.setup.Setup as setup_row;
     ghost use Rattle.std.specs.Coded.{codes};
     ghost use Rattle.version_store.specs.Known.{Known};
@@ -130,7 +130,7 @@ fn fault_at(faults: &[Option<Reason>], number: u32) -> Option<Reason>
 
 impl Context {
     ghost use Rattle.audit_event.specs.Events.{IsSound as IsSoundEvent};
-    ghost use Rattle.json_tree.specs.Values.{InRange};
+    ghost use Rattle.base_types.specs.Values.{InRange};
     ghost use Rattle.object_versions.specs.Hidden.{unrecorded_in};
     ghost use Rattle.setup_file.specs.Sound.{IsSound};
     ghost use Rattle.version_store.specs.Histories.{history_of};

@@ -4,7 +4,7 @@ ghost use Rattle.version_store.specs.Histories.{history_of};
 
 use crate::context::Context;
 use base_types::OutOfMemory;
-use json_tree::Tree;
+use base_types::json::Tree;
 use label_select::matches;
 use node_pool::NodeId;
 

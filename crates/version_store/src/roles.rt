@@ -6,9 +6,9 @@ ghost use Rattle.rbac_timeline.specs.Sound.{AreSound};
 ghost use Rattle.write_groups.specs.Modelled.{HasTimes};
 ghost use Rattle.version_store.specs.Roles.{AreRoles, binding_content, content_by, is_role, rbac_version, role_content, role_end, role_ends, roles_at, turn_order, turns_from};
 
+use base_types::json::Tree;
 use base_types::{ObjectKey, OutOfMemory, Revision};
 use clouds::OpaqueSpans;
-use json_tree::Tree;
 use node_pool::Pool;
 use object_past::{Past, Removal, Version};
 use object_versions::unrecorded_of;

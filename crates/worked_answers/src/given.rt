@@ -1,8 +1,8 @@
 // What the tests are given: trees, events and setups of JSON texts.
 use audit_event::{Event, read_item};
 use base_types::Text;
+use base_types::json::{Tree, from_value};
 use hash_seed::Seed;
-use json_tree::{Tree, from_value};
 use serde_json::Value;
 use setup_file::{Setup, read_setup};
 use std::process::Abort;

@@ -1,6 +1,6 @@
 use crate::given::{push, tree};
 use base_types::Texts;
-use json_tree::Tree;
+use base_types::json::Tree;
 use label_select::{Selector, SelectorFault, Test, matches, read_selector};
 use std::process::Abort;
 

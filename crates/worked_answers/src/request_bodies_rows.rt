@@ -1,6 +1,6 @@
 use crate::given::{event_of, setup_of, tree};
 use audit_event::Event;
-use json_tree::Tree;
+use base_types::json::Tree;
 use request_bodies::is_body_right;
 use setup_file::Setup;
 use std::process::Abort;

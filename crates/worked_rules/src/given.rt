@@ -1,8 +1,8 @@
 // What the tests are given: texts, trees and a user.
 ghost use Rattle.std.specs.Prelude.{◌≡◌};
 
+use base_types::json::{Tree, from_value};
 use base_types::{Text, Texts, User};
-use json_tree::{Tree, from_value};
 use serde_json::Value;
 use std::process::Abort;
 

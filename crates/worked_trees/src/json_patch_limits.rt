@@ -1,6 +1,6 @@
 use crate::patching::{fault_of, nulls};
+use base_types::json::{Node, Tree, Trees};
 use json_patch::{ApplyCause, ApplyFault};
-use json_tree::{Node, Tree, Trees};
 use std::process::Abort;
 
 fn list_of(rt: &(impl Abort + AllocGlobal), tree: Tree) -> Tree {

@@ -1,7 +1,7 @@
 use crate::patching::{fault_of, nulls};
 use crate::reading::read;
+use base_types::json::Tree;
 use json_patch::{ApplyCause, ApplyFault, PatchFault, read_patch};
-use json_tree::Tree;
 use std::process::Abort;
 
 /// Document, patch, and the first operation that can't be done with its first cause.

@@ -8,7 +8,7 @@ mod json_patch_refusals;
 #[cfg(test)]
 mod json_patch_rows;
 #[cfg(test)]
-mod json_tree_rows;
+mod json_rows;
 #[cfg(test)]
 mod merge_patch_rows;
 #[cfg(test)]

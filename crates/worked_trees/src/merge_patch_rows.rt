@@ -1,5 +1,5 @@
 use crate::reading::{is_tree, read};
-use json_tree::Tree;
+use base_types::json::Tree;
 use merge_patch::merge;
 use std::process::Abort;
 

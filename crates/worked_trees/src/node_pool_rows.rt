@@ -1,8 +1,8 @@
 ghost use Rattle.std.specs.Prelude.{◌<◌, IfSome, length};
 
 use crate::reading::{is_tree, read};
+use base_types::json::read_pointer;
 use hash_seed::Seed;
-use json_tree::read_pointer;
 use node_pool::{NodeId, Pool, PoolFault};
 use std::marker::{Send, Sync};
 use std::process::Abort;

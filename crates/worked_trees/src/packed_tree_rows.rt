@@ -1,5 +1,5 @@
 use crate::reading::is_tree;
-use json_tree::TreeFault;
+use base_types::json::TreeFault;
 use packed_tree::{Packed, PackedRef, pack};
 use serde_json::Value;
 use std::marker::{Send, Sync};

@@ -1,6 +1,6 @@
 use crate::reading::read;
+use base_types::json::{Node, Tree, Trees};
 use json_patch::{ApplyFault, Patch, apply, read_patch};
-use json_tree::{Node, Tree, Trees};
 use std::process::Abort;
 
 fn patch_of(rt: &(impl Abort + AllocGlobal), text: &str) -> Patch {

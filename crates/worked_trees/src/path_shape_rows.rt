@@ -1,5 +1,5 @@
 use crate::reading::read;
-use json_tree::Tree;
+use base_types::json::Tree;
 use path_shape::{FieldClass, Shape, ShapeFault, agrees, keeps};
 use std::process::Abort;
 

@@ -1,4 +1,4 @@
-use json_tree::{Tree, equal, from_value};
+use base_types::json::{Tree, equal, from_value};
 use serde_json::Value;
 use std::process::Abort;
 

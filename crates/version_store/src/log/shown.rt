@@ -6,8 +6,8 @@ ghost use Rattle.version_store.specs.Shown.{object_of, IsItemOf, AreItemsOf, IsS
 
 use crate::log::fault::BuildFault;
 use answer_class::Answer;
+use base_types::json::Tree;
 use base_types::{ObjectKey, Revision, Text};
-use json_tree::Tree;
 use label_select::Selector;
 use node_pool::Pool;
 use setup_file::{Snapshot, SnapshotObject};

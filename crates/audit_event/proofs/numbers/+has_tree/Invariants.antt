@@ -1,6 +1,6 @@
 use Rattle.std.proofs.Common.{◌≡◌, is_some, drop}
 use Rattle.serde_json.specs.View.{items_view, members_view}
-use Rattle.json_tree.specs.Values.{of_items, of_members}
+use Rattle.base_types.specs.Values.{of_items, of_members}
 use Rattle.audit_event.proofs.numbers.+has_tree.Given as goal
 
 abbrev pub invariant-all_have_trees-loop-member : goal.invariant-all_have_trees-loop-member

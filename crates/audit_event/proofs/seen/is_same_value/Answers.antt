@@ -1,5 +1,5 @@
 use Rattle.std.proofs.lemmas.Bool.Decides.{Decides-at}
-use Rattle.json_tree.specs.Same.{same, same-Decides}
+use Rattle.base_types.specs.Same.{same, same-Decides}
 use Rattle.audit_event.proofs.seen.is_same_value.Goals as goal
 
 pub returns : goal.returns

@@ -1,5 +1,5 @@
 use Rattle.std.proofs.Common.{sym, subst}
-use Rattle.json_tree.specs.Names.{AreSorted}
+use Rattle.base_types.specs.Names.{AreSorted}
 use Rattle.cluster_setup.proofs.NoMembers.{no_members_sorted}
 use Rattle.cluster_setup.proofs.building.no_members.Goals as goal
 

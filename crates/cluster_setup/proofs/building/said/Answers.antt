@@ -1,4 +1,4 @@
-use Rattle.json_tree.specs.Meaning.{no_fields, fields_of}
+use Rattle.base_types.specs.Meaning.{no_fields, fields_of}
 use Rattle.cluster_setup.specs.Making.{say}
 use Rattle.cluster_setup.proofs.Gathered.{folded}
 use Rattle.cluster_setup.proofs.building.said.Goals as goal

@@ -1,5 +1,5 @@
 use Rattle.std.proofs.Common.{◌≡◌, take}
-use Rattle.json_tree.specs.Meaning.{fields_of}
+use Rattle.base_types.specs.Meaning.{fields_of}
 use Rattle.cluster_setup.specs.Parts.{said}
 use Rattle.cluster_setup.proofs.building.said.Given as goal
 

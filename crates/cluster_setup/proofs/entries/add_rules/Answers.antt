@@ -1,6 +1,6 @@
 use Rattle.std.proofs.Common.{◌≡◌, subst, ◌∙◌, ap, codes}
 use Rattle.std.specs.Prelude.{OnOk}
-use Rattle.json_tree.specs.Meaning.{fields_of}
+use Rattle.base_types.specs.Meaning.{fields_of}
 use Rattle.cluster_setup.specs.Files.{word}
 use Rattle.cluster_setup.specs.Making.{is_namespaced, shapes_of, subresources_of}
 use Rattle.cluster_setup.specs.Table.{patch_of}

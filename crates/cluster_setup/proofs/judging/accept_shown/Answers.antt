@@ -1,5 +1,5 @@
 use Rattle.std.proofs.Common.{sym, subst}
-use Rattle.json_tree.specs.Values.{InRange}
+use Rattle.base_types.specs.Values.{InRange}
 use Rattle.cluster_setup.proofs.Ranges.{setup_in_range}
 use Rattle.cluster_setup.proofs.judging.accept_shown.Goals as goal
 

@@ -1,7 +1,7 @@
 use Rattle.std.proofs.Common.{◌≡◌, ℕ, ◌+◌, [], ◌∷◌}
 use Rattle.std.proofs.lemmas.List.Elements.{All-nil, All-cons, All-append}
-use Rattle.json_tree.specs.Meaning.{Meaning}
-use Rattle.json_tree.specs.Values.{InRange}
+use Rattle.base_types.specs.Meaning.{Meaning}
+use Rattle.base_types.specs.Values.{InRange}
 use Rattle.setup_file.specs.Reading.{IsTreeOf}
 use Rattle.cluster_setup.specs.declared.fault.FileFault.TheVariants.{Json}
 use Rattle.cluster_setup.specs.declared.fault.SetupRefusal.TheVariants.{File}

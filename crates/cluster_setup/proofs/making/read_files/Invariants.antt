@@ -1,6 +1,6 @@
 use Rattle.std.proofs.Common.{take}
 use Rattle.std.specs.List.{All}
-use Rattle.json_tree.specs.Values.{InRange}
+use Rattle.base_types.specs.Values.{InRange}
 use Rattle.cluster_setup.specs.Refusing.{AreTrees}
 use Rattle.cluster_setup.proofs.making.read_files.Given as goal
 

@@ -1,5 +1,5 @@
 use Rattle.std.proofs.Common.{◌≡◌, ◌+◌, ◌-◌, ◌^◌, min, length, Some, refl, sym, ap, subst, ◌∙◌}
-use Rattle.json_tree.specs.Pointers.{pointed}
+use Rattle.base_types.specs.Pointers.{pointed}
 use Rattle.json_patch.specs.Edits.{IsEdited}
 use Rattle.json_patch.specs.declared.edit.Edit.TheVariants.{Remove}
 use Rattle.json_patch.proofs.Counting.{pointed_depth, moved_level, moved_deeper}

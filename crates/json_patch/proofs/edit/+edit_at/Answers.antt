@@ -1,11 +1,11 @@
 use Rattle.std.proofs.Common.{◌≡◌, ℕ, List, ◌<◌, ◌∷◌, ◌+◌, length, get_or, set, Some, Ok, Err, sym, ap, subst, ◌∙◌, arith}
 use Rattle.std.proofs.lemmas.Result.{IfOk-weaker, IfErr-weaker}
-use Rattle.json_tree.specs.Edits.{put}
-use Rattle.json_tree.specs.Meaning.{Meaning, items, members, kids_of, fields_of}
-use Rattle.json_tree.specs.Pointers.{index_of, child_of, pointed}
-use Rattle.json_tree.specs.Search.{IsNamedAt, IsPlaceFor}
-use Rattle.json_tree.proofs.Ordered.{named_within, lookup_absent}
-use Rattle.json_tree.proofs.Removing.{sorted_changed}
+use Rattle.base_types.specs.Edits.{put}
+use Rattle.base_types.specs.Meaning.{Meaning, items, members, kids_of, fields_of}
+use Rattle.base_types.specs.Pointers.{index_of, child_of, pointed}
+use Rattle.base_types.specs.Search.{IsNamedAt, IsPlaceFor}
+use Rattle.base_types.proofs.Ordered.{named_within, lookup_absent}
+use Rattle.base_types.proofs.Removing.{sorted_changed}
 use Rattle.json_patch.specs.Edits.{edited, RefusedBy, IsTaken, IsEdited}
 use Rattle.json_patch.proofs.Paths.{done_below, refused_below, pointed_below, edited_missing, levelled, with_item, item_there, with_member, member_there}
 use Rattle.json_patch.proofs.Sizes.{edited_items, edited_members}

@@ -1,6 +1,6 @@
 use Rattle.std.proofs.Common.{◌≡◌, ◌<◌, length, get_or, set, Some, None, Ok, refl, sym, ap, subst, ◌∙◌, arith}
 use Rattle.std.specs.Prelude.{insert, remove}
-use Rattle.json_tree.specs.Meaning.{items, kids_of}
+use Rattle.base_types.specs.Meaning.{items, kids_of}
 use Rattle.json_patch.specs.Edits.{change_of}
 use Rattle.json_patch.specs.Effects.{place_of}
 use Rattle.json_patch.specs.declared.edit.Edit.{Edit}

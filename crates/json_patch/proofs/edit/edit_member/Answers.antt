@@ -1,5 +1,5 @@
 use Rattle.std.proofs.Common.{Some}
-use Rattle.json_tree.specs.Meaning.{fields_of}
+use Rattle.base_types.specs.Meaning.{fields_of}
 use Rattle.json_patch.proofs.Sizes.{member_added, member_removed, member_replaced}
 use Rattle.json_patch.proofs.edit.edit_member.Goals as goal
 

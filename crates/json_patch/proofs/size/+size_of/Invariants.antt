@@ -1,5 +1,5 @@
 use Rattle.std.proofs.Common.{◌≡◌, ◌≤◌, ◌+◌, ◌-◌, ◌^◌, min, max, drop}
-use Rattle.json_tree.specs.Meaning.{kids_of, fields_of}
+use Rattle.base_types.specs.Meaning.{kids_of, fields_of}
 use Rattle.json_patch.specs.Limits.{kids_values, kids_depth, fields_values, fields_depth}
 use Rattle.json_patch.proofs.size.+size_of.Given as goal
 

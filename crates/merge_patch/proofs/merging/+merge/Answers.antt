@@ -1,10 +1,10 @@
 use Rattle.std.proofs.Common.{◌≡◌, ℕ, List, ◌+◌, ◌<◌, ◌++◌, ◌∷◌, [], drop, true, false, option_map, sym, ap, subst, ◌∙◌, arith, rules}
-use Rattle.json_tree.specs.Meaning.{Meaning, members, fields_of}
-use Rattle.json_tree.specs.Names.{AreSorted}
-use Rattle.json_tree.specs.Node.{meaning_of}
-use Rattle.json_tree.specs.Parts.{is_null}
-use Rattle.json_tree.specs.Size.{nodes, fields_nodes}
-use Rattle.json_tree.proofs.Printing.{field_smaller}
+use Rattle.base_types.specs.Meaning.{Meaning, members, fields_of}
+use Rattle.base_types.specs.Names.{AreSorted}
+use Rattle.base_types.specs.Node.{meaning_of}
+use Rattle.base_types.specs.Parts.{is_null}
+use Rattle.base_types.specs.Size.{nodes, fields_nodes}
+use Rattle.base_types.proofs.Printing.{field_smaller}
 use Rattle.merge_patch.specs.Merging.{merged, changed}
 use Rattle.merge_patch.specs.Walking.{AllBelow, StartsNotBelow, IsFirstValue}
 use Rattle.merge_patch.proofs.Steps.{dropped, put_between, sorted_dropped, sorted_put, all_below_snoc, all_below_above, merged_more, later_changes, below_later, below_this}

@@ -1,8 +1,8 @@
 use Rattle.std.proofs.Common.{◌≡◌, ◌≤◌, ◌+◌, ◌++◌, length, drop, take}
 use Rattle.std.specs.List.{AllByRecursion}
-use Rattle.json_tree.specs.Meaning.{fields_of}
-use Rattle.json_tree.specs.Size.{nodes, fields_nodes}
-use Rattle.json_tree.specs.Names.{AreSorted}
+use Rattle.base_types.specs.Meaning.{fields_of}
+use Rattle.base_types.specs.Size.{nodes, fields_nodes}
+use Rattle.base_types.specs.Names.{AreSorted}
 use Rattle.merge_patch.specs.Merging.{merged_fields}
 use Rattle.merge_patch.specs.Walking.{AllBelow}
 use Rattle.merge_patch.proofs.merging.+merge.Given as goal

@@ -1,5 +1,5 @@
 use Rattle.std.proofs.Common.{◌≡◌, ◌≤◌, refl, ◌<◌, ◌↔◌, IsTrue, false, map, ◌∙◌, Some, slice_get, length, sym, ap, subst}
-use Rattle.json_tree.specs.Node.{meaning_of}
+use Rattle.base_types.specs.Node.{meaning_of}
 use Rattle.node_pool.specs.Flat.{flat_of}
 use Rattle.node_pool.specs.Within.{looked_up, told}
 use Rattle.node_pool.proofs.Looks.{StandsAt, items-equal, members-equal, differ_at}

@@ -1,7 +1,7 @@
 use Rattle.std.proofs.Common.{◌≡◌, ◌+◌, ◌∙◌, ◌<◌, ℕ, List, Some, length, fold, slice_get, take, sym, ap, subst, Result, Err, OnOk, IfOk}
 use Rattle.std.proofs.lemmas.Result.{err_from_is_err_and}
-use Rattle.json_tree.specs.Meaning.{Meaning, items, members, kids_of, fields_of}
-use Rattle.json_tree.specs.Node.{meaning_of}
+use Rattle.base_types.specs.Meaning.{Meaning, items, members, kids_of, fields_of}
+use Rattle.base_types.specs.Node.{meaning_of}
 use Rattle.node_pool.specs.declared.fault.PoolFault.TheVariants.{Full}
 use Rattle.node_pool.specs.Subtrees.{inside, inside_kids, inside_fields, interned, with_tree}
 use Rattle.node_pool.specs.Within.{tree_of}

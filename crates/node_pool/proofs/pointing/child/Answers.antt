@@ -1,6 +1,6 @@
 use Rattle.std.proofs.Common.{◌∙◌, ap, sym}
 use Rattle.std.specs.Prelude.{option_and_then, slice_get}
-use Rattle.json_tree.specs.Pointers.{index_of}
+use Rattle.base_types.specs.Pointers.{index_of}
 use Rattle.node_pool.specs.Flat.{flat_of}
 use Rattle.node_pool.proofs.Looks.{StandsAt, item-found, item-within}
 use Rattle.node_pool.proofs.pointing.child.Goals as goal

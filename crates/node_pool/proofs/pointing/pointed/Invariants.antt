@@ -1,6 +1,6 @@
 use Rattle.std.proofs.Common.{◌≡◌, ◌<◌, length, drop, slice_get}
 use Rattle.std.specs.Prelude.{option_and_then}
-use Rattle.json_tree.specs.Pointers.{pointed}
+use Rattle.base_types.specs.Pointers.{pointed}
 use Rattle.node_pool.proofs.pointing.pointed.Given as goal
 
 abbrev pub invariant-loop-token : goal.invariant-loop-token

@@ -1,7 +1,7 @@
 use Rattle.std.proofs.Common.{◌≡◌, ◌+◌, ◌≤◌, ◌++◌, ℕ, List, [], ◌∷◌, sym, ap, subst, ◌∙◌, append_assoc, append-nil, arith}
-use Rattle.json_tree.specs.Meaning.{Meaning, kids_of, fields_of}
-use Rattle.json_tree.specs.Names.{AreSorted}
-use Rattle.json_tree.specs.Size.{nodes, kids_nodes, fields_nodes}
+use Rattle.base_types.specs.Meaning.{Meaning, kids_of, fields_of}
+use Rattle.base_types.specs.Names.{AreSorted}
+use Rattle.base_types.specs.Size.{nodes, kids_nodes, fields_nodes}
 use Rattle.packed_tree.proofs.building.+build.Goals as goal
 
 kid_less : (all : List Meaning) (x : Meaning) (rest : List Meaning) → nodes x + 1 ≤ kids_nodes (kids_of (all ++ x ∷ rest))

@@ -1,6 +1,6 @@
 use Rattle.std.proofs.Common.{◌≡◌, ◌++◌, length}
-use Rattle.json_tree.specs.Meaning.{kids_of, fields_of}
-use Rattle.json_tree.specs.Size.{nodes, kids_nodes, fields_nodes}
+use Rattle.base_types.specs.Meaning.{kids_of, fields_of}
+use Rattle.base_types.specs.Size.{nodes, kids_nodes, fields_nodes}
 use Rattle.packed_tree.proofs.building.+build.Given as goal
 
 abbrev pub decreases-build : goal.decreases-build

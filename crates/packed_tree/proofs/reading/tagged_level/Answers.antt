@@ -1,5 +1,5 @@
 use Rattle.std.proofs.Common.{ap}
-use Rattle.json_tree.specs.Meaning.{items, members}
+use Rattle.base_types.specs.Meaning.{items, members}
 use Rattle.packed_tree.specs.Decoding.{kids_in, fields_in}
 use Rattle.packed_tree.proofs.Steps.{kids_of-kids_list, fields_of-fields_list}
 use Rattle.packed_tree.proofs.reading.tagged_level.Goals as goal

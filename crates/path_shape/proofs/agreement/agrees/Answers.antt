@@ -1,7 +1,7 @@
 use Rattle.std.proofs.Common.{◌≡◌, false, IsTrue, List, [], Option, Some, None, refl, subst, ◌∙◌}
 use Rattle.std.specs.Prelude.{option_map, option_and_then, is_some, ◌↔◌}
 use Rattle.std.specs.Borrow.{Bor}
-use Rattle.json_tree.specs.Meaning.{Meaning}
+use Rattle.base_types.specs.Meaning.{Meaning}
 use Rattle.path_shape.specs.declared.shape.ShapeEntry.{ShapeEntry}
 use Rattle.path_shape.specs.declared.spot.Spot.{Spot}
 use Rattle.path_shape.specs.Forms.{left_root}

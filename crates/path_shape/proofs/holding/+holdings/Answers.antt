@@ -1,7 +1,7 @@
 use Rattle.std.proofs.Common.{◌≡◌, length, true, false, sym, ap, subst, ◌∙◌, arith}
 use Rattle.std.specs.Prelude.{option_map}
-use Rattle.json_tree.specs.Meaning.{fields_of, members, no_fields}
-use Rattle.json_tree.specs.Parts.{member_of}
+use Rattle.base_types.specs.Meaning.{fields_of, members, no_fields}
+use Rattle.base_types.specs.Parts.{member_of}
 use Rattle.path_shape.specs.Forms.{thin, thin_fields, has_no_fields, is_held_by_child}
 use Rattle.path_shape.specs.Holding.{object_or_null}
 use Rattle.path_shape.proofs.HoldLemmas.{IsHeldTo, kids_other_length, held_none, held_silent, held_step, held_missing, held_end, drop_all}

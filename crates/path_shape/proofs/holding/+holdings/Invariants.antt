@@ -1,6 +1,6 @@
 use Rattle.std.proofs.Common.{◌≡◌, drop}
 use Rattle.std.specs.Prelude.{option_map}
-use Rattle.json_tree.specs.Meaning.{kids_of, fields_of}
+use Rattle.base_types.specs.Meaning.{kids_of, fields_of}
 use Rattle.path_shape.specs.Forms.{thin_fields, thin_kids, are_held_in_turn}
 use Rattle.path_shape.proofs.HoldLemmas.{IsHeldTo}
 use Rattle.path_shape.proofs.holding.+holdings.Given as goal

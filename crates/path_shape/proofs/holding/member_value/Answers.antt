@@ -1,8 +1,8 @@
 use Rattle.std.proofs.Common.{sym, ap, subst, ◌∙◌}
 use Rattle.std.specs.Prelude.{option_map}
-use Rattle.json_tree.specs.Meaning.{fields_of}
-use Rattle.json_tree.specs.Names.{AreSorted}
-use Rattle.json_tree.specs.Parts.{lookup}
+use Rattle.base_types.specs.Meaning.{fields_of}
+use Rattle.base_types.specs.Names.{AreSorted}
+use Rattle.base_types.specs.Parts.{lookup}
 use Rattle.path_shape.specs.Forms.{thin, is_held_by_child}
 use Rattle.path_shape.proofs.FormLemmas.{lookup-thin_fields}
 use Rattle.path_shape.proofs.HoldLemmas.{held-left, map_now}

@@ -1,5 +1,5 @@
 use Rattle.std.proofs.Common.{◌≡◌, drop}
-use Rattle.json_tree.specs.Meaning.{fields_of}
+use Rattle.base_types.specs.Meaning.{fields_of}
 use Rattle.path_shape.specs.Forms.{thin_fields}
 use Rattle.path_shape.proofs.part.are_silent_from.Given as goal
 

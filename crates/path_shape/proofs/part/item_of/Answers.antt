@@ -1,7 +1,7 @@
 use Rattle.std.proofs.Common.{sym, ap, ◌∙◌}
 use Rattle.std.specs.Prelude.{option_map}
-use Rattle.json_tree.specs.Meaning.{kids_of}
-use Rattle.json_tree.specs.Pointers.{index_of}
+use Rattle.base_types.specs.Meaning.{kids_of}
+use Rattle.base_types.specs.Pointers.{index_of}
 use Rattle.path_shape.specs.Forms.{thin}
 use Rattle.path_shape.proofs.FormLemmas.{item-thin}
 use Rattle.path_shape.proofs.part.item_of.Goals as goal

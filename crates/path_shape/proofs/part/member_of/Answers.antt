@@ -1,6 +1,6 @@
 use Rattle.std.proofs.Common.{sym, ap, subst, ◌∙◌}
 use Rattle.std.specs.Prelude.{option_and_then}
-use Rattle.json_tree.specs.Names.{AreSorted}
+use Rattle.base_types.specs.Names.{AreSorted}
 use Rattle.path_shape.specs.Forms.{left_of}
 use Rattle.path_shape.proofs.FormLemmas.{lookup-thin_fields}
 use Rattle.path_shape.proofs.part.member_of.Goals as goal

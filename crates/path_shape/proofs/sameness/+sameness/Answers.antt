@@ -1,6 +1,6 @@
 use Rattle.std.proofs.Common.{◌≡◌, ◌<◌, inl, length, refl, sym, ap, subst, ◌∙◌, arith, add-one}
 use Rattle.std.proofs.lemmas.Bool.{false≢true}
-use Rattle.json_tree.proofs.Ordered.{same_name}
+use Rattle.base_types.proofs.Ordered.{same_name}
 use Rattle.path_shape.specs.Forms.{left_of}
 use Rattle.path_shape.proofs.SameLemmas.{SameKids, Agree, kids_length, kids_at, kids_step, merged_differ}
 use Rattle.path_shape.proofs.sameness.+sameness.Goals as goal

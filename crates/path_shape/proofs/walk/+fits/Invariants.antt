@@ -1,7 +1,7 @@
 use Rattle.std.proofs.Common.{◌≡◌, ℕ, ◌+◌, ◌<◌, List, Some, IsSome, take}
-use Rattle.json_tree.specs.Meaning.{fields_of}
-use Rattle.json_tree.specs.Parts.{lookup}
-use Rattle.json_tree.specs.Pointers.{index_of}
+use Rattle.base_types.specs.Meaning.{fields_of}
+use Rattle.base_types.specs.Parts.{lookup}
+use Rattle.base_types.specs.Pointers.{index_of}
 use Rattle.path_shape.specs.Passing.{past_of}
 use Rattle.path_shape.specs.Walk.{IsDone}
 use Rattle.path_shape.proofs.Measures.{weight, top}

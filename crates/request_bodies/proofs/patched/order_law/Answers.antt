@@ -1,7 +1,7 @@
 use Rattle.std.proofs.Common.{◌≡◌, rules, sym, subst}
-use Rattle.json_tree.specs.Meaning.{members, fields_of}
-use Rattle.json_tree.specs.Names.{AreSorted}
-use Rattle.json_tree.proofs.Lists.{fields_list-fields_of}
+use Rattle.base_types.specs.Meaning.{members, fields_of}
+use Rattle.base_types.specs.Names.{AreSorted}
+use Rattle.base_types.proofs.Lists.{fields_list-fields_of}
 use Rattle.request_bodies.specs.Patched.{IsOrdered}
 use Rattle.request_bodies.proofs.patched.order_law.Goals as goal
 

@@ -1,7 +1,7 @@
 use Rattle.std.proofs.Common.{◌∙◌, sym}
 use Rattle.std.specs.Prelude.{is_some}
 use Rattle.std.proofs.lemmas.List.Folds.{list_all-map}
-use Rattle.json_tree.specs.Parts.{member_of}
+use Rattle.base_types.specs.Parts.{member_of}
 use Rattle.setup_file.proofs.reading.has_all.Goals as goal
 
 pub returns : goal.returns

@@ -1,7 +1,7 @@
 use Rattle.std.proofs.Common.{◌≡◌, drop}
 use Rattle.std.specs.Prelude.{is_some}
 use Rattle.std.specs.List.{list_all}
-use Rattle.json_tree.specs.Parts.{member_of}
+use Rattle.base_types.specs.Parts.{member_of}
 use Rattle.setup_file.proofs.reading.has_each.Given as goal
 
 abbrev pub invariant-loop-name : goal.invariant-loop-name

@@ -8,8 +8,8 @@ use Rattle.write_groups.specs.Modelled.{event_of}
 use Rattle.write_groups.specs.declared.event.LogEvent.{LogEvent}
 use Rattle.object_versions.specs.Hidden.{unrecorded_in}
 use Rattle.rbac_timeline.specs.Known.{known_of as roles_of}
-use Rattle.json_tree.specs.Meaning.{Meaning}
-use Rattle.json_tree.specs.Values.{InRange}
+use Rattle.base_types.specs.Meaning.{Meaning}
+use Rattle.base_types.specs.Values.{InRange}
 use Rattle.std.specs.Prelude.{[], All}
 use Rattle.version_store.proofs.Built.{are_rising, few_logged, has_bodies, has_times, have_codes, have_ends, have_nodes, is_past, is_readable, is_snapshot, kept_of, known_of, moments_are}
 use Rattle.version_store.proofs.Ranging.{numbers_are}

@@ -1,6 +1,6 @@
 use Rattle.std.proofs.Common.{◌≡◌, ◌<◌, length, ◌∷◌, ap, sym, subst, ◌∙◌, arith}
-use Rattle.json_tree.specs.Meaning.{fields_list}
-use Rattle.json_tree.specs.Names.{AreSorted}
+use Rattle.base_types.specs.Meaning.{fields_list}
+use Rattle.base_types.specs.Names.{AreSorted}
 use Rattle.packed_tree.specs.Frames.{part_in, rest_in}
 use Rattle.packed_tree.specs.Decoding.{decode, fields_in}
 use Rattle.packed_tree.specs.Sound.{IsSound, AreFieldsSound}

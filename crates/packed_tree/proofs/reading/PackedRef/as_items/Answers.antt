@@ -1,7 +1,7 @@
 use Rattle.std.proofs.Common.{◌≡◌, Some, sym, ap, ◌∙◌}
-use Rattle.json_tree.specs.Meaning.{items, kids_of}
-use Rattle.json_tree.specs.Parts.{items_of}
-use Rattle.json_tree.proofs.Lists.{kids_list-kids_of}
+use Rattle.base_types.specs.Meaning.{items, kids_of}
+use Rattle.base_types.specs.Parts.{items_of}
+use Rattle.base_types.proofs.Lists.{kids_list-kids_of}
 use Rattle.packed_tree.specs.Showing.{meaning_of}
 use Rattle.packed_tree.proofs.reading.PackedRef.as_items.Goals as goal
 

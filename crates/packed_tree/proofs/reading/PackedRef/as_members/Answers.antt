@@ -1,7 +1,7 @@
 use Rattle.std.proofs.Common.{◌≡◌, Some, sym, ap, ◌∙◌}
-use Rattle.json_tree.specs.Meaning.{members, fields_of}
-use Rattle.json_tree.specs.Parts.{members_of}
-use Rattle.json_tree.proofs.Lists.{fields_list-fields_of}
+use Rattle.base_types.specs.Meaning.{members, fields_of}
+use Rattle.base_types.specs.Parts.{members_of}
+use Rattle.base_types.proofs.Lists.{fields_list-fields_of}
 use Rattle.packed_tree.specs.Showing.{meaning_of}
 use Rattle.packed_tree.proofs.reading.PackedRef.as_members.Goals as goal
 

@@ -1,5 +1,5 @@
 use Rattle.std.proofs.Common.{◌≡◌, subst, All}
-use Rattle.json_tree.specs.Values.{InRange}
+use Rattle.base_types.specs.Values.{InRange}
 use Rattle.version_store.specs.Known.{Known}
 use Rattle.version_store.specs.LogTrees.{pooled}
 use Rattle.version_store.proofs.context.Context.pool.Goals as goal

@@ -1,7 +1,0 @@
-use Rattle.std.proofs.Common.{◌≡◌, ◌++◌, drop}
-use Rattle.std.specs.Prelude.{option_map}
-use Rattle.json_tree.specs.Texts.{texts_in}
-use Rattle.json_tree.proofs.texts.copied.Given as goal
-
-abbrev pub invariant-loop-tree : goal.invariant-loop-tree
-invariant-loop-tree l = texts_in l.trees ≡ option_map (λ rest. l.texts ++ rest) (texts_in (drop l.tree-index l.trees))
