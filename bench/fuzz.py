@@ -6,8 +6,8 @@ fuzz.py PROGRAM [--cases N] [--seed S] [--most BYTES] [--reference COMMAND] [--k
 Each case takes a setup and a log of examples/, spoils one of them by a byte, a member or a line, and calls one command on
 them. The answer has to be one of the table of statuses, with a text of that status, within a minute and with no signal.
 Where the inputs are small (--most, by default 60000 bytes) and COMMAND is an independent program with the same words, its
-text and status have to be the same. A seed gives the same cases again. What differs is kept below FOLDER. The last lines
-count the cases by command and status.
+text and status have to be the same. A seed gives the same cases again. What differs is kept below FOLDER. How far it has
+come is told on standard error, every 1,000 cases. The last lines count the cases by command and status.
 """
 import argparse
 import glob
@@ -203,6 +203,8 @@ def main():
             if wrong:
                 bad += 1
                 print(f"case {number}: {command}: {wrong}", flush=True)
+            if (number + 1) % 1000 == 0:
+                print(f"{number + 1} cases, {bad} not as wanted", file=sys.stderr, flush=True)
     for (command, status), count in sorted(counts.items(), key=str):
         print(f"{command} {status}: {count}")
     print(f"{asked.cases - bad} as wanted, {bad} not")

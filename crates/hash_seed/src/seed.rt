@@ -22,8 +22,8 @@ impl Seed {
     }
 }
 
-/// Begins each hash with a seed. The hash is SipHash-1-3: under the kit's own hasher, which multiplies, some texts
-/// collide whatever the seed is.
+/// Begins each hash with a seed. The hash is SipHash-1-3: the kit's own hasher multiplies, and some bytes collide
+/// under it whatever the seed is.
 #[derive(Clone, Copy)]
 pub struct Seeded {
     start: DefaultHasher,
