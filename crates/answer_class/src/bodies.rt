@@ -1,7 +1,8 @@
 ghost use Rattle.std.specs.Prelude.{◌≡◌, IfOk, option_map, option_and_then};
 ghost use Rattle.base_types.specs.Parts.{member_of};
 ghost use Rattle.audit_event.specs.Bodies.{kept};
-ghost use Rattle.answer_class.specs.Bodies.{has_items, is_positive, is_there, metadata_at, is_deleted, is_finalizing, is_ended, answered_object, asks_dry};
+ghost use Rattle.answer_class.specs.Bodies.{has_items, is_positive, is_there, metadata_at, is_deleted};
+ghost use Rattle.answer_class.specs.Bodies.{is_finalizing, is_ended, answered_object, asks_dry};
 
 use crate::request::Verb;
 use audit_event::{Body, Event};

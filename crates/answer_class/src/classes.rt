@@ -2,7 +2,13 @@ ghost use Rattle.std.specs.Prelude.{◌≡◌, IfOk, Some, option_map};
 ghost use Rattle.answer_class.specs.Covers.{cover_of};
 ghost use Rattle.answer_class.specs.Lists.{list_namespace};
 ghost use Rattle.answer_class.specs.Requests.{verb_of};
-ghost use Rattle.answer_class.specs.Classes.{key_named, path_key, saw, listed, got, gathered, read_by, read_class, tells_kind, may_miss, is_missing, asked_name, is_taken, tells_conflict, is_conflict, conflict_class, taken_class, refused_class, is_outside, is_out_of_sight, later_class, deleted_uid, ended_uid, removed_uid, removed, is_made_by, made, made_class, is_hidden_by, is_hidden, is_dry, is_idle, succeeded_class, tracked_class, class_of};
+ghost use Rattle.answer_class.specs.Classes.{key_named, path_key, saw, listed, got, gathered, read_by, read_class};
+ghost use Rattle.answer_class.specs.Classes.{tells_kind, may_miss, is_missing, asked_name, is_taken};
+ghost use Rattle.answer_class.specs.Classes.{tells_conflict, is_conflict, conflict_class, taken_class};
+ghost use Rattle.answer_class.specs.Classes.{refused_class, is_outside, is_out_of_sight, later_class, deleted_uid};
+ghost use Rattle.answer_class.specs.Classes.{ended_uid, removed_uid, removed, is_made_by, made, made_class};
+ghost use Rattle.answer_class.specs.Classes.{is_hidden_by, is_hidden, is_dry, is_idle, succeeded_class};
+ghost use Rattle.answer_class.specs.Classes.{tracked_class, class_of};
 ghost use Rattle.answer_class.specs.Table.{by_table};
 
 use crate::answer::Answer;
@@ -435,7 +441,8 @@ fn removed_class(
     event: &Event,
     object: Option<&SnapshotObject>,
 ) -> Result<Answer, OutOfMemory>
-    ensures { IfOk result (λ answer. answer ≡ removed setup.now tracked.now event.now (removed_uid (verb_of event.now.attrs.verb) event.now (option_map (λ o. o.now) object.entry))) }
+    ensures { IfOk result (λ answer. answer ≡ removed setup.now tracked.now event.now (removed_uid
+        (verb_of event.now.attrs.verb) event.now (option_map (λ o. o.now) object.entry))) }
 {
     let uid = removed_uid(verb_of(event.attrs.verb.as_str()), event, object)?;
     removed(alloc, setup, tracked, event, uid)

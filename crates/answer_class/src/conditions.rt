@@ -1,5 +1,6 @@
 ghost use Rattle.std.specs.Prelude.{◌≡◌, IfOk};
-ghost use Rattle.answer_class.specs.Conditions.{no_conditions, conditions_at, conditions_by, tracked_conditions, conditions_of, has_conditions};
+ghost use Rattle.answer_class.specs.Conditions.{no_conditions, conditions_at, conditions_by, tracked_conditions};
+ghost use Rattle.answer_class.specs.Conditions.{conditions_of, has_conditions};
 
 use crate::bodies::body_member;
 use crate::members::{filled_at, revision_at};

@@ -1,5 +1,6 @@
 ghost use Rattle.std.specs.Prelude.{◌≡◌, IfOk, option_map, filter, codes};
-ghost use Rattle.answer_class.specs.Lists.{not_whole, one_at_most, selected, extent_of, answered_list, answered_at, asks_revision, is_odd, is_below, is_old_list};
+ghost use Rattle.answer_class.specs.Lists.{not_whole, one_at_most, selected, extent_of, answered_list, answered_at};
+ghost use Rattle.answer_class.specs.Lists.{asks_revision, is_odd, is_below, is_old_list};
 ghost use Rattle.answer_class.specs.Requests.{is_filled};
 ghost use Rattle.label_select.specs.Readings.{selector_of};
 
@@ -30,7 +31,8 @@ fn not_whole() -> Extent
 
 /// The only member of a query with this name and a value that isn't empty, or none; nothing where there are several.
 pub fn one_at_most<'a>(pairs: &'a [Pair], name: &str) -> Option<Option<&'a Pair>>
-    ensures { option_map (λ found. option_map (λ pair. pair.now) found) result ≡ one_at_most (filter (is_filled name.now) pairs.now) }
+    ensures { option_map (λ found. option_map (λ pair. pair.now) found) result ≡ one_at_most
+        (filter (is_filled name.now) pairs.now) }
 {
     let mut found: Option<&Pair> = None;
     for pair in pairs {

@@ -1,5 +1,7 @@
 ghost use Rattle.std.specs.Prelude.{◌≡◌, option_map};
-ghost use Rattle.answer_class.specs.Requests.{verb_of, is_write, is_read, is_completing, is_full, is_elsewhere, effect_of, is_own, is_nothing, is_unknown, is_filled, has_filled, first_value, code_within, succeeds, is_code, is_done, is_open};
+ghost use Rattle.answer_class.specs.Requests.{verb_of, is_write, is_read, is_completing, is_full, is_elsewhere};
+ghost use Rattle.answer_class.specs.Requests.{effect_of, is_own, is_nothing, is_unknown, is_filled, has_filled};
+ghost use Rattle.answer_class.specs.Requests.{first_value, code_within, succeeds, is_code, is_done, is_open};
 
 use base_types::{Level, Pair, RequestAttrs, Stage, Text};
 use setup_file::{Tracked, subresource_named};

@@ -3,7 +3,8 @@ ghost use Rattle.serde_json.specs.View.{view};
 ghost use Rattle.request_attrs.specs.Attributes.{attributes};
 ghost use Rattle.request_attrs.specs.Refusals.{IsReadable};
 ghost use Rattle.audit_event.specs.Bodies.{request_in, response_in, IsSoundBody};
-ghost use Rattle.audit_event.specs.Events.{HasFieldsOf, IsRequestOf, IsEventOf, IsEventOfLine, IsCauseFrom, IsCause, IsLineCause, IsUnreadable, IsSound, fault_for};
+ghost use Rattle.audit_event.specs.Events.{HasFieldsOf, IsRequestOf, IsEventOf, IsEventOfLine, IsCauseFrom};
+ghost use Rattle.audit_event.specs.Events.{IsCause, IsLineCause, IsUnreadable, IsSound, fault_for};
 ghost use Rattle.audit_event.specs.Headings.{is_event, is_item};
 ghost use Rattle.audit_event.specs.Levels.{level_in, stage_in};
 ghost use Rattle.audit_event.specs.Numbers.{has_whole_numbers};
@@ -201,7 +202,10 @@ struct Told {
 
 // Reads what the rules from `M10` on are about, and what none is about.
 fn read_told(alloc: Global, value: &Value, stage: Stage) -> Result<Told, EventFault>
-    ensures users { IfOk result (λ told. users_in (view value.now) ≡ Some (told.parties.user, told.parties.impersonated)) }
+    ensures users { IfOk result (λ told. users_in (view value.now) ≡ Some (
+      told.parties.user,
+      told.parties.impersonated,
+    )) }
     ensures code { IfOk result (λ told. code_in (view value.now) ≡ Some told.parties.code) }
     ensures status { IfOk result (λ told. told.exchange.status ≡ status_in stage told.parties.code (view value.now)) }
     ensures request { IfOk result (λ told. told.exchange.request ≡ request_in (view value.now)) }

@@ -1,5 +1,7 @@
-ghost use Rattle.std.specs.Prelude.{◌≡◌, ◌<◌, ◌-◌, ◌^◌, ◌↔◌, [], ◌++◌, ◌∷◌, IfOk, IsTrue, All, length, map, vec_len, vec_capacity};
-ghost use Rattle.audit_event.specs.Keeping.{identity_of, SameOrigin, SamePath, SameObject, SameRequest, SameAnswer, SameButLine, Judges, Admits, AreKept};
+ghost use Rattle.std.specs.Prelude.{◌≡◌, ◌<◌, ◌-◌, ◌^◌, ◌↔◌, [], ◌++◌, ◌∷◌, IfOk, IsTrue, All, length, map};
+ghost use Rattle.std.specs.Prelude.{vec_len, vec_capacity};
+ghost use Rattle.audit_event.specs.Keeping.{identity_of, SameOrigin, SamePath, SameObject, SameRequest, SameAnswer};
+ghost use Rattle.audit_event.specs.Keeping.{SameButLine, Judges, Admits, AreKept};
 
 use crate::event::{Body, Event, Events};
 use crate::fault::SeenFault;

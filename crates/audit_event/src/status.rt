@@ -1,7 +1,8 @@
 ghost use Rattle.std.specs.Prelude.{◌≡◌, IfOk, option_map, codes};
 ghost use Rattle.serde_json.specs.View.{view};
 ghost use Rattle.audit_event.specs.Members.{present, text_or_empty};
-ghost use Rattle.audit_event.specs.Statuses.{code_number, code_of, code_in, answered_code, source_of, details_of, succeeds, status_with};
+ghost use Rattle.audit_event.specs.Statuses.{code_number, code_of, code_in, answered_code, source_of, details_of};
+ghost use Rattle.audit_event.specs.Statuses.{succeeds, status_with};
 
 use crate::event::Status;
 use crate::members::{present, says, text_or_empty};
@@ -75,7 +76,8 @@ fn succeeds(source: Option<&Value>) -> bool
 }
 
 fn details_of<'a>(source: Option<&'a Value>) -> Option<&'a Value>
-    ensures { option_map (λ value. view value.now) result ≡ details_of (option_map (λ value. view value.now) source.entry) }
+    ensures { option_map (λ value. view value.now) result ≡ details_of (option_map (λ value. view value.now)
+        source.entry) }
 {
     source?.get("details")
 }

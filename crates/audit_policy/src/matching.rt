@@ -1,7 +1,8 @@
 ghost use Rattle.std.specs.Prelude.{◌≡◌};
 ghost use Rattle.std.specs.List.{list_any};
 ghost use Rattle.base_types.specs.Matching.{has_text, path_matches};
-ghost use Rattle.audit_policy.specs.Matches.{takes, pattern_matches, item_matches, user_matches, resource_matches, url_matches, rule_matches};
+ghost use Rattle.audit_policy.specs.Matches.{takes, pattern_matches, item_matches, user_matches, resource_matches};
+ghost use Rattle.audit_policy.specs.Matches.{url_matches, rule_matches};
 
 use crate::policy::{AuditRule, GroupResources, GroupResourcesList};
 use base_types::{RequestAttrs, Text, Texts, User, has_text, is_combined, path_matches};

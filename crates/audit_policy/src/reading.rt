@@ -1,5 +1,7 @@
 ghost use Rattle.std.specs.Prelude.{◌≡◌, ◌+◌, IfOk, IfErr, option_map, min, ◌-◌, ◌^◌};
-ghost use Rattle.audit_policy.specs.Forms.{level_named, with_stage, no_stages, stages_with, stages_at, group_or_core, item_of, items_in, items_or_none, mixes_kinds, rule_of, rules_from, heading, policy_of, IsRulesCause, IsCause};
+ghost use Rattle.audit_policy.specs.Forms.{level_named, with_stage, no_stages, stages_with, stages_at};
+ghost use Rattle.audit_policy.specs.Forms.{group_or_core, item_of, items_in, items_or_none, mixes_kinds, rule_of};
+ghost use Rattle.audit_policy.specs.Forms.{rules_from, heading, policy_of, IsRulesCause, IsCause};
 
 use crate::policy::{
     AuditRule, AuditRules, GroupResources, GroupResourcesList, Policy, PolicyFault,

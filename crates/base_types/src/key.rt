@@ -52,7 +52,8 @@ fn cut_at_slash(word: &str) -> Option<(&str, &str)>
 }
 
 fn split_key(word: &str) -> Option<KeyWords<'_>>
-    ensures some { IfSome result (λ words. IsJoined word.now words.group.now words.resource.now words.namespace.now words.name.now) }
+    ensures some { IfSome result (λ words. IsJoined word.now words.group.now words.resource.now
+        words.namespace.now words.name.now) }
     ensures none { IfNone result ((key : ObjectKey) → word.now ≢ key_spelling key) }
 {
     let (group, rest) = cut_at_slash(word)?;

@@ -33,7 +33,8 @@ pub fn decode_all<R: Threads + Sync, G: Gate>(
         .map(
             |index: u32| -> Result<Decoded, OutOfMemory>
                 requires { index < length lines.now }
-                ensures { IfOk result (λ decoded. (line : Line) × (slice_get lines.entry.now index ≡ Some line) × IsDecodedLine line decoded) }
+                ensures { IfOk result (λ decoded. (line : Line)
+                    × (slice_get lines.entry.now index ≡ Some line) × IsDecodedLine line decoded) }
             {
                 gate.enter(index);
                 decode_line(alloc, &lines[index as usize])

@@ -70,7 +70,8 @@ pub fn append_list(
 
 // The objects that are there, with a comma between two.
 fn append_present(log: &mut String, objects: &[Option<Held>]) -> Result<(), OutOfMemory>
-    ensures { OnOk result (string_bytes log.new ≡ string_bytes log.old ++ join_with_byte 44 (present_texts objects.now)) }
+    ensures { OnOk result (string_bytes log.new ≡ string_bytes log.old ++ join_with_byte 44
+        (present_texts objects.now)) }
 {
     let mut follows = false;
     for (name, object) in objects.iter().enumerate() {

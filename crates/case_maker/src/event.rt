@@ -1,5 +1,6 @@
 ghost use Rattle.std.specs.Prelude.{◌≡◌, ◌++◌, ◌<◌, ◌+◌, OnOk, string_bytes};
-ghost use Rattle.case_maker.specs.Event.{event_text, head_text, path_text, three_digits, time_text, times_text, two_digits, verb_text, wording_text};
+ghost use Rattle.case_maker.specs.Event.{event_text, head_text, path_text, three_digits, time_text, times_text};
+ghost use Rattle.case_maker.specs.Event.{two_digits, verb_text, wording_text};
 ghost use Rattle.case_maker.specs.Drawn.{wording};
 
 use crate::bodies::{append_asked, append_held, append_list, append_missing, append_success};
@@ -19,7 +20,8 @@ pub struct Event<'a> {
 /// Appends the line of an event, with its newline.
 pub fn append_event(log: &mut String, event: &Event<'_>) -> Result<(), OutOfMemory>
     requires { event.now.number + 3 < 3600000 }
-    ensures { OnOk result (string_bytes log.new ≡ string_bytes log.old ++ event_text event.now.number (wording event.now)) }
+    ensures { OnOk result (string_bytes log.new ≡ string_bytes log.old ++ event_text event.now.number
+        (wording event.now)) }
 {
     append_head(log, event.number)?;
     append_wording(log, event)?;

@@ -22,17 +22,19 @@ use write_groups::Window;
 pub fn claim(alloc: Global, context: &Context, event: u32) -> Result<Claim, OutOfMemory>
     requires { event < length context.now.log }
     ensures of_event { IfOk result (IsClaimOf context.now event) }
-    ensures exact { IfOk result (λ claim. (e : Event) → IsEvent (history_of context.now) event e → IsExactClaim (history_of context.now) event e claim) }
+    ensures exact { IfOk result (λ claim. (e : Event) → IsEvent (history_of context.now) event e
+        → IsExactClaim (history_of context.now) event e claim) }
     ensures deciding { IfOk result (λ claim. AreDeciding (history_of context.now) claim.bounds) }
-    ensures ranges { IfOk result (λ claim. All (λ bound. bound.range < length (ranges (history_of context.now))) claim.bounds) }
+    ensures ranges { IfOk result (λ claim. All (λ bound. bound.range < length
+        (ranges (history_of context.now))) claim.bounds) }
 {
     let judge = Judge { context };
     let view = view_of(&judge);
     claim_of(alloc, &view, event, context.fault(event))
 }
 
-/// The line of the event of this number in the placement of a choice of one place for each removal: its least place, and
-/// the least four places of its decision; None where the event isn't right under the choice.
+/// The line of the event of this number in the placement of a choice of one place for each removal: its least place,
+/// and the least four places of its decision; None where the event isn't right under the choice.
 pub fn place(
     alloc: Global,
     context: &Context,
@@ -40,7 +42,8 @@ pub fn place(
     choice: &[u64],
 ) -> Result<Option<PlacedLine>, OutOfMemory>
     requires { event < length context.now.log }
-    ensures { IfOk result (λ found. (e : Event) → IsEvent (history_of context.now) event e → IsChoice (ranges (history_of context.now)) choice.now
+    ensures { IfOk result (λ found. (e : Event) → IsEvent (history_of context.now) event e
+        → IsChoice (ranges (history_of context.now)) choice.now
         → IsLined (history_of context.now) choice.now event e found) }
 {
     let judge = Judge { context };
@@ -52,8 +55,10 @@ pub fn place(
 /// them.
 pub fn decision_window(context: &Context, event: u32) -> Window
     requires { event < length context.now.log }
-    ensures low { (e : Event) → IsEvent (history_of context.now) event e → result.low ≡ decision_low (history_of context.now) e }
-    ensures high { (e : Event) → IsEvent (history_of context.now) event e → result.high ≡ decision_high (history_of context.now) e }
+    ensures low { (e : Event) → IsEvent (history_of context.now) event e → result.low ≡ decision_low
+        (history_of context.now) e }
+    ensures high { (e : Event) → IsEvent (history_of context.now) event e → result.high ≡ decision_high
+        (history_of context.now) e }
 {
     let judge = Judge { context };
     let view = view_of(&judge);

@@ -30,9 +30,17 @@ impl Model for Clouds {
 
     ghost use Rattle.clouds.specs.Filed.{AreKept};
 
-    ghost view = { λ c. record { spans = map (λ s. s.value) c.spans.value.items; revisions = map (λ r. r.value) c.revisions.value.items } };
+    ghost view = { λ c. record {
+      spans = map (λ s. s.value) c.spans.value.items;
+      revisions = map
+          (λ r. r.value) c.revisions.value.items;
+    } };
 
-    ghost invariant = { λ c. AreKept (record { spans = map (λ s. s.value) c.spans.value.items; revisions = map (λ r. r.value) c.revisions.value.items })
+    ghost invariant = { λ c. AreKept (record {
+      spans = map (λ s. s.value) c.spans.value.items;
+      revisions = map
+          (λ r. r.value) c.revisions.value.items;
+    })
         c.filed.named c.filed.wide c.recorded };
 }
 

@@ -126,7 +126,8 @@ pub fn first_place(
 ) -> Option<u64>
     requires order { IsNonDecreasing revisions.now }
     requires range { low ≤ high }
-    ensures { IsFirstPlace (λ place. Any (HidesKey revisions.now key.now place) (items_of (option_copied spans.entry))) low high result }
+    ensures { IsFirstPlace (λ place. Any (HidesKey revisions.now key.now place)
+        (items_of (option_copied spans.entry))) low high result }
 {
     match spans {
         Some(spans) => spans.first_place(key, revisions, low, high),

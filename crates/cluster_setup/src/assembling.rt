@@ -44,7 +44,8 @@ fn add_lag(alloc: Global, fields: &mut MemberList, authorize: bool) -> Result<()
 
 // Says where a log begins, and whether decisions are judged.
 fn add_start(alloc: Global, fields: &mut MemberList, given: Given<'_>) -> Result<(), OutOfMemory>
-    ensures { OnOk result (fields_of fields.new ≡ with_start given.entry.revision.now given.entry.time.now given.entry.authorize (fields_of fields.old)) }
+    ensures { OnOk result (fields_of fields.new ≡ with_start given.entry.revision.now given.entry.time.now
+        given.entry.authorize (fields_of fields.old)) }
 {
     put(alloc, fields, "version", whole(1))?;
     let start = start_tree(alloc, given.revision, given.time)?;
@@ -60,7 +61,9 @@ fn add_content(
     given: Given<'_>,
     shown: &[Tree],
 ) -> Result<(), OutOfMemory>
-    ensures { OnOk result (fields_of fields.new ≡ with_content given.entry.policy.now (flat_map (entries_of given.entry.trees.now) given.entry.trees.now) (flat_map (objects_of given.entry.trees.now) shown.now) (fields_of fields.old)) }
+    ensures { OnOk result (fields_of fields.new ≡ with_content given.entry.policy.now
+        (flat_map (entries_of given.entry.trees.now) given.entry.trees.now)
+        (flat_map (objects_of given.entry.trees.now) shown.now) (fields_of fields.old)) }
 {
     put(alloc, fields, "policy", copy(alloc, given.policy)?)?;
     let entries = entries_in(alloc, given.trees)?;
@@ -71,7 +74,8 @@ fn add_content(
 
 /// The setup of all files' resources, with the objects of some of them.
 pub fn setup_tree(alloc: Global, given: Given<'_>, shown: &[Tree]) -> Result<Tree, OutOfMemory>
-    ensures { IfOk result (λ tree. tree ≡ setup_tree given.entry.revision.now given.entry.time.now given.entry.policy.now given.entry.trees.now shown.now given.entry.authorize) }
+    ensures { IfOk result (λ tree. tree ≡ setup_tree given.entry.revision.now given.entry.time.now
+        given.entry.policy.now given.entry.trees.now shown.now given.entry.authorize) }
 {
     let mut fields = said(alloc, &[("kind", "PastSetup")])?;
     add_start(alloc, &mut fields, given)?;

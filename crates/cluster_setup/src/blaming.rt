@@ -25,9 +25,14 @@ fn blamed(number: usize, rule: SetupRule) -> SetupRefusal
 // The refusal of a setup that breaks a rule with the objects of as many files, and none with those of fewer.
 fn fault_blamed(given: Given<'_>, number: usize, fault: SetupFault) -> SetupRefusal
     requires within { number ≤ length given.trees.now }
-    requires before { (fewer : ℕ) → fewer < number → IsAccepted (setup_tree given.revision.now given.time.now given.policy.now given.trees.now (take fewer given.trees.now) given.authorize) }
-    requires broken { (rule : AnyRule) → fault ≡ Rule rule → Breaks (setup_tree given.revision.now given.time.now given.policy.now given.trees.now (take number given.trees.now) given.authorize) rule }
-    ensures { OrMemory (IsBlamed given.entry.revision.now given.entry.time.now given.entry.policy.now given.entry.trees.now given.entry.authorize) result }
+    requires before { (fewer : ℕ) → fewer < number
+        → IsAccepted (setup_tree given.revision.now given.time.now given.policy.now given.trees.now
+        (take fewer given.trees.now) given.authorize) }
+    requires broken { (rule : AnyRule) → fault ≡ Rule rule
+        → Breaks (setup_tree given.revision.now given.time.now given.policy.now given.trees.now
+        (take number given.trees.now) given.authorize) rule }
+    ensures { OrMemory (IsBlamed given.entry.revision.now given.entry.time.now given.entry.policy.now
+        given.entry.trees.now given.entry.authorize) result }
 {
     match fault {
         SetupFault::Rule(rule) => blamed(number, rule),
@@ -40,9 +45,14 @@ fn try_with(alloc: Global, given: Given<'_>, number: usize) -> Result<(), SetupR
     requires policy { InRange given.policy.now }
     requires trees { All InRange given.trees.now }
     requires within { number ≤ length given.trees.now }
-    requires before { (fewer : ℕ) → fewer < number → IsAccepted (setup_tree given.revision.now given.time.now given.policy.now given.trees.now (take fewer given.trees.now) given.authorize) }
-    ensures accepted { IfOk result (λ done. IsAccepted (setup_tree given.entry.revision.now given.entry.time.now given.entry.policy.now given.entry.trees.now (take number given.entry.trees.now) given.entry.authorize)) }
-    ensures cause { IfErr result (OrMemory (IsBlamed given.entry.revision.now given.entry.time.now given.entry.policy.now given.entry.trees.now given.entry.authorize)) }
+    requires before { (fewer : ℕ) → fewer < number
+        → IsAccepted (setup_tree given.revision.now given.time.now given.policy.now given.trees.now
+        (take fewer given.trees.now) given.authorize) }
+    ensures accepted { IfOk result (λ done. IsAccepted (setup_tree given.entry.revision.now
+        given.entry.time.now given.entry.policy.now given.entry.trees.now (take number given.entry.trees.now)
+        given.entry.authorize)) }
+    ensures cause { IfErr result (OrMemory (IsBlamed given.entry.revision.now given.entry.time.now
+        given.entry.policy.now given.entry.trees.now given.entry.authorize)) }
 {
     match accept_shown(alloc, given, &given.trees[..number]) {
         Ok(_) => Ok(()),
@@ -54,8 +64,11 @@ fn try_with(alloc: Global, given: Given<'_>, number: usize) -> Result<(), SetupR
 fn try_fewer(alloc: Global, given: Given<'_>) -> Result<(), SetupRefusal>
     requires policy { InRange given.policy.now }
     requires trees { All InRange given.trees.now }
-    ensures accepted { IfOk result (λ done. (fewer : ℕ) → fewer < length given.entry.trees.now → IsAccepted (setup_tree given.entry.revision.now given.entry.time.now given.entry.policy.now given.entry.trees.now (take fewer given.entry.trees.now) given.entry.authorize)) }
-    ensures cause { IfErr result (OrMemory (IsBlamed given.entry.revision.now given.entry.time.now given.entry.policy.now given.entry.trees.now given.entry.authorize)) }
+    ensures accepted { IfOk result (λ done. (fewer : ℕ) → fewer < length given.entry.trees.now
+        → IsAccepted (setup_tree given.entry.revision.now given.entry.time.now given.entry.policy.now
+        given.entry.trees.now (take fewer given.entry.trees.now) given.entry.authorize)) }
+    ensures cause { IfErr result (OrMemory (IsBlamed given.entry.revision.now given.entry.time.now
+        given.entry.policy.now given.entry.trees.now given.entry.authorize)) }
 {
     for number in 0..given.trees.len() {
         try_with(alloc, given, number)?;
@@ -67,8 +80,11 @@ fn try_fewer(alloc: Global, given: Given<'_>) -> Result<(), SetupRefusal>
 pub fn refuse(alloc: Global, given: Given<'_>, fault: SetupFault) -> SetupRefusal
     requires policy { InRange given.policy.now }
     requires trees { All InRange given.trees.now }
-    requires broken { (rule : AnyRule) → fault ≡ Rule rule → Breaks (setup_tree given.revision.now given.time.now given.policy.now given.trees.now given.trees.now given.authorize) rule }
-    ensures { OrMemory (IsBlamed given.entry.revision.now given.entry.time.now given.entry.policy.now given.entry.trees.now given.entry.authorize) result }
+    requires broken { (rule : AnyRule) → fault ≡ Rule rule
+        → Breaks (setup_tree given.revision.now given.time.now given.policy.now given.trees.now
+        given.trees.now given.authorize) rule }
+    ensures { OrMemory (IsBlamed given.entry.revision.now given.entry.time.now given.entry.policy.now
+        given.entry.trees.now given.entry.authorize) result }
 {
     match try_fewer(alloc, given) {
         Ok(_) => fault_blamed(given, given.trees.len(), fault),

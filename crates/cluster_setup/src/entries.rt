@@ -2,7 +2,9 @@ ghost use Rattle.std.specs.Prelude.{◌≡◌, ◌++◌, IfOk, OnOk, codes};
 ghost use Rattle.std.specs.List.{flat_map};
 ghost use Rattle.base_types.specs.Meaning.{fields_of, items, kids_of};
 ghost use Rattle.cluster_setup.specs.Files.{word};
-ghost use Rattle.cluster_setup.specs.Making.{shapes_of, status_shapes_of, same_subresource, idle_subresource, is_named, is_served, with_status, with_idle, subresources_of, is_namespaced, entry_of, form_for, entries_of};
+ghost use Rattle.cluster_setup.specs.Making.{shapes_of, status_shapes_of, same_subresource, idle_subresource};
+ghost use Rattle.cluster_setup.specs.Making.{is_named, is_served, with_status, with_idle, subresources_of};
+ghost use Rattle.cluster_setup.specs.Making.{is_namespaced, entry_of, form_for, entries_of};
 ghost use Rattle.cluster_setup.specs.Parts.{names_of, with_all_idle, with_rules};
 ghost use Rattle.cluster_setup.specs.Table.{patch_of};
 
@@ -129,7 +131,8 @@ fn add_rules(
     found: Found<'_>,
     form: Form,
 ) -> Result<(), OutOfMemory>
-    ensures { OnOk result (fields_of fields.new ≡ with_rules (is_namespaced found.entry.entry.now) (patch_of form) (shapes_of form)
+    ensures { OnOk result (fields_of fields.new ≡ with_rules (is_namespaced found.entry.entry.now)
+        (patch_of form) (shapes_of form)
         (subresources_of found.entry.document.now (word (codes "name") found.entry.entry.now) form) (fields_of fields.old)) }
 {
     let Found { document, entry } = found;
@@ -143,7 +146,8 @@ fn add_rules(
 
 // The members that name a resource, whose lists have this kind.
 fn names_of(alloc: Global, found: Found<'_>, list_kind: &str) -> Result<MemberList, OutOfMemory>
-    ensures { IfOk result (λ fields. fields_of fields ≡ names_of found.entry.document.now found.entry.entry.now list_kind.now) }
+    ensures { IfOk result (λ fields. fields_of fields ≡ names_of found.entry.document.now
+        found.entry.entry.now list_kind.now) }
 {
     let Found { document, entry } = found;
     let group_version = word(document, "groupVersion");

@@ -1,6 +1,7 @@
 ghost use Rattle.std.specs.Prelude.{◌≡◌, option_map, is_some};
 ghost use Rattle.base_types.specs.Parts.{member_of};
-ghost use Rattle.cluster_setup.specs.Files.{is_discovery, has_items, is_listing, has_remaining, has_more, list_revision, start_word};
+ghost use Rattle.cluster_setup.specs.Files.{is_discovery, has_items, is_listing, has_remaining, has_more};
+ghost use Rattle.cluster_setup.specs.Files.{list_revision, start_word};
 
 use crate::words::{metadata_word, word};
 use base_types::Revision;

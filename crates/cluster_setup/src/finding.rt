@@ -1,5 +1,7 @@
 ghost use Rattle.std.specs.Prelude.{◌≡◌, option_map};
-ghost use Rattle.cluster_setup.specs.Found.{is_list_of, is_entry_for, entry_in, has_entry, is_source, source_of, is_of_group, is_elsewhere, is_same_resource, is_listed_again, found_in, found_for};
+ghost use Rattle.cluster_setup.specs.Found.{is_list_of, is_entry_for, entry_in, has_entry, is_source, source_of};
+ghost use Rattle.cluster_setup.specs.Found.{is_of_group, is_elsewhere, is_same_resource, is_listed_again, found_in};
+ghost use Rattle.cluster_setup.specs.Found.{found_for};
 
 use crate::files::{is_discovery, is_listing};
 use crate::words::{group_of, is_whole_name, listed, word};

@@ -77,9 +77,11 @@ pub fn accept_shown(alloc: Global, given: Given<'_>, shown: &[Tree]) -> Result<S
     requires policy { InRange given.policy.now }
     requires trees { All InRange given.trees.now }
     requires shown { All InRange shown.now }
-    ensures text { IfOk result (λ text. IsTextOf (setup_tree given.entry.revision.now given.entry.time.now given.entry.policy.now given.entry.trees.now shown.now given.entry.authorize) (string_bytes text)) }
+    ensures text { IfOk result (λ text. IsTextOf (setup_tree given.entry.revision.now given.entry.time.now
+        given.entry.policy.now given.entry.trees.now shown.now given.entry.authorize) (string_bytes text)) }
     ensures broken { (rule : AnyRule) → result ≡ Err (Rule rule)
-        → Breaks (setup_tree given.entry.revision.now given.entry.time.now given.entry.policy.now given.entry.trees.now shown.now given.entry.authorize) rule }
+        → Breaks (setup_tree given.entry.revision.now given.entry.time.now given.entry.policy.now
+        given.entry.trees.now shown.now given.entry.authorize) rule }
 {
     let tree = setup_tree(alloc, given, shown)?;
     accept(alloc, &tree)

@@ -1,11 +1,13 @@
-ghost use Rattle.std.specs.Prelude.{◌≡◌, ◌<◌, ◌+◌, ℕ, None, All, OnOk, length, take, IfOk, IfErr, IfSome, IfNone, string_bytes, is_some, true};
+ghost use Rattle.std.specs.Prelude.{◌≡◌, ◌<◌, ◌+◌, ℕ, None, All, OnOk, length, take, IfOk, IfErr, IfSome, IfNone};
+ghost use Rattle.std.specs.Prelude.{string_bytes, is_some, true};
 ghost use Rattle.std.specs.Result.{result_ok};
 ghost use Rattle.audit_policy.specs.Forms.{policy_of};
 ghost use Rattle.base_types.specs.Meaning.{Meaning};
 ghost use Rattle.base_types.specs.Values.{InRange};
 ghost use Rattle.setup_file.specs.Forms.{moment_of};
 ghost use Rattle.setup_file.specs.Reading.{IsTreeOf};
-ghost use Rattle.cluster_setup.specs.Answers.{IsTextOf, IsBlamed, IsPolicy, IsSetupText, IsRefused, IsMade, IsReadOut, IsUnread, Refuses, OrMemory};
+ghost use Rattle.cluster_setup.specs.Answers.{IsTextOf, IsBlamed, IsPolicy, IsSetupText, IsRefused, IsMade};
+ghost use Rattle.cluster_setup.specs.Answers.{IsReadOut, IsUnread, Refuses, OrMemory};
 ghost use Rattle.cluster_setup.specs.Making.{setup_tree};
 ghost use Rattle.cluster_setup.specs.Refusing.{AreTrees, IsFirstBroken, first_refused};
 ghost use Rattle.cluster_setup.specs.Told.{Tells};
@@ -27,7 +29,8 @@ fn read_file(alloc: Global, file: &Bytes, before: usize) -> Result<Tree, SetupRe
     requires { before < 18446744073709551615 }
     ensures read { IfOk result (IsTreeOf file.now) }
     ensures range { IfOk result InRange }
-    ensures cause { IfErr result (OrMemory (λ refusal. (refusal ≡ SetupRefusal.File (before + 1) FileFault.Json) × ((tree : Meaning) → IsTreeOf file.now tree → ⊥))) }
+    ensures cause { IfErr result (OrMemory (λ refusal. (refusal ≡ SetupRefusal.File
+        (before + 1) FileFault.Json) × ((tree : Meaning) → IsTreeOf file.now tree → ⊥))) }
 {
     match read_tree(alloc, file.as_slice()) {
         Ok(found) => match found {
@@ -54,7 +57,8 @@ fn add_file(
     requires range { All InRange trees.old.items }
     ensures read { OnOk result (AreTrees (take (number + 1) files.now) trees.new.items) }
     ensures range { OnOk result (All InRange trees.new.items) }
-    ensures cause { IfErr result (OrMemory (λ refusal. (at : ℕ) × IsFirstBroken files.now at × (refusal ≡ SetupRefusal.File at FileFault.Json))) }
+    ensures cause { IfErr result (OrMemory (λ refusal. (at : ℕ) × IsFirstBroken files.now at
+        × (refusal ≡ SetupRefusal.File at FileFault.Json))) }
 {
     match read_file(alloc, &files[number], number) {
         Ok(tree) => {
@@ -69,7 +73,8 @@ fn add_file(
 fn read_files(alloc: Global, files: &[Bytes]) -> Result<Vec<Tree>, SetupRefusal>
     ensures read { IfOk result (λ trees. AreTrees files.now trees.items) }
     ensures range { IfOk result (λ trees. All InRange trees.items) }
-    ensures cause { IfErr result (OrMemory (λ refusal. (at : ℕ) × IsFirstBroken files.now at × (refusal ≡ SetupRefusal.File at FileFault.Json))) }
+    ensures cause { IfErr result (OrMemory (λ refusal. (at : ℕ) × IsFirstBroken files.now at
+        × (refusal ≡ SetupRefusal.File at FileFault.Json))) }
 {
     let mut trees = Vec::new(alloc);
     for number in 0..files.len() {
@@ -112,8 +117,10 @@ fn policy_of(alloc: Global, bytes: &[u8]) -> Result<Option<Tree>, OutOfMemory>
 fn judged(alloc: Global, given: Given<'_>) -> Result<String, SetupRefusal>
     requires policy { InRange given.policy.now }
     requires trees { All InRange given.trees.now }
-    ensures made { IfOk result (λ text. IsTextOf (setup_tree given.entry.revision.now given.entry.time.now given.entry.policy.now given.entry.trees.now given.entry.trees.now given.entry.authorize) (string_bytes text)) }
-    ensures cause { IfErr result (OrMemory (IsBlamed given.entry.revision.now given.entry.time.now given.entry.policy.now given.entry.trees.now given.entry.authorize)) }
+    ensures made { IfOk result (λ text. IsTextOf (setup_tree given.entry.revision.now given.entry.time.now
+        given.entry.policy.now given.entry.trees.now given.entry.trees.now given.entry.authorize) (string_bytes text)) }
+    ensures cause { IfErr result (OrMemory (IsBlamed given.entry.revision.now given.entry.time.now
+        given.entry.policy.now given.entry.trees.now given.entry.authorize)) }
 {
     match accept_shown(alloc, given, given.trees) {
         Ok(text) => Ok(text),

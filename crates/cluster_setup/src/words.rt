@@ -1,6 +1,7 @@
 ghost use Rattle.std.specs.Prelude.{◌≡◌, option_map};
 ghost use Rattle.std.specs.List.{before_first, after_first};
-ghost use Rattle.cluster_setup.specs.Files.{or_empty, word, or_no_items, listed, metadata_word, is_slash, group_of, version_of, is_whole_name};
+ghost use Rattle.cluster_setup.specs.Files.{or_empty, word, or_no_items, listed, metadata_word, is_slash, group_of};
+ghost use Rattle.cluster_setup.specs.Files.{version_of, is_whole_name};
 
 use base_types::Text;
 use base_types::json::Tree;

@@ -11,8 +11,8 @@ use crate::setup_codes::setup_text;
 use crate::statuses::status_text;
 use crate::verdict_codes::verdict_text;
 
-/// What a code means, how it comes about on an honest cluster, what to look at and what to do, or none where the words are
-/// no code. A code is one word, as `M1`, or two, as `status 3` and `limit line`. The text ends with a newline.
+/// What a code means, how it comes about on an honest cluster, what to look at and what to do, or none where the words
+/// are no code. A code is one word, as `M1`, or two, as `status 3` and `limit line`. The text ends with a newline.
 pub fn explain(words: &[String]) -> Option<&'static str>
     ensures text { option_map (λ text. text.now) result ≡ text_of (map string_bytes words.now) }
     ensures some { IsSome result ↔ IsCode (map string_bytes words.now) }

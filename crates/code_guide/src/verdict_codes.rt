@@ -283,7 +283,8 @@ const SHOWN_GUIDES: [Guide; 7] = [
     },
 ];
 
-/// The text of the code of a reason for which an event is unexplained or a placement wrong, or none where there is no such code.
+/// The text of the code of a reason for which an event is unexplained or a placement wrong, or none where there is no
+/// such code.
 pub fn verdict_text(name: &str) -> Option<&'static str>
     ensures { option_map (λ text. text.now) result ≡ text_in verdict_guides name.now }
 {

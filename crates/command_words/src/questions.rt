@@ -1,4 +1,5 @@
-ghost use Rattle.std.specs.Prelude.{◌≡◌, ◌≢◌, ◌∷◌, [], ℕ, None, IfOk, IfSome, IfNone, IsErrOf, IsTrue, ◌↔◌, OnErr, map, string_bytes, codes};
+ghost use Rattle.std.specs.Prelude.{◌≡◌, ◌≢◌, ◌∷◌, [], ℕ, None, IfOk, IfSome, IfNone, IsErrOf, IsTrue, ◌↔◌, OnErr};
+ghost use Rattle.std.specs.Prelude.{map, string_bytes, codes};
 ghost use Rattle.base_types.specs.Keys.{IsNamed};
 ghost use Rattle.command_words.specs.Asking.{BeginsQuestion, IsPlaceWord, IsQuestionRead, IsVerb, groups_of};
 ghost use Rattle.command_words.specs.Command.{IsAskRead};
@@ -11,8 +12,8 @@ use request_attrs::{UriFault, attrs_of};
 use std::alloc::Global;
 use verdict_text::read_number;
 
-/// Reads the words of a question to a history, which stands behind the names of a setup and a log. Only words that begin with
-/// the verb of a question want memory.
+/// Reads the words of a question to a history, which stands behind the names of a setup and a log. Only words that
+/// begin with the verb of a question want memory.
 pub fn read_asked(alloc: Global, words: &[String]) -> Result<Option<Command<'_>>, OutOfMemory>
     ensures read { IfOk result (IsAskRead (map string_bytes words.now)) }
     ensures memory { OnErr result (BeginsQuestion (map string_bytes words.now)) }

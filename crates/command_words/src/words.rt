@@ -1,4 +1,5 @@
-ghost use Rattle.std.specs.Prelude.{◌≡◌, ◌≢◌, ◌≤◌, ℕ, ◌∷◌, [], IfOk, OnErr, IfSome, IfNone, IsTrue, ◌↔◌, map, string_bytes, codes, decimal};
+ghost use Rattle.std.specs.Prelude.{◌≡◌, ◌≢◌, ◌≤◌, ℕ, ◌∷◌, [], IfOk, OnErr, IfSome, IfNone, IsTrue, ◌↔◌, map};
+ghost use Rattle.std.specs.Prelude.{string_bytes, codes, decimal};
 ghost use Rattle.command_words.specs.Asking.{BeginsQuestion};
 ghost use Rattle.command_words.specs.Command.{AreNames, IsPlainRead, IsRead, IsThirdName, most_made};
 

@@ -13,7 +13,8 @@ use log_sift::Stretch;
 fn write_stretches<K: Sink>(out: &mut K, log: &[u8], stays: &[Stretch]) -> Result<(), SinkFailed>
     requires { All (IsWithin log.now) stays.now }
     ensures whole { OnOk result (Appends (K.written out.old) (K.written out.new) (stretches_text log.now stays.now)) }
-    ensures part { OnErr result (AppendsPart (K.written out.old) (K.written out.new) (stretches_text log.now stays.now)) }
+    ensures part { OnErr result (AppendsPart (K.written out.old) (K.written out.new)
+        (stretches_text log.now stays.now)) }
     ensures cause { HasCause (K.faults out.old) (K.faults out.new) result }
 {
     for stretch in stays {
@@ -38,7 +39,8 @@ fn write_body<K: Sink>(out: &mut K, body: &Body) -> Result<(), SinkFailed>
 /// Writes the text of an answer and gives its exit status, or 6 where a write failed.
 pub fn end_with_body<K: Sink>(out: &mut K, status: u8, body: &Body) -> u8
     requires { IsCutWithin body.now }
-    ensures ends { Ends status (body_text body.now) (K.faults out.old) (K.faults out.new) (K.written out.old) (K.written out.new) result }
+    ensures ends { Ends status (body_text body.now) (K.faults out.old) (K.faults out.new) (K.written out.old)
+        (K.written out.new) result }
     ensures counted { K.faults out.old ≤ K.faults out.new }
 {
     match write_body(out, body) {

@@ -25,7 +25,8 @@ pub fn read_given<D: Desk>(
     names: &[String],
 ) -> Result<Given, WholeStop>
     requires { are_distinct (policy.now ∷ map string_bytes names.now) ≡ true }
-    ensures { AreGiven policy.now (map string_bytes names.now) (D.left desk.old) (D.left desk.new) (D.faults desk.old) (D.faults desk.new) result }
+    ensures { AreGiven policy.now (map string_bytes names.now) (D.left desk.old) (D.left desk.new)
+        (D.faults desk.old) (D.faults desk.new) result }
 {
     match read_input(alloc, desk, policy, MOST_FILE) {
         Ok(bytes) => {
@@ -50,7 +51,8 @@ fn read_files<D: Desk>(
     given: &mut Vec<Bytes>,
 ) -> Result<(), WholeStop>
     requires { are_distinct (map string_bytes names.now) ≡ true }
-    ensures { AreGathered (map string_bytes names.now) given.old.items given.new.items (D.left desk.old) (D.left desk.new) (D.faults desk.old) (D.faults desk.new) result }
+    ensures { AreGathered (map string_bytes names.now) given.old.items given.new.items (D.left desk.old)
+        (D.left desk.new) (D.faults desk.old) (D.faults desk.new) result }
 {
     match names {
         [name, behind @ ..] => match read_input(alloc, desk, name, MOST_FILE) {

@@ -1,5 +1,5 @@
-//! What the companion answers to its words: the text of a code, the lines of a log that a judge takes, a setup of lists, the
-//! page of a verdict.
+//! What the companion answers to its words: the text of a code, the lines of a log that a judge takes, a setup of
+//! lists, the page of a verdict.
 #![tactic(auto)]
 
 mod ending;

@@ -1,4 +1,5 @@
-ghost use Rattle.std.specs.Prelude.{◌≡◌, ◌≢◌, ◌∷◌, ℕ, List, true, Contains, IfOk, IsErrOf, IsOk, map, string_bytes, codes};
+ghost use Rattle.std.specs.Prelude.{◌≡◌, ◌≢◌, ◌∷◌, ℕ, List, true, Contains, IfOk, IsErrOf, IsOk, map, string_bytes};
+ghost use Rattle.std.specs.Prelude.{codes};
 ghost use Rattle.edge_io.specs.Faults.{Rose};
 ghost use Rattle.companion_answers.specs.Command.{are_distinct};
 ghost use Rattle.companion_answers.specs.Making.{IsMadeAnswer, IsSetupAnswer, TellsAll, refused_answer};
@@ -24,11 +25,14 @@ pub fn make_named<D: Desk>(
     files: &[String],
 ) -> Result<Report, Stop>
     requires { are_distinct (policy.now ∷ map string_bytes files.now) ≡ true }
-    ensures answered { IfOk result (λ report. (told : List ℕ → List ℕ) → TellsAll (policy.now ∷ map string_bytes files.now) (D.left desk.old) told
-        → IsSetupAnswer authorize time.now (told policy.now) (map string_bytes files.now) (map told (map string_bytes files.now)) (report_answer report)) }
+    ensures answered { IfOk result (λ report. (told : List ℕ → List ℕ)
+        → TellsAll (policy.now ∷ map string_bytes files.now) (D.left desk.old) told
+        → IsSetupAnswer authorize time.now (told policy.now) (map string_bytes files.now)
+        (map told (map string_bytes files.now)) (report_answer report)) }
     ensures within { IfOk result (λ report. IsCutWithin report.body) }
     ensures fault { IsErrOf result Stop.ReadFault → Rose (D.faults desk.old) (D.faults desk.new) }
-    ensures others { (other : List ℕ) → (Contains (policy.now ∷ map string_bytes files.now) other → ⊥) → D.left desk.new other ≡ D.left desk.old other }
+    ensures others { (other : List ℕ) → (Contains (policy.now ∷ map string_bytes files.now) other → ⊥)
+        → D.left desk.new other ≡ D.left desk.old other }
 {
     match read_given(alloc, desk, policy, files) {
         Ok(given) => Ok(made_report(alloc, authorize, time, files, &given)?),
@@ -56,7 +60,8 @@ fn made_report(
     names: &[String],
     given: &Given,
 ) -> Result<Report, OutOfMemory>
-    ensures answer { IfOk result (λ report. IsMadeAnswer authorize time.now given.now.policy (map string_bytes names.now) given.now.files.items (report_answer report)) }
+    ensures answer { IfOk result (λ report. IsMadeAnswer authorize time.now given.now.policy
+        (map string_bytes names.now) given.now.files.items (report_answer report)) }
     ensures within { IfOk result (λ report. IsCutWithin report.body) }
 {
     let policy = given.policy.as_slice();
@@ -72,7 +77,8 @@ fn refused_report(
     names: &[String],
     refusal: SetupRefusal,
 ) -> Result<Report, OutOfMemory>
-    ensures answer { IfOk result (λ report. report_answer report ≡ refused_answer (map string_bytes names.now) refusal) }
+    ensures answer { IfOk result (λ report. report_answer report ≡ refused_answer (map string_bytes names.now)
+        refusal) }
     ensures memory { IsOk result → refusal ≢ SetupRefusal.OutOfMemory }
     ensures within { IfOk result (λ report. IsCutWithin report.body) }
 {
@@ -82,7 +88,8 @@ fn refused_report(
 
 // A text as a line.
 fn line_report(status: Status, text: String) -> Result<Report, OutOfMemory>
-    ensures answer { IfOk result (λ report. report_answer report ≡ answer (status_number status) (ended (string_bytes text))) }
+    ensures answer { IfOk result (λ report. report_answer report ≡ answer (status_number status)
+        (ended (string_bytes text))) }
     ensures within { IfOk result (λ report. IsCutWithin report.body) }
 {
     let mut line = text;

@@ -1,6 +1,7 @@
 ghost use Rattle.std.specs.Prelude.{◌≡◌, ◌≢◌, ◌∷◌, true, map, string_bytes};
 ghost use Rattle.log_verdict.specs.Answers.{report_answer as verdict_answer, status_number as verdict_number};
-ghost use Rattle.companion_answers.specs.Command.{Explain, IsSpelled, Picture, Setup, Sift, are_distinct, command_asked};
+ghost use Rattle.companion_answers.specs.Command.{Explain, IsSpelled, Picture, Setup, Sift, are_distinct};
+ghost use Rattle.companion_answers.specs.Command.{command_asked};
 ghost use Rattle.companion_answers.specs.Reported.{IsCutWithin, IsReported, report_answer, status_number};
 
 use crate::making::make_named;
@@ -25,7 +26,8 @@ pub fn report_of<R: Threads + Sync, D: Desk, G: Gate, H: Gate>(
     gates: Gates<'_, G, H>,
 ) -> Result<Report, Stop>
     requires { IsSpelled (command_asked command) }
-    ensures { IsReported (command_asked command.entry) (D.left desk.old) (D.left desk.new) (desk.new ≡ desk.old) (D.faults desk.old) (D.faults desk.new) result }
+    ensures { IsReported (command_asked command.entry) (D.left desk.old) (D.left desk.new)
+        (desk.new ≡ desk.old) (D.faults desk.old) (D.faults desk.new) result }
 {
     match command {
         Command::Explain { text } => explained(desk, text),
@@ -42,7 +44,8 @@ pub fn report_of<R: Threads + Sync, D: Desk, G: Gate, H: Gate>(
 
 // The text of a code. The desk is left as it is.
 fn explained<D: Desk>(desk: &mut D, text: &'static str) -> Result<Report, Stop>
-    ensures { IsReported (Explain text.now) (D.left desk.old) (D.left desk.new) (desk.new ≡ desk.old) (D.faults desk.old) (D.faults desk.new) result }
+    ensures { IsReported (Explain text.now) (D.left desk.old) (D.left desk.new) (desk.new ≡ desk.old)
+        (D.faults desk.old) (D.faults desk.new) result }
 {
     Ok(Report {
         status: Status::Done,
@@ -52,7 +55,8 @@ fn explained<D: Desk>(desk: &mut D, text: &'static str) -> Result<Report, Stop>
 
 // What becomes of the lines of a log.
 fn sifted<D: Desk>(alloc: Global, desk: &mut D, log: &str, left: bool) -> Result<Report, Stop>
-    ensures { IsReported (Sift left log.now) (D.left desk.old) (D.left desk.new) (desk.new ≡ desk.old) (D.faults desk.old) (D.faults desk.new) result }
+    ensures { IsReported (Sift left log.now) (D.left desk.old) (D.left desk.new) (desk.new ≡ desk.old)
+        (D.faults desk.old) (D.faults desk.new) result }
 {
     sift_named(alloc, desk, log, left)
 }
@@ -67,7 +71,8 @@ fn made<D: Desk>(
     files: &[String],
 ) -> Result<Report, Stop>
     requires { are_distinct (policy.now ∷ map string_bytes files.now) ≡ true }
-    ensures { IsReported (Setup authorize time.now policy.now (map string_bytes files.now)) (D.left desk.old) (D.left desk.new) (desk.new ≡ desk.old) (D.faults desk.old) (D.faults desk.new) result }
+    ensures { IsReported (Setup authorize time.now policy.now (map string_bytes files.now)) (D.left desk.old)
+        (D.left desk.new) (desk.new ≡ desk.old) (D.faults desk.old) (D.faults desk.new) result }
 {
     make_named(alloc, desk, authorize, time, policy, files)
 }
@@ -82,7 +87,8 @@ fn pictured<R: Threads + Sync, D: Desk, G: Gate, H: Gate>(
     gates: Gates<'_, G, H>,
 ) -> Result<Report, Stop>
     requires { setup.now ≢ log.now }
-    ensures { IsReported (Picture setup.now log.now) (D.left desk.old) (D.left desk.new) (desk.new ≡ desk.old) (D.faults desk.old) (D.faults desk.new) result }
+    ensures { IsReported (Picture setup.now log.now) (D.left desk.old) (D.left desk.new) (desk.new ≡ desk.old)
+        (D.faults desk.old) (D.faults desk.new) result }
 {
     match picture(rt, alloc, desk, setup, log, gates) {
         Ok(found) => Ok(page_report(found)),

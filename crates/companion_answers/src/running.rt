@@ -19,9 +19,9 @@ use std::alloc::Global;
 use std::marker::Sync;
 use std::thread::Threads;
 
-/// Does what the words of the command line ask for: reads the desk, writes the answer to the sink, and gives the exit status.
-/// The text is made whole before it is written. For a page several threads decode the lines of a batch and take the claims of
-/// the events; `gate` is told of each event, and `lines` of each line's index in its batch.
+/// Does what the words of the command line ask for: reads the desk, writes the answer to the sink, and gives the exit
+/// status. The text is made whole before it is written. For a page several threads decode the lines of a batch and
+/// take the claims of the events; `gate` is told of each event, and `lines` of each line's index in its batch.
 pub fn run<R: Threads + Sync, D: Desk, K: Sink, G: Gate, H: Gate>(
     rt: &R,
     alloc: Global,
@@ -38,13 +38,15 @@ pub fn run<R: Threads + Sync, D: Desk, K: Sink, G: Gate, H: Gate>(
 
     // Whether the desk tells its bytes or not.
     ensures usage { IsAsked (map string_bytes words.now) None
-        → Ends 2 usage_answer.text (K.faults out.old) (K.faults out.new) (K.written out.old) (K.written out.new) result }
+        → Ends 2 usage_answer.text (K.faults out.old) (K.faults out.new) (K.written out.old)
+        (K.written out.new) result }
     ensures usage_only { result ≡ 2 → IsAsked (map string_bytes words.now) None }
     ensures read_fault { result ≡ 5 → Rose (D.faults desk.old) (D.faults desk.new) }
     ensures write_fault { result ≡ 6 → Rose (K.faults out.old) (K.faults out.new) }
     ensures memory { result ≡ 8 → Keeps (K.written out.old) (K.written out.new) }
     ensures desk_left { ((name : List ℕ) → ReadsWords (map string_bytes words.now) name → ⊥) → desk.new ≡ desk.old }
-    ensures others_left { (name : List ℕ) → (ReadsWords (map string_bytes words.now) name → ⊥) → D.left desk.new name ≡ D.left desk.old name }
+    ensures others_left { (name : List ℕ) → (ReadsWords (map string_bytes words.now) name → ⊥)
+        → D.left desk.new name ≡ D.left desk.old name }
 {
     let gates = Gates {
         events: gate,

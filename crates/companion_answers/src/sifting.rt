@@ -24,7 +24,8 @@ pub fn sift_named<D: Desk>(
     log: &str,
     left: bool,
 ) -> Result<Report, Stop>
-    ensures answered { IfOk result (λ report. (bytes : List ℕ) → D.left desk.old log.now ≡ Some bytes → IsSiftAnswer left bytes (report_answer report)) }
+    ensures answered { IfOk result (λ report. (bytes : List ℕ) → D.left desk.old log.now ≡ Some bytes
+        → IsSiftAnswer left bytes (report_answer report)) }
     ensures within { IfOk result (λ report. IsCutWithin report.body) }
     ensures fault { IsErrOf result Stop.ReadFault → Rose (D.faults desk.old) (D.faults desk.new) }
     ensures others { (other : List ℕ) → other ≢ log.now → D.left desk.new other ≡ D.left desk.old other }

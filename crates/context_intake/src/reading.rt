@@ -38,16 +38,20 @@ pub fn read_context<R: Threads + Sync, D: Desk, H: Gate>(
     lines: &H,
 ) -> Result<Told, Stop>
     requires { setup.now ≢ log.now }
-    ensures told { IfOk result (λ told. (of_setup of_log : List ℕ) → D.left desk.old setup.now ≡ Some of_setup → D.left desk.old log.now ≡ Some of_log
+    ensures told { IfOk result (λ told. (of_setup of_log : List ℕ) → D.left desk.old setup.now ≡ Some of_setup
+        → D.left desk.old log.now ≡ Some of_log
         → IsToldBy of_setup of_log told) }
-    ensures whole { IfOk result (λ told. (known : Known) → told ≡ Told.Context known → IsAtEnd (D.left desk.new setup.now) × IsAtEnd (D.left desk.new log.now)) }
+    ensures whole { IfOk result (λ told. (known : Known) → told ≡ Told.Context known
+        → IsAtEnd (D.left desk.new setup.now) × IsAtEnd (D.left desk.new log.now)) }
     ensures fault { IsErrOf result Stop.ReadFault → Rose (D.faults desk.old) (D.faults desk.new) }
     ensures counted { D.faults desk.old ≤ D.faults desk.new }
     ensures setup_taken { TakesSetup (D.left desk.old setup.now) (D.left desk.new setup.now) (RefusesNothing result) }
     ensures log_taken { TakesLog (D.left desk.old log.now) (D.left desk.new log.now) (RefusesNothing result) }
-    ensures log_left { (of_setup : List ℕ) (refusal : Refusal) → D.left desk.old setup.now ≡ Some of_setup → IsSetupRefused of_setup refusal
+    ensures log_left { (of_setup : List ℕ) (refusal : Refusal) → D.left desk.old setup.now ≡ Some of_setup
+        → IsSetupRefused of_setup refusal
         → D.left desk.new log.now ≡ D.left desk.old log.now }
-    ensures others { (other : List ℕ) → other ≢ setup.now → other ≢ log.now → D.left desk.new other ≡ D.left desk.old other }
+    ensures others { (other : List ℕ) → other ≢ setup.now → other ≢ log.now
+        → D.left desk.new other ≡ D.left desk.old other }
 {
     let Ok(mut buffer) = piece_buffer(alloc) else {
         return Err(Stop::OutOfMemory);
@@ -69,7 +73,8 @@ fn piece_buffer(alloc: Global) -> Result<Vec<u8>, AllocError>
 }
 
 fn refused_setup(stop: SetupStop) -> Result<Told, Stop>
-    ensures refused { IfOk result (λ told. (refusal : Refusal) × IsSetupStopOf stop refusal × (told ≡ Told.Refused refusal)) }
+    ensures refused { IfOk result (λ told. (refusal : Refusal) × IsSetupStopOf stop refusal
+        × (told ≡ Told.Refused refusal)) }
     ensures fault { IsErrOf result Stop.ReadFault → stop ≡ SetupStop.ReadFault }
 {
     match stop {
@@ -81,7 +86,8 @@ fn refused_setup(stop: SetupStop) -> Result<Told, Stop>
 }
 
 fn refused_log(stop: LogStop) -> Result<Told, Stop>
-    ensures refused { IfOk result (λ told. (refusal : Refusal) × IsStopOf stop refusal × (told ≡ Told.Refused refusal)) }
+    ensures refused { IfOk result (λ told. (refusal : Refusal) × IsStopOf stop refusal
+        × (told ≡ Told.Refused refusal)) }
     ensures fault { IsErrOf result Stop.ReadFault → stop ≡ LogStop.ReadFault }
 {
     match stop {

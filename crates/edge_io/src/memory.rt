@@ -1,4 +1,5 @@
-ghost use Rattle.std.specs.Prelude.{◌≡◌, ◌≢◌, ◌↔◌, ℕ, ◌<◌, ◌≤◌, ◌+◌, ◌-◌, ◌^◌, List, Some, length, min, ◌⊎◌, IfOk, IsErr, IsOk, OnOk, Contains, vec_len, vec_capacity};
+ghost use Rattle.std.specs.Prelude.{◌≡◌, ◌≢◌, ◌↔◌, ℕ, ◌<◌, ◌≤◌, ◌+◌, ◌-◌, ◌^◌, List, Some, length, min, ◌⊎◌, IfOk};
+ghost use Rattle.std.specs.Prelude.{IsErr, IsOk, OnOk, Contains, vec_len, vec_capacity};
 ghost use Rattle.std.specs.Io.{ReadsAtMost};
 ghost use Rattle.std.specs.Io.KnownBytes.{ReadConsumes, WriteAppends};
 ghost use Rattle.edge_io.specs.Faults.{HasCause};
@@ -29,7 +30,14 @@ impl Model for MemoryDesk {
 
     ghost Value = { DeskState };
 
-    ghost view = { λ d. record { files = d.files.items; cut = d.cut; failing = d.failing.items; calls = d.calls; faults = d.faults } };
+    ghost view = { λ d. record {
+      files = d.files.items;
+      cut = d.cut;
+      failing = d.failing.items;
+      calls =
+          d.calls;
+      faults = d.faults;
+    } };
 
     ghost invariant = { λ d. 0 < d.cut };
 }
@@ -65,8 +73,10 @@ impl Desk for MemoryDesk {
     fn read(&mut self, name: &str, into: &mut [u8]) -> Result<usize, DeskFailed>
         requires { 0 < length into.old }
         ensures bound { ReadsAtMost result into.new }
-        ensures bytes { ReadConsumes (Some (left_of self.old.files name.now)) (Some (left_of self.new.files name.now)) result into.new }
-        ensures others { (other : List ℕ) → other ≢ name.now → left_of self.new.files other ≡ left_of self.old.files other }
+        ensures bytes { ReadConsumes (Some (left_of self.old.files name.now))
+            (Some (left_of self.new.files name.now)) result into.new }
+        ensures others { (other : List ℕ) → other ≢ name.now
+            → left_of self.new.files other ≡ left_of self.old.files other }
         ensures cause { HasCause self.old.faults self.new.faults result }
         ensures cut { IfOk result (λ n. n ≤ self.old.cut) }
         ensures calls { self.new.calls ≡ min (self.old.calls + 1) (2 ^ 64 - 1) }
@@ -124,8 +134,10 @@ impl Desk for SteadyDesk {
     fn read(&mut self, name: &str, into: &mut [u8]) -> Result<usize, DeskFailed>
         requires { 0 < length into.old }
         ensures bound { ReadsAtMost result into.new }
-        ensures bytes { ReadConsumes (Some (left_of self.old.files name.now)) (Some (left_of self.new.files name.now)) result into.new }
-        ensures others { (other : List ℕ) → other ≢ name.now → left_of self.new.files other ≡ left_of self.old.files other }
+        ensures bytes { ReadConsumes (Some (left_of self.old.files name.now))
+            (Some (left_of self.new.files name.now)) result into.new }
+        ensures others { (other : List ℕ) → other ≢ name.now
+            → left_of self.new.files other ≡ left_of self.old.files other }
         ensures cause { HasCause 0 0 result }
         ensures cut { IfOk result (λ n. n ≤ self.old.cut) }
         ensures works { IsOk result }
@@ -153,7 +165,14 @@ impl Model for MemorySink {
 
     ghost Value = { SinkState };
 
-    ghost view = { λ s. record { bytes = s.bytes.items; cut = s.cut; failing = s.failing.items; calls = s.calls; faults = s.faults } };
+    ghost view = { λ s. record {
+      bytes = s.bytes.items;
+      cut = s.cut;
+      failing = s.failing.items;
+      calls =
+          s.calls;
+      faults = s.faults;
+    } };
 
     ghost invariant = { λ s. (0 < s.cut) × (SINK_ROOM ≤ vec_capacity s.bytes) × (vec_len s.bytes ≤ SINK_ROOM) };
 }
@@ -195,7 +214,8 @@ impl Sink for MemorySink {
         ensures cause { HasCause self.old.faults self.new.faults result }
         ensures cut { IfOk result (λ n. n ≤ self.old.cut) }
         ensures calls { self.new.calls ≡ min (self.old.calls + 1) (2 ^ 64 - 1) }
-        ensures fails { IsErr result ↔ (Contains self.old.failing self.new.calls ⊎ (SINK_ROOM ≤ length self.old.bytes)) }
+        ensures fails { IsErr result ↔ (Contains self.old.failing self.new.calls
+            ⊎ (SINK_ROOM ≤ length self.old.bytes)) }
         ensures spared { OnOk result (self.new.faults ≡ self.old.faults) }
         ensures settings { (self.new.cut ≡ self.old.cut) × (self.new.failing ≡ self.old.failing) }
     {

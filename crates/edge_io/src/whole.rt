@@ -29,7 +29,8 @@ pub fn read_whole<D: Desk>(
 ) -> Result<Bytes, WholeStop>
     requires some { 0 < length buffer.old }
     requires piece { length buffer.old ≤ most_piece }
-    ensures reads { ReadsWhole most (D.left desk.old name.now) (D.left desk.new name.now) (D.faults desk.old) (D.faults desk.new) result }
+    ensures reads { ReadsWhole most (D.left desk.old name.now) (D.left desk.new name.now) (D.faults desk.old)
+        (D.faults desk.new) result }
     ensures others { (other : List ℕ) → other ≢ name.now → D.left desk.new other ≡ D.left desk.old other }
 {
     let mut bytes = Vec::new(alloc);

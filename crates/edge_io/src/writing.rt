@@ -23,7 +23,8 @@ pub fn write_whole<K: Sink>(out: &mut K, text: &[u8]) -> Result<(), SinkFailed>
 
 /// Writes the text of an answer and gives its exit status, or 6 where a write failed.
 pub fn end_with<K: Sink>(out: &mut K, status: u8, text: &[u8]) -> u8
-    ensures ends { Ends status text.now (K.faults out.old) (K.faults out.new) (K.written out.old) (K.written out.new) result }
+    ensures ends { Ends status text.now (K.faults out.old) (K.faults out.new) (K.written out.old)
+        (K.written out.new) result }
     ensures counted { K.faults out.old ≤ K.faults out.new }
 {
     match write_whole(out, text) {

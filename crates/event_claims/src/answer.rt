@@ -55,7 +55,8 @@ pub fn asking_in<L: Listable, D: Decisions>(
 
 /// The code of an answer that no choice makes right.
 pub fn answer_fault(asking: &Asking, answer: &Shown) -> Option<Reason>
-    ensures { (h : History) (number : ℕ) (event : Event) → event.answer ≡ answer_of answer.now → IsAskingOf h number event asking.now
+    ensures { (h : History) (number : ℕ) (event : Event) → event.answer ≡ answer_of answer.now
+        → IsAskingOf h number event asking.now
         → IsVerdict (SometimesHolds h number event) (HasAnswerCode h number event) result }
 {
     match asking {

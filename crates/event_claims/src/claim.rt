@@ -35,8 +35,11 @@ pub fn fixed_fault<L: Listable, D: Decisions>(
 ) -> Option<Reason>
     ensures { (h : History) → IsViewOf L.listable D.decides view.now h → IsCaseOf h case.entry
         → IsSaid h (event_word h case.entry.number (event_of case.entry.event.now)) word
-        → IsVerdict (IsOfPolicy (event_of case.entry.event.now) × IsFixedBy h (event_of case.entry.event.now) (event_word h case.entry.number (event_of case.entry.event.now)))
-        (λ code. HasPolicyCode (event_of case.entry.event.now) code ⊎ HasWordCode h (event_of case.entry.event.now) (event_word h case.entry.number (event_of case.entry.event.now)) code) result }
+        → IsVerdict (IsOfPolicy (event_of case.entry.event.now) × IsFixedBy h (event_of case.entry.event.now)
+        (event_word h case.entry.number (event_of case.entry.event.now)))
+        (λ code. HasPolicyCode (event_of case.entry.event.now) code ⊎ HasWordCode h
+        (event_of case.entry.event.now) (event_word h case.entry.number (event_of case.entry.event.now))
+        code) result }
 {
     let known = Known {
         past: view.past,
@@ -58,7 +61,8 @@ fn failure_of<L: Listable, D: Decisions>(
     ensures { (h : History) → IsViewOf L.listable D.decides view.now h → IsCaseOf h case.entry
         → IsSaid h (event_word h case.entry.number (event_of case.entry.event.now)) word
         → IsWindowOf h (event_of case.entry.event.now) window
-        → IsAskingOf h case.entry.number (event_of case.entry.event.now) asking.now → IsFailure h case.entry.number (event_of case.entry.event.now) result }
+        → IsAskingOf h case.entry.number (event_of case.entry.event.now) asking.now
+        → IsFailure h case.entry.number (event_of case.entry.event.now) result }
 {
     let fixed = fixed_fault(view, case, word);
     let finding = finding_fault(view.clouds, case.event, window, word, case.fault);
@@ -74,9 +78,11 @@ fn claim_in<L: Listable, D: Decisions>(
     view: &View<'_, L, D>,
     case: Case<'_>,
 ) -> Result<Claim, OutOfMemory>
-    ensures exact { IfOk result (λ claim. (h : History) → IsViewOf L.listable D.decides view.now h → IsCaseOf h case.entry
+    ensures exact { IfOk result (λ claim. (h : History) → IsViewOf L.listable D.decides view.now h
+        → IsCaseOf h case.entry
         → IsExactClaim h case.entry.number (event_of case.entry.event.now) claim) }
-    ensures deciding { IfOk result (λ claim. (h : History) → IsViewOf L.listable D.decides view.now h → IsCaseOf h case.entry
+    ensures deciding { IfOk result (λ claim. (h : History) → IsViewOf L.listable D.decides view.now h
+        → IsCaseOf h case.entry
         → AreDeciding h claim.bounds) }
 {
     let window = window_of(view.windows, view.start, case.event);
@@ -100,10 +106,13 @@ pub fn claim_of<L: Listable, D: Decisions>(
     fault: Option<Reason>,
 ) -> Result<Claim, OutOfMemory>
     requires { event < length view.now.log.now }
-    ensures exact { IfOk result (λ claim. (h : History) (e : Event) → IsViewOf L.listable D.decides view.now h → IsFaultAt h event fault
+    ensures exact { IfOk result (λ claim. (h : History) (e : Event) → IsViewOf L.listable D.decides view.now h
+        → IsFaultAt h event fault
         → IsEvent h event e → IsExactClaim h event e claim) }
-    ensures deciding { IfOk result (λ claim. (h : History) → IsViewOf L.listable D.decides view.now h → IsFaultAt h event fault → AreDeciding h claim.bounds) }
-    ensures ranges { IfOk result (λ claim. (h : History) → IsViewOf L.listable D.decides view.now h → IsFaultAt h event fault
+    ensures deciding { IfOk result (λ claim. (h : History) → IsViewOf L.listable D.decides view.now h
+        → IsFaultAt h event fault → AreDeciding h claim.bounds) }
+    ensures ranges { IfOk result (λ claim. (h : History) → IsViewOf L.listable D.decides view.now h
+        → IsFaultAt h event fault
         → All (λ bound. bound.range < length (ranges h)) claim.bounds) }
 {
     let case = Case {
@@ -116,13 +125,15 @@ pub fn claim_of<L: Listable, D: Decisions>(
 
 /// An event has one claim.
 pub fn one_claim_law()
-    ensures { (h : History) (number : ℕ) (event : Event) (a b : Claim) → IsExactClaim h number event a → IsExactClaim h number event b
+    ensures { (h : History) (number : ℕ) (event : Event) (a b : Claim) → IsExactClaim h number event a
+        → IsExactClaim h number event b
         → AreDeciding h a.bounds → AreDeciding h b.bounds → a ≡ b }
 {}
 
 /// Local bounds are exact: under a choice an event is right exactly where its claim doesn't fail and the choice meets
 /// its bounds.
 pub fn local_bounds_law()
-    ensures { (h : History) (number : ℕ) (event : Event) (claim : Claim) (choice : List ℕ) → IsExactClaim h number event claim → IsChoice (ranges h) choice
+    ensures { (h : History) (number : ℕ) (event : Event) (claim : Claim) (choice : List ℕ)
+        → IsExactClaim h number event claim → IsChoice (ranges h) choice
         → IsRightUnder h choice number event ↔ ((claim.fails ≡ None) × MeetsAll choice claim.bounds) }
 {}

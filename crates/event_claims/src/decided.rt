@@ -42,9 +42,11 @@ pub fn decision_window_of<L: Listable, D: Decisions>(
     view: &View<'_, L, D>,
     event: &LogEvent,
 ) -> Window
-    ensures low { (h : History) (number : _) → IsViewOf L.listable D.decides view.now h → IsEvent h number (event_of event.now)
+    ensures low { (h : History) (number : _) → IsViewOf L.listable D.decides view.now h
+        → IsEvent h number (event_of event.now)
         → result.low ≡ decision_low h (event_of event.now) }
-    ensures high { (h : History) → IsViewOf L.listable D.decides view.now h → result.high ≡ decision_high h (event_of event.now) }
+    ensures high { (h : History) → IsViewOf L.listable D.decides view.now h → result.high ≡ decision_high h
+        (event_of event.now) }
 {
     Window {
         low: lowest(view.windows, earlier(event.lo, view.lag)),
@@ -58,9 +60,11 @@ fn places_of<L: Listable, D: Decisions>(
     number: u32,
     event: &LogEvent,
 ) -> Option<Places>
-    ensures some { IfSome result (λ places. (h : History) → IsViewOf L.listable D.decides view.now h → IsEvent h number (event_of event.now)
+    ensures some { IfSome result (λ places. (h : History) → IsViewOf L.listable D.decides view.now h
+        → IsEvent h number (event_of event.now)
         → AreLeastPlaces h number (event_of event.now) places) }
-    ensures none { IfNone result ((h : History) → IsViewOf L.listable D.decides view.now h → IsEvent h number (event_of event.now)
+    ensures none { IfNone result ((h : History) → IsViewOf L.listable D.decides view.now h
+        → IsEvent h number (event_of event.now)
         → (places : Places) → IsDecidedAt h number (event_of event.now) places → ⊥) }
 {
     let window = decision_window_of(view, event);

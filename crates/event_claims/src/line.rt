@@ -31,7 +31,8 @@ fn is_fixed_right<L: Listable, D: Decisions>(
 ) -> bool
     ensures { (h : History) → IsViewOf L.listable D.decides view.now h → IsCaseOf h case.entry
         → IsSaid h (event_word h case.entry.number (event_of case.entry.event.now)) word
-        → IsTrue result ↔ (IsOfPolicy (event_of case.entry.event.now) × IsFixedBy h (event_of case.entry.event.now) (event_word h case.entry.number (event_of case.entry.event.now))) }
+        → IsTrue result ↔ (IsOfPolicy (event_of case.entry.event.now) × IsFixedBy h
+        (event_of case.entry.event.now) (event_word h case.entry.number (event_of case.entry.event.now))) }
 {
     fixed_fault(view, case, word).is_none()
 }
@@ -54,7 +55,8 @@ fn least_place<L: Listable, D: Decisions>(
     ensures { IfOk result (λ found. (h : History) → IsViewOf L.listable D.decides view.now h → IsCaseOf h case.entry
         → IsWindowOf h (event_of case.entry.event.now) window
         → event_word h case.entry.number (event_of case.entry.event.now) ≡ At
-        → IsChoice (ranges h) choice.now → IsAnswered h choice.now case.entry.number (event_of case.entry.event.now) found) }
+        → IsChoice (ranges h) choice.now → IsAnswered h choice.now case.entry.number
+        (event_of case.entry.event.now) found) }
 {
     let known = Known {
         past: view.past,
@@ -88,7 +90,8 @@ fn placed_answer<L: Listable, D: Decisions>(
     ensures { IfOk result (λ found. (h : History) → IsViewOf L.listable D.decides view.now h → IsCaseOf h case.entry
         → IsWindowOf h (event_of case.entry.event.now) window
         → IsSaid h (event_word h case.entry.number (event_of case.entry.event.now)) word
-        → IsChoice (ranges h) choice.now → IsAnswered h choice.now case.entry.number (event_of case.entry.event.now) found) }
+        → IsChoice (ranges h) choice.now → IsAnswered h choice.now case.entry.number
+        (event_of case.entry.event.now) found) }
 {
     match word {
         Word::Makes(revision) => Ok(Some(PlacedAnswer::Made(revision))),
@@ -101,7 +104,8 @@ fn placed_answer<L: Listable, D: Decisions>(
 
 // The line with this answer, where the decision could be given.
 fn line_with(line: u64, answer: PlacedAnswer, decided: Decided) -> Option<PlacedLine>
-    ensures { (h : History) (number : ℕ) (event : Event) → IsDecided h number event decided → IsLineWith h number event line answer result }
+    ensures { (h : History) (number : ℕ) (event : Event) → IsDecided h number event decided
+        → IsLineWith h number event line answer result }
 {
     match decided {
         Decided::Unasked => Some(PlacedLine {
@@ -125,7 +129,8 @@ fn line_in<L: Listable, D: Decisions>(
     choice: &[u64],
 ) -> Result<Option<PlacedLine>, OutOfMemory>
     ensures { IfOk result (λ found. (h : History) → IsViewOf L.listable D.decides view.now h → IsCaseOf h case.entry
-        → IsChoice (ranges h) choice.now → IsLined h choice.now case.entry.number (event_of case.entry.event.now) found) }
+        → IsChoice (ranges h) choice.now → IsLined h choice.now case.entry.number
+        (event_of case.entry.event.now) found) }
 {
     let window = window_of(view.windows, view.start, case.event);
     let word = word_of(view.past, view.start, case.number, case.event);
@@ -150,7 +155,8 @@ pub fn placed_line<L: Listable, D: Decisions>(
     choice: &[u64],
 ) -> Result<Option<PlacedLine>, OutOfMemory>
     requires { event < length view.now.log.now }
-    ensures { IfOk result (λ found. (h : History) (e : Event) → IsViewOf L.listable D.decides view.now h → IsFaultAt h event fault
+    ensures { IfOk result (λ found. (h : History) (e : Event) → IsViewOf L.listable D.decides view.now h
+        → IsFaultAt h event fault
         → IsEvent h event e → IsChoice (ranges h) choice.now → IsLined h choice.now event e found) }
 {
     let case = Case {

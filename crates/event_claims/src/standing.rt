@@ -80,8 +80,10 @@ fn removal_at(removals: &[Removal], position: u32) -> Option<&Removal>
 
 // The code of a removal whose conditions aren't met.
 fn removal_fault(known: Known<'_>, event: &LogEvent, position: u32) -> Option<Reason>
-    ensures { (h : History) (removal : _) → IsPastOf known.entry.past.now h → HasClouds known.entry.clouds.now h → slice_get h.removals position ≡ Some removal
-        → IsVerdict (IsFixedBy h (event_of event.now) (Removes removal)) (HasWordCode h (event_of event.now) (Removes removal)) result }
+    ensures { (h : History) (removal : _) → IsPastOf known.entry.past.now h
+        → HasClouds known.entry.clouds.now h → slice_get h.removals position ≡ Some removal
+        → IsVerdict (IsFixedBy h (event_of event.now) (Removes removal)) (HasWordCode h (event_of event.now)
+        (Removes removal)) result }
 {
     let Some(removal) = removal_at(known.past.removals(), position) else {
         return None;
@@ -103,7 +105,8 @@ pub fn word_fault(
     ensures { (h : History) (number : ℕ) → IsPastOf known.entry.past.now h → HasClouds known.entry.clouds.now h
         → IsEvent h number (event_of event.now) → IsFaultOf h number (event_of event.now) fault
         → IsSaid h (event_word h number (event_of event.now)) word
-        → IsVerdict (IsFixedBy h (event_of event.now) (event_word h number (event_of event.now))) (HasWordCode h (event_of event.now) (event_word h number (event_of event.now))) result }
+        → IsVerdict (IsFixedBy h (event_of event.now) (event_word h number (event_of event.now)))
+        (HasWordCode h (event_of event.now) (event_word h number (event_of event.now))) result }
 {
     match word {
         Word::Makes(_) => fault,
@@ -116,7 +119,8 @@ pub fn word_fault(
 
 // Whether the object of the answer of a write is clouded somewhere in the window.
 fn is_hidden(clouds: &Clouds, event: &LogEvent, window: Window) -> bool
-    ensures { (h : History) (item : _) (created : _) → HasClouds clouds.now h → (event_of event.now).answer ≡ Made item created
+    ensures { (h : History) (item : _) (created : _) → HasClouds clouds.now h
+        → (event_of event.now).answer ≡ Made item created
         → IsTrue result ↔ IsCloudedWithin h item.key window.low window.high }
 {
     match &event.answer {

@@ -15,8 +15,8 @@ pub trait Decisions {
 
     ghost decides: { Self → ℕ → Places → Bool };
 
-    /// The least four places from `low` to `high` at which the authoriser could give the judged decision of the event of
-    /// this number.
+    /// The least four places from `low` to `high` at which the authoriser could give the judged decision of the event
+    /// of this number.
     fn find(&self, event: u32, low: u64, high: u64) -> Option<Places>
         ensures some { IfSome result (AreLeastWithin (decides self.now event) low high) }
         ensures none { IfNone result (AreNoneWithin (decides self.now event) low high) };

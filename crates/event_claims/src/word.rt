@@ -77,7 +77,8 @@ fn removal_word(past: &Past, number: u32) -> Word
 
 /// What an event is in a placement.
 pub fn word_of(past: &Past, start: Revision, number: u32, event: &LogEvent) -> Word
-    ensures { (h : History) → h.start ≡ start → HasPast past.now h → IsSaid h (word h number (event_of event.now)) result }
+    ensures { (h : History) → h.start ≡ start → HasPast past.now h
+        → IsSaid h (word h number (event_of event.now)) result }
 {
     match &event.answer {
         Shown::Made { item, created: _ } => write_word(past, start, number, item),

@@ -1,6 +1,7 @@
 ghost use Rattle.std.specs.Prelude.{◌≡◌, ◌++◌, IfOk, OnOk, filter, map, string_bytes};
 ghost use Rattle.std.specs.List.{flat_map};
-ghost use Rattle.finding_picture.specs.Caches.{caches_rows, caches_section, caches_text, come_row, gone_row, has_come, may_have_gone};
+ghost use Rattle.finding_picture.specs.Caches.{caches_rows, caches_section, caches_text, come_row, gone_row};
+ghost use Rattle.finding_picture.specs.Caches.{has_come, may_have_gone};
 
 use crate::finding::Finding;
 use crate::limits::MOST_ROWS;
@@ -141,7 +142,8 @@ fn push_all_come(
     log: &[LogEvent],
     come: &[&Version],
 ) -> Result<(), OutOfMemory>
-    ensures { OnOk result (string_bytes text.new ≡ string_bytes text.old ++ flat_map (come_row log.now) (map (λ v. v.now) come.now)) }
+    ensures { OnOk result (string_bytes text.new ≡ string_bytes text.old ++ flat_map (come_row log.now)
+        (map (λ v. v.now) come.now)) }
 {
     for version in come {
         push_come(alloc, text, log, version)?;
@@ -155,7 +157,8 @@ fn push_all_gone(
     log: &[LogEvent],
     gone: &[&Removal],
 ) -> Result<(), OutOfMemory>
-    ensures { OnOk result (string_bytes text.new ≡ string_bytes text.old ++ flat_map (gone_row log.now) (map (λ r. r.now) gone.now)) }
+    ensures { OnOk result (string_bytes text.new ≡ string_bytes text.old ++ flat_map (gone_row log.now)
+        (map (λ r. r.now) gone.now)) }
 {
     for removal in gone {
         push_gone(alloc, text, log, removal)?;

@@ -2,7 +2,8 @@ ghost use Rattle.std.specs.Prelude.{◌≡◌, ◌++◌, IfOk, OnOk, map, string
 ghost use Rattle.std.specs.List.{flat_map};
 ghost use Rattle.history_model.specs.Windows.{low_end};
 ghost use Rattle.write_groups.specs.Modelled.{event_of};
-ghost use Rattle.finding_picture.specs.Hiding.{cover_row, hidden_row, hiding_rows, hiding_text, is_unrecorded, name_text, namespace_text, unrecorded_in};
+ghost use Rattle.finding_picture.specs.Hiding.{cover_row, hidden_row, hiding_rows, hiding_text, is_unrecorded};
+ghost use Rattle.finding_picture.specs.Hiding.{name_text, namespace_text, unrecorded_in};
 ghost use Rattle.version_store.specs.Histories.{history_of};
 
 use crate::limits::MOST_ROWS;
@@ -87,7 +88,8 @@ fn push_hidden_rows(
 // A row of an unrecorded write, and nothing of every other event.
 #[tactic(auto, unfolding(crate::specs::Hiding::hidden_row))]
 fn push_hidden(text: &mut String, context: &Context, event: &LogEvent) -> Result<(), OutOfMemory>
-    ensures { OnOk result (string_bytes text.new ≡ string_bytes text.old ++ hidden_row (history_of context.now) event.now) }
+    ensures { OnOk result (string_bytes text.new ≡ string_bytes text.old ++ hidden_row
+        (history_of context.now) event.now) }
 {
     if let Shown::Opaque { cover } = &event.answer {
         push_cover(text, event.line, low_of(context, event), cover)?;

@@ -1,5 +1,6 @@
 ghost use Rattle.std.specs.Prelude.{◌≡◌, ◌++◌, OnOk, string_bytes};
-ghost use Rattle.finding_picture.specs.Marks.{bar_width, drawn_high, last_revision, mark_text, places_axis, range_text, tick_text};
+ghost use Rattle.finding_picture.specs.Marks.{bar_width, drawn_high, last_revision, mark_text, places_axis};
+ghost use Rattle.finding_picture.specs.Marks.{range_text, tick_text};
 
 use base_types::{OutOfMemory, Text, WriteLine};
 use markup::{Axis, Told};

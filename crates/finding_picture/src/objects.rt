@@ -1,6 +1,8 @@
 ghost use Rattle.std.specs.Prelude.{◌≡◌, ◌++◌, IfOk, OnOk, Some, map, option_map, string_bytes};
 ghost use Rattle.std.specs.List.{flat_map};
-ghost use Rattle.finding_picture.specs.Objects.{answer_key, key_on, line_at, logged_on, maker_text, object_rows, object_section, object_text, removal_row, removals_of, version_row, versions_of};
+ghost use Rattle.finding_picture.specs.Objects.{answer_key, key_on, line_at, logged_on, maker_text, object_rows};
+ghost use Rattle.finding_picture.specs.Objects.{object_section, object_text, removal_row, removals_of, version_row};
+ghost use Rattle.finding_picture.specs.Objects.{versions_of};
 
 use crate::limits::{MOST_MARKS, MOST_ROWS};
 use base_types::{ObjectKey, OutOfMemory, key_text};
@@ -178,7 +180,8 @@ fn push_versions(
     log: &[LogEvent],
     versions: &[&Version],
 ) -> Result<(), OutOfMemory>
-    ensures { OnOk result (string_bytes text.new ≡ string_bytes text.old ++ flat_map (version_row log.now) (map (λ v. v.now) versions.now)) }
+    ensures { OnOk result (string_bytes text.new ≡ string_bytes text.old ++ flat_map (version_row log.now)
+        (map (λ v. v.now) versions.now)) }
 {
     for version in versions {
         push_version(text, log, version)?;
@@ -191,7 +194,8 @@ fn push_removals(
     log: &[LogEvent],
     removals: &[&Removal],
 ) -> Result<(), OutOfMemory>
-    ensures { OnOk result (string_bytes text.new ≡ string_bytes text.old ++ flat_map (removal_row log.now) (map (λ r. r.now) removals.now)) }
+    ensures { OnOk result (string_bytes text.new ≡ string_bytes text.old ++ flat_map (removal_row log.now)
+        (map (λ r. r.now) removals.now)) }
 {
     for removal in removals {
         push_removal(text, log, removal)?;

@@ -1,6 +1,8 @@
 ghost use Rattle.std.specs.Prelude.{◌≡◌, ◌++◌, OnOk, Some, option_map, string_bytes};
 ghost use Rattle.std.specs.List.{flat_map};
-ghost use Rattle.finding_picture.specs.Requests.{answered_text, asked_text, decision_text, decision_word, entry_text, event_text, group_text, impersonated_text, pair_text, request_text, status_text, time_entry, user_text};
+ghost use Rattle.finding_picture.specs.Requests.{answered_text, asked_text, decision_text, decision_word};
+ghost use Rattle.finding_picture.specs.Requests.{entry_text, event_text, group_text, impersonated_text, pair_text};
+ghost use Rattle.finding_picture.specs.Requests.{request_text, status_text, time_entry, user_text};
 
 use crate::showing::push_showing;
 use audit_event::{Event, Status};
@@ -33,7 +35,8 @@ pub fn push_request(
 
 #[tactic(auto, unfolding(crate::specs::Requests::event_text))]
 fn push_event(text: &mut String, event: Option<&Event>) -> Result<(), OutOfMemory>
-    ensures { OnOk result (string_bytes text.new ≡ string_bytes text.old ++ event_text (option_map (λ event. event.now) event.entry)) }
+    ensures { OnOk result (string_bytes text.new ≡ string_bytes text.old ++ event_text
+        (option_map (λ event. event.now) event.entry)) }
 {
     match event {
         Some(event) => push_recorded(text, event)?,

@@ -30,7 +30,8 @@ pub fn push_rows(
 }
 
 fn push_each(text: &mut String, context: &Context, writes: &[WriteLine]) -> Result<(), OutOfMemory>
-    ensures { OnOk result (string_bytes text.new ≡ string_bytes text.old ++ flat_map (row_text context.now.events) (take most_marks writes.now)) }
+    ensures { OnOk result (string_bytes text.new ≡ string_bytes text.old ++ flat_map
+        (row_text context.now.events) (take most_marks writes.now)) }
 {
     for write in first_of(writes, MOST_MARKS) {
         push_row(text, context, write)?;
@@ -72,7 +73,8 @@ fn push_author(
     line: u64,
     key: &Text,
 ) -> Result<(), OutOfMemory>
-    ensures { OnOk result (string_bytes text.new ≡ string_bytes text.old ++ author_text context.now.events line key.now) }
+    ensures { OnOk result (string_bytes text.new ≡ string_bytes text.old ++ author_text context.now.events
+        line key.now) }
 {
     write!(
         text,
@@ -85,7 +87,8 @@ fn push_author(
 
 #[tactic(auto, unfolding(crate::specs::Rows::event_cells))]
 fn push_cells(text: &mut String, event: Option<&Event>) -> Result<(), OutOfMemory>
-    ensures { OnOk result (string_bytes text.new ≡ string_bytes text.old ++ event_cells (option_map (λ event. event.now) event.entry)) }
+    ensures { OnOk result (string_bytes text.new ≡ string_bytes text.old ++ event_cells
+        (option_map (λ event. event.now) event.entry)) }
 {
     match event {
         Some(event) => push_event_cells(text, event)?,

@@ -1,15 +1,17 @@
-ghost use Rattle.std.specs.Prelude.{◌≡◌, ◌++◌, ◌+◌, ◌≤◌, [], IfOk, OnOk, Some, if◌then◌else◌, min, nat_lt, option_map, string_bytes};
+ghost use Rattle.std.specs.Prelude.{◌≡◌, ◌++◌, ◌+◌, ◌≤◌, [], IfOk, OnOk, Some, if◌then◌else◌, min, nat_lt};
+ghost use Rattle.std.specs.Prelude.{option_map, string_bytes};
 ghost use Rattle.std.specs.List.{flat_map};
 ghost use Rattle.finding_picture.specs.Limits.{most_marks};
-ghost use Rattle.finding_picture.specs.Segments.{drawn_versions, is_on_axis, segment_text, segment_width, segments_text};
+ghost use Rattle.finding_picture.specs.Segments.{drawn_versions, is_on_axis, segment_text, segment_width};
+ghost use Rattle.finding_picture.specs.Segments.{segments_text};
 
 use crate::limits::MOST_MARKS;
 use base_types::{ObjectKey, OutOfMemory};
 use markup::{Axis, Told};
 use object_past::Version;
 
-/// Appends the versions of an object that were there on the axis as boxes from their revisions on; nothing where there is
-/// no key.
+/// Appends the versions of an object that were there on the axis as boxes from their revisions on; nothing where there
+/// is no key.
 #[tactic(auto, unfolding(crate::specs::Segments::segments_text))]
 pub fn push_segments(
     text: &mut String,

@@ -1,5 +1,6 @@
 ghost use Rattle.std.specs.Prelude.{◌≡◌, ◌++◌, OnOk, option_map, string_bytes};
-ghost use Rattle.finding_picture.specs.Showing.{answer_text, item_text, listing_text, removed_text, showing_text, wanted_revision, wanted_uid, whole_words, words_text};
+ghost use Rattle.finding_picture.specs.Showing.{answer_text, item_text, listing_text, removed_text, showing_text};
+ghost use Rattle.finding_picture.specs.Showing.{wanted_revision, wanted_uid, whole_words, words_text};
 
 use base_types::{OutOfMemory, Revision, Text};
 use markup::Told;
@@ -8,7 +9,8 @@ use write_groups::{Item, Listing, LogEvent, Shown};
 /// Appends what an event's answer shows, and what its request asks of the object before.
 #[tactic(auto, unfolding(crate::specs::Showing::showing_text))]
 pub fn push_showing(text: &mut String, event: Option<&LogEvent>) -> Result<(), OutOfMemory>
-    ensures { OnOk result (string_bytes text.new ≡ string_bytes text.old ++ showing_text (option_map (λ event. event.now) event.entry)) }
+    ensures { OnOk result (string_bytes text.new ≡ string_bytes text.old ++ showing_text
+        (option_map (λ event. event.now) event.entry)) }
 {
     if let Some(event) = event {
         push_wanted_revision(text, event.preconditions.revision)?;

@@ -1,7 +1,9 @@
 ghost use Rattle.std.specs.Prelude.{◌≡◌, ◌++◌, OnOk, Some, option_map, string_bytes, take};
 ghost use Rattle.std.specs.List.{flat_map};
 ghost use Rattle.finding_picture.specs.Limits.{most_marks};
-ghost use Rattle.finding_picture.specs.Times.{bar_text, begin_or, end_or, ends_text, first_instant, instant, last_instant, line_of, span_text, times_axis, times_band, times_section, times_text, write_bar};
+ghost use Rattle.finding_picture.specs.Times.{bar_text, begin_or, end_or, ends_text, first_instant, instant};
+ghost use Rattle.finding_picture.specs.Times.{last_instant, line_of, span_text, times_axis, times_band};
+ghost use Rattle.finding_picture.specs.Times.{times_section, times_text, write_bar};
 
 use crate::limits::MOST_MARKS;
 use crate::looking::event_on;
@@ -51,7 +53,8 @@ fn push_section(
     event: &Event,
     writes: &[WriteLine],
 ) -> Result<(), OutOfMemory>
-    ensures { OnOk result (string_bytes text.new ≡ string_bytes text.old ++ times_section context.now.events event.now writes.now) }
+    ensures { OnOk result (string_bytes text.new ≡ string_bytes text.old ++ times_section context.now.events
+        event.now writes.now) }
 {
     let axis = times_axis(context, event, writes);
     push_band(text, &axis, event)?;
@@ -179,7 +182,8 @@ fn push_bars(
     axis: &Axis,
     writes: &[WriteLine],
 ) -> Result<(), OutOfMemory>
-    ensures { OnOk result (string_bytes text.new ≡ string_bytes text.old ++ flat_map (write_bar context.now.events axis.now) (take most_marks writes.now)) }
+    ensures { OnOk result (string_bytes text.new ≡ string_bytes text.old ++ flat_map
+        (write_bar context.now.events axis.now) (take most_marks writes.now)) }
 {
     for write in first_of(writes, MOST_MARKS) {
         let line = line_of(write);
@@ -195,7 +199,8 @@ fn push_bar(
     line: u64,
     event: Option<&Event>,
 ) -> Result<(), OutOfMemory>
-    ensures { OnOk result (string_bytes text.new ≡ string_bytes text.old ++ bar_text axis.now line (option_map (λ event. event.now) event.entry)) }
+    ensures { OnOk result (string_bytes text.new ≡ string_bytes text.old ++ bar_text axis.now line
+        (option_map (λ event. event.now) event.entry)) }
 {
     if let Some(event) = event {
         push_event_bar(text, axis, line, event)?;

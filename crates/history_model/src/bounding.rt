@@ -1,14 +1,18 @@
 //! Laws of local bounds: at which one place of its window an answer turns on the choice of the removals'
 //! places, and which bound on which range that is.
 
-ghost use Rattle.std.specs.Prelude.{◌≡◌, ◌<◌, ◌≤◌, ℕ, ◌⊎◌, ◌↔◌, Bool, List, Option, Some, None, IsSome, IsSomeAnd, AllPairs, Contains};
+ghost use Rattle.std.specs.Prelude.{◌≡◌, ◌<◌, ◌≤◌, ℕ, ◌⊎◌, ◌↔◌, Bool, List, Option, Some, None, IsSome, IsSomeAnd};
+ghost use Rattle.std.specs.Prelude.{AllPairs, Contains};
 ghost use Rattle.base_types.specs.Choices.{IsChoice, Meets, MeetsAll};
 ghost use Rattle.base_types.specs.declared.claim.Bound.{Bound};
 ghost use Rattle.base_types.specs.declared.claim.Range.{Range};
 ghost use Rattle.base_types.specs.declared.key.ObjectKey.{ObjectKey};
-ghost use Rattle.history_model.specs.Bounding.{SomewhereIn, IsAbsentAnyway, ComesIn, IsRemovalAt, absence_bound, presence_bound, Demand, demand_key, IsAsked, IsNever, IsBounded, AreListBounds, IsOpen};
+ghost use Rattle.history_model.specs.Bounding.{SomewhereIn, IsAbsentAnyway, ComesIn, IsRemovalAt, absence_bound};
+ghost use Rattle.history_model.specs.Bounding.{presence_bound, Demand, demand_key, IsAsked, IsNever, IsBounded};
+ghost use Rattle.history_model.specs.Bounding.{AreListBounds, IsOpen};
 ghost use Rattle.history_model.specs.Clouds.{IsCloudedWithin};
-ghost use Rattle.history_model.specs.Events.{Text, Item, Event, Listing, Made, Removed, Saw, SawNone, SawSome, SawOther, Listed};
+ghost use Rattle.history_model.specs.Events.{Text, Item, Event, Listing, Made, Removed, Saw, SawNone, SawSome};
+ghost use Rattle.history_model.specs.Events.{SawOther, Listed};
 ghost use Rattle.history_model.specs.Histories.{History, Version, Removal, ranges};
 ghost use Rattle.history_model.specs.Local.{AnswerHolds};
 ghost use Rattle.history_model.specs.Making.{MeetsConditions, CouldHaveFound};
@@ -21,17 +25,23 @@ ghost use Rattle.history_model.specs.Words.{At, word};
 /// At one place an object is absent, or present, exactly under one bound on the range of its removal.
 /// Without a removal its latest version is always there.
 pub fn bound_law()
-    ensures absence { (h : History) (choice : List ℕ) (key : ObjectKey) (place position : ℕ) (v : Version) (removal : Removal)
-        → IsReadable h → IsChoice (ranges h) choice → latest h.versions key place ≡ Some v → IsRemovalAt h position v removal
+    ensures absence { (h : History) (choice : List ℕ) (key : ObjectKey) (place position : ℕ) (v : Version)
+        (removal : Removal)
+        → IsReadable h → IsChoice (ranges h) choice → latest h.versions key place ≡ Some v
+        → IsRemovalAt h position v removal
         → (state h choice place key ≡ None) ↔ Meets choice (absence_bound position removal place) }
-    ensures presence { (h : History) (choice : List ℕ) (key : ObjectKey) (place position : ℕ) (v : Version) (removal : Removal)
-        → IsReadable h → IsChoice (ranges h) choice → latest h.versions key place ≡ Some v → IsRemovalAt h position v removal
+    ensures presence { (h : History) (choice : List ℕ) (key : ObjectKey) (place position : ℕ) (v : Version)
+        (removal : Removal)
+        → IsReadable h → IsChoice (ranges h) choice → latest h.versions key place ≡ Some v
+        → IsRemovalAt h position v removal
         → (state h choice place key ≡ Some v) ↔ Meets choice (presence_bound position removal place) }
     ensures kept { (h : History) (choice : List ℕ) (key : ObjectKey) (place : ℕ) (v : Version)
         → IsReadable h → IsChoice (ranges h) choice → latest h.versions key place ≡ Some v
-        → ((removal : Removal) → Contains h.removals removal → removal.last ≡ v.revision → ⊥) → state h choice place key ≡ Some v }
+        → ((removal : Removal) → Contains h.removals removal → removal.last ≡ v.revision → ⊥)
+        → state h choice place key ≡ Some v }
     ensures none { (h : History) (choice : List ℕ) (key : ObjectKey) (place : ℕ)
-        → IsReadable h → IsChoice (ranges h) choice → latest h.versions key place ≡ None → state h choice place key ≡ None }
+        → IsReadable h → IsChoice (ranges h) choice → latest h.versions key place ≡ None
+        → state h choice place key ≡ None }
 {}
 
 /// A NotFound holds where its key is clouded in the window, or absent there whatever is chosen, or absent at

@@ -3,7 +3,8 @@
 ghost use Rattle.std.specs.Prelude.{◌≡◌, ℕ, List, Some, slice_get};
 ghost use Rattle.base_types.specs.Placements.{RisesByLine};
 ghost use Rattle.base_types.specs.declared.placed.PlacedLine.{PlacedLine};
-ghost use Rattle.history_model.specs.Checking.{CheckCode, DiffersAt, HasWords, IsFaultless, IsFirstFault, IsVerified, NoLine};
+ghost use Rattle.history_model.specs.Checking.{CheckCode, DiffersAt, HasWords, IsFaultless, IsFirstFault};
+ghost use Rattle.history_model.specs.Checking.{IsVerified, NoLine};
 ghost use Rattle.history_model.specs.Events.{Event};
 ghost use Rattle.history_model.specs.Histories.{History, IsEvent};
 ghost use Rattle.history_model.specs.Readable.{IsReadable};
@@ -16,7 +17,8 @@ pub fn verified_law()
 /// A placement has at most one first fault, and where it has one it isn't verified.
 pub fn fault_law()
     ensures one { (h : History) (lines : List PlacedLine) (at other : ℕ) (code different : CheckCode)
-        → IsReadable h → IsFirstFault h lines at code → IsFirstFault h lines other different → (at ≡ other) × (code ≡ different) }
+        → IsReadable h → IsFirstFault h lines at code → IsFirstFault h lines other different → (at ≡ other)
+        × (code ≡ different) }
     ensures fails { (h : History) (lines : List PlacedLine) (at : ℕ) (code : CheckCode)
         → IsReadable h → IsFirstFault h lines at code → IsVerified h lines → ⊥ }
 {}
@@ -25,5 +27,6 @@ pub fn fault_law()
 pub fn spelling_law()
     ensures { (h : History) (lines : List PlacedLine) → IsReadable h → RisesByLine lines → NoLine (DiffersAt h lines)
         → (number : ℕ) (event : Event) → IsEvent h number event
-        → (line : PlacedLine) × (slice_get lines number ≡ Some line) × (line.line ≡ event.line) × HasWords h number event line }
+        → (line : PlacedLine) × (slice_get lines number ≡ Some line) × (line.line ≡ event.line)
+        × HasWords h number event line }
 {}

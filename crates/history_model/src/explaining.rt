@@ -11,7 +11,8 @@ ghost use Rattle.history_model.specs.Events.{Event};
 ghost use Rattle.history_model.specs.Exact.{AreExact};
 ghost use Rattle.history_model.specs.Histories.{History, IsEvent, ranges};
 ghost use Rattle.history_model.specs.Local.{AreRightUpTo};
-ghost use Rattle.history_model.specs.Outcomes.{Outcome, Explained, Unexplained, Write, AreWrites, IsOutcome, IsLeastOfRuns, shown_low, shown_high};
+ghost use Rattle.history_model.specs.Outcomes.{Outcome, Explained, Unexplained, Write, AreWrites, IsOutcome};
+ghost use Rattle.history_model.specs.Outcomes.{IsLeastOfRuns, shown_low, shown_high};
 ghost use Rattle.history_model.specs.Placed.{ArePlacedLines, placement_of};
 ghost use Rattle.history_model.specs.Readable.{IsReadable, HaveOneLog};
 ghost use Rattle.history_model.specs.Runs.{IsRun, IsExplainedUpTo};
@@ -28,8 +29,10 @@ pub fn outcome_law()
     ensures explained { (h : History) (claims : List Claim) (choice : List ℕ) (lines : List PlacedLine)
         → IsReadable h → AreExact h claims → IsLeastChoice (ranges h) claims choice → ArePlacedLines h choice lines
         → IsOutcome h (Explained lines) }
-    ensures unexplained { (h : History) (claims : List Claim) (number : ℕ) (event : Event) (reason : Reason) (writes : List Write)
-        → IsReadable h → AreExact h claims → IsEvent h number event → BreaksFirst (ranges h) claims h.order number reason
+    ensures unexplained { (h : History) (claims : List Claim) (number : ℕ) (event : Event) (reason : Reason)
+        (writes : List Write)
+        → IsReadable h → AreExact h claims → IsEvent h number event
+        → BreaksFirst (ranges h) claims h.order number reason
         → AreWrites h (shown_low h event reason) (shown_high h event reason) writes
         → IsOutcome h (Unexplained number reason (shown_low h event reason) (shown_high h event reason) writes) }
 {}

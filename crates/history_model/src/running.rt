@@ -7,7 +7,8 @@ ghost use Rattle.history_model.specs.Events.{Event};
 ghost use Rattle.history_model.specs.Groups.{Making};
 ghost use Rattle.history_model.specs.Histories.{History, Version, IsEvent, ranges};
 ghost use Rattle.history_model.specs.Local.{IsLocallyRight};
-ghost use Rattle.history_model.specs.Machine.{Step, MayRemove, MeetsPreconditions, Runs, after_all, snapshot_map, step_place};
+ghost use Rattle.history_model.specs.Machine.{Step, MayRemove, MeetsPreconditions, Runs, after_all, snapshot_map};
+ghost use Rattle.history_model.specs.Machine.{step_place};
 ghost use Rattle.history_model.specs.Making.{IsEntryBefore, IsLeastFault};
 ghost use Rattle.history_model.specs.Readable.{IsReadable};
 ghost use Rattle.history_model.specs.Runs.{Placement, AreSteps, IsOfFirst, IsPlacedUpTo};
@@ -25,8 +26,10 @@ pub fn state_law()
 /// For every choice and every event that makes a revision, the least fault with the map's entry is the
 /// least fault with the entry before the revision, which no choice decides.
 pub fn makings_law()
-    ensures { (h : History) (choice : List ℕ) (number : ℕ) (event : Event) (m : Making) (before : Option Version) (found : Option Reason)
-        → IsReadable h → IsChoice (ranges h) choice → IsEvent h number event → word h number event ≡ Makes m → IsEntryBefore h m before
+    ensures { (h : History) (choice : List ℕ) (number : ℕ) (event : Event) (m : Making)
+        (before : Option Version) (found : Option Reason)
+        → IsReadable h → IsChoice (ranges h) choice → IsEvent h number event → word h number event ≡ Makes m
+        → IsEntryBefore h m before
         → IsLeastFault h m (state h choice (m.item.revision - 1) m.item.key) found ↔ IsLeastFault h m before found }
 {}
 

@@ -1,6 +1,8 @@
-ghost use Rattle.std.specs.Prelude.{◌≡◌, ◌<◌, ◌≤◌, ◌++◌, ◌↔◌, IfOk, IfSome, IsTrue, OnOk, length, string_bytes, option_and_then, slice_get, Contains};
+ghost use Rattle.std.specs.Prelude.{◌≡◌, ◌<◌, ◌≤◌, ◌++◌, ◌↔◌, IfOk, IfSome, IsTrue, OnOk, length, string_bytes};
+ghost use Rattle.std.specs.Prelude.{option_and_then, slice_get, Contains};
 ghost use Rattle.history_query.specs.Appending.{Appends};
-ghost use Rattle.history_query.specs.Blaming.{IsBlame, IsBlameText, IsPresentBlame, IsSince, since_text, value_at, value_text};
+ghost use Rattle.history_query.specs.Blaming.{IsBlame, IsBlameText, IsPresentBlame, IsSince, since_text, value_at};
+ghost use Rattle.history_query.specs.Blaming.{value_text};
 
 use crate::json::append_json;
 use crate::sight::{Sight, sight_of};
@@ -40,7 +42,8 @@ fn append_blame(
     pointer: &Pointer,
     place: u64,
 ) -> Result<(), OutOfMemory>
-    ensures { OnOk result (Appends (IsBlame context.now key.now pointer.now place) (string_bytes text.old) (string_bytes text.new)) }
+    ensures { OnOk result (Appends (IsBlame context.now key.now pointer.now place) (string_bytes text.old)
+        (string_bytes text.new)) }
 {
     match sight_of(context, key, place) {
         Sight::Clouded => text.push_str("clouded\n")?,
@@ -62,7 +65,8 @@ fn append_origin(
     version: &Version,
 ) -> Result<(), OutOfMemory>
     requires { Contains context.now.versions version.now }
-    ensures { OnOk result (Appends (IsPresentBlame context.now pointer.now (Some version.now)) (string_bytes text.old) (string_bytes text.new)) }
+    ensures { OnOk result (Appends (IsPresentBlame context.now pointer.now (Some version.now))
+        (string_bytes text.old) (string_bytes text.new)) }
 {
     append_value(alloc, text, context, value_in(context, pointer, version))?;
     append_since(alloc, text, context, since_of(context, pointer, version))?;
@@ -76,7 +80,8 @@ fn append_value(
     value: Option<NodeId>,
 ) -> Result<(), OutOfMemory>
     requires { IfSome value (λ node. node.0 < length context.now.trees) }
-    ensures { OnOk result (string_bytes text.new ≡ string_bytes text.old ++ value_text (option_and_then (λ node. slice_get context.now.trees node.0) value)) }
+    ensures { OnOk result (string_bytes text.new ≡ string_bytes text.old ++ value_text (option_and_then
+        (λ node. slice_get context.now.trees node.0) value)) }
 {
     match value {
         Some(node) => append_tree(alloc, text, context, node)?,
@@ -92,7 +97,8 @@ fn append_tree(
     node: NodeId,
 ) -> Result<(), OutOfMemory>
     requires { node.0 < length context.now.trees }
-    ensures { OnOk result (string_bytes text.new ≡ string_bytes text.old ++ value_text (slice_get context.now.trees node.0)) }
+    ensures { OnOk result (string_bytes text.new ≡ string_bytes text.old ++ value_text
+        (slice_get context.now.trees node.0)) }
 {
     text.push_str("value ")?;
     append_json(alloc, text, context.pool(), node)?;
@@ -106,7 +112,8 @@ fn append_since(
     context: &Context,
     since: &Version,
 ) -> Result<(), OutOfMemory>
-    ensures { OnOk result (string_bytes text.new ≡ string_bytes text.old ++ since_text context.now.events context.now.log since.now) }
+    ensures { OnOk result (string_bytes text.new ≡ string_bytes text.old ++ since_text context.now.events
+        context.now.log since.now) }
 {
     write!(text, "since {} ", since.revision.get())?;
     append_who(text, context, since.maker)?;
@@ -146,7 +153,8 @@ fn is_before(other: &Version, version: &Version) -> bool
 fn is_same_at(context: &Context, pointer: &Pointer, version: &Version, other: &Version) -> bool
     requires version { Contains context.now.versions version.now }
     requires other { Contains context.now.versions other.now }
-    ensures { IsTrue result ↔ ((other.now.uid ≡ version.now.uid) × (value_at context.now.trees pointer.now other.now ≡ value_at context.now.trees pointer.now version.now)) }
+    ensures { IsTrue result ↔ ((other.now.uid ≡ version.now.uid)
+        × (value_at context.now.trees pointer.now other.now ≡ value_at context.now.trees pointer.now version.now)) }
 {
     other.uid == version.uid && has_same_value(context, pointer, version, other)
 }
@@ -154,7 +162,8 @@ fn is_same_at(context: &Context, pointer: &Pointer, version: &Version, other: &V
 fn has_same_value(context: &Context, pointer: &Pointer, version: &Version, other: &Version) -> bool
     requires version { Contains context.now.versions version.now }
     requires other { Contains context.now.versions other.now }
-    ensures { IsTrue result ↔ (value_at context.now.trees pointer.now other.now ≡ value_at context.now.trees pointer.now version.now) }
+    ensures { IsTrue result ↔ (value_at context.now.trees pointer.now other.now ≡ value_at context.now.trees
+        pointer.now version.now) }
 {
     are_same(
         context.pool(),
@@ -166,7 +175,8 @@ fn has_same_value(context: &Context, pointer: &Pointer, version: &Version, other
 // What the pointer identifies in a version.
 fn value_in(context: &Context, pointer: &Pointer, version: &Version) -> Option<NodeId>
     requires { Contains context.now.versions version.now }
-    ensures value { option_and_then (λ node. slice_get context.now.trees node.0) result ≡ value_at context.now.trees pointer.now version.now }
+    ensures value { option_and_then (λ node. slice_get context.now.trees node.0) result ≡ value_at
+        context.now.trees pointer.now version.now }
     ensures within { IfSome result (λ node. node.0 < length context.now.trees) }
 {
     let _versions = context.versions();
@@ -177,7 +187,8 @@ fn value_in(context: &Context, pointer: &Pointer, version: &Version) -> Option<N
 fn are_same(pool: &Pool, first: Option<NodeId>, second: Option<NodeId>) -> bool
     requires first { IfSome first (λ node. node.0 < length pool.now.trees) }
     requires second { IfSome second (λ node. node.0 < length pool.now.trees) }
-    ensures { IsTrue result ↔ (option_and_then (λ node. slice_get pool.now.trees node.0) first ≡ option_and_then (λ node. slice_get pool.now.trees node.0) second) }
+    ensures { IsTrue result ↔ (option_and_then (λ node. slice_get pool.now.trees node.0) first ≡
+        option_and_then (λ node. slice_get pool.now.trees node.0) second) }
 {
     match (first, second) {
         (Some(first), Some(second)) => pool.same(first, second),

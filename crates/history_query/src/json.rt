@@ -15,7 +15,8 @@ use std::alloc::Global;
 fn print(alloc: Global, tree: &Tree) -> Result<String, OutOfMemory>
     requires { InRange tree.now }
     ensures text { IfOk result (λ text. string_bytes text ≡ json_text tree.now) }
-    ensures reads_back { IfOk result (λ text. depth (data_of tree.now) ≤ max_depth → read (string_bytes text) ≡ Some (data_of tree.now)) }
+    ensures reads_back { IfOk result (λ text. depth (data_of tree.now) ≤ max_depth
+        → read (string_bytes text) ≡ Some (data_of tree.now)) }
 {
     Ok(to_value(alloc, tree)?.to_string(alloc)?)
 }

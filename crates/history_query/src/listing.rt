@@ -8,8 +8,8 @@ use object_past::{Removal, Version};
 use std::alloc::Global;
 use version_store::Context;
 
-/// All versions of a key by revision, each with its uid and who wrote it, and behind the last one of each object that was
-/// removed the range of its removal.
+/// All versions of a key by revision, each with its uid and who wrote it, and behind the last one of each object that
+/// was removed the range of its removal.
 pub fn versions(alloc: Global, context: &Context, key: &ObjectKey) -> Result<Bytes, OutOfMemory>
     ensures { IfOk result (IsVersionsText context.now key.now) }
 {
@@ -75,7 +75,8 @@ fn append_removal(
     context: &Context,
     removal: &Removal,
 ) -> Result<(), OutOfMemory>
-    ensures { OnOk result (string_bytes text.new ≡ string_bytes text.old ++ removal_text context.now.log (Some removal.now)) }
+    ensures { OnOk result (string_bytes text.new ≡ string_bytes text.old ++ removal_text context.now.log
+        (Some removal.now)) }
 {
     let range = removal.range;
     let line = line_at(context, range.event);

@@ -54,7 +54,8 @@ fn append_present(
     present: Option<&Version>,
 ) -> Result<(), OutOfMemory>
     requires { IfSome present (λ version. Contains context.now.versions version.now) }
-    ensures { OnOk result (string_bytes text.new ≡ string_bytes text.old ++ present_text context.now.trees (option_map (λ version. version.now) present.entry)) }
+    ensures { OnOk result (string_bytes text.new ≡ string_bytes text.old ++ present_text context.now.trees
+        (option_map (λ version. version.now) present.entry)) }
 {
     if let Some(version) = present {
         append_version(alloc, text, context, version)?;
@@ -69,7 +70,8 @@ fn append_version(
     version: &Version,
 ) -> Result<(), OutOfMemory>
     requires { Contains context.now.versions version.now }
-    ensures { OnOk result (string_bytes text.new ≡ string_bytes text.old ++ present_text context.now.trees (Some version.now)) }
+    ensures { OnOk result (string_bytes text.new ≡ string_bytes text.old ++ present_text context.now.trees
+        (Some version.now)) }
 {
     // For the proof alone: the pool has the tree of each version.
     let _versions = context.versions();

@@ -50,7 +50,8 @@ fn removal_at(removals: &[Removal], position: u32) -> Option<&Removal>
 /// The removal of the object whose last version this is.
 pub fn removal_behind<'a>(past: &'a Past, version: &Version) -> Option<&'a Removal>
     ensures behind { option_map (λ removal. removal.now) result ≡ removal_behind past.now.removals version.now }
-    ensures alone { IfSome result (λ removal. All (λ other. other.last ≡ version.now.revision → other ≡ removal.now) past.now.removals) }
+    ensures alone { IfSome result (λ removal. All (λ other. other.last ≡ version.now.revision
+        → other ≡ removal.now) past.now.removals) }
 {
     let position = past.removal_of(version.revision.get())?;
     removal_at(past.removals(), position)
@@ -62,7 +63,8 @@ fn present_at<'a>(
     removal: Option<&Removal>,
     place: u64,
 ) -> Option<&'a Version>
-    ensures some { IfSome result (λ present. (present.now ≡ version.now) × IfSome removal.entry (λ removal. place < removal.now.range.high)) }
+    ensures some { IfSome result (λ present. (present.now ≡ version.now) × IfSome removal.entry
+        (λ removal. place < removal.now.range.high)) }
     ensures none { IfNone result (IsSomeAnd removal.entry (λ removal. removal.now.range.high ≤ place)) }
 {
     match removal {

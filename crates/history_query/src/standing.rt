@@ -47,7 +47,8 @@ fn append_key(
     key: &ObjectKey,
     place: u64,
 ) -> Result<(), OutOfMemory>
-    ensures { OnOk result (Appends (IsKeyText context.now place key.now) (string_bytes text.old) (string_bytes text.new)) }
+    ensures { OnOk result (Appends (IsKeyText context.now place key.now) (string_bytes text.old)
+        (string_bytes text.new)) }
 {
     match sight_of(context, key, place) {
         Sight::Clouded => append_clouded(alloc, text, key)?,
@@ -75,7 +76,8 @@ fn append_presence(
     version: &Version,
     absent: bool,
 ) -> Result<(), OutOfMemory>
-    ensures { OnOk result (string_bytes text.new ≡ string_bytes text.old ++ presence_text key.now (Some version.now) absent) }
+    ensures { OnOk result (string_bytes text.new ≡ string_bytes text.old ++ presence_text key.now
+        (Some version.now) absent) }
 {
     let word = presence_word(absent);
     let spelled = key_text(alloc, key)?;

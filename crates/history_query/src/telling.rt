@@ -1,5 +1,6 @@
 ghost use Rattle.std.specs.Prelude.{◌≡◌, ◌<◌, ◌↔◌, ◌++◌, IsTrue, OnOk, slice_get, string_bytes};
-ghost use Rattle.history_query.specs.Telling.{IsBelowStart, IsTracked, IsUntold, line_at, user_or_none, user_text, who_text};
+ghost use Rattle.history_query.specs.Telling.{IsBelowStart, IsTracked, IsUntold, line_at, user_or_none, user_text};
+ghost use Rattle.history_query.specs.Telling.{who_text};
 
 use base_types::{ObjectKey, OutOfMemory, escape};
 use object_past::Maker;
@@ -80,7 +81,8 @@ fn append_author(
     context: &Context,
     number: u32,
 ) -> Result<(), OutOfMemory>
-    ensures { OnOk result (string_bytes text.new ≡ string_bytes text.old ++ user_or_none (slice_get context.now.events number)) }
+    ensures { OnOk result (string_bytes text.new ≡ string_bytes text.old ++ user_or_none
+        (slice_get context.now.events number)) }
 {
     match context.events().get(number as usize) {
         Some(event) => text.push_str(escape(alloc, &event.user.name)?.as_str())?,

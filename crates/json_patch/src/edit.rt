@@ -137,7 +137,8 @@ fn edit_below_items(
         (λ left. IsTaken edit left (pointed (first.now ∷ next.now ∷ after.now) (items (kids_of list.old)))) }
     ensures size { IfOk result
         (IsEdited edit (2 + length after.now) (items (kids_of list.old)) (items (kids_of list.new))) }
-    ensures refused { IfErr result (RefusedBy (edited first.now (next.now ∷ after.now) edit (items (kids_of list.old)))) }
+    ensures refused { IfErr result (RefusedBy (edited first.now (next.now ∷ after.now) edit
+        (items (kids_of list.old)))) }
 {
     match list.find(first.as_str()) {
         Some(at) => {
@@ -159,7 +160,8 @@ fn edit_below_members(
     edit: Edit,
 ) -> Result<Option<Tree>, Refusal>
     ensures done { IfOk result
-        (λ _. edited first.now (next.now ∷ after.now) edit (members (fields_of list.old)) ≡ Ok (members (fields_of list.new))) }
+        (λ _. edited first.now (next.now ∷ after.now) edit (members (fields_of list.old)) ≡ Ok
+        (members (fields_of list.new))) }
     ensures taken { IfOk result
         (λ left. IsTaken edit left (pointed (first.now ∷ next.now ∷ after.now) (members (fields_of list.old)))) }
     ensures size { IfOk result
@@ -191,7 +193,8 @@ fn edit_in(alloc: Global, tree: &mut Tree, token: &str, edit: Edit) -> Result<Op
 }
 
 fn edit_item(list: &mut Trees, token: &str, edit: Edit) -> Result<Option<Tree>, Refusal>
-    ensures done { IfOk result (λ _. change_of edit token.now (items (kids_of list.old)) ≡ Ok (items (kids_of list.new))) }
+    ensures done { IfOk result (λ _. change_of edit token.now (items (kids_of list.old)) ≡ Ok
+        (items (kids_of list.new))) }
     ensures taken { IfOk result (λ left. IsTaken edit left (child_of token.now (items (kids_of list.old)))) }
     ensures size { IfOk result (IsEdited edit 1 (items (kids_of list.old)) (items (kids_of list.new))) }
     ensures refused { IfErr result (RefusedBy (change_of edit token.now (items (kids_of list.old)))) }
@@ -252,7 +255,8 @@ fn edit_member(
     token: &str,
     edit: Edit,
 ) -> Result<Option<Tree>, Refusal>
-    ensures done { IfOk result (λ _. change_of edit token.now (members (fields_of list.old)) ≡ Ok (members (fields_of list.new))) }
+    ensures done { IfOk result (λ _. change_of edit token.now (members (fields_of list.old)) ≡ Ok
+        (members (fields_of list.new))) }
     ensures taken { IfOk result (λ left. IsTaken edit left (child_of token.now (members (fields_of list.old)))) }
     ensures size { IfOk result (IsEdited edit 1 (members (fields_of list.old)) (members (fields_of list.new))) }
     ensures refused { IfErr result (RefusedBy (change_of edit token.now (members (fields_of list.old)))) }

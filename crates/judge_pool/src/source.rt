@@ -25,7 +25,8 @@ pub trait ClaimSource {
         ensures { IfOk result (is_claim self.now event) };
 
     // An event has one claim.
-    ghost one: { (source : Self) (event : ℕ) (a b : Claim) → event < events source → is_claim source event a → is_claim source event b → a ≡ b };
+    ghost one: { (source : Self) (event : ℕ) (a b : Claim) → event < events source → is_claim source event a
+        → is_claim source event b → a ≡ b };
 }
 
 /// How many events are worth a thread of their own.
@@ -59,5 +60,6 @@ pub fn claims_all<R: Threads + Sync, S: ClaimSource + Sync, G: Gate>(
 
 /// The claims are those of one thread, whatever the threads and the gate do: there is one list of them.
 pub fn one_list_law<S: ClaimSource>()
-    ensures { (source : S) (a b : List Claim) → AreClaims (S.events source) (S.is_claim source) a → AreClaims (S.events source) (S.is_claim source) b → a ≡ b }
+    ensures { (source : S) (a b : List Claim) → AreClaims (S.events source) (S.is_claim source) a
+        → AreClaims (S.events source) (S.is_claim source) b → a ≡ b }
 {}

@@ -27,7 +27,8 @@ pub fn report_of<R: Threads + Sync, D: Desk, G: Gate, H: Gate>(
     gates: Gates<'_, G, H>,
 ) -> Result<Report, Stop>
     requires { IsSpelled (command_asked command) }
-    ensures { IsReported (command_asked command.entry) (D.left desk.old) (D.left desk.new) (desk.new ≡ desk.old) (D.faults desk.old) (D.faults desk.new) result }
+    ensures { IsReported (command_asked command.entry) (D.left desk.old) (D.left desk.new)
+        (desk.new ≡ desk.old) (D.faults desk.old) (D.faults desk.new) result }
 {
     match command {
         Command::Judge { setup, log } => judged(rt, alloc, desk, setup, log, gates),
@@ -56,7 +57,8 @@ fn judged<R: Threads + Sync, D: Desk, G: Gate, H: Gate>(
     gates: Gates<'_, G, H>,
 ) -> Result<Report, Stop>
     requires { setup.now ≢ log.now }
-    ensures { IsReported (Judge setup.now log.now) (D.left desk.old) (D.left desk.new) (desk.new ≡ desk.old) (D.faults desk.old) (D.faults desk.new) result }
+    ensures { IsReported (Judge setup.now log.now) (D.left desk.old) (D.left desk.new) (desk.new ≡ desk.old)
+        (D.faults desk.old) (D.faults desk.new) result }
 {
     let judged = judge(rt, alloc, desk, setup, log, gates)?;
     Ok(judged_report(alloc, &judged)?)
@@ -72,7 +74,8 @@ fn strictly<R: Threads + Sync, D: Desk, G: Gate, H: Gate>(
     gates: Gates<'_, G, H>,
 ) -> Result<Report, Stop>
     requires { setup.now ≢ log.now }
-    ensures { IsReported (Strict setup.now log.now) (D.left desk.old) (D.left desk.new) (desk.new ≡ desk.old) (D.faults desk.old) (D.faults desk.new) result }
+    ensures { IsReported (Strict setup.now log.now) (D.left desk.old) (D.left desk.new) (desk.new ≡ desk.old)
+        (D.faults desk.old) (D.faults desk.new) result }
 {
     let found = judge_strictly(rt, alloc, desk, setup, log, gates)?;
     Ok(strictly_report(alloc, &found)?)
@@ -91,7 +94,8 @@ fn verified<R: Threads + Sync, D: Desk, H: Gate>(
     requires differ { setup.now ≢ log.now }
     requires not_setup { placement.now ≢ setup.now }
     requires not_log { placement.now ≢ log.now }
-    ensures { IsReported (Verify setup.now log.now placement.now) (D.left desk.old) (D.left desk.new) (desk.new ≡ desk.old) (D.faults desk.old) (D.faults desk.new) result }
+    ensures { IsReported (Verify setup.now log.now placement.now) (D.left desk.old) (D.left desk.new)
+        (desk.new ≡ desk.old) (D.faults desk.old) (D.faults desk.new) result }
 {
     let verified = verify(rt, alloc, desk, setup, log, placement, lines)?;
     Ok(verified_report(alloc, verified)?)
@@ -108,7 +112,8 @@ fn asked<R: Threads + Sync, D: Desk, H: Gate>(
     lines: &H,
 ) -> Result<Report, Stop>
     requires { setup.now ≢ log.now }
-    ensures { IsReported (Ask setup.now log.now question.now) (D.left desk.old) (D.left desk.new) (desk.new ≡ desk.old) (D.faults desk.old) (D.faults desk.new) result }
+    ensures { IsReported (Ask setup.now log.now question.now) (D.left desk.old) (D.left desk.new)
+        (desk.new ≡ desk.old) (D.faults desk.old) (D.faults desk.new) result }
 {
     let found = ask(rt, alloc, desk, setup, log, question, lines)?;
     Ok(history_report(alloc, found)?)
@@ -123,7 +128,8 @@ fn made<R: Threads + Sync, G: Gate, H: Gate>(
     gates: Gates<'_, G, H>,
 ) -> Result<Report, Stop>
     requires { events ≤ most_made }
-    ensures answered { IfOk result (λ report. (files : List ℕ → List ℕ) → IsAnswerTo (Some (Make number events)) files (report_answer report)) }
+    ensures answered { IfOk result (λ report. (files : List ℕ → List ℕ)
+        → IsAnswerTo (Some (Make number events)) files (report_answer report)) }
     ensures no_fault { IsErrOf result Stop.ReadFault → ⊥ }
 {
     let judged = judge_made(rt, alloc, number, events, gates)?;

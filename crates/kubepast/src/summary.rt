@@ -1,6 +1,7 @@
 ghost use Rattle.std.specs.Prelude.{◌≡◌, ◌∷◌, [], ◌++◌, IfOk, OnOk, count_by, decimal, string_bytes};
 ghost use Rattle.verdict_text.specs.Words.{ended, spaced};
-ghost use Rattle.kubepast.specs.Summary.{counts_text, is_at, is_made, is_nowhere, is_removed, lines_of, summary_text, verdict_word};
+ghost use Rattle.kubepast.specs.Summary.{counts_text, is_at, is_made, is_nowhere, is_removed, lines_of};
+ghost use Rattle.kubepast.specs.Summary.{summary_text, verdict_word};
 
 use base_types::{Bytes, OutOfMemory, Outcome, PlacedAnswer, PlacedLine};
 use std::alloc::Global;
@@ -51,7 +52,8 @@ fn append_counts(text: &mut String, lines: &[PlacedLine]) -> Result<(), OutOfMem
 
 // A word, and how many lines of the placement have it.
 fn append_count(text: &mut String, word: &str, count: usize) -> Result<(), OutOfMemory>
-    ensures { OnOk result (string_bytes text.new ≡ string_bytes text.old ++ ended (spaced (word.now ∷ decimal count ∷ []))) }
+    ensures { OnOk result (string_bytes text.new ≡ string_bytes text.old ++ ended
+        (spaced (word.now ∷ decimal count ∷ []))) }
 {
     writeln!(text, "{word} {count}")?;
     Ok(())

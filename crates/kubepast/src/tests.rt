@@ -16,9 +16,9 @@ use std::test::Fail;
 use std::thread::Threads;
 
 // A row is told in lines, each a word and its rest: `row` and a name; what the setup has (`rbac`, `tracks` a resource,
-// `holds` an object, `checks` a list, `sets` members that count in place of earlier ones); the log (`event`, `line`, and
-// `item`s that are `listed` on one line); a placement that it `places` line by line; the `words` of the command where they
-// aren't `judge s l`; and what is wanted: `tells` a line, and the `status`.
+// `holds` an object, `checks` a list, `sets` members that count in place of earlier ones); the log (`event`, `line`,
+// and `item`s that are `listed` on one line); a placement that it `places` line by line; the `words` of the command
+// where they aren't `judge s l`; and what is wanted: `tells` a line, and the `status`.
 
 // The places of a form that fields are put into.
 const HOLES: [&str; 9] = ["$1", "$2", "$3", "$4", "$5", "$6", "$7", "$8", "$9"];

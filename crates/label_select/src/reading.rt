@@ -1,6 +1,7 @@
 ghost use Rattle.std.specs.Prelude.{◌≡◌, ◌+◌, List, length, Some, None, Err, IfOk, option_map};
 ghost use Rattle.label_select.specs.Grammar.{Spells};
-ghost use Rattle.label_select.specs.Readings.{is_key, key_at, value_at, values_in, list_at, test_at, requirement_at, selector_of};
+ghost use Rattle.label_select.specs.Readings.{is_key, key_at, value_at, values_in, list_at, test_at};
+ghost use Rattle.label_select.specs.Readings.{requirement_at, selector_of};
 ghost use Rattle.label_select.specs.declared.selector.Requirement.{Requirement};
 
 use crate::bytes::{Class, after, behind, front, word};
@@ -36,7 +37,8 @@ fn read_value(alloc: Global, bytes: &[u8]) -> Result<(Text, &[u8]), OutOfMemory>
 
 // The values up to the closing parenthesis, and what is behind it.
 fn read_values(alloc: Global, bytes: &[u8]) -> Result<Option<(Texts, &[u8])>, OutOfMemory>
-    ensures { IfOk result (λ found. option_map (λ parts. (parts.0, parts.1.now)) found ≡ values_in (length bytes.entry.now + 1) bytes.entry.now) }
+    ensures { IfOk result (λ found. option_map (λ parts. (parts.0, parts.1.now)) found ≡ values_in
+        (length bytes.entry.now + 1) bytes.entry.now) }
 {
     let mut values = Texts::new(alloc);
     let mut rest = bytes;
@@ -104,7 +106,8 @@ fn read_requirement(
     alloc: Global,
     bytes: &[u8],
 ) -> Result<Option<(Requirement, &[u8])>, OutOfMemory>
-    ensures { IfOk result (λ found. option_map (λ parts. (parts.0, parts.1.now)) found ≡ requirement_at bytes.entry.now) }
+    ensures { IfOk result (λ found. option_map (λ parts. (parts.0, parts.1.now)) found ≡ requirement_at
+        bytes.entry.now) }
 {
     if let Some(rest) = after(b"!", bytes) {
         let Some((key, left)) = read_key(alloc, behind(Class::Space, rest))? else {

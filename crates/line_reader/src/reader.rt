@@ -1,4 +1,5 @@
-ghost use Rattle.std.specs.Prelude.{◌≡◌, ℕ, ◌↔◌, ◌++◌, ◌≤◌, ◌<◌, IfOk, IfErr, OnOk, OnErr, IsTrue, Err, length, drop, false, true, vec_len, vec_capacity, [], ◌≢◌, IfSome, IfNone};
+ghost use Rattle.std.specs.Prelude.{◌≡◌, ℕ, ◌↔◌, ◌++◌, ◌≤◌, ◌<◌, IfOk, IfErr, OnOk, OnErr, IsTrue, Err, length};
+ghost use Rattle.std.specs.Prelude.{drop, false, true, vec_len, vec_capacity, [], ◌≢◌, IfSome, IfNone};
 ghost use Rattle.line_reader.specs.Lines.{lines_from, number_after, rest_of, closing_of};
 ghost use Rattle.line_reader.specs.Reading.{new_reading, HasWaiting, Gives, IsTooLong};
 ghost use Rattle.line_reader.specs.Search.{Skips, IsLineAt, HasNoNewline};
@@ -91,7 +92,8 @@ impl LineReader {
     /// Gives the next line that isn't blank. After `TooLong` each further call answers it too.
     pub fn next_line(&mut self) -> Result<Option<Line>, LineFault>
         ensures gives { IfOk result (λ found. Gives self.old (given_line found) self.new) }
-        ensures too_long { IfErr result (λ fault. (number : ℕ) → fault ≡ LineFault.TooLong number → IsTooLong number self.old × IsTooLong number self.new) }
+        ensures too_long { IfErr result (λ fault. (number : ℕ) → fault ≡ LineFault.TooLong number
+            → IsTooLong number self.old × IsTooLong number self.new) }
         ensures memory { result ≡ Err LineFault.OutOfMemory → self.new ≡ self.old }
         ensures ended { self.new.ended ≡ self.old.ended }
     {

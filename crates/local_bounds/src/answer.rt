@@ -42,8 +42,10 @@ pub fn asking_of<L: Listable>(
     event: &LogEvent,
     finding: Option<Reason>,
 ) -> Result<Asking, OutOfMemory>
-    ensures { IfOk result (λ asking. (h : History) → IsKnownBy known.entry.past.now known.entry.clouds.now h → HasSelectors (L.listable lists.now) h
-        → IsWindowOf h (event_of event.now) window → IsFindingOf h number (event_of event.now) finding → word h number (event_of event.now) ≡ At
+    ensures { IfOk result (λ asking. (h : History) → IsKnownBy known.entry.past.now known.entry.clouds.now h
+        → HasSelectors (L.listable lists.now) h
+        → IsWindowOf h (event_of event.now) window → IsFindingOf h number (event_of event.now) finding
+        → word h number (event_of event.now) ≡ At
         → IsAskingOf h number (event_of event.now) asking) }
 {
     match subject_of(event, finding) {

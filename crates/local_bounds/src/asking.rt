@@ -91,7 +91,8 @@ impl Asking {
     /// The bounds, of which there are none where nothing is asked, and where it is wrong whatever is chosen.
     pub fn into_bounds(self, alloc: Global) -> Bounds
         ensures value { result ≡ bounds_of self }
-        ensures exact { (h : History) (number : ℕ) (event : Event) → IsAskingOf h number event self → AreExactBounds h number event result }
+        ensures exact { (h : History) (number : ℕ) (event : Event) → IsAskingOf h number event self
+            → AreExactBounds h number event result }
     {
         bounds_of(alloc, self)
     }

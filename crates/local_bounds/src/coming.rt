@@ -9,7 +9,8 @@ use object_past::{Past, Version};
 
 /// The key's last version with a revision from `low` to `high`.
 pub fn last_comer<'a>(past: &'a Past, key: &ObjectKey, low: u64, high: u64) -> Option<&'a Version>
-    ensures { (h : History) → IsPastOf past.now h → IsComer h key.now low high (option_map (λ v. version_of v.now) result) }
+    ensures { (h : History) → IsPastOf past.now h → IsComer h key.now low high
+        (option_map (λ v. version_of v.now) result) }
 {
     let Some(version) = past.latest(key, high) else {
         return None;

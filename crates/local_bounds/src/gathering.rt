@@ -8,7 +8,8 @@ use std::alloc::Global;
 
 // The bounds of all that is asked; None where some of it can't be.
 fn bounds_of(alloc: Global, askings: &[KeyAsking]) -> Result<Option<Vec<Bound>>, OutOfMemory>
-    ensures some { IfOk result (λ found. IfSome found (λ bounds. IsPossible askings.now × (bounds.items ≡ bounds_in askings.now))) }
+    ensures some { IfOk result (λ found. IfSome found (λ bounds. IsPossible askings.now
+        × (bounds.items ≡ bounds_in askings.now))) }
     ensures none { IfOk result (λ found. IfNone found (Contains askings.now Never)) }
 {
     let mut bounds = Vec::new(alloc);

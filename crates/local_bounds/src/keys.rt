@@ -18,7 +18,8 @@ pub fn distinct_keys<'a>(
     items: &'a [Item],
     seed: Seed,
 ) -> Result<Option<Keys<'a>>, OutOfMemory>
-    ensures some { IfOk result (λ found. IfSome found (λ keys. AllPairs (λ a b. a.key ≢ b.key) items.now × AreKeysOf items.now keys)) }
+    ensures some { IfOk result (λ found. IfSome found (λ keys. AllPairs (λ a b. a.key ≢ b.key) items.now
+        × AreKeysOf items.now keys)) }
     ensures none { IfOk result (λ found. IfNone found (AllPairs (λ a b. a.key ≢ b.key) items.now → ⊥)) }
 {
     let mut keys = HashSet::with_hasher(alloc, Seeded::new(seed));
@@ -45,7 +46,8 @@ pub fn other_keys<'a>(
     shown: &Keys<'_>,
 ) -> Result<Vec<&'a ObjectKey>, OutOfMemory>
     requires { AreKeysOf items.now shown.now }
-    ensures { IfOk result (λ others. map (λ key. key.now) others.items ≡ filter (λ key. not (is_among items.now key)) keys.now) }
+    ensures { IfOk result (λ others. map (λ key. key.now) others.items ≡ filter
+        (λ key. not (is_among items.now key)) keys.now) }
 {
     let mut others = Vec::new(alloc);
     for key in keys {

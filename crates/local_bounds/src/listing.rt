@@ -29,7 +29,8 @@ fn shown_askings<L: Listable>(
     place: u64,
     items: &[Item],
 ) -> Result<Vec<KeyAsking>, OutOfMemory>
-    ensures { IfOk result (λ askings. (h : History) → IsKnownBy known.entry.past.now known.entry.clouds.now h → HasSelectors (L.listable lists.now) h
+    ensures { IfOk result (λ askings. (h : History) → IsKnownBy known.entry.past.now known.entry.clouds.now h
+        → HasSelectors (L.listable lists.now) h
         → AreAsked h number place (map (λ item. Shows (item_of item)) items.now) askings.items) }
 {
     let mut askings = Vec::with_capacity(alloc, items.len())?;
@@ -49,7 +50,8 @@ fn lacked_askings<L: Listable>(
     place: u64,
     keys: &[&ObjectKey],
 ) -> Result<Vec<KeyAsking>, OutOfMemory>
-    ensures { IfOk result (λ askings. (h : History) → IsKnownBy known.entry.past.now known.entry.clouds.now h → HasSelectors (L.listable lists.now) h
+    ensures { IfOk result (λ askings. (h : History) → IsKnownBy known.entry.past.now known.entry.clouds.now h
+        → HasSelectors (L.listable lists.now) h
         → AreAsked h number place (map (λ key. Lacks key.now) keys.now) askings.items) }
 {
     let mut askings = Vec::with_capacity(alloc, keys.len())?;
@@ -68,7 +70,8 @@ fn lacked_keys<'a>(
     shown: &Keys<'_>,
 ) -> Result<Vec<&'a ObjectKey>, OutOfMemory>
     requires { AreKeysOf listing.now.items shown.now }
-    ensures { IfOk result (λ keys. (h : History) → IsPastOf past.now h → AreLacked h (listing_of listing.now) (map (λ key. key.now) keys.items)) }
+    ensures { IfOk result (λ keys. (h : History) → IsPastOf past.now h → AreLacked h (listing_of listing.now)
+        (map (λ key. key.now) keys.items)) }
 {
     if !listing.whole {
         return Ok(Vec::new(alloc));
@@ -86,8 +89,10 @@ pub fn list_asking<L: Listable>(
     number: u32,
     listing: &Listing,
 ) -> Result<Asking, OutOfMemory>
-    ensures { IfOk result (λ asking. (h : History) → IsKnownBy known.entry.past.now known.entry.clouds.now h → HasSelectors (L.listable lists.now) h
-        → IsAsking h (λ choice. SomewhereIn window.low window.high (λ x. IsListRight h number (listing_of listing.now) x (state h choice x))) asking) }
+    ensures { IfOk result (λ asking. (h : History) → IsKnownBy known.entry.past.now known.entry.clouds.now h
+        → HasSelectors (L.listable lists.now) h
+        → IsAsking h (λ choice. SomewhereIn window.low window.high (λ x. IsListRight h number
+        (listing_of listing.now) x (state h choice x))) asking) }
 {
     let place = listing.revision.get();
     if place < window.low || window.high < place {

@@ -50,7 +50,8 @@ fn halved(
     ensures smaller { result.high - result.low < rest.high - rest.low }
     ensures within { result.high ≤ rest.high }
     ensures narrowed { (h : History) → IsPastOf past.now h → IsChoice (ranges h) choice.now
-        → IsNarrowed h choice.now key.now sight.entry first rest → IsNarrowed h choice.now key.now sight.entry first result }
+        → IsNarrowed h choice.now key.now sight.entry first rest
+        → IsNarrowed h choice.now key.now sight.entry first result }
 {
     let middle = rest.low + (rest.high - rest.low) / 2;
     if is_seen_upto(past, key, sight, first, middle, choice) {
@@ -137,7 +138,8 @@ fn object_place(
     choice: &[u64],
 ) -> Option<u64>
     ensures { (h : History) → IsKnownBy known.entry.past.now known.entry.clouds.now h → IsChoice (ranges h) choice.now
-        → IsFirstPlace (λ x. IsClouded h key.now x ⊎ IsSeen sight.entry (state h choice.now x key.now)) window.low window.high result }
+        → IsFirstPlace (λ x. IsClouded h key.now x ⊎ IsSeen sight.entry (state h choice.now x key.now))
+        window.low window.high result }
 {
     let Some(clouded) = known.clouds.meets(key, window.low, window.high) else {
         return first_seen(known.past, key, sight, window, choice);
@@ -163,9 +165,11 @@ fn list_place<L: Listable>(
     listing: &Listing,
     choice: &[u64],
 ) -> Result<Option<u64>, OutOfMemory>
-    ensures { IfOk result (λ place. (h : History) → IsKnownBy known.entry.past.now known.entry.clouds.now h → HasSelectors (L.listable lists.now) h
+    ensures { IfOk result (λ place. (h : History) → IsKnownBy known.entry.past.now known.entry.clouds.now h
+        → HasSelectors (L.listable lists.now) h
         → IsChoice (ranges h) choice.now
-        → IsFirstPlace (λ x. IsListRight h number (listing_of listing.now) x (state h choice.now x)) window.low window.high place) }
+        → IsFirstPlace (λ x. IsListRight h number (listing_of listing.now) x (state h choice.now x))
+        window.low window.high place) }
 {
     let asking = list_asking(alloc, known, lists, window, number, listing)?;
     if asking.holds(choice) {
@@ -185,8 +189,10 @@ pub fn place_of<L: Listable>(
     finding: Option<Reason>,
     choice: &[u64],
 ) -> Result<Option<u64>, OutOfMemory>
-    ensures { IfOk result (λ place. (h : History) → IsKnownBy known.entry.past.now known.entry.clouds.now h → HasSelectors (L.listable lists.now) h
-        → IsWindowOf h (event_of event.now) window → IsFindingOf h number (event_of event.now) finding → word h number (event_of event.now) ≡ At
+    ensures { IfOk result (λ place. (h : History) → IsKnownBy known.entry.past.now known.entry.clouds.now h
+        → HasSelectors (L.listable lists.now) h
+        → IsWindowOf h (event_of event.now) window → IsFindingOf h number (event_of event.now) finding
+        → word h number (event_of event.now) ≡ At
         → IsChoice (ranges h) choice.now → IsLeastRight h choice.now number (event_of event.now) place) }
 {
     match subject_of(event, finding) {

@@ -32,7 +32,8 @@ pub fn seen_at(past: &Past, key: &ObjectKey, sight: Sight<'_>, place: u64) -> Ke
 fn gone_within(past: &Past, key: &ObjectKey, window: Window) -> KeyAsking
     requires { window.low ≤ window.high }
     ensures { (h : History) → IsPastOf past.now h
-        → IsKeyAsking h key.now (λ choice. SomewhereIn window.low window.high (λ x. state h choice x key.now ≡ None)) result }
+        → IsKeyAsking h key.now (λ choice. SomewhereIn window.low window.high
+        (λ x. state h choice x key.now ≡ None)) result }
 {
     if past.is_absent_within(key, window.low, window.high) {
         return KeyAsking::Free;
@@ -143,7 +144,8 @@ fn is_refused_within(
 fn refused_within(past: &Past, key: &ObjectKey, asked: &Preconditions, window: Window) -> KeyAsking
     requires { window.low ≤ window.high }
     ensures { (h : History) → IsPastOf past.now h
-        → IsKeyAsking h key.now (λ choice. SomewhereIn window.low window.high (λ x. IsRefused (conditions_of asked.now) (state h choice x key.now))) result }
+        → IsKeyAsking h key.now (λ choice. SomewhereIn window.low window.high (λ x. IsRefused
+        (conditions_of asked.now) (state h choice x key.now))) result }
 {
     let Some(uid) = &asked.uid else {
         let comes = refused_comes(past, key, asked, window);

@@ -46,11 +46,13 @@ pub fn admit_batch<R: Threads + Sync, G: Gate>(
     requires short { AreShort (line_values lines.now) }
     requires ordered { AreOrdered place.line place.extra (line_values lines.now) }
     requires before { AreBefore (place.line + place.extra + 1) seen.old }
-    ensures takes { IfOk result (λ after. TakesLines (log_state place.extra seen.old) (line_values lines.now) (Ok (log_state after.extra seen.new))) }
+    ensures takes { IfOk result (λ after. TakesLines (log_state place.extra seen.old) (line_values lines.now)
+        (Ok (log_state after.extra seen.new))) }
     ensures line { IfOk result (λ after. after.line ≡ last_number place.line (line_values lines.now)) }
     ensures extra { IfOk result (λ after. after.extra ≤ most_extra place.extra (line_values lines.now)) }
     ensures before { IfOk result (λ after. AreBefore (after.line + after.extra + 1) seen.new) }
-    ensures refused { IfErr result (λ stop. IsRefusal stop → TakesLines (log_state place.extra seen.old) (line_values lines.now) (Err stop)) }
+    ensures refused { IfErr result (λ stop. IsRefusal stop → TakesLines (log_state place.extra seen.old)
+        (line_values lines.now) (Err stop)) }
     ensures no_fault { IsErrOf result LogStop.ReadFault → ⊥ }
 {
     match decode_all(rt, alloc, lines, gate) {
@@ -70,11 +72,13 @@ fn admit_lines(
     requires short { AreShort (line_values lines.now) }
     requires ordered { AreOrdered place.line place.extra (line_values lines.now) }
     requires before { AreBefore (place.line + place.extra + 1) seen.old }
-    ensures takes { IfOk result (λ after. TakesLines (log_state place.extra seen.old) (line_values lines.now) (Ok (log_state after.extra seen.new))) }
+    ensures takes { IfOk result (λ after. TakesLines (log_state place.extra seen.old) (line_values lines.now)
+        (Ok (log_state after.extra seen.new))) }
     ensures line { IfOk result (λ after. after.line ≡ last_number place.line (line_values lines.now)) }
     ensures extra { IfOk result (λ after. after.extra ≤ most_extra place.extra (line_values lines.now)) }
     ensures before { IfOk result (λ after. AreBefore (after.line + after.extra + 1) seen.new) }
-    ensures refused { IfErr result (λ stop. IsRefusal stop → TakesLines (log_state place.extra seen.old) (line_values lines.now) (Err stop)) }
+    ensures refused { IfErr result (λ stop. IsRefusal stop → TakesLines (log_state place.extra seen.old)
+        (line_values lines.now) (Err stop)) }
     ensures no_fault { IsErrOf result LogStop.ReadFault → ⊥ }
 {
     let mut place = place;
@@ -101,11 +105,13 @@ fn admit_line(
     requires later { place.line < line.now.number }
     requires room { line.now.number + (place.extra + (most_items line.now.bytes - 1)) ≤ 1099511627776 }
     requires before { AreBefore (place.line + place.extra + 1) seen.old }
-    ensures takes { IfOk result (λ after. TakesLine (log_state place.extra seen.old) (line_value line.now) (Ok (log_state after.extra seen.new))) }
+    ensures takes { IfOk result (λ after. TakesLine (log_state place.extra seen.old) (line_value line.now)
+        (Ok (log_state after.extra seen.new))) }
     ensures line { IfOk result (λ after. after.line ≡ line.now.number) }
     ensures extra { IfOk result (λ after. after.extra ≤ place.extra + (most_items line.now.bytes - 1)) }
     ensures before { IfOk result (λ after. AreBefore (after.line + after.extra + 1) seen.new) }
-    ensures refused { IfErr result (λ stop. IsRefusal stop → TakesLine (log_state place.extra seen.old) (line_value line.now) (Err stop)) }
+    ensures refused { IfErr result (λ stop. IsRefusal stop → TakesLine (log_state place.extra seen.old)
+        (line_value line.now) (Err stop)) }
     ensures no_fault { IsErrOf result LogStop.ReadFault → ⊥ }
 {
     let Decoded {
@@ -137,7 +143,8 @@ fn admit_events(seen: &mut Seen, first: u64, events: Events) -> Result<(), LogSt
     requires before { AreBefore first seen.old }
     ensures takes { OnOk result (InOrder TakesEvent seen.old (numbered_events first events) (Ok seen.new)) }
     ensures before { OnOk result (AreBefore (first + length events) seen.new) }
-    ensures refused { IfErr result (λ stop. IsRefusal stop → InOrder TakesEvent seen.old (numbered_events first events) (Err stop)) }
+    ensures refused { IfErr result (λ stop. IsRefusal stop → InOrder TakesEvent seen.old
+        (numbered_events first events) (Err stop)) }
     ensures no_fault { IsErrOf result LogStop.ReadFault → ⊥ }
 {
     let mut number = first;
@@ -157,7 +164,8 @@ fn admit_event(seen: &mut Seen, number: u64, event: Event) -> Result<(), LogStop
     requires before { AreBefore number seen.old }
     ensures takes { OnOk result (TakesEvent seen.old record event { line = number } (Ok seen.new)) }
     ensures before { OnOk result (AreBefore (number + 1) seen.new) }
-    ensures refused { IfErr result (λ stop. IsRefusal stop → TakesEvent seen.old record event { line = number } (Err stop)) }
+    ensures refused { IfErr result (λ stop. IsRefusal stop
+        → TakesEvent seen.old record event { line = number } (Err stop)) }
     ensures no_fault { IsErrOf result LogStop.ReadFault → ⊥ }
 {
     let mut event = event;

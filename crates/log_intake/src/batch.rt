@@ -1,7 +1,8 @@
 ghost use Rattle.std.specs.Prelude.{◌≡◌, ◌≢◌, ℕ, ◌+◌, ◌<◌, ◌≤◌, List, ◌↔◌, length, IfOk, IsTrue, OnErr, OnOk, false};
 ghost use Rattle.edge_io.specs.Faults.{Rose};
 ghost use Rattle.log_intake.specs.declared.batch.BatchEnd.TheVariants as ended;
-ghost use Rattle.log_intake.specs.Batches.{line_values, Gathers, GivesLast, GivesRest, HoldsOpen, TakesPiece, TakesSome, fed_with};
+ghost use Rattle.log_intake.specs.Batches.{line_values, Gathers, GivesLast, GivesRest, HoldsOpen, TakesPiece};
+ghost use Rattle.log_intake.specs.Batches.{TakesSome, fed_with};
 
 use base_types::OutOfMemory;
 use edge_io::{Desk, DeskFailed};
@@ -66,7 +67,8 @@ pub fn gather<D: Desk>(
     requires piece { length buffer.old ≤ 65536 }
     requires within { taken ≤ MOST_INPUT }
     requires going { HoldsOpen reader.old }
-    ensures gathers { IfOk result (λ batch. Gathers batch.end (D.left desk.old name.now) (D.left desk.new name.now) reader.old reader.new (line_values batch.lines.items) taken batch.taken 4259840) }
+    ensures gathers { IfOk result (λ batch. Gathers batch.end (D.left desk.old name.now)
+        (D.left desk.new name.now) reader.old reader.new (line_values batch.lines.items) taken batch.taken 4259840) }
     ensures more { IfOk result (λ batch. batch.end ≡ ended.GoesOn → taken < batch.taken) }
     ensures fault { IfOk result (λ batch. batch.end ≡ ended.Failed → Rose (D.faults desk.old) (D.faults desk.new)) }
     ensures memory { OnErr result (TakesSome (D.left desk.old name.now) (D.left desk.new name.now) taken 4259840) }
@@ -116,7 +118,9 @@ fn take_piece<D: Desk>(
     requires piece { length buffer.old ≤ 65536 }
     requires within { taken ≤ MOST_INPUT }
     requires going { HoldsOpen reader.old }
-    ensures piece { IfOk result (λ piece. TakesPiece piece.end (D.left desk.old name.now) (D.left desk.new name.now) reader.old reader.new (line_values lines.old.items) (line_values lines.new.items) taken piece.taken) }
+    ensures piece { IfOk result (λ piece. TakesPiece piece.end (D.left desk.old name.now)
+        (D.left desk.new name.now) reader.old reader.new (line_values lines.old.items)
+        (line_values lines.new.items) taken piece.taken) }
     ensures more { IfOk result (λ piece. piece.end ≡ ended.GoesOn → taken < piece.taken) }
     ensures fault { IfOk result (λ piece. piece.end ≡ ended.Failed → Rose (D.faults desk.old) (D.faults desk.new)) }
     ensures memory { OnErr result (TakesSome (D.left desk.old name.now) (D.left desk.new name.now) taken 65536) }
@@ -167,7 +171,8 @@ fn give_fed(
 ) -> Result<bool, OutOfMemory>
     requires piece { length piece.now ≤ 65536 }
     requires going { HoldsOpen reader.old }
-    ensures gives { IfOk result (λ fits. GivesRest fits (fed_with reader.old piece.now) reader.new (line_values lines.old.items) (line_values lines.new.items)) }
+    ensures gives { IfOk result (λ fits. GivesRest fits (fed_with reader.old piece.now) reader.new
+        (line_values lines.old.items) (line_values lines.new.items)) }
     ensures going { OnOk result (reader.new.ended ≡ false) }
 {
     reader.feed(piece)?;
@@ -187,7 +192,8 @@ fn give_last(reader: &mut LineReader, lines: &mut Vec<Line>) -> Result<(), OutOf
 
 // Gives the lines that wait; false says that the line behind them is too long.
 fn give_lines(reader: &mut LineReader, lines: &mut Vec<Line>) -> Result<bool, OutOfMemory>
-    ensures gives { IfOk result (λ fits. GivesRest fits reader.old reader.new (line_values lines.old.items) (line_values lines.new.items)) }
+    ensures gives { IfOk result (λ fits. GivesRest fits reader.old reader.new (line_values lines.old.items)
+        (line_values lines.new.items)) }
     ensures ended { reader.new.ended ≡ reader.old.ended }
 {
     'lines: loop {

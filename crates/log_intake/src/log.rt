@@ -30,7 +30,8 @@ pub fn read_log<R: Threads + Sync, D: Desk, G: Gate>(
 ) -> Result<Events, LogStop>
     requires some { 0 < length buffer.old }
     requires piece { length buffer.old ≤ 65536 }
-    ensures reads { ReadsLog (D.left desk.old name.now) (D.left desk.new name.now) (D.faults desk.old) (D.faults desk.new) result }
+    ensures reads { ReadsLog (D.left desk.old name.now) (D.left desk.new name.now) (D.faults desk.old)
+        (D.faults desk.new) result }
     ensures others { (other : List ℕ) → other ≢ name.now → D.left desk.new other ≡ D.left desk.old other }
 {
     let mut reader = match LineReader::new(alloc) {

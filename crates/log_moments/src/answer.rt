@@ -24,8 +24,8 @@ pub type LineMoments = Listed<LineMoment>;
 pub enum StrictAnswer {
     /// The things' moments in such a list, each the first that its thing can have.
     Strict(LineMoments),
-    /// The lines of two things: by the revisions that they show the first stands before the second, and by their moments only
-    /// after it.
+    /// The lines of two things: by the revisions that they show the first stands before the second, and by their
+    /// moments only after it.
     Crossed { first: u64, second: u64 },
 }
 

@@ -1,5 +1,5 @@
-//! Moments for the writes and reads of a log, so that their order in time is that of the revisions they show; or the first
-//! two lines for which there are none.
+//! Moments for the writes and reads of a log, so that their order in time is that of the revisions they show; or the
+//! first two lines for which there are none.
 #![tactic(auto)]
 
 mod answer;

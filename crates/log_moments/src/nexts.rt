@@ -39,7 +39,8 @@ pub fn nexts_of(alloc: Global, versions: &[Version]) -> Result<Vec<Option<usize>
 /// The position of the version that an answer shows, by its key and revision.
 pub fn position_of(versions: &[Version], item: &Item) -> Option<usize>
     requires { AllPairs (λ a b. a.revision < b.revision) versions.now }
-    ensures some { IfSome result (λ position. (v : _) × (slice_get versions.now position ≡ Some v) × (v.key ≡ item.now.key) × (v.revision ≡ item.now.revision)) }
+    ensures some { IfSome result (λ position. (v : _) × (slice_get versions.now position ≡ Some v)
+        × (v.key ≡ item.now.key) × (v.revision ≡ item.now.revision)) }
     ensures none { IfNone result (All (λ v. v.key ≡ item.now.key → v.revision ≢ item.now.revision) versions.now) }
 {
     let revision = item.revision.get();

@@ -1,4 +1,5 @@
-ghost use Rattle.std.specs.Prelude.{◌≡◌, ◌<◌, ◌≤◌, ◌+◌, ◌*◌, ◌↔◌, ℕ, Option, Some, IsTrue, option_and_then, option_map, slice_get};
+ghost use Rattle.std.specs.Prelude.{◌≡◌, ◌<◌, ◌≤◌, ◌+◌, ◌*◌, ◌↔◌, ℕ, Option, Some, IsTrue, option_and_then};
+ghost use Rattle.std.specs.Prelude.{option_map, slice_get};
 ghost use Rattle.history_model.specs.Clouds.{IsCloudedWithin};
 ghost use Rattle.history_model.specs.Histories.{History};
 ghost use Rattle.history_model.specs.Words.{word};
@@ -16,8 +17,8 @@ use clouds::Clouds;
 use object_past::Version;
 use write_groups::{Item, Listing, LogEvent, Reading, Window, window_of};
 
-/// The least and the greatest number at which a thing may stand: the write of revision m is the number 2m, the gap between
-/// it and the next write 2m + 1.
+/// The least and the greatest number at which a thing may stand: the write of revision m is the number 2m, the gap
+/// between it and the next write 2m + 1.
 #[derive(Clone, Copy, PartialEq, Eq)]
 pub struct Numbers {
     pub least: u128,
@@ -64,7 +65,8 @@ fn next_of<'a>(
     nexts: &[Option<usize>],
     position: usize,
 ) -> Option<&'a Version>
-    ensures { (next : Option ℕ) → slice_get nexts.now position ≡ Some next → option_map (λ v. v.now) result ≡ option_and_then (slice_get versions.now) next }
+    ensures { (next : Option ℕ) → slice_get nexts.now position ≡ Some next
+        → option_map (λ v. v.now) result ≡ option_and_then (slice_get versions.now) next }
 {
     let next = *nexts.get(position)?;
     versions.get(next?)
@@ -72,14 +74,16 @@ fn next_of<'a>(
 
 // Whether the key is clouded somewhere in the window.
 fn is_clouded_within(clouds: &Clouds, key: &ObjectKey, window: Window) -> bool
-    ensures { (h : History) → AreCloudsOf clouds.now h → IsTrue result ↔ IsCloudedWithin h key.now window.low window.high }
+    ensures { (h : History) → AreCloudsOf clouds.now h → IsTrue result ↔ IsCloudedWithin h key.now window.low
+        window.high }
 {
     clouds.meets(key, window.low, window.high).is_some()
 }
 
 // An answer that shows a version stands behind the version's write, and before the next one of its key.
 fn shown_numbers(view: &LogView<'_>, event: &LogEvent, item: &Item) -> Option<Numbers>
-    ensures { (h : History) → IsViewOf view.now h → AreNumbers (ShowsVersion h (event_of event.now) (item_of item.now)) result }
+    ensures { (h : History) → IsViewOf view.now h → AreNumbers (ShowsVersion h (event_of event.now)
+        (item_of item.now)) result }
 {
     let window = window_of(view.windows, view.start, event);
     if is_clouded_within(view.clouds, &item.key, window) {
@@ -121,7 +125,8 @@ fn write_numbers(revision: u64) -> Numbers
 /// The numbers of the event of this number, where it is a thing.
 pub fn numbers_of(view: &LogView<'_>, number: usize, event: &LogEvent) -> Option<Numbers>
     ensures { (h : History) → IsViewOf view.now h
-        → AreNumbers (HasNumbers h (event_of event.now) (event_of event.now).answer (word h number (event_of event.now))) result }
+        → AreNumbers (HasNumbers h (event_of event.now) (event_of event.now).answer (word h number
+        (event_of event.now))) result }
 {
     match standing_of(view.past, view.start, number, event) {
         Standing::Writes(revision) => Some(write_numbers(revision)),

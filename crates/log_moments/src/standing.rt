@@ -46,7 +46,8 @@ fn is_maker(maker: Maker, number: usize) -> bool
 // object.
 fn write_standing<'a>(past: &Past, start: Revision, number: usize, item: &'a Item) -> Standing<'a>
     ensures { (h : History) (event : Event) (created : Bool) → h.start ≡ start → HasPast past.now h
-        → IsStanding h event (Made (item_of item.now) created) (answer_word h number event (Made (item_of item.now) created)) result }
+        → IsStanding h event (Made (item_of item.now) created) (answer_word h number event
+        (Made (item_of item.now) created)) result }
 {
     let revision = item.revision.get();
     if revision <= start.get() {

@@ -50,8 +50,10 @@ fn thing_of(view: &LogView<'_>, number: usize, event: &LogEvent) -> Option<Thing
 }
 
 fn things_in(alloc: Global, view: &LogView<'_>) -> Result<Vec<Thing>, OutOfMemory>
-    ensures things { IfOk result (λ things. (h : History) → IsViewOf view.now h → IsReadable h → AreThings h things.items) }
-    ensures numbers { IfOk result (λ things. (h : History) → IsViewOf view.now h → All (λ thing. thing.least ≤ thing.greatest) things.items) }
+    ensures things { IfOk result (λ things. (h : History) → IsViewOf view.now h → IsReadable h
+        → AreThings h things.items) }
+    ensures numbers { IfOk result (λ things. (h : History) → IsViewOf view.now h
+        → All (λ thing. thing.least ≤ thing.greatest) things.items) }
 {
     let mut things = Vec::new(alloc);
     for (number, event) in view.log.iter().enumerate() {
@@ -62,8 +64,8 @@ fn things_in(alloc: Global, view: &LogView<'_>) -> Result<Vec<Thing>, OutOfMemor
     Ok(things)
 }
 
-/// The things of a context's log: its writes, and its reads of versions and of lists, each with the moments of its event and
-/// its numbers in the order of revisions.
+/// The things of a context's log: its writes, and its reads of versions and of lists, each with the moments of its
+/// event and its numbers in the order of revisions.
 pub fn things_of(alloc: Global, context: &Context) -> Result<Things, OutOfMemory>
     ensures things { IfOk result (AreThings (history_of context.now)) }
     ensures moments { IfOk result (All (λ thing. thing.lo.0 ≤ℤ thing.hi.0)) }

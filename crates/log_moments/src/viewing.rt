@@ -13,7 +13,8 @@ use version_store::Context;
 pub fn view_of<'a>(context: &'a Context, nexts: &'a [Option<usize>]) -> LogView<'a>
     ensures view { AreNexts context.now.versions nexts.now → IsViewOf result (history_of context.now) }
     ensures readable { IsReadable (history_of context.now) }
-    ensures moments { (number : ℕ) (event : model.Event) → IsEvent (history_of context.now) number event → event.lo ≤ℤ event.hi }
+    ensures moments { (number : ℕ) (event : model.Event) → IsEvent (history_of context.now) number event
+        → event.lo ≤ℤ event.hi }
 {
     // For the proof alone: no event of the log is staged before it is received.
     let _events = context.events();

@@ -13,7 +13,8 @@ use object_past::Version;
 use std::alloc::Global;
 use std::cmp::Reverse;
 
-/// An object that recorded writes changed. The most changed come first, and of those with as many versions the least key.
+/// An object that recorded writes changed. The most changed come first, and of those with as many versions the least
+/// key.
 #[derive(PartialEq, Eq, PartialOrd, Ord, Drop)]
 pub struct Changed {
     /// How many versions recorded writes gave it.

@@ -1,5 +1,6 @@
 ghost use Rattle.std.specs.Prelude.{◌≡◌, ◌++◌, OnOk, count_by, flat_map, string_bytes};
-ghost use Rattle.log_picture.specs.Counts.{counts_text, decisions_text, has_decision, kind_row, row_text, same_decision, totals_text};
+ghost use Rattle.log_picture.specs.Counts.{counts_text, decisions_text, has_decision, kind_row, row_text};
+ghost use Rattle.log_picture.specs.Counts.{same_decision, totals_text};
 
 use crate::kind::{KINDS, Kind, count_of, kind_words};
 use base_types::{Decision, OutOfMemory};

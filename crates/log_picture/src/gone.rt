@@ -1,5 +1,6 @@
 ghost use Rattle.std.specs.Prelude.{◌≡◌, ◌++◌, OnOk, flat_map, string_bytes};
-ghost use Rattle.log_picture.specs.Gone.{line_at, place_of, place_text, removal_row, removals_text, removed_at, removed_by, removed_text};
+ghost use Rattle.log_picture.specs.Gone.{line_at, place_of, place_text, removal_row, removals_text, removed_at};
+ghost use Rattle.log_picture.specs.Gone.{removed_by, removed_text};
 
 use crate::limits::REMOVAL_LIMIT;
 use base_types::{OutOfMemory, PlacedAnswer, PlacedLine, key_text};
@@ -71,7 +72,8 @@ pub fn append_removals(
     lines: &[PlacedLine],
     removals: &[Removal],
 ) -> Result<(), OutOfMemory>
-    ensures { OnOk result (string_bytes text.new ≡ string_bytes text.old ++ removals_text log.now lines.now removals.now) }
+    ensures { OnOk result (string_bytes text.new ≡ string_bytes text.old ++ removals_text log.now lines.now
+        removals.now) }
 {
     text.push_str(REMOVALS_HEAD)?;
     append_rows(alloc, text, log, lines, first_of(removals, REMOVAL_LIMIT))?;
@@ -92,7 +94,8 @@ fn append_rows(
     lines: &[PlacedLine],
     removals: &[Removal],
 ) -> Result<(), OutOfMemory>
-    ensures { OnOk result (string_bytes text.new ≡ string_bytes text.old ++ flat_map (removal_row log.now lines.now) removals.now) }
+    ensures { OnOk result (string_bytes text.new ≡ string_bytes text.old ++ flat_map
+        (removal_row log.now lines.now) removals.now) }
 {
     for removal in removals {
         append_row(alloc, text, log, lines, removal)?;

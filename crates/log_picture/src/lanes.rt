@@ -1,5 +1,9 @@
 ghost use Rattle.std.specs.Prelude.{◌≡◌, [], ◌∷◌, ◌++◌, IfOk, OnOk, filter, flat_map, map, string_bytes};
-ghost use Rattle.log_picture.specs.Lanes.{asked_cells, axis_high_text, axis_low_text, decision_form, decision_words, drawn_text, event_row, events_table, form_mark, form_of, has_mark, lane_of, mark_text, marked_events, marked_text, marks_text, outline_of, pair_of, shape_text, style_of, time_axis_text, time_drawing, time_text, title_text};
+ghost use Rattle.log_picture.specs.Lanes.{asked_cells, axis_high_text, axis_low_text, decision_form};
+ghost use Rattle.log_picture.specs.Lanes.{decision_words, drawn_text, event_row, events_table, form_mark, form_of};
+ghost use Rattle.log_picture.specs.Lanes.{has_mark, lane_of, mark_text, marked_events, marked_text, marks_text};
+ghost use Rattle.log_picture.specs.Lanes.{outline_of, pair_of, shape_text, style_of, time_axis_text, time_drawing};
+ghost use Rattle.log_picture.specs.Lanes.{time_text, title_text};
 
 use crate::kind::{Kind, kind_of, kind_words};
 use crate::limits::EVENT_LIMIT;
@@ -155,7 +159,8 @@ fn push_marked<'a>(
     event: &'a Event,
     logged: &'a LogEvent,
 ) -> Result<(), OutOfMemory>
-    ensures { OnOk result (map pair_of marked.new.items ≡ map pair_of marked.old.items ++ filter has_mark ((event.now, logged.now) ∷ [])) }
+    ensures { OnOk result (map pair_of marked.new.items ≡ map pair_of marked.old.items ++ filter has_mark
+        ((event.now, logged.now) ∷ [])) }
 {
     if !has_mark(event, logged) {
         return Ok(());
@@ -196,7 +201,8 @@ pub fn append_time(
 
 #[tactic(auto, unfolding(crate::specs::Lanes::marked_text))]
 fn append_marked(text: &mut String, axis: &Axis, marked: &[Marked<'_>]) -> Result<(), OutOfMemory>
-    ensures { OnOk result (string_bytes text.new ≡ string_bytes text.old ++ marked_text axis.now (map pair_of marked.now)) }
+    ensures { OnOk result (string_bytes text.new ≡ string_bytes text.old ++ marked_text axis.now
+        (map pair_of marked.now)) }
 {
     if marked.is_empty() {
         text.push_str(NO_EVENTS)?;
@@ -208,7 +214,8 @@ fn append_marked(text: &mut String, axis: &Axis, marked: &[Marked<'_>]) -> Resul
 
 #[tactic(auto, unfolding(crate::specs::Lanes::drawn_text))]
 fn append_drawn(text: &mut String, axis: &Axis, marked: &[Marked<'_>]) -> Result<(), OutOfMemory>
-    ensures { OnOk result (string_bytes text.new ≡ string_bytes text.old ++ drawn_text axis.now (map pair_of marked.now)) }
+    ensures { OnOk result (string_bytes text.new ≡ string_bytes text.old ++ drawn_text axis.now
+        (map pair_of marked.now)) }
 {
     let drawn = first_of(marked, EVENT_LIMIT);
     append_drawing(text, axis, drawn)?;
@@ -219,7 +226,8 @@ fn append_drawn(text: &mut String, axis: &Axis, marked: &[Marked<'_>]) -> Result
 
 #[tactic(auto, unfolding(crate::specs::Lanes::time_drawing))]
 fn append_drawing(text: &mut String, axis: &Axis, drawn: &[Marked<'_>]) -> Result<(), OutOfMemory>
-    ensures { OnOk result (string_bytes text.new ≡ string_bytes text.old ++ time_drawing axis.now (map pair_of drawn.now)) }
+    ensures { OnOk result (string_bytes text.new ≡ string_bytes text.old ++ time_drawing axis.now
+        (map pair_of drawn.now)) }
 {
     text.push_str(TIME_HEAD)?;
     append_marks(text, axis, drawn)?;
@@ -238,7 +246,8 @@ fn append_table(text: &mut String, drawn: &[Marked<'_>]) -> Result<(), OutOfMemo
 }
 
 fn append_marks(text: &mut String, axis: &Axis, drawn: &[Marked<'_>]) -> Result<(), OutOfMemory>
-    ensures { OnOk result (string_bytes text.new ≡ string_bytes text.old ++ flat_map (marks_text axis.now) (map pair_of drawn.now)) }
+    ensures { OnOk result (string_bytes text.new ≡ string_bytes text.old ++ flat_map (marks_text axis.now)
+        (map pair_of drawn.now)) }
 {
     for one in drawn {
         append_event_marks(text, axis, one.event, one.logged)?;
@@ -253,7 +262,8 @@ fn append_event_marks(
     event: &Event,
     logged: &LogEvent,
 ) -> Result<(), OutOfMemory>
-    ensures { OnOk result (string_bytes text.new ≡ string_bytes text.old ++ marks_text axis.now (event.now, logged.now)) }
+    ensures { OnOk result (string_bytes text.new ≡ string_bytes text.old ++ marks_text axis.now
+        (event.now, logged.now)) }
 {
     let x = axis.position(receipt(event));
     append_mark(text, x, event, form_of(kind_of(&logged.answer)))?;
@@ -348,7 +358,8 @@ fn append_axis_high(text: &mut String, axis: &Axis) -> Result<(), OutOfMemory>
 }
 
 fn append_rows(text: &mut String, drawn: &[Marked<'_>]) -> Result<(), OutOfMemory>
-    ensures { OnOk result (string_bytes text.new ≡ string_bytes text.old ++ flat_map event_row (map pair_of drawn.now)) }
+    ensures { OnOk result (string_bytes text.new ≡ string_bytes text.old ++ flat_map event_row
+        (map pair_of drawn.now)) }
 {
     for one in drawn {
         append_row(text, one.event, one.logged)?;

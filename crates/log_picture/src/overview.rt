@@ -1,5 +1,6 @@
 ghost use Rattle.std.specs.Prelude.{◌≡◌, ◌++◌, OnOk, string_bytes};
-ghost use Rattle.log_picture.specs.Overview.{first_receipt, first_text, greatest_revision, last_receipt, last_text, overview_text, receipt, receipts_or_none, receipts_text};
+ghost use Rattle.log_picture.specs.Overview.{first_receipt, first_text, greatest_revision, last_receipt, last_text};
+ghost use Rattle.log_picture.specs.Overview.{overview_text, receipt, receipts_or_none, receipts_text};
 
 use audit_event::Event;
 use base_types::{OutOfMemory, Revision};
@@ -29,7 +30,8 @@ pub const OVERVIEW_HEAD: &str = r#"<h1>Explained</h1>
 <dl>
 "#;
 
-/// When the request of an event was received, in nanoseconds since 1970: 0 before, and the greatest number from the year 2554 on.
+/// When the request of an event was received, in nanoseconds since 1970: 0 before, and the greatest number from the
+/// year 2554 on.
 pub fn receipt(event: &Event) -> u64
     ensures { result ≡ receipt event.now }
 {

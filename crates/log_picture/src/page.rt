@@ -1,5 +1,6 @@
 ghost use Rattle.std.specs.Prelude.{◌≡◌, ◌<◌, [], ◌∷◌, ◌++◌, IfOk, OnOk, Some, length, slice_get, string_bytes};
-ghost use Rattle.log_picture.specs.Page.{events_text, gap_of, gaps_in, IsLogPage, OnePage, log_page_text, objects_text, overview_of, revision_axis, sections_text, time_axis};
+ghost use Rattle.log_picture.specs.Page.{events_text, gap_of, gaps_in, IsLogPage, OnePage, log_page_text};
+ghost use Rattle.log_picture.specs.Page.{objects_text, overview_of, revision_axis, sections_text, time_axis};
 ghost use Rattle.version_store.specs.Histories.{history_of};
 
 use crate::changed::{Changed, append_changes, changes_of};
@@ -15,8 +16,8 @@ use std::alloc::Global;
 use version_store::Context;
 use write_groups::LogEvent;
 
-/// The page of an explained log, with the placement that explains it: one HTML text that needs nothing beside it, in which each
-/// text of the setup and of the log stands escaped.
+/// The page of an explained log, with the placement that explains it: one HTML text that needs nothing beside it, in
+/// which each text of the setup and of the log stands escaped.
 #[tactic(auto, unfolding(crate::specs::Page::log_page_text))]
 pub fn log_page(
     alloc: Global,
@@ -133,7 +134,8 @@ fn append_sections(
     gaps: &[Gap],
     changes: &[Changed],
 ) -> Result<(), OutOfMemory>
-    ensures { OnOk result (string_bytes text.new ≡ string_bytes text.old ++ sections_text context.now (overview_of context.now) lines.now gaps.now changes.now) }
+    ensures { OnOk result (string_bytes text.new ≡ string_bytes text.old ++ sections_text context.now
+        (overview_of context.now) lines.now gaps.now changes.now) }
 {
     let overview = overview_of(context);
     append_events(alloc, text, context, overview)?;
@@ -170,7 +172,8 @@ fn append_objects(
     lines: &[PlacedLine],
     gaps: &[Gap],
 ) -> Result<(), OutOfMemory>
-    ensures { OnOk result (string_bytes text.new ≡ string_bytes text.old ++ objects_text context.now overview lines.now gaps.now) }
+    ensures { OnOk result (string_bytes text.new ≡ string_bytes text.old ++ objects_text context.now overview
+        lines.now gaps.now) }
 {
     let log = context.log();
     let removals = context.past().removals();

@@ -1,5 +1,7 @@
 ghost use Rattle.std.specs.Prelude.{◌≡◌, ◌++◌, OnOk, flat_map, string_bytes};
-ghost use Rattle.log_picture.specs.Revised.{axis_text, bar_text, bar_width, gap_mark, history_drawing, history_marks, history_text, left_out_text, range_text, rect_text, removal_mark, tick_text, version_mark};
+ghost use Rattle.log_picture.specs.Revised.{axis_text, bar_text, bar_width, gap_mark, history_drawing};
+ghost use Rattle.log_picture.specs.Revised.{history_marks, history_text, left_out_text, range_text, rect_text};
+ghost use Rattle.log_picture.specs.Revised.{removal_mark, tick_text, version_mark};
 
 use crate::gone::line_at;
 use crate::limits::{GAP_LIMIT, REMOVAL_LIMIT, VERSION_LIMIT};
@@ -48,7 +50,8 @@ pub fn append_history(
     text: &mut String,
     drawn: &Drawn<'_>,
 ) -> Result<(), OutOfMemory>
-    ensures { OnOk result (string_bytes text.new ≡ string_bytes text.old ++ history_text drawn.now.axis drawn.now.log.now drawn.now.versions.now drawn.now.removals.now drawn.now.gaps.now) }
+    ensures { OnOk result (string_bytes text.new ≡ string_bytes text.old ++ history_text drawn.now.axis
+        drawn.now.log.now drawn.now.versions.now drawn.now.removals.now drawn.now.gaps.now) }
 {
     append_drawing(alloc, text, drawn)?;
     append_left_out(text, drawn)?;
@@ -59,7 +62,8 @@ pub fn append_history(
 
 #[tactic(auto, unfolding(crate::specs::Revised::history_drawing))]
 fn append_drawing(alloc: Global, text: &mut String, drawn: &Drawn<'_>) -> Result<(), OutOfMemory>
-    ensures { OnOk result (string_bytes text.new ≡ string_bytes text.old ++ history_drawing drawn.now.axis drawn.now.log.now drawn.now.versions.now drawn.now.removals.now drawn.now.gaps.now) }
+    ensures { OnOk result (string_bytes text.new ≡ string_bytes text.old ++ history_drawing drawn.now.axis
+        drawn.now.log.now drawn.now.versions.now drawn.now.removals.now drawn.now.gaps.now) }
 {
     text.push_str(HISTORY_HEAD)?;
     append_history_marks(alloc, text, drawn)?;
@@ -73,7 +77,8 @@ fn append_history_marks(
     text: &mut String,
     drawn: &Drawn<'_>,
 ) -> Result<(), OutOfMemory>
-    ensures { OnOk result (string_bytes text.new ≡ string_bytes text.old ++ history_marks drawn.now.axis drawn.now.log.now drawn.now.versions.now drawn.now.removals.now drawn.now.gaps.now) }
+    ensures { OnOk result (string_bytes text.new ≡ string_bytes text.old ++ history_marks drawn.now.axis
+        drawn.now.log.now drawn.now.versions.now drawn.now.removals.now drawn.now.gaps.now) }
 {
     let axis = &drawn.axis;
     append_version_marks(alloc, text, axis, first_of(drawn.versions, VERSION_LIMIT))?;
@@ -94,7 +99,8 @@ fn append_version_marks(
     axis: &Axis,
     versions: &[Version],
 ) -> Result<(), OutOfMemory>
-    ensures { OnOk result (string_bytes text.new ≡ string_bytes text.old ++ flat_map (version_mark axis.now) versions.now) }
+    ensures { OnOk result (string_bytes text.new ≡ string_bytes text.old ++ flat_map
+        (version_mark axis.now) versions.now) }
 {
     for version in versions {
         append_version_mark(alloc, text, axis, version)?;
@@ -136,7 +142,8 @@ fn append_removal_marks(
     log: &[LogEvent],
     removals: &[Removal],
 ) -> Result<(), OutOfMemory>
-    ensures { OnOk result (string_bytes text.new ≡ string_bytes text.old ++ flat_map (removal_mark axis.now log.now) removals.now) }
+    ensures { OnOk result (string_bytes text.new ≡ string_bytes text.old ++ flat_map
+        (removal_mark axis.now log.now) removals.now) }
 {
     for removal in removals {
         append_removal_mark(alloc, text, axis, log, removal)?;
@@ -245,7 +252,8 @@ fn append_axis(text: &mut String, axis: &Axis) -> Result<(), OutOfMemory>
 
 #[tactic(auto, unfolding(crate::specs::Revised::left_out_text))]
 fn append_left_out(text: &mut String, drawn: &Drawn<'_>) -> Result<(), OutOfMemory>
-    ensures { OnOk result (string_bytes text.new ≡ string_bytes text.old ++ left_out_text drawn.now.versions.now drawn.now.removals.now drawn.now.gaps.now) }
+    ensures { OnOk result (string_bytes text.new ≡ string_bytes text.old ++ left_out_text
+        drawn.now.versions.now drawn.now.removals.now drawn.now.gaps.now) }
 {
     push_rest(
         text,

@@ -1,5 +1,6 @@
 ghost use Rattle.std.specs.Prelude.{◌≡◌, ◌++◌, OnOk, flat_map, string_bytes};
-ghost use Rattle.log_picture.specs.Revised.{gap_row, gaps_table, maker_text, version_cells, version_row, versions_table};
+ghost use Rattle.log_picture.specs.Revised.{gap_row, gaps_table, maker_text, version_cells, version_row};
+ghost use Rattle.log_picture.specs.Revised.{versions_table};
 
 use crate::gone::{TABLE_END, line_at};
 use crate::limits::{GAP_LIMIT, VERSION_LIMIT};
@@ -47,7 +48,8 @@ fn append_version_rows(
     log: &[LogEvent],
     versions: &[Version],
 ) -> Result<(), OutOfMemory>
-    ensures { OnOk result (string_bytes text.new ≡ string_bytes text.old ++ flat_map (version_row log.now) versions.now) }
+    ensures { OnOk result (string_bytes text.new ≡ string_bytes text.old ++ flat_map
+        (version_row log.now) versions.now) }
 {
     for version in versions {
         append_version_row(alloc, text, log, version)?;

@@ -17,7 +17,8 @@ pub struct Cut {
 // The first newline from an index on.
 fn find_newline(log: &[u8], from: usize) -> Option<usize>
     requires { from ≤ length log.now }
-    ensures some { IfSome result (λ at. (from ≤ at) × (at < length log.now) × (slice_index log.now at ≡ newline) × HasNoNewline (take (at - from) (drop from log.now))) }
+    ensures some { IfSome result (λ at. (from ≤ at) × (at < length log.now)
+        × (slice_index log.now at ≡ newline) × HasNoNewline (take (at - from) (drop from log.now))) }
     ensures none { IfNone result (HasNoNewline (drop from log.now)) }
 {
     let ahead = log[from..].iter().position(|byte| *byte == NEWLINE)?;
@@ -29,7 +30,8 @@ pub fn cut_line(log: &[u8], start: usize) -> Cut
     requires { start < length log.now }
     ensures line { (start ≤ result.end) × (result.end ≤ length log.now) }
     ensures next { (start < result.next) × (result.next ≤ length log.now) }
-    ensures begins { BeginsWith (drop start log.now) (slice_range log.now start result.end) (slice_range log.now start result.next) (drop result.next log.now) }
+    ensures begins { BeginsWith (drop start log.now) (slice_range log.now start result.end)
+        (slice_range log.now start result.next) (drop result.next log.now) }
 {
     match find_newline(log, start) {
         Some(end) => Cut { end, next: end + 1 },

@@ -102,7 +102,8 @@ fn keep_line(
     requires first { start ≤ end }
     requires last { end ≤ length log.now }
     requires homed { AreHomed log.now homes.old.entries }
-    ensures { IfOk result (Moves log.now homes.old.entries homes.new.entries (λ kept. KeepsLine kept (slice_range log.now start end))) }
+    ensures { IfOk result (Moves log.now homes.old.entries homes.new.entries (λ kept. KeepsLine kept
+        (slice_range log.now start end))) }
 {
     if end - start > LONGEST_LINE {
         return Ok(Some(LeftCause::LineTooLong));

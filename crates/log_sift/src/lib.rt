@@ -1,4 +1,5 @@
-//! A log without the lines that a judge refuses: which of its lines stay, and for which rule each other line is left out.
+//! A log without the lines that a judge refuses: which of its lines stay, and for which rule each other line is left
+//! out.
 #![tactic(auto)]
 
 mod answer;

@@ -114,7 +114,8 @@ pub fn compare_at(
     event: Event,
 ) -> Result<Option<LeftCause>, OutOfMemory>
     requires { (earlier : Kept) × IsAt log.now home earlier }
-    ensures { IfOk result (λ cause. (earlier : Kept) → IsAt log.now home earlier → AreOfOneStage earlier event → Compares earlier event cause) }
+    ensures { IfOk result (λ cause. (earlier : Kept) → IsAt log.now home earlier → AreOfOneStage earlier event
+        → Compares earlier event cause) }
 {
     let earlier = event_at(alloc, log, home)?;
     compare(alloc, earlier, event)

@@ -29,8 +29,8 @@ fn append_left_lines(text: &mut String, lines: &[LeftLine]) -> Result<(), OutOfM
     Ok(())
 }
 
-/// The number of each line that is left out, and why: `limit line`, or the rule from `M1` to `M12`; and then how many lines
-/// stay that aren't blank, and how many are left out. Each of these lines ends with a newline.
+/// The number of each line that is left out, and why: `limit line`, or the rule from `M1` to `M12`; and then how many
+/// lines stay that aren't blank, and how many are left out. Each of these lines ends with a newline.
 pub fn left_text(alloc: Global, sifting: &Sifting) -> Result<String, OutOfMemory>
     ensures { IfOk result (λ text. string_bytes text ≡ left_text sifting.now) }
 {

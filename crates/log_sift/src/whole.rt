@@ -90,8 +90,8 @@ fn seed_of(log: &[u8]) -> Seed {
     Seed::of(&log[..log.len().min(SEED_BYTES)])
 }
 
-/// What becomes of each line of a log: a line stays where its events can be taken behind those of the lines before it that
-/// stay. No event of a line that is left out is kept.
+/// What becomes of each line of a log: a line stays where its events can be taken behind those of the lines before it
+/// that stay. No event of a line that is left out is kept.
 pub fn sift(alloc: Global, log: &[u8]) -> Result<Sifting, OutOfMemory>
     ensures { IfOk result (λ sifting. (fates : List Became) × IsSifting log.now fates sifting) }
 {

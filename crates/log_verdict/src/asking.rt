@@ -24,8 +24,8 @@ pub enum Answered {
     History(Bytes),
 }
 
-/// Reads a setup and then a log from a desk, each by its name, and answers a question of the history that they tell. What
-/// they tell isn't freed: the program ends soon after.
+/// Reads a setup and then a log from a desk, each by its name, and answers a question of the history that they tell.
+/// What they tell isn't freed: the program ends soon after.
 pub fn ask<R: Threads + Sync, D: Desk, H: Gate>(
     rt: &R,
     alloc: Global,
@@ -36,16 +36,21 @@ pub fn ask<R: Threads + Sync, D: Desk, H: Gate>(
     lines: &H,
 ) -> Result<Answered, Stop>
     requires { setup.now ≢ log.now }
-    ensures answered { IfOk result (λ found. (of_setup of_log : List ℕ) → D.left desk.old setup.now ≡ Some of_setup → D.left desk.old log.now ≡ Some of_log
+    ensures answered { IfOk result (λ found. (of_setup of_log : List ℕ)
+        → D.left desk.old setup.now ≡ Some of_setup → D.left desk.old log.now ≡ Some of_log
         → IsHistory of_setup of_log question.now found) }
-    ensures whole { IfOk result (λ found. (text : List ℕ) → found ≡ Answered.History text → IsAtEnd (D.left desk.new setup.now) × IsAtEnd (D.left desk.new log.now)) }
+    ensures whole { IfOk result (λ found. (text : List ℕ) → found ≡ Answered.History text
+        → IsAtEnd (D.left desk.new setup.now) × IsAtEnd (D.left desk.new log.now)) }
     ensures fault { IsErrOf result Stop.ReadFault → Rose (D.faults desk.old) (D.faults desk.new) }
     ensures counted { D.faults desk.old ≤ D.faults desk.new }
-    ensures setup_taken { TakesSetup (D.left desk.old setup.now) (D.left desk.new setup.now) (IsErrOf result Stop.ReadFault) }
+    ensures setup_taken { TakesSetup (D.left desk.old setup.now) (D.left desk.new setup.now)
+        (IsErrOf result Stop.ReadFault) }
     ensures log_taken { TakesLog (D.left desk.old log.now) (D.left desk.new log.now) (IsErrOf result Stop.ReadFault) }
-    ensures log_left { (of_setup : List ℕ) (refusal : Refusal) → D.left desk.old setup.now ≡ Some of_setup → IsSetupRefused of_setup refusal
+    ensures log_left { (of_setup : List ℕ) (refusal : Refusal) → D.left desk.old setup.now ≡ Some of_setup
+        → IsSetupRefused of_setup refusal
         → D.left desk.new log.now ≡ D.left desk.old log.now }
-    ensures others { (other : List ℕ) → other ≢ setup.now → other ≢ log.now → D.left desk.new other ≡ D.left desk.old other }
+    ensures others { (other : List ℕ) → other ≢ setup.now → other ≢ log.now
+        → D.left desk.new other ≡ D.left desk.old other }
 {
     let found = read_context(rt, alloc, desk, setup, log, lines)?;
     let told = ManuallyDrop::new(found);

@@ -36,16 +36,21 @@ pub fn judge<R: Threads + Sync, D: Desk, G: Gate, H: Gate>(
     gates: Gates<'_, G, H>,
 ) -> Result<Judged, Stop>
     requires { setup.now ≢ log.now }
-    ensures judged { IfOk result (λ judged. (of_setup of_log : List ℕ) → D.left desk.old setup.now ≡ Some of_setup → D.left desk.old log.now ≡ Some of_log
+    ensures judged { IfOk result (λ judged. (of_setup of_log : List ℕ)
+        → D.left desk.old setup.now ≡ Some of_setup → D.left desk.old log.now ≡ Some of_log
         → IsJudged of_setup of_log judged) }
-    ensures whole { IfOk result (λ judged. (outcome : Outcome) → judged ≡ Judged.Verdict outcome → IsAtEnd (D.left desk.new setup.now) × IsAtEnd (D.left desk.new log.now)) }
+    ensures whole { IfOk result (λ judged. (outcome : Outcome) → judged ≡ Judged.Verdict outcome
+        → IsAtEnd (D.left desk.new setup.now) × IsAtEnd (D.left desk.new log.now)) }
     ensures fault { IsErrOf result Stop.ReadFault → Rose (D.faults desk.old) (D.faults desk.new) }
     ensures counted { D.faults desk.old ≤ D.faults desk.new }
-    ensures setup_taken { TakesSetup (D.left desk.old setup.now) (D.left desk.new setup.now) (IsErrOf result Stop.ReadFault) }
+    ensures setup_taken { TakesSetup (D.left desk.old setup.now) (D.left desk.new setup.now)
+        (IsErrOf result Stop.ReadFault) }
     ensures log_taken { TakesLog (D.left desk.old log.now) (D.left desk.new log.now) (IsErrOf result Stop.ReadFault) }
-    ensures log_left { (of_setup : List ℕ) (refusal : Refusal) → D.left desk.old setup.now ≡ Some of_setup → IsSetupRefused of_setup refusal
+    ensures log_left { (of_setup : List ℕ) (refusal : Refusal) → D.left desk.old setup.now ≡ Some of_setup
+        → IsSetupRefused of_setup refusal
         → D.left desk.new log.now ≡ D.left desk.old log.now }
-    ensures others { (other : List ℕ) → other ≢ setup.now → other ≢ log.now → D.left desk.new other ≡ D.left desk.old other }
+    ensures others { (other : List ℕ) → other ≢ setup.now → other ≢ log.now
+        → D.left desk.new other ≡ D.left desk.old other }
 {
     let found = read_context(rt, alloc, desk, setup, log, gates.lines)?;
     let told = ManuallyDrop::new(found);

@@ -1,6 +1,8 @@
 ghost use Rattle.std.specs.Prelude.{◌≡◌, ◌++◌, IfOk, string_bytes};
 ghost use Rattle.context_intake.specs.Refusals.{limit_word};
-ghost use Rattle.log_verdict.specs.Answers.{IsPlacementText, answer, checked_status, history_answer, judged_answer, outcome_status, refusal_answer, report_answer, settled_answer, status_number, strictly_answer, verified_answer};
+ghost use Rattle.log_verdict.specs.Answers.{IsPlacementText, answer, checked_status, history_answer, judged_answer};
+ghost use Rattle.log_verdict.specs.Answers.{outcome_status, refusal_answer, report_answer, settled_answer};
+ghost use Rattle.log_verdict.specs.Answers.{status_number, strictly_answer, verified_answer};
 
 use crate::asking::Answered;
 use crate::judged::Judged;

@@ -1,5 +1,6 @@
 ghost use Rattle.std.specs.Prelude.{◌≡◌, ◌<◌, ◌≤◌, ◌^◌};
-ghost use Rattle.markup.specs.Calendar.{date_in, date_of, era_year, month_day, month_of, year_day, year_month, years_more};
+ghost use Rattle.markup.specs.Calendar.{date_in, date_of, era_year, month_day, month_of, year_day, year_month};
+ghost use Rattle.markup.specs.Calendar.{years_more};
 
 /// A date of the Gregorian calendar.
 #[derive(Clone, Copy, PartialEq, Eq)]

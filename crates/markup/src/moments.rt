@@ -1,5 +1,6 @@
 ghost use Rattle.std.specs.Prelude.{◌≡◌, ◌<◌, ◌++◌, ◌^◌, OnOk, string_bytes};
-ghost use Rattle.markup.specs.Moments.{clock_text, date_text, fraction_text, instant_text, moment_at, moment_text, three_digits, two_digits};
+ghost use Rattle.markup.specs.Moments.{clock_text, date_text, fraction_text, instant_text, moment_at, moment_text};
+ghost use Rattle.markup.specs.Moments.{three_digits, two_digits};
 
 use crate::calendar::{Date, date_of};
 use base_types::{Moment, OutOfMemory};

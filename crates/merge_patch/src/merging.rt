@@ -77,7 +77,8 @@ fn merge_member(
     ensures merged { IfOk result (λ next. fields_of (all.new.items ++ drop next old.now)
         ≡ changed change.now (fields_of (all.old.items ++ drop at old.now))) }
     ensures sorted { IfOk result (λ next. AreSorted (all.new.items ++ drop next old.now)) }
-    ensures below { OnOk result ((name : List ℕ) → slice_cmp nat_cmp change.now.0 name ≡ Less → AllBelow name all.new.items) }
+    ensures below { OnOk result ((name : List ℕ) → slice_cmp nat_cmp change.now.0 name ≡ Less
+        → AllBelow name all.new.items) }
 {
     let at = copy_below(alloc, all, old, at, &change.name)?;
     let (value, next) = take_named(old, at, &change.name);

@@ -33,7 +33,8 @@ fn level_of(alloc: Global, store: &mut Store, tree: &Tree) -> Result<Level, Pool
     ensures added { OnOk result (store.new.trees ≡ fold with_tree store.old.trees (inside tree.now)) }
     ensures within { IfOk result (λ level. IsWithin store.new.names (length store.new.trees) level) }
     ensures stands { IfOk result (λ level. tree_of store.new.names store.new.trees level ≡ tree.now) }
-    ensures full { result ≡ Err PoolFault.Full → store.old.limit < length (fold with_tree store.old.trees (inside tree.now)) }
+    ensures full { result ≡ Err PoolFault.Full → store.old.limit < length (fold with_tree store.old.trees
+        (inside tree.now)) }
 {
     match &tree.node {
         Node::Null => Ok(Level { form: Form::Null }),
@@ -62,7 +63,8 @@ fn add_items(alloc: Global, store: &mut Store, list: &Trees) -> Result<Vec<u32>,
     ensures added { OnOk result (store.new.trees ≡ fold with_tree store.old.trees (inside_kids (kids_of list.now))) }
     ensures within { IfOk result (λ v. AllByRecursion (λ k. k < length store.new.trees) v.items) }
     ensures held { IfOk result (λ v. map (tree_at store.new.trees) v.items ≡ list.now) }
-    ensures full { result ≡ Err PoolFault.Full → store.old.limit < length (fold with_tree store.old.trees (inside_kids (kids_of list.now))) }
+    ensures full { result ≡ Err PoolFault.Full → store.old.limit < length (fold with_tree store.old.trees
+        (inside_kids (kids_of list.now))) }
 {
     let mut numbers = Vec::with_capacity(alloc, list.all.len())?;
     for item in &list.all {
@@ -79,11 +81,14 @@ fn add_members(
     list: &MemberList,
 ) -> Result<Vec<(usize, u32)>, PoolFault>
     ensures grows { Grows store.old store.new }
-    ensures added { OnOk result (store.new.trees ≡ fold with_tree store.old.trees (inside_fields (fields_of list.now))) }
-    ensures within { IfOk result (λ v. AllByRecursion (IsFieldWithin store.new.names (length store.new.trees)) v.items) }
+    ensures added { OnOk result (store.new.trees ≡ fold with_tree store.old.trees (inside_fields
+        (fields_of list.now))) }
+    ensures within { IfOk result (λ v. AllByRecursion (IsFieldWithin store.new.names (length store.new.trees))
+        v.items) }
     ensures held { IfOk result (λ v. map (field_at store.new.names store.new.trees) v.items ≡ list.now) }
     ensures sorted { AreSorted list.now }
-    ensures full { result ≡ Err PoolFault.Full → store.old.limit < length (fold with_tree store.old.trees (inside_fields (fields_of list.now))) }
+    ensures full { result ≡ Err PoolFault.Full → store.old.limit < length (fold with_tree store.old.trees
+        (inside_fields (fields_of list.now))) }
 {
     let mut numbers = Vec::with_capacity(alloc, list.all.len())?;
     for member in &list.all {

@@ -17,7 +17,8 @@ use std::cmp::Ordering;
 /// The number of what a pointer identifies within the tree of a number (RFC 6901 section 4).
 pub fn pointed(store: &Store, number: u32, pointer: &Pointer) -> Option<u32>
     requires { number < length store.now.trees }
-    ensures found { option_and_then (slice_get store.now.trees) result ≡ option_and_then (pointed_tree pointer.now) (slice_get store.now.trees number) }
+    ensures found { option_and_then (slice_get store.now.trees) result ≡ option_and_then
+        (pointed_tree pointer.now) (slice_get store.now.trees number) }
     ensures within { IfSome result (λ n. n < length store.now.trees) }
 {
     let mut here = number;
@@ -30,7 +31,8 @@ pub fn pointed(store: &Store, number: u32, pointer: &Pointer) -> Option<u32>
 /// The number of the value of an object's member.
 pub fn member_of(store: &Store, number: u32, name: &str) -> Option<u32>
     requires { number < length store.now.trees }
-    ensures found { option_and_then (slice_get store.now.trees) result ≡ option_and_then (member_of name.now) (slice_get store.now.trees number) }
+    ensures found { option_and_then (slice_get store.now.trees) result ≡ option_and_then (member_of name.now)
+        (slice_get store.now.trees number) }
     ensures within { IfSome result (λ n. n < length store.now.trees) }
 {
     match &store.level(number)?.form {
@@ -42,7 +44,8 @@ pub fn member_of(store: &Store, number: u32, name: &str) -> Option<u32>
 // The number of what one token refers to.
 fn child(store: &Store, number: u32, token: &Text) -> Option<u32>
     requires { number < length store.now.trees }
-    ensures found { option_and_then (slice_get store.now.trees) result ≡ option_and_then (child_of token.now) (slice_get store.now.trees number) }
+    ensures found { option_and_then (slice_get store.now.trees) result ≡ option_and_then (child_of token.now)
+        (slice_get store.now.trees number) }
     ensures within { IfSome result (λ n. n < length store.now.trees) }
 {
     match &store.level(number)?.form {
@@ -66,7 +69,8 @@ fn item(numbers: &Vec<u32>, token: &str) -> Option<u32>
 fn member(store: &Store, numbers: &Vec<(usize, u32)>, name: &str) -> Option<u32>
     requires within { AllByRecursion (IsFieldWithin store.now.names (length store.now.trees)) numbers.now.items }
     requires sorted { IsStrictlySortedBy (slice_cmp nat_cmp) (map (name_of store.now.names) numbers.now.items) }
-    ensures found { option_and_then (slice_get store.now.trees) result ≡ lookup name.now (fields_of (map (field_at store.now.names store.now.trees) numbers.now.items)) }
+    ensures found { option_and_then (slice_get store.now.trees) result ≡ lookup name.now
+        (fields_of (map (field_at store.now.names store.now.trees) numbers.now.items)) }
     ensures within { IfSome result (λ n. n < length store.now.trees) }
 {
     match find(store, numbers, name) {
@@ -77,7 +81,8 @@ fn member(store: &Store, numbers: &Vec<(usize, u32)>, name: &str) -> Option<u32>
 
 // The position of the member of a name, or else the position at which it would stand.
 fn find(store: &Store, numbers: &Vec<(usize, u32)>, name: &str) -> Result<usize, usize>
-    ensures found { IsBinarySearchResult (λ m. slice_cmp nat_cmp (name_of store.now.names m) name.now) numbers.now.items result }
+    ensures found { IsBinarySearchResult (λ m. slice_cmp nat_cmp (name_of store.now.names m) name.now)
+        numbers.now.items result }
     ensures within { IsSearchInRange result (length numbers.now.items) }
 {
     numbers.binary_search_by(

@@ -1,4 +1,5 @@
-ghost use Rattle.std.specs.Prelude.{◌≡◌, ◌<◌, ◌≤◌, ◌↔◌, [], Some, Err, length, slice_get, option_and_then, OnOk, OnErr, IfOk, IfSome, IsTrue};
+ghost use Rattle.std.specs.Prelude.{◌≡◌, ◌<◌, ◌≤◌, ◌↔◌, [], Some, Err, length, slice_get, option_and_then, OnOk};
+ghost use Rattle.std.specs.Prelude.{OnErr, IfOk, IfSome, IsTrue};
 ghost use Rattle.base_types.specs.Parts.{member_of};
 ghost use Rattle.base_types.specs.Pointers.{pointed as pointed_tree};
 ghost use Rattle.node_pool.specs.Pooled.{AreDistinct};
@@ -110,7 +111,8 @@ impl Pool {
     /// The number of what a pointer identifies within the tree of a number (RFC 6901 section 4).
     pub fn at(&self, node: NodeId, pointer: &Pointer) -> Option<NodeId>
         requires { node.0 < length self.now.trees }
-        ensures found { option_and_then (λ at. slice_get self.now.trees at.0) result ≡ option_and_then (pointed_tree pointer.now) (slice_get self.now.trees node.0) }
+        ensures found { option_and_then (λ at. slice_get self.now.trees at.0) result ≡ option_and_then
+            (pointed_tree pointer.now) (slice_get self.now.trees node.0) }
         ensures within { IfSome result (λ at. at.0 < length self.now.trees) }
     {
         Some(NodeId(pointed(&self.store, node.0, pointer)?))
@@ -119,7 +121,8 @@ impl Pool {
     /// The number of the value of a member of the object of a number.
     pub fn member(&self, node: NodeId, name: &str) -> Option<NodeId>
         requires { node.0 < length self.now.trees }
-        ensures found { option_and_then (λ at. slice_get self.now.trees at.0) result ≡ option_and_then (member_of name.now) (slice_get self.now.trees node.0) }
+        ensures found { option_and_then (λ at. slice_get self.now.trees at.0) result ≡ option_and_then
+            (member_of name.now) (slice_get self.now.trees node.0) }
         ensures within { IfSome result (λ at. at.0 < length self.now.trees) }
     {
         Some(NodeId(member_of(&self.store, node.0, name)?))

@@ -1,4 +1,5 @@
-ghost use Rattle.std.specs.Prelude.{◌≡◌, ◌<◌, ◌≤◌, [], List, ℕ, Some, Err, length, take, slice_get, option_map, option_copied, OnOk, OnErr, IfOk, IfSome};
+ghost use Rattle.std.specs.Prelude.{◌≡◌, ◌<◌, ◌≤◌, [], List, ℕ, Some, Err, length, take, slice_get, option_map};
+ghost use Rattle.std.specs.Prelude.{option_copied, OnOk, OnErr, IfOk, IfSome};
 ghost use Rattle.indexmap.specs.IndexSet.{insert_key};
 ghost use Rattle.node_pool.specs.Flat.{flat_eq};
 ghost use Rattle.node_pool.specs.Kept.{Grows};
@@ -58,7 +59,8 @@ impl Store {
 
     /// The level of the tree of a number.
     pub fn level(&self, number: u32) -> Option<&Level>
-        ensures tree { option_map (λ l. tree_of self.now.names self.now.trees l.now) result ≡ slice_get self.now.trees number }
+        ensures tree { option_map (λ l. tree_of self.now.names self.now.trees l.now) result ≡ slice_get
+            self.now.trees number }
         ensures before { IfSome result (λ l. IsWithin self.now.names number l.now) }
     {
         self.levels.get_index(number as usize)
@@ -88,10 +90,14 @@ impl Store {
         requires within { IsWithin self.old.names (length self.old.trees) level }
         ensures limit { self.new.limit ≡ self.old.limit }
         ensures names { self.new.names ≡ self.old.names }
-        ensures placed { OnOk result (self.new.trees ≡ with_tree self.old.trees (tree_of self.old.names self.old.trees level)) }
-        ensures number { IfOk result (λ n. slice_get self.new.trees n ≡ Some (tree_of self.old.names self.old.trees level)) }
-        ensures fits { OnOk result (length (with_tree self.old.trees (tree_of self.old.names self.old.trees level)) ≤ self.old.limit) }
-        ensures full { result ≡ Err PoolFault.Full → self.old.limit < length (with_tree self.old.trees (tree_of self.old.names self.old.trees level)) }
+        ensures placed { OnOk result (self.new.trees ≡ with_tree self.old.trees
+            (tree_of self.old.names self.old.trees level)) }
+        ensures number { IfOk result (λ n. slice_get self.new.trees n ≡ Some
+            (tree_of self.old.names self.old.trees level)) }
+        ensures fits { OnOk result (length (with_tree self.old.trees (tree_of self.old.names self.old.trees
+            level)) ≤ self.old.limit) }
+        ensures full { result ≡ Err PoolFault.Full → self.old.limit < length (with_tree self.old.trees
+            (tree_of self.old.names self.old.trees level)) }
         ensures refused { OnErr result (self.new.trees ≡ self.old.trees) }
     {
         inserted(&mut self.levels, self.limit, level)

@@ -14,7 +14,8 @@ pub fn entry_upto(entries: &[Entry], place: u64) -> Option<Entry>
     requires { ByRevision entries.now }
     ensures some { IfSome result (Contains entries.now) }
     ensures upto { IfSome result (λ entry. entry.revision ≤ place) }
-    ensures last { IfSome result (λ entry. All (λ other. other.revision ≤ place → other.revision ≤ entry.revision) entries.now) }
+    ensures last { IfSome result (λ entry. All (λ other. other.revision ≤ place
+        → other.revision ≤ entry.revision) entries.now) }
     ensures none { IfNone result (All (λ entry. place < entry.revision) entries.now) }
 {
     let upto = entries.partition_point(|entry| entry.revision <= place);

@@ -49,7 +49,8 @@ pub fn file_versions(
     requires rising { AreRising versions.now }
     requires count { length versions.now < 2 ^ 32 }
     requires endings { ByLast endings.now }
-    ensures { IfOk result (λ by_key. (removals : List Removal) → AreEndings removals endings.now → AreEnds versions.now removals
+    ensures { IfOk result (λ by_key. (removals : List Removal) → AreEndings removals endings.now
+        → AreEnds versions.now removals
         → AreFound versions.now removals by_key) }
 {
     let mut by_key = BTreeMap::new(alloc);
@@ -63,7 +64,8 @@ pub fn file_versions(
 /// The keys in order.
 pub fn keys_of(alloc: Global, by_key: &ByKey) -> Result<Vec<ObjectKey>, OutOfMemory>
     ensures order { IfOk result (λ keys. AreInOrder keys.items) }
-    ensures exact { IfOk result (λ keys. (key : ObjectKey) → Contains keys.items key ↔ IsSome (get key_order by_key.now key)) }
+    ensures exact { IfOk result (λ keys. (key : ObjectKey) → Contains keys.items key
+        ↔ IsSome (get key_order by_key.now key)) }
 {
     let mut keys = Vec::with_capacity(alloc, by_key.len())?;
     for key in by_key.keys() {

@@ -23,7 +23,12 @@ impl Model for Found {
 
     ghost Value = { Found };
 
-    ghost view = { λ f. record { entries = f.entries.items; incarnations = f.incarnations.items; gone = f.gone.items } };
+    ghost view = { λ f. record {
+      entries = f.entries.items;
+      incarnations = f.incarnations.items;
+      gone =
+          f.gone.items;
+    } };
 }
 
 fn position_of(ending: Option<Ending>) -> Option<u32>

@@ -1,4 +1,6 @@
-ghost use Rattle.std.specs.Prelude.{◌≡◌, ◌≢◌, ◌<◌, ◌^◌, ◌==◌, ◌&&◌, ◌↔◌, length, map, find, option_map, option_and_then, slice_get, IfOk, IfSome, IsSomeAnd, IsTrue, AllPairs, Any, Contains, ◌≤◌};
+ghost use Rattle.std.specs.Prelude.{◌≡◌, ◌≢◌, ◌<◌, ◌^◌, ◌==◌, ◌&&◌, ◌↔◌, length, map, find, option_map};
+ghost use Rattle.std.specs.Prelude.{option_and_then, slice_get, IfOk, IfSome, IsSomeAnd, IsTrue, AllPairs, Any};
+ghost use Rattle.std.specs.Prelude.{Contains, ◌≤◌};
 ghost use Rattle.std.specs.Option.{option_copied};
 ghost use Rattle.std.specs.List.Sorted.{IsNonDecreasing};
 ghost use Rattle.base_types.specs.declared.key.ObjectKey.{ObjectKey};
@@ -45,7 +47,8 @@ impl Model for Past {
 
     ghost view = { λ p. record { versions = p.versions; removals = p.removals } };
 
-    ghost invariant = { λ p. IsKept (record { versions = p.versions; removals = p.removals }) p.ranges.items p.endings.items p.keys.items p.by_key };
+    ghost invariant = { λ p. IsKept (record { versions = p.versions; removals = p.removals }) p.ranges.items
+        p.endings.items p.keys.items p.by_key };
 }
 
 fn ranges_of(alloc: Global, removals: &[Removal]) -> Result<Vec<Range>, OutOfMemory>
@@ -87,7 +90,8 @@ fn version_with(versions: &[Version], revision: u64) -> Option<&Version>
 fn position_by(removals: &[Removal], event: u32) -> Option<u32>
     requires rising { AllPairs (λ a b. a.range.event < b.range.event) removals.now }
     requires count { length removals.now < 2 ^ 32 }
-    ensures removal { option_and_then (slice_get removals.now) result ≡ find (λ r. r.range.event == event) removals.now }
+    ensures removal { option_and_then (slice_get removals.now) result ≡ find (λ r. r.range.event == event)
+        removals.now }
     ensures within { IfSome result (λ position. position < length removals.now) }
 {
     let upto = removals.partition_point(|removal| removal.range.event <= event);
@@ -187,7 +191,8 @@ impl Past {
 
     /// The key's latest version at or below a place.
     pub fn latest(&self, key: &ObjectKey, place: u64) -> Option<&Version>
-        ensures latest { option_map (λ v. version_of v.now) result ≡ latest (map version_of self.now.versions) key.now place }
+        ensures latest { option_map (λ v. version_of v.now) result ≡ latest (map version_of self.now.versions)
+            key.now place }
         ensures known { IfSome result (λ v. Contains self.now.versions v.now) }
     {
         let versions = self.versions.as_slice();
@@ -211,7 +216,8 @@ impl Past {
 
     /// The position of the removal by the event of this number.
     pub fn removal_by(&self, event: u32) -> Option<u32>
-        ensures removal { option_and_then (slice_get self.now.removals) result ≡ find (λ r. r.range.event == event) self.now.removals }
+        ensures removal { option_and_then (slice_get self.now.removals) result ≡ find
+            (λ r. r.range.event == event) self.now.removals }
         ensures within { IfSome result (λ position. position < length self.now.removals) }
     {
         position_by(self.removals.as_slice(), event)

@@ -28,7 +28,8 @@ pub fn keys_in<'a>(
 ) -> &'a [ObjectKey]
     requires { AreInOrder keys.now }
     ensures order { AreInOrder result.now }
-    ensures exact { (key : ObjectKey) → Contains result.now key ↔ (Contains keys.now key × IsInScope group.now resource.now namespace.now key) }
+    ensures exact { (key : ObjectKey) → Contains result.now key ↔ (Contains keys.now key
+        × IsInScope group.now resource.now namespace.now key) }
 {
     let before = keys.partition_point(|key| scope_order(key, group, resource, namespace).is_lt());
     let (_, rest) = keys.split_at(before);

@@ -1,4 +1,5 @@
-ghost use Rattle.std.specs.Prelude.{◌≡◌, ◌<◌, ◌++◌, ◌∷◌, [], ◌↔◌, not, true, IfOk, OnOk, IsTrue, All, AllPairs, Any, option_map, slice_get};
+ghost use Rattle.std.specs.Prelude.{◌≡◌, ◌<◌, ◌++◌, ◌∷◌, [], ◌↔◌, not, true, IfOk, OnOk, IsTrue, All, AllPairs};
+ghost use Rattle.std.specs.Prelude.{Any, option_map, slice_get};
 ghost use Rattle.std.specs.BTreeSet.{contains, Updates};
 ghost use Rattle.object_versions.specs.Growing.{AreFlagged, AreKept, IsContinued, IsLatestIn};
 ghost use Rattle.object_versions.specs.Owners.{owner_order, owner_of};
@@ -101,7 +102,8 @@ impl Index {
         requires kept { AreKept versions.now self.old.firsts.items self.old.last self.old.owners self.old.uids }
         requires above { All (λ v. v.revision < version.now.revision) versions.now }
         requires continued { IsContinued versions.now version.now continued }
-        ensures { OnOk result (AreKept (versions.now ++ version.now ∷ []) self.new.firsts.items self.new.last self.new.owners self.new.uids) }
+        ensures { OnOk result (AreKept (versions.now ++ version.now ∷ []) self.new.firsts.items self.new.last
+            self.new.owners self.new.uids) }
     {
         let is_first = match continued {
             Some(is_first) => is_first,
@@ -137,7 +139,8 @@ fn add(
     requires above { All (λ v. v.revision < version.revision) versions.old }
     requires continued { IsContinued versions.old version continued }
     ensures versions { OnOk result (versions.new ≡ versions.old ++ version ∷ []) }
-    ensures kept { OnOk result (AreKept versions.new index.new.firsts.items index.new.last index.new.owners index.new.uids) }
+    ensures kept { OnOk result (AreKept versions.new index.new.firsts.items index.new.last index.new.owners
+        index.new.uids) }
 {
     index.add(versions.as_slice(), &version, continued)?;
     versions.push(version)

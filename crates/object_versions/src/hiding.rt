@@ -96,7 +96,8 @@ pub fn clouds_of(
     slots: &[KeyRevision],
 ) -> Result<Clouds, OutOfMemory>
     requires { start ≡ windows.now.start }
-    ensures { IfOk result (λ clouds. (h : History) → HasTimes windows.now h → HasEvents events.now h → HasSlots slots.now h → AreCloudsOf clouds h) }
+    ensures { IfOk result (λ clouds. (h : History) → HasTimes windows.now h → HasEvents events.now h
+        → HasSlots slots.now h → AreCloudsOf clouds h) }
 {
     let spans = unrecorded_of(alloc, windows, start, events)?;
     let clouds = Clouds::build(alloc, &spans, slots)?;

@@ -80,7 +80,8 @@ fn windows_of(
     requires rising { AllPairs (λ a b. a.revision < b.revision) groups.now }
     requires above { All (λ group. start < group.revision) groups.now }
     ensures start { IfOk result (λ windows. windows.start ≡ start) }
-    ensures spans { IfOk result (λ windows. (h : History) → HasEvents events.now h → IsOrder h → AreGroupsOf h groups.now
+    ensures spans { IfOk result (λ windows. (h : History) → HasEvents events.now h → IsOrder h
+        → AreGroupsOf h groups.now
         → h.spans ≡ map span_of windows.spans → AreSpans h) }
 {
     let spans = spans_of(alloc, start, events, groups)?;
@@ -94,7 +95,8 @@ fn timed_of(alloc: Global, start: Revision, events: &[LogEvent]) -> Result<Timed
     ensures rising { IfOk result (λ timed. AllPairs (λ a b. a.revision < b.revision) timed.groups) }
     ensures above { IfOk result (λ timed. All (λ group. start < group.revision) timed.groups) }
     ensures members { IfOk result (λ timed. All (λ group. AreWrites events.now group.members) timed.groups) }
-    ensures timed { IfOk result (λ timed. (h : History) → HasEvents events.now h → h.start ≡ start → h.order ≡ timed.order.items
+    ensures timed { IfOk result (λ timed. (h : History) → HasEvents events.now h → h.start ≡ start
+        → h.order ≡ timed.order.items
         → h.spans ≡ map span_of timed.windows.spans → IsOrder h × AreGroupsOf h timed.groups × AreSpans h) }
 {
     let order = order_of(alloc, events)?;
@@ -137,8 +139,10 @@ fn ended_of<B: Bodies>(
     requires above { All (λ group. start < group.revision) timed.now.groups }
     requires members { All (λ group. AreWrites events.now group.members) timed.now.groups }
     ensures slots { IfOk result (λ ended. AreSlots (slots_of snapshot.now timed.now.groups) ended.written.versions) }
-    ensures ended { IfOk result (λ ended. (h : History) → HasTimes timed.now.windows h → HasEvents events.now h → h.order ≡ timed.now.order.items → IsOrder h
-        → IsJudgedBy clouds.now (B.body bodies.now) h → AreGroupsOf h timed.now.groups → h.start ≡ start → h.snapshot ≡ map item_of snapshot.now
+    ensures ended { IfOk result (λ ended. (h : History) → HasTimes timed.now.windows h
+        → HasEvents events.now h → h.order ≡ timed.now.order.items → IsOrder h
+        → IsJudgedBy clouds.now (B.body bodies.now) h → AreGroupsOf h timed.now.groups → h.start ≡ start
+        → h.snapshot ≡ map item_of snapshot.now
         → h.versions ≡ map version_of ended.written.versions → h.removals ≡ map recorded ended.removals
         → AreVersions h × AreAllJudged h events.now timed.now.groups ended.written.judged.items × AreRemovals h) }
 {
@@ -204,7 +208,8 @@ pub fn past_of<B: Bodies>(
     requires lines { AllPairs (λ a b. a.line < b.line) events.now }
     requires snapshot { IsSnapshot start snapshot.now }
     ensures start { IfOk result (λ past. past.windows.start ≡ start) }
-    ensures past { IfOk result (λ past. (h : History) → HasFound start snapshot.now events.now (B.body bodies.now) past h → IsPastOf events.now past h) }
+    ensures past { IfOk result (λ past. (h : History) → HasFound start snapshot.now events.now
+        (B.body bodies.now) past h → IsPastOf events.now past h) }
 {
     let timed = timed_of(alloc, start, events)?;
     let clouds = hidden_of(alloc, start, snapshot, events, &timed)?;

@@ -87,7 +87,8 @@ fn clear_fault<B: Bodies>(
     is_used: bool,
     before: Option<&Version>,
 ) -> Result<Option<Reason>, OutOfMemory>
-    ensures { IfOk result (λ found. found ≡ clear_code (B.body bodies.now) making.entry.number making.entry.event.now making.entry.item.now making.entry.created is_used
+    ensures { IfOk result (λ found. found ≡ clear_code (B.body bodies.now) making.entry.number
+        making.entry.event.now making.entry.item.now making.entry.created is_used
         (option_map (λ v. v.now) before.entry)) }
 {
     if making.created {
@@ -142,7 +143,8 @@ pub fn finding_fault<B: Bodies>(
     bodies: &B,
     making: Making<'_>,
 ) -> Result<Option<Reason>, OutOfMemory>
-    ensures { IfOk result (λ found. (h : History) → h.body ≡ B.body bodies.now → IsLeastFoundFault h (making_of making.entry) found) }
+    ensures { IfOk result (λ found. (h : History) → h.body ≡ B.body bodies.now
+        → IsLeastFoundFault h (making_of making.entry) found) }
 {
     if making.created {
         return Ok(Some(Reason::U4));

@@ -23,7 +23,8 @@ fn removal_after(
     is_first: bool,
     after: Option<&Version>,
 ) -> Result<Option<Removal>, OutOfMemory>
-    ensures { IfOk result (IsFoundAfter log.entry.windows.now log.entry.events.now log.entry.removed.now version.now is_first (option_map (λ v. v.now) after.entry)) }
+    ensures { IfOk result (IsFoundAfter log.entry.windows.now log.entry.events.now log.entry.removed.now
+        version.now is_first (option_map (λ v. v.now) after.entry)) }
 {
     let next = match after {
         Some(after) => {
@@ -70,7 +71,8 @@ fn find_removals(
 ) -> Result<Vec<Removal>, OutOfMemory>
     requires rising { AllPairs (λ a b. a.revision < b.revision) versions.now }
     requires firsts { AreFlagged versions.now firsts.now }
-    ensures { IfOk result (λ removals. (h : History) → HasLog log.entry.windows.now log.entry.events.now log.entry.removed.now h
+    ensures { IfOk result (λ removals. (h : History) → HasLog log.entry.windows.now log.entry.events.now
+        log.entry.removed.now h
         → h.versions ≡ map version_of versions.now → AreFound h removals.items) }
 {
     let mut next: BTreeMap<ObjectKey, usize> = BTreeMap::new(alloc);
@@ -95,7 +97,8 @@ pub fn removals_of(
 ) -> Result<Removals, OutOfMemory>
     requires rising { AllPairs (λ a b. a.revision < b.revision) versions.now }
     requires firsts { AreFlagged versions.now firsts.now }
-    ensures { IfOk result (λ removals. (h : History) → HasLog log.entry.windows.now log.entry.events.now log.entry.removed.now h
+    ensures { IfOk result (λ removals. (h : History) → HasLog log.entry.windows.now log.entry.events.now
+        log.entry.removed.now h
         → h.versions ≡ map version_of versions.now → h.removals ≡ map recorded removals → AreRemovals h) }
 {
     let mut removals = find_removals(alloc, log, versions, firsts)?;

@@ -1,5 +1,6 @@
 ghost use Rattle.std.specs.Prelude.{◌≡◌, ℕ, List, IfOk, OnOk, option_map};
-ghost use Rattle.object_versions.specs.Removals.{found_at, first_removal, gone_at, AreFirstRemovals, or_first, number_if};
+ghost use Rattle.object_versions.specs.Removals.{found_at, first_removal, gone_at, AreFirstRemovals, or_first};
+ghost use Rattle.object_versions.specs.Removals.{number_if};
 
 use base_types::{ObjectKey, OutOfMemory, Text};
 use std::alloc::Global;

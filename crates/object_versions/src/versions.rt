@@ -1,4 +1,5 @@
-ghost use Rattle.std.specs.Prelude.{◌≡◌, ◌≢◌, ◌<◌, ◌++◌, ◌∷◌, [], ℕ, List, IfOk, IsSome, All, AllPairs, Some, length, map, option_map};
+ghost use Rattle.std.specs.Prelude.{◌≡◌, ◌≢◌, ◌<◌, ◌++◌, ◌∷◌, [], ℕ, List, IfOk, IsSome, All, AllPairs, Some};
+ghost use Rattle.std.specs.Prelude.{length, map, option_map};
 ghost use Rattle.std.specs.List.Sorted.{IsPermutation};
 ghost use Rattle.history_model.specs.Histories.{History};
 ghost use Rattle.history_model.specs.Makers.{AreVersions, IsMadeVersion};
@@ -14,7 +15,9 @@ ghost use Rattle.object_versions.specs.declared.maker.Judged.{Judged as Writing}
 ghost use Rattle.object_versions.specs.Hidden.{slots_of};
 ghost use Rattle.object_versions.specs.Modelled.{making_of};
 ghost use Rattle.object_versions.specs.Surrounded.{HasLog};
-ghost use Rattle.object_versions.specs.Written.{making_at, snapshot_version, IsOfLog, Extends, IsAnsweredAt, IsJudgement, AreJudged, AreAllJudged, AreSlots, IsOfGroup, IsSnapshot};
+ghost use Rattle.object_versions.specs.Written.{making_at, snapshot_version, IsOfLog, Extends, IsAnsweredAt};
+ghost use Rattle.object_versions.specs.Written.{IsJudgement, AreJudged, AreAllJudged, AreSlots, IsOfGroup};
+ghost use Rattle.object_versions.specs.Written.{IsSnapshot};
 
 use crate::bodies::Bodies;
 use crate::grown::{Grown, Latest};
@@ -57,8 +60,10 @@ fn entry_before<'a>(
     latest: Option<Latest<'a>>,
     making: Making<'_>,
 ) -> Option<&'a Version>
-    ensures { (h : History) (done : List Version) → HasLog log.entry.windows.now log.entry.events.now log.entry.removed.now h → Extends h done making.entry.item.now.revision
-        → IsLatestIn done making.entry.item.now.key latest.entry → IsEntryBefore h (making_of making.entry) (option_map (λ v. version_of v.now) result) }
+    ensures { (h : History) (done : List Version) → HasLog log.entry.windows.now log.entry.events.now
+        log.entry.removed.now h → Extends h done making.entry.item.now.revision
+        → IsLatestIn done making.entry.item.now.key latest.entry → IsEntryBefore h (making_of making.entry)
+        (option_map (λ v. version_of v.now) result) }
 {
     let latest = latest?;
     if making.created
@@ -87,7 +92,8 @@ fn judge<B: Bodies>(
     making: Making<'_>,
 ) -> Result<Judged, OutOfMemory>
     ensures number { IfOk result (λ judged. judged.number ≡ making.entry.number) }
-    ensures judged { IfOk result (λ judged. (h : History) → IsOfLog log.entry (B.body bodies.now) h → Extends h grown.now making.entry.item.now.revision
+    ensures judged { IfOk result (λ judged. (h : History) → IsOfLog log.entry (B.body bodies.now) h
+        → Extends h grown.now making.entry.item.now.revision
         → IsJudgement h (making_of making.entry) judged) }
 {
     let item = making.item;
@@ -117,8 +123,10 @@ fn judge_each<B: Bodies>(
 ) -> Result<Vec<Judged>, OutOfMemory>
     requires writes { AreWrites log.events.now members.now }
     ensures numbers { IfOk result (λ judged. map (λ one. one.number) judged.items ≡ members.now) }
-    ensures judged { IfOk result (λ judged. (h : History) (revision : ℕ) → IsOfLog log.entry (B.body bodies.now) h → Extends h grown.now revision
-        → All (IsAnsweredAt log.entry.events.now revision) members.now → AreJudged h log.entry.events.now members.now judged.items) }
+    ensures judged { IfOk result (λ judged. (h : History) (revision : ℕ)
+        → IsOfLog log.entry (B.body bodies.now) h → Extends h grown.now revision
+        → All (IsAnsweredAt log.entry.events.now revision) members.now
+        → AreJudged h log.entry.events.now members.now judged.items) }
 {
     let mut judged = Vec::with_capacity(alloc, members.len())?;
     for number in members {
@@ -141,7 +149,8 @@ fn version_in(log: Log<'_>, group: &Group, judged: &[Judged]) -> Result<Version,
     requires writes { AreWrites log.events.now (map (λ one. one.number) judged.now) }
     ensures key { IfOk result (λ version. version.key ≡ group.now.key) }
     ensures revision { IfOk result (λ version. version.revision ≡ group.now.revision) }
-    ensures made { IfOk result (λ version. (h : History) → IsOfGroup log.entry group.now judged.now h → IsMadeVersion h (version_of version)) }
+    ensures made { IfOk result (λ version. (h : History) → IsOfGroup log.entry group.now judged.now h
+        → IsMadeVersion h (version_of version)) }
 {
     let first = first_number(judged);
     let may_be_unrecorded = log.clouds.may_make(&group.key, group.revision);
@@ -218,7 +227,8 @@ fn add_group<B: Bodies>(
         × (after ≡ grown ++ version ∷ []) × (judged.new.items ≡ judged.old.items ++ more)
         × (version.key ≡ group.now.key) × (version.revision ≡ group.now.revision) × (map (λ one. one.number) more ≡ group.now.members)
         × ((h : History) → IsOfLog log.entry (B.body bodies.now) h → Extends h grown group.now.revision
-        → All (IsAnsweredAt log.entry.events.now group.now.revision) group.now.members → AreJudged h log.entry.events.now group.now.members more)
+        → All (IsAnsweredAt log.entry.events.now group.now.revision) group.now.members
+        → AreJudged h log.entry.events.now group.now.members more)
         × ((h : History) → IsOfGroup log.entry group.now more h → IsMadeVersion h (version_of version))) }
 {
     let mut members = judge_each(alloc, log, bodies, &grown, group.members.as_slice())?;
@@ -243,11 +253,14 @@ pub fn write_versions<B: Bodies>(
     requires members { All (λ group. AreWrites log.events.now group.members) groups.now }
     ensures rising { IfOk result (λ written. AllPairs (λ a b. a.revision < b.revision) written.versions) }
     ensures slots { IfOk result (λ written. AreSlots (slots_of snapshot.now groups.now) written.versions) }
-    ensures versions { IfOk result (λ written. (h : History) → IsOfLog log.entry (B.body bodies.now) h → AreGroupsOf h groups.now → h.start ≡ start
+    ensures versions { IfOk result (λ written. (h : History) → IsOfLog log.entry (B.body bodies.now) h
+        → AreGroupsOf h groups.now → h.start ≡ start
         → h.snapshot ≡ map item_of snapshot.now → h.versions ≡ map version_of written.versions → AreVersions h) }
     ensures firsts { IfOk result (λ written. AreFlagged written.versions written.firsts.items) }
-    ensures judged { IfOk result (λ written. (h : History) → IsOfLog log.entry (B.body bodies.now) h → AreGroupsOf h groups.now → h.start ≡ start
-        → h.versions ≡ map version_of written.versions → AreAllJudged h log.entry.events.now groups.now written.judged.items) }
+    ensures judged { IfOk result (λ written. (h : History) → IsOfLog log.entry (B.body bodies.now) h
+        → AreGroupsOf h groups.now → h.start ≡ start
+        → h.versions ≡ map version_of written.versions → AreAllJudged h log.entry.events.now groups.now
+        written.judged.items) }
 {
     let order = by_revision(alloc, snapshot)?;
     let mut grown = begin(alloc, &order)?;

@@ -55,7 +55,8 @@ fn known<'a>(pages: &'a [Page], places: &Places, key: &PageKey) -> Option<&'a Pa
 
 // Whether a page takes the place that is known for its key.
 fn is_sooner(pages: &[Page], places: &Places, key: &PageKey, page: &Page) -> bool
-    ensures { result ≡ option_map_or (comes_before page.now) (known (⟦<PageKey as PartialEq>⟧.eq) pages.now places.now key.now) true }
+    ensures { result ≡ option_map_or (comes_before page.now) (known (⟦<PageKey as PartialEq>⟧.eq) pages.now
+        places.now key.now) true }
 {
     match known(pages, places, key) {
         Some(found) => comes_before(page, found),

@@ -63,7 +63,8 @@ fn root_class(entries: &[ShapeEntry], root: FieldClass, unasked: bool) -> FieldC
 
 // Whether all parts fit, from the root on.
 fn fits_all(entries: &[ShapeEntry], root: FieldClass, unasked: bool, spot: Spot<'_>) -> bool
-    ensures { IsTrue result ↔ FitsSpot (root_class unasked entries.now root) (patterns_in (past unasked entries.now [])) spot.entry }
+    ensures { IsTrue result ↔ FitsSpot (root_class unasked entries.now root) (patterns_in
+        (past unasked entries.now [])) spot.entry }
 {
     let way = Way::root();
     let live = Live {

@@ -1,8 +1,10 @@
 ghost use Rattle.std.specs.Prelude.{◌≡◌, ◌↔◌, IsTrue, false, Some, option_map, if◌then◌else◌};
 ghost use Rattle.base_types.specs.Parts.{lookup, member_of};
-ghost use Rattle.base_types.specs.Meaning.{Meaning, kids_of, fields_of, flag, whole, words, items, members, Kids, Fields};
+ghost use Rattle.base_types.specs.Meaning.{Meaning, kids_of, fields_of, flag, whole, words, items, members, Kids};
+ghost use Rattle.base_types.specs.Meaning.{Fields};
 ghost use Rattle.path_shape.specs.Agreement.{Holds};
-ghost use Rattle.path_shape.specs.Forms.{says_nothing, thin, thin_kids, thin_fields, left_of, is_held_by, is_held_by_child, are_held_in_turn};
+ghost use Rattle.path_shape.specs.Forms.{says_nothing, thin, thin_kids, thin_fields, left_of, is_held_by};
+ghost use Rattle.path_shape.specs.Forms.{is_held_by_child, are_held_in_turn};
 ghost use Rattle.path_shape.specs.Walk.{form, whole as tree_of};
 ghost use Rattle.path_shape.specs.Holding.{IsHolding, is_missing, object_or_null};
 
@@ -216,7 +218,8 @@ fn are_held_in_turn(asked: &Trees, answered: &Trees) -> bool
 
 #[cycle(holdings)]
 fn members_holding(asked: &MemberList, answered: Option<&MemberList>) -> Holding
-    ensures { IsHolding (members (thin_fields (fields_of asked.now))) (option_map members (option_map (λ ns. thin_fields (fields_of ns.now)) answered.entry)) result }
+    ensures { IsHolding (members (thin_fields (fields_of asked.now))) (option_map members
+        (option_map (λ ns. thin_fields (fields_of ns.now)) answered.entry)) result }
 {
     let mut silent = true;
     for member in &asked.all {

@@ -1,6 +1,7 @@
 ghost use Rattle.std.specs.Prelude.{◌≡◌, ◌-◌, ◌^◌, [], ◌∷◌, Bool, length, min, option_map, unwrap_or};
 ghost use Rattle.path_shape.specs.Beginning.{read_as};
-ghost use Rattle.path_shape.specs.Passing.{cut, behind, is_past, any_past, ends_at, entry_class, built_in_class, released_class, is_root, is_metadata, entries_past, past_of};
+ghost use Rattle.path_shape.specs.Passing.{cut, behind, is_past, any_past, ends_at, entry_class, built_in_class};
+ghost use Rattle.path_shape.specs.Passing.{released_class, is_root, is_metadata, entries_past, past_of};
 ghost use Rattle.path_shape.specs.Patterns.{covers};
 ghost use Rattle.path_shape.specs.Walk.{is_any, ending};
 
@@ -181,7 +182,8 @@ fn any_past(entries: &[ShapeEntry], way: &Way<'_>) -> bool
 
 // The entries from the first on that goes past a path.
 fn from_first_past<'e>(entries: &'e [ShapeEntry], way: &Way<'_>) -> &'e [ShapeEntry]
-    ensures { (nothing : Bool) → entries_past way.now nothing result.now ≡ entries_past way.now nothing entries.entry.now }
+    ensures { (nothing : Bool) → entries_past way.now nothing result.now ≡ entries_past way.now nothing
+        entries.entry.now }
 {
     let mut rest = entries;
     while let [first, others @ ..] = rest {
@@ -195,7 +197,8 @@ fn from_first_past<'e>(entries: &'e [ShapeEntry], way: &Way<'_>) -> &'e [ShapeEn
 
 // The entries up to the last that goes past a path.
 fn up_to_last_past<'e>(entries: &'e [ShapeEntry], way: &Way<'_>) -> &'e [ShapeEntry]
-    ensures { (nothing : Bool) → entries_past way.now nothing result.now ≡ entries_past way.now nothing entries.entry.now }
+    ensures { (nothing : Bool) → entries_past way.now nothing result.now ≡ entries_past way.now nothing
+        entries.entry.now }
 {
     let mut end = entries.len();
     'last: while end > 0 {
@@ -209,7 +212,8 @@ fn up_to_last_past<'e>(entries: &'e [ShapeEntry], way: &Way<'_>) -> &'e [ShapeEn
 
 /// Entries that go past a path, and no more than lie between the first and the last of them.
 pub fn going_past<'e>(entries: &'e [ShapeEntry], way: &Way<'_>) -> &'e [ShapeEntry]
-    ensures { (nothing : Bool) → entries_past way.now nothing result.now ≡ entries_past way.now nothing entries.entry.now }
+    ensures { (nothing : Bool) → entries_past way.now nothing result.now ≡ entries_past way.now nothing
+        entries.entry.now }
 {
     up_to_last_past(from_first_past(entries, way), way)
 }

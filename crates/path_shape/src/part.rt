@@ -2,7 +2,8 @@ ghost use Rattle.std.specs.Prelude.{◌≡◌, drop, is_some, is_none};
 ghost use Rattle.base_types.specs.Meaning.{kids_of, fields_of, items};
 ghost use Rattle.base_types.specs.Parts.{lookup};
 ghost use Rattle.base_types.specs.Pointers.{child_of};
-ghost use Rattle.path_shape.specs.Forms.{says_nothing, has_no_kids, has_no_fields, thin, thin_kids, thin_fields, child_in, left_root};
+ghost use Rattle.path_shape.specs.Forms.{says_nothing, has_no_kids, has_no_fields, thin, thin_kids, thin_fields};
+ghost use Rattle.path_shape.specs.Forms.{child_in, left_root};
 ghost use Rattle.path_shape.specs.Walk.{form, whole};
 
 use base_types::json::{MemberList, Node, Tree, Trees};

@@ -2,7 +2,8 @@ ghost use Rattle.std.specs.Prelude.{◌≡◌, ◌+◌, ◌-◌, ◌^◌, min, O
 ghost use Rattle.base_types.specs.Parts.{items_of};
 ghost use Rattle.base_types.specs.Pointers.{pointer_of};
 ghost use Rattle.base_types.specs.Meaning.{Meaning};
-ghost use Rattle.path_shape.specs.Reading.{class_named, is_known, entry_of, entries_from, shape_entries, IsEntriesCause, IsCause};
+ghost use Rattle.path_shape.specs.Reading.{class_named, is_known, entry_of, entries_from, shape_entries};
+ghost use Rattle.path_shape.specs.Reading.{IsEntriesCause, IsCause};
 ghost use Rattle.std.specs.List.{list_all};
 
 use crate::shape::{FieldClass, Shape, ShapeEntries, ShapeEntry, ShapeFault};

@@ -44,7 +44,8 @@ fn fits_each(
     class: FieldClass,
     spot: Spot<'_>,
 ) -> bool
-    ensures sound { IsTrue result → (name : List ℕ) → IsSome (child_in name (whole part.entry)) → IsDone done.entry done_too.entry class (past_of live.entry) spot.entry name }
+    ensures sound { IsTrue result → (name : List ℕ) → IsSome (child_in name (whole part.entry))
+        → IsDone done.entry done_too.entry class (past_of live.entry) spot.entry name }
     ensures complete { ((name : List ℕ) → FitsUnder class (past_of live.entry) spot.entry name) → IsTrue result }
 {
     match part {
@@ -63,7 +64,8 @@ fn fits_children(
     class: FieldClass,
     spot: Spot<'_>,
 ) -> bool
-    ensures sound { IsTrue result → (name : List ℕ) → IsSome (child_of name tree.now) → IsDone done.entry done_too.entry class (past_of live.entry) spot.entry name }
+    ensures sound { IsTrue result → (name : List ℕ) → IsSome (child_of name tree.now)
+        → IsDone done.entry done_too.entry class (past_of live.entry) spot.entry name }
     ensures complete { ((name : List ℕ) → FitsUnder class (past_of live.entry) spot.entry name) → IsTrue result }
 {
     match &tree.node {
@@ -82,7 +84,8 @@ fn fits_items(
     class: FieldClass,
     spot: Spot<'_>,
 ) -> bool
-    ensures sound { IsTrue result → (name : List ℕ) → IsSome (child_of name (items (kids_of list.now))) → IsDone done.entry done_too.entry class (past_of live.entry) spot.entry name }
+    ensures sound { IsTrue result → (name : List ℕ) → IsSome (child_of name (items (kids_of list.now)))
+        → IsDone done.entry done_too.entry class (past_of live.entry) spot.entry name }
     ensures complete { ((name : List ℕ) → FitsUnder class (past_of live.entry) spot.entry name) → IsTrue result }
 {
     let mut buffer = Buffer::new();
@@ -104,7 +107,8 @@ fn fits_members(
     class: FieldClass,
     spot: Spot<'_>,
 ) -> bool
-    ensures sound { IsTrue result → (name : List ℕ) → IsSome (lookup name (fields_of list.now)) → IsDone done.entry done_too.entry class (past_of live.entry) spot.entry name }
+    ensures sound { IsTrue result → (name : List ℕ) → IsSome (lookup name (fields_of list.now))
+        → IsDone done.entry done_too.entry class (past_of live.entry) spot.entry name }
     ensures complete { ((name : List ℕ) → FitsUnder class (past_of live.entry) spot.entry name) → IsTrue result }
 {
     for member in &list.all {

@@ -46,7 +46,8 @@ pub fn settle(
     ensures settled { IfOk result (IsSettled ranges.now order.now claims.now) }
 
     // A choice that explains all is never missed.
-    ensures fits { IfOk result (λ settled. IsFits settled ↔ ((choice : List ℕ) × ExplainsAll ranges.now claims.now choice)) }
+    ensures fits { IfOk result (λ settled. IsFits settled ↔ ((choice : List ℕ)
+        × ExplainsAll ranges.now claims.now choice)) }
 {
     let mut left = Vec::from_slice(alloc, ranges)?;
     for event in order {

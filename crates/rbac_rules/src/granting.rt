@@ -1,5 +1,6 @@
 ghost use Rattle.std.specs.Prelude.{◌≡◌, ◌↔◌, IsTrue, [], ◌⊎◌, Any, Contains};
-ghost use Rattle.rbac_rules.specs.Granting.{IsTextTaken, IsPathTaken, IsResourceNamed, IsNameTaken, GrantsResource, GrantsPath, Grants};
+ghost use Rattle.rbac_rules.specs.Granting.{IsTextTaken, IsPathTaken, IsResourceNamed, IsNameTaken, GrantsResource};
+ghost use Rattle.rbac_rules.specs.Granting.{GrantsPath, Grants};
 
 use crate::role::PolicyRule;
 use base_types::{RequestAttrs, Text, Texts, has_text, is_combined, path_matches};

@@ -1,5 +1,6 @@
 ghost use Rattle.std.specs.Prelude.{◌≡◌, Some, None, Err, IfOk, option_map};
-ghost use Rattle.rbac_rules.specs.Forms.{rule_of, rules_in, role_of, namespace_or, account_of, subject_of, subjects_in, home_of, is_cluster_kind, role_ref_of, binding_of};
+ghost use Rattle.rbac_rules.specs.Forms.{rule_of, rules_in, role_of, namespace_or, account_of, subject_of};
+ghost use Rattle.rbac_rules.specs.Forms.{subjects_in, home_of, is_cluster_kind, role_ref_of, binding_of};
 
 use crate::binding::{Binding, Subject, Subjects};
 use crate::role::{PolicyRule, PolicyRules};
@@ -91,7 +92,8 @@ pub fn read_role(alloc: Global, tree: &Tree) -> Result<PolicyRules, RbacFault>
 
 // The namespace of a service account: its own, or that of the binding where it names none.
 fn namespace_of<'a>(member: Option<&'a Tree>, home: &'a str) -> Option<&'a str>
-    ensures { option_map (λ text. text.now) result ≡ namespace_or home.entry.now (option_map (λ tree. tree.now) member.entry) }
+    ensures { option_map (λ text. text.now) result ≡ namespace_or home.entry.now
+        (option_map (λ tree. tree.now) member.entry) }
 {
     let Some(tree) = member else {
         return Some(home);

@@ -1,4 +1,5 @@
-ghost use Rattle.std.specs.Prelude.{◌≡◌, ◌≢◌, ◌<◌, ◌≤◌, [], ◌∷◌, Some, IfOk, IfSome, IfNone, OnOk, List, Contains, true, false, length, nat_le};
+ghost use Rattle.std.specs.Prelude.{◌≡◌, ◌≢◌, ◌<◌, ◌≤◌, [], ◌∷◌, Some, IfOk, IfSome, IfNone, OnOk, List, Contains};
+ghost use Rattle.std.specs.Prelude.{true, false, length, nat_le};
 ghost use Rattle.std.specs.List.Sorted.{IsNonDecreasingBy, IsPartitionPoint, IsPermutation};
 ghost use Rattle.std.specs.BTreeMap.{Updates};
 ghost use Rattle.clouds.specs.Items.{AddsAt};
@@ -58,7 +59,8 @@ ghost use Rattle.rbac_timeline.specs.Pairs.{AreStoredBetween};
 fn count_upto(all: &[Stored], place: u64) -> usize
     requires { IsNonDecreasingBy (λ s. s.revision) all.now }
     ensures bound { result ≤ length all.now }
-    ensures parts { IsPartitionPoint (λ s. nat_le s.revision place ≡ true) (λ s. nat_le s.revision place ≡ false) all.now result }
+    ensures parts { IsPartitionPoint (λ s. nat_le s.revision place ≡ true)
+        (λ s. nat_le s.revision place ≡ false) all.now result }
 {
     all.partition_point(|stored| stored.revision <= place)
 }
@@ -129,7 +131,8 @@ impl History {
     /// The last place up to which no version begins behind this one.
     pub fn unbegun_until(&self, place: u64, high: u64) -> u64
         requires { place ≤ high }
-        ensures { IsLast (λ n. (stored : Stored) → Contains self.now stored → place < stored.revision → n < stored.revision) place high result }
+        ensures { IsLast (λ n. (stored : Stored) → Contains self.now stored → place < stored.revision
+            → n < stored.revision) place high result }
     {
         let upto = count_upto(self.stored.as_slice(), place);
         if upto == self.stored.len() {
@@ -150,7 +153,8 @@ impl History {
 fn gaps_upto(all: &[Gap], last: u64) -> usize
     requires { IsNonDecreasingBy (λ gap. gap.last) all.now }
     ensures bound { result ≤ length all.now }
-    ensures parts { IsPartitionPoint (λ gap. nat_le gap.last last ≡ true) (λ gap. nat_le gap.last last ≡ false) all.now result }
+    ensures parts { IsPartitionPoint (λ gap. nat_le gap.last last ≡ true)
+        (λ gap. nat_le gap.last last ≡ false) all.now result }
 {
     all.partition_point(|gap| gap.last <= last)
 }

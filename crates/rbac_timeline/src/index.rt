@@ -4,7 +4,8 @@ ghost use Rattle.base_types.specs.declared.key.ObjectKey.{ObjectKey};
 ghost use Rattle.clouds.specs.Items.{AddsAt, items_at};
 ghost use Rattle.clouds.specs.Kept.{text_order};
 ghost use Rattle.rbac_timeline.specs.Index.{AreRising};
-ghost use Rattle.rbac_timeline.specs.Indexed.{AddsAccount, ByText as Names, HasOneMore, IsIndexed, Mention, account_keys, account_user, keys_of, mention_of, mentions_of};
+ghost use Rattle.rbac_timeline.specs.Indexed.{AddsAccount, ByText as Names, HasOneMore, IsIndexed, Mention};
+ghost use Rattle.rbac_timeline.specs.Indexed.{account_keys, account_user, keys_of, mention_of, mentions_of};
 
 use crate::named::named_subjects;
 use crate::version::RbacVersion;
@@ -84,7 +85,8 @@ fn begin_under(
     text: &Text,
     key: &ObjectKey,
 ) -> Result<(), OutOfMemory>
-    ensures { OnOk result ((keys : List ObjectKey) × Updates text_order index.old index.new text.now (Some keys) × HasOneMore [] keys key.now) }
+    ensures { OnOk result ((keys : List ObjectKey) × Updates text_order index.old index.new text.now
+        (Some keys) × HasOneMore [] keys key.now) }
 {
     let keys = one_key(alloc, key)?;
     let Ok(copy) = text.clone() else {
@@ -129,7 +131,8 @@ type Accounts = BTreeMap<Text, ByText>;
 
 // The first name of a namespace.
 fn one_name(alloc: Global, name: &Text, key: &ObjectKey) -> Result<ByText, OutOfMemory>
-    ensures { IfOk result (λ names. (empty : Names) × ((n : List ℕ) → items_at text_order empty n ≡ []) × AddsAt text_order empty names name.now key.now) }
+    ensures { IfOk result (λ names. (empty : Names) × ((n : List ℕ) → items_at text_order empty n ≡ [])
+        × AddsAt text_order empty names name.now key.now) }
 {
     let mut names = BTreeMap::new(alloc);
     add_under(alloc, &mut names, name, key)?;
@@ -144,7 +147,8 @@ fn begin_account(
     name: &Text,
     key: &ObjectKey,
 ) -> Result<(), OutOfMemory>
-    ensures { OnOk result (get text_order accounts.old namespace.now ≡ None → AddsAccount accounts.old accounts.new namespace.now name.now key.now) }
+    ensures { OnOk result (get text_order accounts.old namespace.now ≡ None
+        → AddsAccount accounts.old accounts.new namespace.now name.now key.now) }
 {
     let names = one_name(alloc, name, key)?;
     let Ok(copy) = namespace.clone() else {
@@ -244,7 +248,8 @@ impl Index {
     }
 
     fn add(&mut self, alloc: Global, subject: &Subject, key: &ObjectKey) -> Result<(), OutOfMemory>
-        ensures { OnOk result ((mentions : List Mention) → IsIndexed self.old mentions → IsIndexed self.new (mentions ++ mention_of key.now subject.now ∷ [])) }
+        ensures { OnOk result ((mentions : List Mention) → IsIndexed self.old mentions
+            → IsIndexed self.new (mentions ++ mention_of key.now subject.now ∷ [])) }
     {
         match subject {
             Subject::User(name) => {
@@ -269,7 +274,8 @@ impl Index {
         subjects: &[Subject],
         key: &ObjectKey,
     ) -> Result<(), OutOfMemory>
-        ensures { OnOk result ((mentions : List Mention) → IsIndexed self.old mentions → IsIndexed self.new (mentions ++ map (mention_of key.now) subjects.now)) }
+        ensures { OnOk result ((mentions : List Mention) → IsIndexed self.old mentions
+            → IsIndexed self.new (mentions ++ map (mention_of key.now) subjects.now)) }
     {
         for subject in subjects {
             self.add(alloc, subject, key)?;

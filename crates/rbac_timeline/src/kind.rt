@@ -69,7 +69,13 @@ fn key_with(
     namespace: Text,
     name: Text,
 ) -> Result<ObjectKey, OutOfMemory>
-    ensures { IfOk result (λ role. role ≡ record { group = rbac_group; resource = resource.now; namespace = namespace; name = name }) }
+    ensures { IfOk result (λ role. role ≡ record {
+      group = rbac_group;
+      resource = resource.now;
+      namespace =
+          namespace;
+      name = name;
+    }) }
 {
     let (group, resource) = resource_texts(alloc, resource)?;
     Ok(ObjectKey {

@@ -25,7 +25,10 @@ impl<'a> Asked<'a> {
     // The last place of the roles up to which the binding grants for certain, if it does.
     fn role_until(&self, key: &ObjectKey, link: Link) -> u64
         requires { link.role_place ≤ self.now.high }
-        ensures { IsLast (λ r. MustGrantByKey self.now.timeline.now link.way link.role_place link.binding_place self.now.who.now self.now.attrs.now key.now → MustGrantByKey self.now.timeline.now link.way r link.binding_place self.now.who.now self.now.attrs.now key.now) link.role_place self.now.high result }
+        ensures { IsLast (λ r. MustGrantByKey self.now.timeline.now link.way link.role_place
+            link.binding_place self.now.who.now self.now.attrs.now key.now
+            → MustGrantByKey self.now.timeline.now link.way r link.binding_place self.now.who.now
+            self.now.attrs.now key.now) link.role_place self.now.high result }
     {
         match self.timeline.role_bound(key, link.binding_place) {
             Some(role) => self.timeline.still_until(role, link.role_place, self.high),
@@ -37,7 +40,8 @@ impl<'a> Asked<'a> {
     fn key_until(&self, key: &ObjectKey, link: Link) -> Option<Until>
         requires roles { link.role_place ≤ self.now.high }
         requires bindings { link.binding_place ≤ self.now.high }
-        ensures { LastsUntil (λ r b. MustGrantByListed self.now.timeline.now link.way r b self.now.who.now self.now.attrs.now key.now) link.role_place link.binding_place self.now.high result }
+        ensures { LastsUntil (λ r b. MustGrantByListed self.now.timeline.now link.way r b self.now.who.now
+            self.now.attrs.now key.now) link.role_place link.binding_place self.now.high result }
     {
         if !self
             .timeline
@@ -57,7 +61,8 @@ impl<'a> Asked<'a> {
     fn keys_until(&self, keys: &[ObjectKey], link: Link) -> Option<Until>
         requires roles { link.role_place ≤ self.now.high }
         requires bindings { link.binding_place ≤ self.now.high }
-        ensures { LastsUntil (λ r b. Any (MustGrantByListed self.now.timeline.now link.way r b self.now.who.now self.now.attrs.now) keys.now) link.role_place link.binding_place self.now.high result }
+        ensures { LastsUntil (λ r b. Any (MustGrantByListed self.now.timeline.now link.way r b
+            self.now.who.now self.now.attrs.now) keys.now) link.role_place link.binding_place self.now.high result }
     {
         for key in keys {
             if let Some(until) = self.key_until(key, link) {
@@ -70,7 +75,9 @@ impl<'a> Asked<'a> {
     fn group_until(&self, group: &Text, link: Link) -> Option<Until>
         requires roles { link.role_place ≤ self.now.high }
         requires bindings { link.binding_place ≤ self.now.high }
-        ensures { LastsUntil (λ r b. MustGrantOf self.now.timeline.now (NamesGroup self.now.timeline.now.versions group.now) link.way r b self.now.who.now self.now.attrs.now) link.role_place link.binding_place self.now.high result }
+        ensures { LastsUntil (λ r b. MustGrantOf self.now.timeline.now
+            (NamesGroup self.now.timeline.now.versions group.now) link.way r b self.now.who.now
+            self.now.attrs.now) link.role_place link.binding_place self.now.high result }
     {
         self.keys_until(self.timeline.named_group(group), link)
     }
@@ -78,7 +85,9 @@ impl<'a> Asked<'a> {
     fn groups_until(&self, groups: &[Text], link: Link) -> Option<Until>
         requires roles { link.role_place ≤ self.now.high }
         requires bindings { link.binding_place ≤ self.now.high }
-        ensures { LastsUntil (λ r b. Any (λ group. MustGrantOf self.now.timeline.now (NamesGroup self.now.timeline.now.versions group) link.way r b self.now.who.now self.now.attrs.now) groups.now) link.role_place link.binding_place self.now.high result }
+        ensures { LastsUntil (λ r b. Any (λ group. MustGrantOf self.now.timeline.now
+            (NamesGroup self.now.timeline.now.versions group) link.way r b self.now.who.now
+            self.now.attrs.now) groups.now) link.role_place link.binding_place self.now.high result }
     {
         for group in groups {
             if let Some(until) = self.group_until(group, link) {
@@ -93,7 +102,8 @@ impl<'a> Asked<'a> {
     pub fn granted_until(&self, link: Link) -> Option<Until>
         requires roles { link.role_place ≤ self.now.high }
         requires bindings { link.binding_place ≤ self.now.high }
-        ensures { LastsUntil (λ r b. MustGrantInWay self.now.timeline.now link.way r b self.now.who.now self.now.attrs.now) link.role_place link.binding_place self.now.high result }
+        ensures { LastsUntil (λ r b. MustGrantInWay self.now.timeline.now link.way r b self.now.who.now
+            self.now.attrs.now) link.role_place link.binding_place self.now.high result }
     {
         self.timeline.tell_sound();
         if let Some(until) = self.keys_until(self.timeline.named_user(&self.who.name), link) {

@@ -40,7 +40,8 @@ fn is_below(low: Option<u64>, place: u64) -> bool
 }
 
 fn add_low(lows: &mut BTreeMap<Text, u64>, namespace: &Text, low: u64) -> Result<(), OutOfMemory>
-    ensures { OnOk result (Updates text_order lows.old lows.new namespace.now (Some (lesser_of (get text_order lows.old namespace.now) low))) }
+    ensures { OnOk result (Updates text_order lows.old lows.new namespace.now
+        (Some (lesser_of (get text_order lows.old namespace.now) low))) }
 {
     let least = lesser(lows.get(namespace).copied(), low);
     let copy = namespace.clone()?;
@@ -79,7 +80,8 @@ impl Nameless {
     // Of a create of a RoleBinding.
     fn add_binding(&mut self, span: &OpaqueSpan) -> Result<(), OutOfMemory>
         requires { nameless_kind span.now.cover ≡ Some Kind.RoleBinding }
-        ensures { OnOk result ((spans : List OpaqueSpan) → AreLows self.old spans → AreLows self.new (spans ++ span.now ∷ [])) }
+        ensures { OnOk result ((spans : List OpaqueSpan) → AreLows self.old spans
+            → AreLows self.new (spans ++ span.now ∷ [])) }
     {
         match &span.cover.namespace {
             Some(namespace) => {
@@ -94,7 +96,8 @@ impl Nameless {
     }
 
     fn add(&mut self, span: &OpaqueSpan) -> Result<(), OutOfMemory>
-        ensures { OnOk result ((spans : List OpaqueSpan) → AreLows self.old spans → AreLows self.new (spans ++ span.now ∷ [])) }
+        ensures { OnOk result ((spans : List OpaqueSpan) → AreLows self.old spans
+            → AreLows self.new (spans ++ span.now ∷ [])) }
     {
         let kind = nameless_kind(&span.cover);
         if is_kind(kind, Kind::RoleBinding) {

@@ -27,7 +27,8 @@ impl<'a> Asked<'a> {
     fn role_at(&self, role: &ObjectKey, place: u64) -> Option<u64>
         requires from_low { self.now.low ≤ place }
         requires upto_high { place ≤ self.now.high }
-        ensures { IsFirstPlace (λ r. (r ≡ place) × MayGrantByRole self.now.timeline.now role.now r self.now.attrs.now) self.now.low self.now.high result }
+        ensures { IsFirstPlace (λ r. (r ≡ place) × MayGrantByRole self.now.timeline.now role.now r
+            self.now.attrs.now) self.now.low self.now.high result }
     {
         if self.timeline.role_extent(role, place, self.attrs).may {
             return Some(place);
@@ -39,7 +40,8 @@ impl<'a> Asked<'a> {
     // its versions begins.
     fn first_role(&self, role: &ObjectKey) -> Option<u64>
         requires { self.now.low ≤ self.now.high }
-        ensures { IsFirstPlace (λ r. MayGrantByRole self.now.timeline.now role.now r self.now.attrs.now) self.now.low self.now.high result }
+        ensures { IsFirstPlace (λ r. MayGrantByRole self.now.timeline.now role.now r self.now.attrs.now)
+            self.now.low self.now.high result }
     {
         let clouded = self.timeline.first_clouded(role, self.low, self.high);
         let mut first = earlier(self.role_at(role, self.low), clouded);
@@ -52,7 +54,8 @@ impl<'a> Asked<'a> {
     // The least place of the roles at which a binding may grant that holds this.
     fn role_of(&self, content: &Content, way: Way) -> Option<u64>
         requires { self.now.low ≤ self.now.high }
-        ensures { IsFirstPlace (λ r. MayGrantByContent self.now.timeline.now way r self.now.who.now self.now.attrs.now content.now) self.now.low self.now.high result }
+        ensures { IsFirstPlace (λ r. MayGrantByContent self.now.timeline.now way r self.now.who.now
+            self.now.attrs.now content.now) self.now.low self.now.high result }
     {
         match content {
             Content::Rules(_) => Some(self.low),
@@ -72,7 +75,8 @@ impl<'a> Asked<'a> {
     // The least place of the roles at which the binding may grant, with the bindings at this place.
     fn role_for(&self, key: &ObjectKey, way: Way, place: u64) -> Option<u64>
         requires { self.now.low ≤ self.now.high }
-        ensures { IsFirstPlace (λ r. MayGrantByListed self.now.timeline.now way r place self.now.who.now self.now.attrs.now key.now) self.now.low self.now.high result }
+        ensures { IsFirstPlace (λ r. MayGrantByListed self.now.timeline.now way r place self.now.who.now
+            self.now.attrs.now key.now) self.now.low self.now.high result }
     {
         if !is_kind(kind_of_key(key), way.bindings()) {
             return None;
@@ -93,14 +97,17 @@ impl<'a> Asked<'a> {
     fn pair_at(&self, key: &ObjectKey, way: Way, place: u64) -> Option<(u64, u64)>
         requires from_low { self.now.low ≤ place }
         requires upto_high { place ≤ self.now.high }
-        ensures { IsFirstPair (λ r b. (b ≡ place) × MayGrantByListed self.now.timeline.now way r b self.now.who.now self.now.attrs.now key.now) self.now.low self.now.high result }
+        ensures { IsFirstPair (λ r b. (b ≡ place) × MayGrantByListed self.now.timeline.now way r b
+            self.now.who.now self.now.attrs.now key.now) self.now.low self.now.high result }
     {
         pair_with(place, self.role_for(key, way, place))
     }
 
     // The least places at which the binding may grant, being clouded.
     fn clouded_pair(&self, key: &ObjectKey, way: Way) -> Option<(u64, u64)>
-        ensures { IsFirstPair (λ r b. IsClouded (writes_of self.now.timeline.now) key.now b × MayGrantByListed self.now.timeline.now way r b self.now.who.now self.now.attrs.now key.now) self.now.low self.now.high result }
+        ensures { IsFirstPair (λ r b. IsClouded (writes_of self.now.timeline.now) key.now b
+            × MayGrantByListed self.now.timeline.now way r b self.now.who.now self.now.attrs.now key.now)
+            self.now.low self.now.high result }
     {
         match self.timeline.first_clouded(key, self.low, self.high) {
             Some(place) => self.pair_at(key, way, place),
@@ -112,7 +119,8 @@ impl<'a> Asked<'a> {
     // or where one of its versions begins.
     fn key_pair(&self, key: &ObjectKey, way: Way) -> Option<(u64, u64)>
         requires { self.now.low ≤ self.now.high }
-        ensures { IsFirstPair (λ r b. MayGrantByListed self.now.timeline.now way r b self.now.who.now self.now.attrs.now key.now) self.now.low self.now.high result }
+        ensures { IsFirstPair (λ r b. MayGrantByListed self.now.timeline.now way r b self.now.who.now
+            self.now.attrs.now key.now) self.now.low self.now.high result }
     {
         let clouded = self.clouded_pair(key, way);
         let mut best = earlier_pair(self.pair_at(key, way, self.low), clouded);
@@ -125,7 +133,8 @@ impl<'a> Asked<'a> {
     // The least places at which one of the bindings may grant.
     fn keys_pair(&self, keys: &[ObjectKey], way: Way) -> Option<(u64, u64)>
         requires { self.now.low ≤ self.now.high }
-        ensures { IsFirstPair (λ r b. Any (MayGrantByListed self.now.timeline.now way r b self.now.who.now self.now.attrs.now) keys.now) self.now.low self.now.high result }
+        ensures { IsFirstPair (λ r b. Any (MayGrantByListed self.now.timeline.now way r b self.now.who.now
+            self.now.attrs.now) keys.now) self.now.low self.now.high result }
     {
         let mut best = None;
         for key in keys {
@@ -136,14 +145,18 @@ impl<'a> Asked<'a> {
 
     fn group_pair(&self, group: &Text, way: Way) -> Option<(u64, u64)>
         requires { self.now.low ≤ self.now.high }
-        ensures { IsFirstPair (λ r b. MayGrantOf self.now.timeline.now (NamesGroup self.now.timeline.now.versions group.now) way r b self.now.who.now self.now.attrs.now) self.now.low self.now.high result }
+        ensures { IsFirstPair (λ r b. MayGrantOf self.now.timeline.now
+            (NamesGroup self.now.timeline.now.versions group.now) way r b self.now.who.now self.now.attrs.now)
+            self.now.low self.now.high result }
     {
         self.keys_pair(self.timeline.named_group(group), way)
     }
 
     fn groups_pair(&self, groups: &[Text], way: Way) -> Option<(u64, u64)>
         requires { self.now.low ≤ self.now.high }
-        ensures { IsFirstPair (λ r b. Any (λ group. MayGrantOf self.now.timeline.now (NamesGroup self.now.timeline.now.versions group) way r b self.now.who.now self.now.attrs.now) groups.now) self.now.low self.now.high result }
+        ensures { IsFirstPair (λ r b. Any (λ group. MayGrantOf self.now.timeline.now
+            (NamesGroup self.now.timeline.now.versions group) way r b self.now.who.now self.now.attrs.now)
+            groups.now) self.now.low self.now.high result }
     {
         let mut best = None;
         for group in groups {
@@ -156,7 +169,9 @@ impl<'a> Asked<'a> {
     // its groups.
     fn named_pair(&self, way: Way) -> Option<(u64, u64)>
         requires { self.now.low ≤ self.now.high }
-        ensures { IsFirstPair (λ r b. MayGrantOf self.now.timeline.now (NamesWho self.now.timeline.now.versions self.now.who.now) way r b self.now.who.now self.now.attrs.now) self.now.low self.now.high result }
+        ensures { IsFirstPair (λ r b. MayGrantOf self.now.timeline.now
+            (NamesWho self.now.timeline.now.versions self.now.who.now) way r b self.now.who.now
+            self.now.attrs.now) self.now.low self.now.high result }
     {
         let user = self.keys_pair(self.timeline.named_user(&self.who.name), way);
         let account = self.keys_pair(self.timeline.named_account(&self.who.name), way);
@@ -167,7 +182,8 @@ impl<'a> Asked<'a> {
     // The least places at which a binding may grant whose name isn't known.
     fn nameless_pair(&self, way: Way) -> Option<(u64, u64)>
         requires { self.now.low ≤ self.now.high }
-        ensures { IsFirstPair (λ r b. MayGrantNameless self.now.timeline.now way b self.now.attrs.now) self.now.low self.now.high result }
+        ensures { IsFirstPair (λ r b. MayGrantNameless self.now.timeline.now way b self.now.attrs.now)
+            self.now.low self.now.high result }
     {
         match self
             .timeline
@@ -182,7 +198,8 @@ impl<'a> Asked<'a> {
     /// the request has its own.
     pub fn first_pair(&self, way: Way) -> Option<(u64, u64)>
         requires { self.now.low ≤ self.now.high }
-        ensures { IsFirstPair (λ r b. MayGrantInWay self.now.timeline.now way r b self.now.who.now self.now.attrs.now) self.now.low self.now.high result }
+        ensures { IsFirstPair (λ r b. MayGrantInWay self.now.timeline.now way r b self.now.who.now
+            self.now.attrs.now) self.now.low self.now.high result }
     {
         let _high = in_range(self.high);
         let named = self.named_pair(way);

@@ -3,7 +3,10 @@ ghost use Rattle.clouds.specs.FirstPlace.{HoldsNowhere, IsLeastPlace};
 ghost use Rattle.rbac_timeline.specs.declared.way.Way.TheVariants.{ClusterBindings, ClusterRoles, Roles};
 ghost use Rattle.rbac_timeline.specs.Extents.{MustGrantInWay};
 ghost use Rattle.rbac_timeline.specs.Lasting.{HoldsUntil, IsBlock, IsLast, LastsUntil};
-ghost use Rattle.rbac_timeline.specs.Searched.{AreFirstOf, AreLeastOf, FreeFrom, FreeWith, IsFreeAt, IsFreeCluster, IsFreePlain, MayGrantAt, MayGrantBy, NoneFreeFrom, NoneFreeWith, all_at, earlier_of, with_cluster_bindings, with_cluster_roles, with_roles};
+ghost use Rattle.rbac_timeline.specs.Searched.{AreFirstOf, AreLeastOf, FreeFrom, FreeWith, IsFreeAt, IsFreeCluster};
+ghost use Rattle.rbac_timeline.specs.Searched.{IsFreePlain, MayGrantAt, MayGrantBy, NoneFreeFrom, NoneFreeWith};
+ghost use Rattle.rbac_timeline.specs.Searched.{all_at, earlier_of, with_cluster_bindings, with_cluster_roles};
+ghost use Rattle.rbac_timeline.specs.Searched.{with_roles};
 
 use crate::lasting::{Block, Until};
 use crate::timeline::Timeline;
@@ -84,7 +87,8 @@ impl<'a> Asked<'a> {
     /// other, so each has its own least places.
     pub fn first_allowed(&self) -> Option<Places>
         requires { self.now.low ≤ self.now.high }
-        ensures { AreFirstOf (MayGrantAt self.now.timeline.now self.now.who.now self.now.attrs.now) self.now.low self.now.high result }
+        ensures { AreFirstOf (MayGrantAt self.now.timeline.now self.now.who.now self.now.attrs.now)
+            self.now.low self.now.high result }
     {
         let lowest = self.lowest();
         let by_roles = with_roles(self.first_pair(Way::Roles), lowest);
@@ -101,8 +105,10 @@ impl<'a> Asked<'a> {
     fn first_free_cluster_binding(&self, cluster_roles: u64) -> Result<u64, u64>
         requires range { self.now.low ≤ self.now.high }
         requires upto { cluster_roles ≤ self.now.high }
-        ensures found { IfOk result (IsLeastPlace (IsFreeCluster self.now.timeline.now self.now.who.now self.now.attrs.now cluster_roles) self.now.low self.now.high) }
-        ensures none { IfErr result (IsLast (λ c. HoldsNowhere (IsFreeCluster self.now.timeline.now self.now.who.now self.now.attrs.now c) self.now.low self.now.high) cluster_roles self.now.high) }
+        ensures found { IfOk result (IsLeastPlace (IsFreeCluster self.now.timeline.now self.now.who.now
+            self.now.attrs.now cluster_roles) self.now.low self.now.high) }
+        ensures none { IfErr result (IsLast (λ c. HoldsNowhere (IsFreeCluster self.now.timeline.now
+            self.now.who.now self.now.attrs.now c) self.now.low self.now.high) cluster_roles self.now.high) }
     {
         let mut place = self.low;
         let mut last = self.high;
@@ -125,8 +131,10 @@ impl<'a> Asked<'a> {
         requires roles { roles ≤ self.now.high }
         requires cluster_roles { cluster_roles ≤ self.now.high }
         requires bindings { bindings ≤ self.now.high }
-        ensures some { IfSome result (IsBlock self.now.timeline.now self.now.who.now self.now.attrs.now roles cluster_roles bindings self.now.high) }
-        ensures none { IfNone result (IsFreePlain self.now.timeline.now self.now.who.now self.now.attrs.now roles cluster_roles bindings) }
+        ensures some { IfSome result (IsBlock self.now.timeline.now self.now.who.now self.now.attrs.now roles
+            cluster_roles bindings self.now.high) }
+        ensures none { IfNone result (IsFreePlain self.now.timeline.now self.now.who.now self.now.attrs.now
+            roles cluster_roles bindings) }
     {
         let by_roles = Link {
             way: Way::Roles,
@@ -165,8 +173,11 @@ impl<'a> Asked<'a> {
         requires range { self.now.low ≤ self.now.high }
         requires roles { roles ≤ self.now.high }
         requires cluster_roles { cluster_roles ≤ self.now.high }
-        ensures found { IfOk result (IsLeastPlace (IsFreePlain self.now.timeline.now self.now.who.now self.now.attrs.now roles cluster_roles) self.now.low self.now.high) }
-        ensures none { IfErr result (HoldsUntil (λ r c. HoldsNowhere (IsFreePlain self.now.timeline.now self.now.who.now self.now.attrs.now r c) self.now.low self.now.high) roles cluster_roles self.now.high) }
+        ensures found { IfOk result (IsLeastPlace (IsFreePlain self.now.timeline.now self.now.who.now
+            self.now.attrs.now roles cluster_roles) self.now.low self.now.high) }
+        ensures none { IfErr result (HoldsUntil (λ r c. HoldsNowhere
+            (IsFreePlain self.now.timeline.now self.now.who.now self.now.attrs.now r c) self.now.low
+            self.now.high) roles cluster_roles self.now.high) }
     {
         let mut place = self.low;
         let mut first = self.high;
@@ -190,8 +201,10 @@ impl<'a> Asked<'a> {
         requires roles_upto { roles ≤ self.now.high }
         requires cluster_roles_from { self.now.low ≤ cluster_roles }
         requires cluster_roles_upto { cluster_roles ≤ self.now.high }
-        ensures found { IfOk result (AreLeastOf (FreeWith self.now.timeline.now self.now.who.now self.now.attrs.now roles cluster_roles) self.now.low self.now.high) }
-        ensures none { IfErr result (HoldsUntil (λ r c. NoneFreeWith self.now.timeline.now self.now.who.now self.now.attrs.now self.now.low self.now.high r c) roles cluster_roles self.now.high) }
+        ensures found { IfOk result (AreLeastOf (FreeWith self.now.timeline.now self.now.who.now
+            self.now.attrs.now roles cluster_roles) self.now.low self.now.high) }
+        ensures none { IfErr result (HoldsUntil (λ r c. NoneFreeWith self.now.timeline.now self.now.who.now
+            self.now.attrs.now self.now.low self.now.high r c) roles cluster_roles self.now.high) }
     {
         match self.first_free_cluster_binding(cluster_roles) {
             Ok(cluster_bindings) => match self.first_free_binding(roles, cluster_roles) {
@@ -216,8 +229,10 @@ impl<'a> Asked<'a> {
         requires range { self.now.low ≤ self.now.high }
         requires from { self.now.low ≤ roles }
         requires upto { roles ≤ self.now.high }
-        ensures found { IfOk result (AreLeastOf (FreeFrom self.now.timeline.now self.now.who.now self.now.attrs.now roles) self.now.low self.now.high) }
-        ensures none { IfErr result (IsLast (NoneFreeFrom self.now.timeline.now self.now.who.now self.now.attrs.now self.now.low self.now.high) roles self.now.high) }
+        ensures found { IfOk result (AreLeastOf (FreeFrom self.now.timeline.now self.now.who.now
+            self.now.attrs.now roles) self.now.low self.now.high) }
+        ensures none { IfErr result (IsLast (NoneFreeFrom self.now.timeline.now self.now.who.now
+            self.now.attrs.now self.now.low self.now.high) roles self.now.high) }
     {
         let mut cluster_roles = self.low;
         let mut last = self.high;
@@ -239,7 +254,8 @@ impl<'a> Asked<'a> {
     /// goes on behind the places up to which it does.
     pub fn first_forbidden(&self) -> Option<Places>
         requires { self.now.low ≤ self.now.high }
-        ensures { AreFirstOf (IsFreeAt self.now.timeline.now self.now.who.now self.now.attrs.now) self.now.low self.now.high result }
+        ensures { AreFirstOf (IsFreeAt self.now.timeline.now self.now.who.now self.now.attrs.now) self.now.low
+            self.now.high result }
     {
         let mut roles = self.low;
         'places: loop {

@@ -1,4 +1,5 @@
-ghost use Rattle.std.specs.Prelude.{◌≡◌, ◌↔◌, IsTrue, IfOk, IfSome, IfNone, Any, Contains, MatchOption, map, [], false, ⊤, ◌<◌, ◌≤◌, ◌||◌};
+ghost use Rattle.std.specs.Prelude.{◌≡◌, ◌↔◌, IsTrue, IfOk, IfSome, IfNone, Any, Contains, MatchOption, map, []};
+ghost use Rattle.std.specs.Prelude.{false, ⊤, ◌<◌, ◌≤◌, ◌||◌};
 ghost use Rattle.clouds.specs.FirstPlace.{IsFirstPlace};
 ghost use Rattle.rbac_timeline.specs.Kept.{MayGrantByRules, MustGrantByRules};
 ghost use Rattle.rbac_timeline.specs.Lasting.{IsLast};
@@ -48,11 +49,22 @@ impl Model for Timeline {
 
     ghost Value = { Known };
 
-    ghost view = { λ t. record { versions = t.versions.value; ends = t.ends.value; spans = t.spans.value; bypass = t.bypass } };
+    ghost view = { λ t. record {
+      versions = t.versions.value;
+      ends = t.ends.value;
+      spans = t.spans.value;
+      bypass = t.bypass;
+    } };
 
     ghost use Rattle.rbac_timeline.specs.Kept.{AreKept};
 
-    ghost invariant = { λ t. AreKept (record { versions = t.versions.value; ends = t.ends.value; spans = t.spans.value; bypass = t.bypass })
+    ghost invariant = { λ t. AreKept (record {
+      versions = t.versions.value;
+      ends = t.ends.value;
+      spans =
+          t.spans.value;
+      bypass = t.bypass;
+    })
         t.histories t.removals t.clouds t.index t.nameless t.unsure };
 }
 
@@ -152,8 +164,12 @@ impl Timeline {
     ghost use Rattle.rbac_timeline.specs.Sound.{AreSound};
     ghost use Rattle.rbac_timeline.specs.declared.version.RbacVersion.{RbacVersion};
     ghost use Rattle.rbac_timeline.specs.Choices.{IsBypassed, IsKnownKey};
-    ghost use Rattle.rbac_timeline.specs.Extents.{IsCertain, IsNotGone, MayGrantByKey, MayGrantByRole, MayGrantInWay, MayGrantNameless, MustGrantByKey, MustGrantByRole, MustGrantInWay, bindings_in};
-    ghost use Rattle.rbac_timeline.specs.Kept.{IsKnownUnsure, IsRemovalOf, MayGrantByContent, MayGrantByListed, MayGrantOf, MustGrantByContent, MustGrantByListed, MustGrantOf, NamesAccount, NamesGroup, NamesUser, NamesWho, stored_of};
+    ghost use Rattle.rbac_timeline.specs.Extents.{IsCertain, IsNotGone, MayGrantByKey, MayGrantByRole};
+    ghost use Rattle.rbac_timeline.specs.Extents.{MayGrantInWay, MayGrantNameless, MustGrantByKey, MustGrantByRole};
+    ghost use Rattle.rbac_timeline.specs.Extents.{MustGrantInWay, bindings_in};
+    ghost use Rattle.rbac_timeline.specs.Kept.{IsKnownUnsure, IsRemovalOf, MayGrantByContent, MayGrantByListed};
+    ghost use Rattle.rbac_timeline.specs.Kept.{MayGrantOf, MustGrantByContent, MustGrantByListed, MustGrantOf};
+    ghost use Rattle.rbac_timeline.specs.Kept.{NamesAccount, NamesGroup, NamesUser, NamesWho, stored_of};
     ghost use Rattle.rbac_timeline.specs.Lasting.{IsStill, NoneBegins, NoneRemoved, StaysClear};
     ghost use Rattle.rbac_timeline.specs.Pairs.{AreVersionsBetween};
     ghost use Rattle.rbac_timeline.specs.Searched.{AreFirstOf};
@@ -204,7 +220,8 @@ impl Timeline {
     }
 
     fn latest(&self, key: &ObjectKey, place: u64) -> Option<&Stored>
-        ensures some { IfSome result (λ s. (v : RbacVersion) × IsLatestVersion self.now.versions key.now place v × (s.now ≡ stored_of v)) }
+        ensures some { IfSome result (λ s. (v : RbacVersion) × IsLatestVersion self.now.versions key.now place
+            v × (s.now ≡ stored_of v)) }
         ensures none { IfNone result (NoneUpto self.now.versions key.now place) }
     {
         match self.histories.get(key) {
@@ -223,8 +240,10 @@ impl Timeline {
     }
 
     fn presence(&self, key: &ObjectKey, stored: &Stored, place: u64) -> Extent
-        ensures may { (v : RbacVersion) → v.key ≡ key.now → v.revision ≡ stored.now.revision → (IsTrue result.may ↔ IsNotGone self.now place v) }
-        ensures must { (v : RbacVersion) → v.key ≡ key.now → v.revision ≡ stored.now.revision → (IsTrue result.must ↔ IsCertain self.now place v) }
+        ensures may { (v : RbacVersion) → v.key ≡ key.now → v.revision ≡ stored.now.revision
+            → (IsTrue result.may ↔ IsNotGone self.now place v) }
+        ensures must { (v : RbacVersion) → v.key ≡ key.now → v.revision ≡ stored.now.revision
+            → (IsTrue result.must ↔ IsCertain self.now place v) }
     {
         let _known = &self.clouds;
         presence(self.removal(key, stored.revision), place)
@@ -252,8 +271,10 @@ impl Timeline {
         who: &User,
         attrs: &RequestAttrs,
     ) -> Extent
-        ensures may { IsTrue result.may ↔ MayGrantByContent self.now link.way link.role_place who.now attrs.now content.now }
-        ensures must { IsTrue result.must ↔ MustGrantByContent self.now link.way link.role_place who.now attrs.now content.now }
+        ensures may { IsTrue result.may ↔ MayGrantByContent self.now link.way link.role_place who.now
+            attrs.now content.now }
+        ensures must { IsTrue result.must ↔ MustGrantByContent self.now link.way link.role_place who.now
+            attrs.now content.now }
     {
         match content {
             Content::Rules(_) => Extent::UNSURE,
@@ -277,8 +298,10 @@ impl Timeline {
         who: &User,
         attrs: &RequestAttrs,
     ) -> Extent
-        ensures may { IsTrue result.may ↔ MayGrantByListed self.now link.way link.role_place link.binding_place who.now attrs.now key.now }
-        ensures must { IsTrue result.must ↔ MustGrantByListed self.now link.way link.role_place link.binding_place who.now attrs.now key.now }
+        ensures may { IsTrue result.may ↔ MayGrantByListed self.now link.way link.role_place
+            link.binding_place who.now attrs.now key.now }
+        ensures must { IsTrue result.must ↔ MustGrantByListed self.now link.way link.role_place
+            link.binding_place who.now attrs.now key.now }
     {
         if !is_kind(kind_of_key(key), link.way.bindings()) {
             return Extent::NOTHING;
@@ -304,8 +327,10 @@ impl Timeline {
         who: &User,
         attrs: &RequestAttrs,
     ) -> Extent
-        ensures may { IsTrue result.may ↔ Any (MayGrantByListed self.now link.way link.role_place link.binding_place who.now attrs.now) keys.now }
-        ensures must { IsTrue result.must ↔ Any (MustGrantByListed self.now link.way link.role_place link.binding_place who.now attrs.now) keys.now }
+        ensures may { IsTrue result.may ↔ Any (MayGrantByListed self.now link.way link.role_place
+            link.binding_place who.now attrs.now) keys.now }
+        ensures must { IsTrue result.must ↔ Any (MustGrantByListed self.now link.way link.role_place
+            link.binding_place who.now attrs.now) keys.now }
     {
         let mut extent = Extent::NOTHING;
         for key in keys {
@@ -316,16 +341,22 @@ impl Timeline {
 
     // What the bindings grant that name a group.
     fn group_extent(&self, group: &Text, link: Link, who: &User, attrs: &RequestAttrs) -> Extent
-        ensures may { IsTrue result.may ↔ MayGrantOf self.now (NamesGroup self.now.versions group.now) link.way link.role_place link.binding_place who.now attrs.now }
-        ensures must { IsTrue result.must ↔ MustGrantOf self.now (NamesGroup self.now.versions group.now) link.way link.role_place link.binding_place who.now attrs.now }
+        ensures may { IsTrue result.may ↔ MayGrantOf self.now (NamesGroup self.now.versions group.now)
+            link.way link.role_place link.binding_place who.now attrs.now }
+        ensures must { IsTrue result.must ↔ MustGrantOf self.now (NamesGroup self.now.versions group.now)
+            link.way link.role_place link.binding_place who.now attrs.now }
     {
         self.keys_extent(self.index.by_group(group), link, who, attrs)
     }
 
     // What the bindings grant that name a group of these.
     fn groups_extent(&self, groups: &[Text], link: Link, who: &User, attrs: &RequestAttrs) -> Extent
-        ensures may { IsTrue result.may ↔ Any (λ group. MayGrantOf self.now (NamesGroup self.now.versions group) link.way link.role_place link.binding_place who.now attrs.now) groups.now }
-        ensures must { IsTrue result.must ↔ Any (λ group. MustGrantOf self.now (NamesGroup self.now.versions group) link.way link.role_place link.binding_place who.now attrs.now) groups.now }
+        ensures may { IsTrue result.may ↔ Any (λ group. MayGrantOf self.now
+            (NamesGroup self.now.versions group) link.way link.role_place link.binding_place who.now
+            attrs.now) groups.now }
+        ensures must { IsTrue result.must ↔ Any (λ group. MustGrantOf self.now
+            (NamesGroup self.now.versions group) link.way link.role_place link.binding_place who.now
+            attrs.now) groups.now }
     {
         let mut extent = Extent::NOTHING;
         for group in groups {
@@ -336,8 +367,10 @@ impl Timeline {
 
     // What the bindings grant that name the user, the account that it is, or one of its groups.
     fn named_extent(&self, link: Link, who: &User, attrs: &RequestAttrs) -> Extent
-        ensures may { IsTrue result.may ↔ MayGrantOf self.now (NamesWho self.now.versions who.now) link.way link.role_place link.binding_place who.now attrs.now }
-        ensures must { IsTrue result.must ↔ MustGrantOf self.now (NamesWho self.now.versions who.now) link.way link.role_place link.binding_place who.now attrs.now }
+        ensures may { IsTrue result.may ↔ MayGrantOf self.now (NamesWho self.now.versions who.now) link.way
+            link.role_place link.binding_place who.now attrs.now }
+        ensures must { IsTrue result.must ↔ MustGrantOf self.now (NamesWho self.now.versions who.now) link.way
+            link.role_place link.binding_place who.now attrs.now }
     {
         let user = self.keys_extent(self.index.by_user(&who.name), link, who, attrs);
         let account = self.keys_extent(self.index.by_account_user(&who.name), link, who, attrs);
@@ -347,7 +380,8 @@ impl Timeline {
 
     // Whether one of these bindings may grant the request.
     fn some_may(&self, keys: &[ObjectKey], link: Link, who: &User, attrs: &RequestAttrs) -> bool
-        ensures { IsTrue result ↔ Any (MayGrantByListed self.now link.way link.role_place link.binding_place who.now attrs.now) keys.now }
+        ensures { IsTrue result ↔ Any (MayGrantByListed self.now link.way link.role_place link.binding_place
+            who.now attrs.now) keys.now }
     {
         for key in keys {
             if self.key_extent(key, link, who, attrs).may {
@@ -360,8 +394,10 @@ impl Timeline {
     // Whether a binding may grant the request that may be clouded or unreadable somewhere; others may be
     // among them.
     fn may_by_unsure(&self, link: Link, who: &User, attrs: &RequestAttrs) -> bool
-        ensures sound { IsTrue result → MayGrantOf self.now (IsKnownKey self.now) link.way link.role_place link.binding_place who.now attrs.now }
-        ensures full { MayGrantOf self.now (IsKnownUnsure self.now link.binding_place) link.way link.role_place link.binding_place who.now attrs.now → IsTrue result }
+        ensures sound { IsTrue result → MayGrantOf self.now (IsKnownKey self.now) link.way link.role_place
+            link.binding_place who.now attrs.now }
+        ensures full { MayGrantOf self.now (IsKnownUnsure self.now link.binding_place) link.way
+            link.role_place link.binding_place who.now attrs.now → IsTrue result }
     {
         let _place = link.bindings_at();
         let keys = self.unsure.keys(link.way.bindings(), attrs);
@@ -392,7 +428,8 @@ impl Timeline {
     // Whether some binding grants the request for certain in this way. One that does is sure, so it names
     // the user.
     pub(crate) fn must(&self, link: Link, who: &User, attrs: &RequestAttrs) -> bool
-        ensures { IsTrue result ↔ MustGrantInWay self.now link.way link.role_place link.binding_place who.now attrs.now }
+        ensures { IsTrue result ↔ MustGrantInWay self.now link.way link.role_place link.binding_place who.now
+            attrs.now }
     {
         let _known = &self.clouds;
         self.named_extent(link, who, attrs).must
@@ -443,7 +480,8 @@ impl Timeline {
     // The bindings that may be clouded or unreadable somewhere and can reach the request, and maybe others.
     pub(crate) fn unsure_keys(&self, way: Way, attrs: &RequestAttrs) -> &[ObjectKey]
         ensures known { (key : ObjectKey) → Contains result.now key → IsKnownKey self.now key }
-        ensures full { (place : ℕ) (key : ObjectKey) → place ≤ last_place → IsKeyOf (bindings_in way) key → IsReached key attrs.now → IsKnownUnsure self.now place key → Contains result.now key }
+        ensures full { (place : ℕ) (key : ObjectKey) → place ≤ last_place → IsKeyOf (bindings_in way) key
+            → IsReached key attrs.now → IsKnownUnsure self.now place key → Contains result.now key }
     {
         self.unsure.keys(way.bindings(), attrs)
     }
@@ -468,8 +506,11 @@ impl Timeline {
     // What the binding holds, where it may be there.
     pub(crate) fn held(&self, key: &ObjectKey, place: u64) -> Option<&Content>
         requires { IsClouded (writes_of self.now) key.now place → ⊥ }
-        ensures some { IfSome result (λ content. (way : Way) (role_place : ℕ) (who : User) (attrs : RequestAttrs) → MayGrantByKey self.now way role_place place who attrs key.now ↔ MayGrantByContent self.now way role_place who attrs content.now) }
-        ensures none { IfNone result ((way : Way) (role_place : ℕ) (who : User) (attrs : RequestAttrs) → MayGrantByKey self.now way role_place place who attrs key.now → ⊥) }
+        ensures some { IfSome result (λ content. (way : Way) (role_place : ℕ) (who : User)
+            (attrs : RequestAttrs) → MayGrantByKey self.now way role_place place who attrs key.now
+            ↔ MayGrantByContent self.now way role_place who attrs content.now) }
+        ensures none { IfNone result ((way : Way) (role_place : ℕ) (who : User) (attrs : RequestAttrs)
+            → MayGrantByKey self.now way role_place place who attrs key.now → ⊥) }
     {
         let _known = &self.clouds;
         match self.latest(key, place) {
@@ -533,7 +574,10 @@ impl Timeline {
 
     // The role that the binding names. Where that one grants for certain, so does the binding, if it does at all.
     pub(crate) fn role_bound(&self, key: &ObjectKey, place: u64) -> Option<&ObjectKey>
-        ensures { IfSome result (λ role. (way : Way) (who : User) (attrs : RequestAttrs) (r n : ℕ) → (MustGrantByRole self.now role.now r attrs → MustGrantByRole self.now role.now n attrs) → MustGrantByKey self.now way r place who attrs key.now → MustGrantByKey self.now way n place who attrs key.now) }
+        ensures { IfSome result (λ role. (way : Way) (who : User) (attrs : RequestAttrs) (r n : ℕ)
+            → (MustGrantByRole self.now role.now r attrs → MustGrantByRole self.now role.now n attrs)
+            → MustGrantByKey self.now way r place who attrs key.now
+            → MustGrantByKey self.now way n place who attrs key.now) }
     {
         let _known = &self.clouds;
         match self.latest(key, place) {
@@ -662,7 +706,8 @@ impl Timeline {
         wanted: Decision,
     ) -> Option<Places>
         ensures some { IfSome result (AreLeastPlaces self.now low high who.now attrs.now wanted) }
-        ensures none { IfNone result ((places : Places) → ¬ (IsDecidedAt self.now low high who.now attrs.now wanted places)) }
+        ensures none { IfNone result ((places : Places)
+            → ¬ (IsDecidedAt self.now low high who.now attrs.now wanted places)) }
     {
         if low > high {
             return None;

@@ -2,7 +2,8 @@ ghost use Rattle.std.specs.Prelude.{◌≡◌, ◌↔◌, ◌∷◌, ◌++◌, [
 ghost use Rattle.std.specs.List.Sorted.{IsPermutation};
 ghost use Rattle.base_types.specs.declared.key.ObjectKey.{ObjectKey};
 ghost use Rattle.rbac_timeline.specs.Kinds.{is_binding};
-ghost use Rattle.rbac_timeline.specs.Unsure.{AreFound, AreGathered, AreUnsure, GivesNamed, GivesUnsure, IsCloudedSomewhere, MayBeUnsure, unsure_keys};
+ghost use Rattle.rbac_timeline.specs.Unsure.{AreFound, AreGathered, AreUnsure, GivesNamed, GivesUnsure};
+ghost use Rattle.rbac_timeline.specs.Unsure.{IsCloudedSomewhere, MayBeUnsure, unsure_keys};
 
 use crate::index::{ByText, Keys, add_under, found};
 use crate::kind::{Kind, is_kind, kind_of_key};
@@ -104,7 +105,8 @@ impl Unsure {
 
     // Takes a binding; keys of other kinds are let go.
     fn add(&mut self, alloc: Global, key: &ObjectKey) -> Result<(), OutOfMemory>
-        ensures { OnOk result ((keys : List ObjectKey) → AreFound self.old keys → AreFound self.new (keys ++ key.now ∷ [])) }
+        ensures { OnOk result ((keys : List ObjectKey) → AreFound self.old keys
+            → AreFound self.new (keys ++ key.now ∷ [])) }
     {
         let kind = kind_of_key(key);
         if is_kind(kind, Kind::RoleBinding) {
@@ -119,7 +121,8 @@ impl Unsure {
     }
 
     fn add_each(&mut self, alloc: Global, more: &[ObjectKey]) -> Result<(), OutOfMemory>
-        ensures { OnOk result ((keys : List ObjectKey) → AreFound self.old keys → AreFound self.new (keys ++ more.now)) }
+        ensures { OnOk result ((keys : List ObjectKey) → AreFound self.old keys
+            → AreFound self.new (keys ++ more.now)) }
     {
         for key in more {
             self.add(alloc, key)?;

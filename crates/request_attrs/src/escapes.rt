@@ -10,7 +10,8 @@ use std::alloc::Global;
 
 /// Whether two hexadecimal digits stand at a position.
 fn has_digits_at(path: &[u8], at: usize) -> bool
-    ensures { IsTrue result ↔ (IsAsciiHexdigit (slice_index path.now at) × IsAsciiHexdigit (slice_index path.now (at + 1))) }
+    ensures { IsTrue result ↔ (IsAsciiHexdigit (slice_index path.now at) × IsAsciiHexdigit
+        (slice_index path.now (at + 1))) }
 {
     match path.get(at..) {
         Some([high, low, ..]) => high.is_ascii_hexdigit() && low.is_ascii_hexdigit(),

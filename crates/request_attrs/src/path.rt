@@ -1,5 +1,6 @@
 ghost use Rattle.std.specs.Prelude.{◌≡◌, IfOk};
-ghost use Rattle.request_attrs.specs.Paths.{raw_path, raw_query, without_leading, without_trailing, segments_of, texts_of};
+ghost use Rattle.request_attrs.specs.Paths.{raw_path, raw_query, without_leading, without_trailing, segments_of};
+ghost use Rattle.request_attrs.specs.Paths.{texts_of};
 
 use base_types::OutOfMemory;
 use std::alloc::Global;

@@ -7,7 +7,11 @@ use std::alloc::Global;
 use std::borrow::CowStr;
 
 fn owned_pair(alloc: Global, name: CowStr<'_>, value: CowStr<'_>) -> Result<Pair, OutOfMemory>
-    ensures { IfOk result (λ pair. pair ≡ record { name = cow_str_bytes name.entry; value = cow_str_bytes value.entry }) }
+    ensures { IfOk result (λ pair. pair ≡ record {
+      name = cow_str_bytes name.entry;
+      value = cow_str_bytes
+          value.entry;
+    }) }
 {
     let name = Text::from_string(name.into_owned(alloc)?);
     let value = Text::from_string(value.into_owned(alloc)?);

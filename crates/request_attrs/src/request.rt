@@ -1,6 +1,7 @@
 ghost use Rattle.std.specs.Prelude.{◌≡◌, option_map, IsTrue, ◌↔◌, [], ◌∷◌};
 ghost use Rattle.request_attrs.specs.Paths.{texts_of};
-ghost use Rattle.request_attrs.specs.Requests.{in_group, in_named_group, api_path, without_watch, namespace_of, is_of_namespace, without_namespace, segment_at, resource_request};
+ghost use Rattle.request_attrs.specs.Requests.{in_group, in_named_group, api_path, without_watch, namespace_of};
+ghost use Rattle.request_attrs.specs.Requests.{is_of_namespace, without_namespace, segment_at, resource_request};
 ghost use Rattle.request_attrs.specs.Shown.{shown_path, shown_request};
 
 // The group and the version of a path under `/api` or `/apis`, and the segments behind them.

@@ -1,7 +1,8 @@
 ghost use Rattle.std.specs.Prelude.{◌≡◌, IfOk, IfErr, option_map};
 ghost use Rattle.json_patch.specs.Reading.{patch_of};
 ghost use Rattle.setup_file.specs.declared.setup.Tracked.{Tracked as Resource};
-ghost use Rattle.request_bodies.specs.Asked.{asked_by_object, asked_by_operations, asked_by_json_patch, asked_by_merge_patch, asked_by_patch, asked_by, asked_of};
+ghost use Rattle.request_bodies.specs.Asked.{asked_by_object, asked_by_operations, asked_by_json_patch};
+ghost use Rattle.request_bodies.specs.Asked.{asked_by_merge_patch, asked_by_patch, asked_by, asked_of};
 
 use crate::patched::{is_of_managed, merged, typed, untyped};
 use crate::requests::{Write, is_created, is_of_another, write_of};
@@ -41,7 +42,8 @@ fn asked_by_operations(
     patch: &Patch,
     old: Option<&Tree>,
 ) -> Result<Asking, OutOfMemory>
-    ensures { IfOk result (λ asking. asking ≡ asked_by_operations tracked.now patch.now (option_map (λ tree. tree.now) old.entry)) }
+    ensures { IfOk result (λ asking. asking ≡ asked_by_operations tracked.now patch.now
+        (option_map (λ tree. tree.now) old.entry)) }
 {
     let Some(old) = old else {
         return Ok(Asking::Wrong);
@@ -60,7 +62,8 @@ fn asked_by_json_patch(
     body: &Tree,
     old: Option<&Tree>,
 ) -> Result<Asking, OutOfMemory>
-    ensures { IfOk result (λ asking. asking ≡ asked_by_json_patch tracked.now (patch_of body.now) (option_map (λ tree. tree.now) old.entry)) }
+    ensures { IfOk result (λ asking. asking ≡ asked_by_json_patch tracked.now (patch_of body.now)
+        (option_map (λ tree. tree.now) old.entry)) }
 {
     let patch = match read_patch(alloc, body) {
         Ok(patch) => patch,
@@ -80,7 +83,8 @@ fn asked_by_merge_patch(
     body: &Tree,
     old: Option<&Tree>,
 ) -> Result<Asking, OutOfMemory>
-    ensures { IfOk result (λ asking. (tracked : Resource) → asking ≡ asked_by_merge_patch tracked body.now (option_map (λ tree. tree.now) old.entry)) }
+    ensures { IfOk result (λ asking. (tracked : Resource) → asking ≡ asked_by_merge_patch tracked body.now
+        (option_map (λ tree. tree.now) old.entry)) }
 {
     match old {
         Some(old) => Ok(Asking::Whole(merged(alloc, old, body)?)),
@@ -95,7 +99,8 @@ fn asked_by_patch(
     body: &Tree,
     old: Option<&Tree>,
 ) -> Result<Asking, OutOfMemory>
-    ensures { IfOk result (λ asking. asking ≡ asked_by_patch tracked.now event.now body.now (option_map (λ tree. tree.now) old.entry)) }
+    ensures { IfOk result (λ asking. asking ≡ asked_by_patch tracked.now event.now body.now
+        (option_map (λ tree. tree.now) old.entry)) }
 {
     if body.as_items().is_some() {
         return asked_by_json_patch(alloc, tracked, body, old);
@@ -114,7 +119,8 @@ fn asked_by(
     body: &Packed,
     old: Option<&Tree>,
 ) -> Result<Asking, OutOfMemory>
-    ensures { IfOk result (λ asking. asking ≡ asked_by write tracked.now event.now body.now (option_map (λ tree. tree.now) old.entry)) }
+    ensures { IfOk result (λ asking. asking ≡ asked_by write tracked.now event.now body.now
+        (option_map (λ tree. tree.now) old.entry)) }
 {
     match write {
         Write::Put => asked_by_object(alloc, tracked, body),
@@ -137,7 +143,8 @@ pub fn asked_of(
     event: &Event,
     old: Option<&Tree>,
 ) -> Result<Asking, OutOfMemory>
-    ensures { IfOk result (λ asking. asking ≡ asked_of tracked.now event.now (option_map (λ tree. tree.now) old.entry)) }
+    ensures { IfOk result (λ asking. asking ≡ asked_of tracked.now event.now
+        (option_map (λ tree. tree.now) old.entry)) }
 {
     let Some(body) = event.request.kept() else {
         return Ok(Asking::NotJudged);

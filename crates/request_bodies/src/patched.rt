@@ -86,7 +86,8 @@ fn order_law(tree: &Tree)
 /// The old object after a merge patch, without its version and kind. They needn't be put in before, since it doesn't
 /// matter to other members what they are.
 pub fn merged(alloc: Global, old: &Tree, body: &Tree) -> Result<Tree, OutOfMemory>
-    ensures { IfOk result (λ made. (tracked : Resource) → made ≡ untyped (merged (Some (typed tracked old.now)) body.now)) }
+    ensures { IfOk result (λ made. (tracked : Resource)
+        → made ≡ untyped (merged (Some (typed tracked old.now)) body.now)) }
 {
     order_law(old);
     Ok(untyped(merge(alloc, Some(old), body)?))

@@ -63,7 +63,8 @@ fn is_api_version(tracked: &Tracked, text: &str) -> bool
 }
 
 fn is_of_another_version(tracked: &Tracked, text: Option<&str>) -> bool
-    ensures { result ≡ is_another (api_version_of tracked.now.group tracked.now.version) (option_map (λ text. text.now) text.entry) }
+    ensures { result ≡ is_another (api_version_of tracked.now.group tracked.now.version)
+        (option_map (λ text. text.now) text.entry) }
 {
     match text {
         Some(text) => !is_api_version(tracked, text),

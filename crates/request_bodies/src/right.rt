@@ -40,8 +40,9 @@ fn is_asked(shape: &Shape, old: Option<&Tree>, answered: &Tree, asking: &Asking)
     }
 }
 
-/// Whether the answer to a write, in stored form, is what its body asked of the object before, or of none. So it is where
-/// nothing is known of the body, or of the resource that the write is for. The old object is copied for a patch alone.
+/// Whether the answer to a write, in stored form, is what its body asked of the object before, or of none. So it is
+/// where nothing is known of the body, or of the resource that the write is for. The old object is copied for a patch
+/// alone.
 pub fn is_body_right(
     alloc: Global,
     setup: &Setup,
@@ -49,7 +50,8 @@ pub fn is_body_right(
     answered: &Tree,
     before: Option<&Tree>,
 ) -> Result<bool, OutOfMemory>
-    ensures { IfOk result (λ right. right ≡ is_body_right setup.now event.now answered.now (option_map (λ tree. tree.now) before.entry)) }
+    ensures { IfOk result (λ right. right ≡ is_body_right setup.now event.now answered.now
+        (option_map (λ tree. tree.now) before.entry)) }
 {
     let Some(tracked) = tracked_of(setup, &event.attrs) else {
         return Ok(true);

@@ -81,5 +81,6 @@ pub fn print_checked(alloc: Global, checked: &Checked) -> Result<Bytes, OutOfMem
 
 /// A placement comes to one answer.
 pub fn one_answer_law()
-    ensures { (h : History) (lines : List PlacedLine) (answer other : Checked) → IsReadable h → IsChecked h lines answer → IsChecked h lines other → answer ≡ other }
+    ensures { (h : History) (lines : List PlacedLine) (answer other : Checked) → IsReadable h
+        → IsChecked h lines answer → IsChecked h lines other → answer ≡ other }
 {}

@@ -1,11 +1,14 @@
-ghost use Rattle.std.specs.Prelude.{◌≡◌, ◌≢◌, ◌<◌, ◌^◌, ◌↔◌, ◌++◌, ℕ, List, Some, IfErr, IfNone, IfOk, IfSome, IsTrue, OnErr, OnOk, AllPairs, Contains, filter, length, map, option_map, slice_get};
+ghost use Rattle.std.specs.Prelude.{◌≡◌, ◌≢◌, ◌<◌, ◌^◌, ◌↔◌, ◌++◌, ℕ, List, Some, IfErr, IfNone, IfOk, IfSome};
+ghost use Rattle.std.specs.Prelude.{IsTrue, OnErr, OnOk, AllPairs, Contains, filter, length, map, option_map};
+ghost use Rattle.std.specs.Prelude.{slice_get};
 ghost use Rattle.history_model.specs.Events.{Event};
 ghost use Rattle.history_model.specs.Histories.{IsEvent, Version as Recorded};
 ghost use Rattle.history_model.specs.Machine as model;
 ghost use Rattle.history_model.specs.Words.{Strays, word};
 ghost use Rattle.object_past.specs.Modelled.{version_of};
 ghost use Rattle.serial_machine.specs.Held.{HasMade, HasRooms, end_of, is_unmade, unmade_puts};
-ghost use Rattle.serial_machine.specs.Made.{IsAstray, IsLineOf, IsMade, IsRightLine, IsStepAs, IsStepFault, StandsBehind};
+ghost use Rattle.serial_machine.specs.Made.{IsAstray, IsLineOf, IsMade, IsRightLine, IsStepAs, IsStepFault};
+ghost use Rattle.serial_machine.specs.Made.{StandsBehind};
 ghost use Rattle.serial_machine.specs.Stepping.{step_of};
 ghost use Rattle.version_store.specs.Histories.{history_of};
 ghost use Rattle.write_groups.specs.declared.event.LogEvent.{LogEvent};
@@ -49,7 +52,8 @@ fn number_at(log: &[LogEvent], line: u64) -> Option<u32>
     requires rising { AllPairs (λ a b. a.line < b.line) log.now }
     requires few { length log.now < 2 ^ 32 }
     ensures within { IfSome result (λ number. number < length log.now) }
-    ensures some { IfSome result (λ number. (event : LogEvent) → slice_get log.now number ≡ Some event → event.line ≡ line) }
+    ensures some { IfSome result (λ number. (event : LogEvent) → slice_get log.now number ≡ Some event
+        → event.line ≡ line) }
     ensures none { IfNone result ((event : LogEvent) → Contains log.now event → event.line ≢ line) }
 {
     let upto = log.partition_point(|event| event.line <= line);
@@ -65,8 +69,10 @@ fn number_at(log: &[LogEvent], line: u64) -> Option<u32>
 // The number of the event of which this is the line, with its words.
 fn event_of_line(context: &Context, placed: &PlacedLine) -> Option<u32>
     ensures within { IfSome result (λ number. number < length context.now.log) }
-    ensures some { IfSome result (λ number. (event : Event) → IsEvent (history_of context.now) number event → IsLineOf (history_of context.now) placed.now number event) }
-    ensures none { IfNone result ((number : ℕ) (event : Event) → IsLineOf (history_of context.now) placed.now number event → ⊥) }
+    ensures some { IfSome result (λ number. (event : Event) → IsEvent (history_of context.now) number event
+        → IsLineOf (history_of context.now) placed.now number event) }
+    ensures none { IfNone result ((number : ℕ) (event : Event)
+        → IsLineOf (history_of context.now) placed.now number event → ⊥) }
 {
     let Some(number) = number_at(context.log(), placed.line) else {
         return None;
@@ -80,7 +86,8 @@ fn event_of_line(context: &Context, placed: &PlacedLine) -> Option<u32>
 // Whether the line has a place that its event can't have.
 fn is_astray(context: &Context, placed: &PlacedLine, number: u32) -> bool
     requires { number < length context.now.log }
-    ensures { (event : Event) → IsEvent (history_of context.now) number event → IsTrue result ↔ IsAstray (history_of context.now) placed.now number event }
+    ensures { (event : Event) → IsEvent (history_of context.now) number event → IsTrue result
+        ↔ IsAstray (history_of context.now) placed.now number event }
 {
     let outside = is_outside(context, number, answer_place(placed.answer));
     let out_of_caches = is_out_of_caches(context, number, &decision_places(placed.decision));
@@ -89,7 +96,8 @@ fn is_astray(context: &Context, placed: &PlacedLine, number: u32) -> bool
 
 fn reply_at(context: &Context, number: u32, place: u64) -> Step<'_>
     requires { number < length context.now.log }
-    ensures { (event : Event) → IsEvent (history_of context.now) number event → step_of result ≡ model.Reply number event place }
+    ensures { (event : Event) → IsEvent (history_of context.now) number event
+        → step_of result ≡ model.Reply number event place }
 {
     Step::Reply {
         number,
@@ -102,7 +110,8 @@ fn reply_at(context: &Context, number: u32, place: u64) -> Step<'_>
 fn step_at(context: &Context, number: u32, place: u64) -> Option<Step<'_>>
     requires { number < length context.now.log }
     ensures some { IfSome result (λ step. (event : Event) → IsEvent (history_of context.now) number event
-        → IsStepAs (history_of context.now) number event place (word (history_of context.now) number event) (step_of step)) }
+        → IsStepAs (history_of context.now) number event place (word (history_of context.now) number event)
+        (step_of step)) }
     ensures none { IfNone result ((event : Event) (step : model.Step) → IsEvent (history_of context.now) number event
         → IsStepAs (history_of context.now) number event place (word (history_of context.now) number event) step → ⊥) }
 {
@@ -127,7 +136,8 @@ fn step_at(context: &Context, number: u32, place: u64) -> Option<Step<'_>>
 // Whether the event of this number is the write of another key than its revision's.
 fn strays(context: &Context, number: u32) -> bool
     requires { number < length context.now.log }
-    ensures { (event : Event) → IsEvent (history_of context.now) number event → IsTrue result ↔ (word (history_of context.now) number event ≡ Strays) }
+    ensures { (event : Event) → IsEvent (history_of context.now) number event → IsTrue result
+        ↔ (word (history_of context.now) number event ≡ Strays) }
 {
     matches!(word_at(context, number), Word::Strays)
 }
@@ -194,7 +204,8 @@ fn versions_behind(versions: &[Version], place: u64) -> &[Version]
     requires { AllPairs (λ a b. a.revision < b.revision) versions.now }
     ensures among { (v : Recorded) → Contains (map version_of result.now) v → Contains (map version_of versions.now) v }
     ensures rising { AllPairs (λ a b. a.revision < b.revision) result.now }
-    ensures unmade { (high : ℕ) → filter (is_unmade place high) (map version_of result.now) ≡ filter (is_unmade place high) (map version_of versions.now) }
+    ensures unmade { (high : ℕ) → filter (is_unmade place high) (map version_of result.now) ≡ filter
+        (is_unmade place high) (map version_of versions.now) }
 {
     let upto = versions.partition_point(|version| version.revision.get() <= place);
     let (_, behind) = versions.split_at(upto);
@@ -205,7 +216,8 @@ impl Machine {
     // Puts the versions without a maker that come behind the last step, up to the place.
     fn put_unmade(&mut self, context: &Context, upto: u64)
         ensures { (done : List model.Step) → HasMade (history_of context.now) self.old done
-            → HasMade (history_of context.now) self.new (done ++ unmade_puts (history_of context.now) (end_of (history_of context.now).start done) upto) }
+            → HasMade (history_of context.now) self.new (done ++ unmade_puts (history_of context.now)
+            (end_of (history_of context.now).start done) upto) }
     {
         let place = self.place;
         let versions = versions_behind(context.past().versions(), place);
@@ -227,7 +239,8 @@ impl Machine {
         context: &Context,
         placed: &PlacedLine,
     ) -> Result<(), StepFault>
-        requires { (done : List model.Step) × HasMade (history_of context.now) self.old done × StandsBehind (history_of context.now) done placed.now }
+        requires { (done : List model.Step) × HasMade (history_of context.now) self.old done × StandsBehind
+            (history_of context.now) done placed.now }
         ensures made { OnOk result ((done : List model.Step) → HasMade (history_of context.now) self.old done
             → IsMade (history_of context.now) done placed.now self.old self.new) }
         ensures wrong { IfErr result (λ fault. (done : List model.Step) → HasMade (history_of context.now) self.old done

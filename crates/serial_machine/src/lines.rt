@@ -1,6 +1,7 @@
 ghost use Rattle.std.specs.Prelude.{◌≡◌, ◌<◌, ◌↔◌, IfNone, IfSome, IsTrue, length, option_map, slice_get};
 ghost use Rattle.base_types.specs.Placements.{RisesByLine};
-ghost use Rattle.history_model.specs.Checking.{DiffersAt, HasAnswerWord, HasDecisionWord, HasWords, IsLeastLine, NoLine};
+ghost use Rattle.history_model.specs.Checking.{DiffersAt, HasAnswerWord, HasDecisionWord, HasWords, IsLeastLine};
+ghost use Rattle.history_model.specs.Checking.{NoLine};
 ghost use Rattle.history_model.specs.Events.{Event};
 ghost use Rattle.history_model.specs.Histories.{IsEvent};
 ghost use Rattle.history_model.specs.Readable.{IsReadable};
@@ -53,7 +54,8 @@ fn has_decision_word(decision: Option<Decision>, placed: Option<PlacedDecision>)
 /// Whether the line has this event's words.
 pub fn has_words(context: &Context, number: u32, line: &PlacedLine) -> bool
     requires { number < length context.now.log }
-    ensures { (event : Event) → IsEvent (history_of context.now) number event → IsTrue result ↔ HasWords (history_of context.now) number event line.now }
+    ensures { (event : Event) → IsEvent (history_of context.now) number event → IsTrue result
+        ↔ HasWords (history_of context.now) number event line.now }
 {
     let event = &context.log()[number as usize];
     let answered = has_answer_word(word_at(context, number), line.answer);
@@ -64,8 +66,10 @@ pub fn has_words(context: &Context, number: u32, line: &PlacedLine) -> bool
 // Where the placement differs from the event of this number, by the line of that number.
 fn difference_at(context: &Context, lines: &[PlacedLine], number: u32) -> Option<u64>
     requires { number < length context.now.log }
-    ensures some { IfSome result (λ at. (event : Event) → IsEvent (history_of context.now) number event → IsUnlike (history_of context.now) lines.now number event at) }
-    ensures none { IfNone result ((event : Event) → IsEvent (history_of context.now) number event → IsAlike (history_of context.now) lines.now number event) }
+    ensures some { IfSome result (λ at. (event : Event) → IsEvent (history_of context.now) number event
+        → IsUnlike (history_of context.now) lines.now number event at) }
+    ensures none { IfNone result ((event : Event) → IsEvent (history_of context.now) number event
+        → IsAlike (history_of context.now) lines.now number event) }
 {
     let at = context.line_of(number);
     let Some(line) = line_at(lines, number) else {

@@ -1,4 +1,5 @@
-ghost use Rattle.std.specs.Prelude.{◌≡◌, ◌≢◌, ◌↔◌, ℕ, false, true, IfOk, IfSome, IfNone, IsTrue, All, AllPairs, Contains, option_map};
+ghost use Rattle.std.specs.Prelude.{◌≡◌, ◌≢◌, ◌↔◌, ℕ, false, true, IfOk, IfSome, IfNone, IsTrue, All, AllPairs};
+ghost use Rattle.std.specs.Prelude.{Contains, option_map};
 ghost use Rattle.std.specs.List.{list_any};
 ghost use Rattle.base_types.specs.Keys.{same_key};
 ghost use Rattle.base_types.specs.declared.key.ObjectKey.{ObjectKey as Key};
@@ -27,7 +28,8 @@ fn shown_keys<'a>(
     items: &'a [Item],
     seed: Seed,
 ) -> Result<Option<Shown<'a>>, OutOfMemory>
-    ensures some { IfOk result (λ found. IfSome found (λ shown. AllPairs (λ a b. a.key ≢ b.key) items.now × AreShown items.now shown)) }
+    ensures some { IfOk result (λ found. IfSome found (λ shown. AllPairs (λ a b. a.key ≢ b.key) items.now
+        × AreShown items.now shown)) }
     ensures none { IfOk result (λ found. IfNone found (AllPairs (λ a b. a.key ≢ b.key) items.now → ⊥)) }
 {
     let mut shown = HashSet::with_hasher(alloc, Seeded::new(seed));
@@ -105,7 +107,8 @@ fn is_right_about(
     key: &ObjectKey,
     shown: &Shown<'_>,
 ) -> Result<bool, OutOfMemory>
-    ensures { IfOk result (λ right. IsTrue right ↔ (list_any (λ other. same_key key.now other.now) shown.now.keys ≡ false
+    ensures { IfOk result (λ right. IsTrue right ↔ (list_any (λ other. same_key key.now other.now)
+        shown.now.keys ≡ false
         → IsLacked (history_of scene.entry.context.now) number place key.now (scene_objects scene.entry key.now))) }
 {
     if has_key(shown, key) {

@@ -46,7 +46,8 @@ fn held_at(objects: &Objects, key: &ObjectKey) -> Option<u64>
 
 // Holds another revision under a key that is there.
 fn hold(objects: &mut Objects, key: &ObjectKey, revision: Option<u64>)
-    ensures { IsSome (get key_order objects.old key.now) → Updates key_order objects.old objects.new key.now (Some revision) }
+    ensures { IsSome (get key_order objects.old key.now) → Updates key_order objects.old objects.new key.now
+        (Some revision) }
 {
     let Some(held) = objects.get_mut(key) else {
         return;
@@ -56,8 +57,10 @@ fn hold(objects: &mut Objects, key: &ObjectKey, revision: Option<u64>)
 
 // What the step leaves of the objects.
 fn change(objects: &mut Objects, step: Step<'_>)
-    ensures rooms { (h : History) → IsOfHistory h (step_of step.entry) → IsReadable h → HasRooms h objects.old → HasRooms h objects.new }
-    ensures objects { (h : History) (key : Key) → IsOfHistory h (step_of step.entry) → IsReadable h → HasRooms h objects.old
+    ensures rooms { (h : History) → IsOfHistory h (step_of step.entry) → IsReadable h → HasRooms h objects.old
+        → HasRooms h objects.new }
+    ensures objects { (h : History) (key : Key) → IsOfHistory h (step_of step.entry) → IsReadable h
+        → HasRooms h objects.old
         → objects_in h objects.new key ≡ model.after (objects_in h objects.old) (step_of step.entry) key }
 {
     match step {

@@ -1,4 +1,5 @@
-ghost use Rattle.std.specs.Prelude.{◌≡◌, ◌<◌, ◌≤◌, ◌^◌, ◌↔◌, ◌-ℤ◌, ◌≤ℤ◌, neg_ℤ, pos, ℕ, IfNone, IfSome, IsTrue, Some, length, slice_get};
+ghost use Rattle.std.specs.Prelude.{◌≡◌, ◌<◌, ◌≤◌, ◌^◌, ◌↔◌, ◌-ℤ◌, ◌≤ℤ◌, neg_ℤ, pos, ℕ, IfNone, IfSome, IsTrue};
+ghost use Rattle.std.specs.Prelude.{Some, length, slice_get};
 ghost use Rattle.history_model.specs.Checking.{IsLeastLine, IsMisplacedAt, IsOutside, NoLine};
 ghost use Rattle.history_model.specs.Decisions.{AreCachePlaces};
 ghost use Rattle.history_model.specs.Events.{Event};
@@ -71,7 +72,8 @@ fn lies_within(low: u64, high: u64, place: u64) -> bool
 pub fn is_outside(context: &Context, number: u32, place: u64) -> bool
     requires { number < length context.now.log }
     ensures { (event : Event) → IsEvent (history_of context.now) number event
-        → IsTrue result ↔ IsOutside (history_of context.now) event (model.word (history_of context.now) number event) place }
+        → IsTrue result ↔ IsOutside (history_of context.now) event (model.word (history_of context.now) number
+        event) place }
 {
     match word_at(context, number) {
         Word::Makes(revision) => place != revision,
@@ -96,8 +98,10 @@ fn before(at: Moment, nanos: u64) -> Moment
 // The places at which the caches of the event's authoriser may have been.
 fn cache_window(context: &Context, number: u32) -> Window
     requires { number < length context.now.log }
-    ensures low { (event : Event) → IsEvent (history_of context.now) number event → result.low ≡ decision_low (history_of context.now) event }
-    ensures high { (event : Event) → IsEvent (history_of context.now) number event → result.high ≡ decision_high (history_of context.now) event }
+    ensures low { (event : Event) → IsEvent (history_of context.now) number event → result.low ≡ decision_low
+        (history_of context.now) event }
+    ensures high { (event : Event) → IsEvent (history_of context.now) number event
+        → result.high ≡ decision_high (history_of context.now) event }
 {
     let event = &context.log()[number as usize];
     let windows = context.windows();
@@ -110,7 +114,8 @@ fn cache_window(context: &Context, number: u32) -> Window
 // Whether caches may have been at these places when the event of this number was decided.
 fn are_cache_places(context: &Context, number: u32, places: &Places) -> bool
     requires { number < length context.now.log }
-    ensures { (event : Event) → IsEvent (history_of context.now) number event → IsTrue result ↔ AreCachePlaces (history_of context.now) event places.now }
+    ensures { (event : Event) → IsEvent (history_of context.now) number event → IsTrue result ↔ AreCachePlaces
+        (history_of context.now) event places.now }
 {
     let window = cache_window(context, number);
     lies_within(window.low, window.high, places.roles)
@@ -132,7 +137,8 @@ pub fn is_out_of_caches(context: &Context, number: u32, places: &Places) -> bool
 // Whether the line of this number has a place that its event can't have.
 fn is_misplaced(context: &Context, lines: &[PlacedLine], number: u32) -> bool
     requires { number < length context.now.log }
-    ensures { (event : Event) → IsEvent (history_of context.now) number event → IsTrue result ↔ IsMisplaced (history_of context.now) lines.now number event }
+    ensures { (event : Event) → IsEvent (history_of context.now) number event → IsTrue result ↔ IsMisplaced
+        (history_of context.now) lines.now number event }
 {
     let outside = is_outside(context, number, line_place(lines, number));
     let out_of_caches = is_out_of_caches(context, number, &line_places(lines, number));

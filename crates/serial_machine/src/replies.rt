@@ -81,7 +81,8 @@ fn is_seen(scene: Scene<'_>, item: &Item, place: u64) -> bool
 
 // Whether there is no object, or the key is clouded.
 fn is_absent(scene: Scene<'_>, key: &ObjectKey, place: u64) -> bool
-    ensures { IsTrue result ↔ (IsClouded (history_of scene.entry.context.now) key.now place ⊎ IsNone (scene_objects scene.entry key.now)) }
+    ensures { IsTrue result ↔ (IsClouded (history_of scene.entry.context.now) key.now place
+        ⊎ IsNone (scene_objects scene.entry key.now)) }
 {
     if scene.is_clouded(key, place) {
         return true;
@@ -91,7 +92,8 @@ fn is_absent(scene: Scene<'_>, key: &ObjectKey, place: u64) -> bool
 
 // Whether there is an object, or the key is clouded.
 fn is_present(scene: Scene<'_>, key: &ObjectKey, place: u64) -> bool
-    ensures { IsTrue result ↔ (IsClouded (history_of scene.entry.context.now) key.now place ⊎ IsSome (scene_objects scene.entry key.now)) }
+    ensures { IsTrue result ↔ (IsClouded (history_of scene.entry.context.now) key.now place
+        ⊎ IsSome (scene_objects scene.entry key.now)) }
 {
     if scene.is_clouded(key, place) {
         return true;
@@ -121,7 +123,8 @@ fn is_right(
     requires known { IsEvent (history_of scene.context.now) number (event_of event.now) }
     requires placed { word (history_of scene.context.now) number (event_of event.now) ≡ At }
     requires rooms { HasRooms (history_of scene.context.now) scene.machine.now.objects }
-    ensures { IfOk result (λ right. IsTrue right ↔ IsRight (history_of scene.entry.context.now) number (event_of event.now) place (scene_objects scene.entry)) }
+    ensures { IfOk result (λ right. IsTrue right ↔ IsRight (history_of scene.entry.context.now) number
+        (event_of event.now) place (scene_objects scene.entry)) }
 {
     match &event.answer {
         Shown::Made { item, created: _ } => {
@@ -185,7 +188,8 @@ pub fn reply_verdict(
     requires known { IsEvent (history_of scene.context.now) number (event_of event.now) }
     requires placed { word (history_of scene.context.now) number (event_of event.now) ≡ At }
     requires rooms { HasRooms (history_of scene.context.now) scene.machine.now.objects }
-    ensures { IfOk result (IsVerdictOn (history_of scene.entry.context.now) (scene_objects scene.entry) (model.Reply number (event_of event.now) place)) }
+    ensures { IfOk result (IsVerdictOn (history_of scene.entry.context.now) (scene_objects scene.entry)
+        (model.Reply number (event_of event.now) place)) }
 {
     if is_right(alloc, scene, number, event, place)? {
         return Ok(None);

@@ -6,7 +6,8 @@ ghost use Rattle.history_model.specs.Histories.{History};
 ghost use Rattle.history_model.specs.Machine as model;
 ghost use Rattle.history_model.specs.Machine.{event_line, maker_line};
 ghost use Rattle.object_past.specs.Modelled.{maker_of, recorded, version_of};
-ghost use Rattle.serial_machine.specs.Ordered.{AreRows, AreRowsOf, IsInTurn, placed_at, placed_puts, placed_removals, placed_replies, row_step, turn_cmp};
+ghost use Rattle.serial_machine.specs.Ordered.{AreRows, AreRowsOf, IsInTurn, placed_at, placed_puts};
+ghost use Rattle.serial_machine.specs.Ordered.{placed_removals, placed_replies, row_step, turn_cmp};
 ghost use Rattle.version_store.specs.Histories.{history_of};
 ghost use Rattle.write_groups.specs.Modelled.{HasEvents, event_of};
 
@@ -104,7 +105,8 @@ fn reply_row(number: u32, event: &LogEvent, place: u64) -> Row<'_>
 
 // All versions above the start are written.
 fn put_rows(alloc: Global, context: &Context) -> Result<Rows<'_>, OutOfMemory>
-    ensures { IfOk result (λ rows. AreRowsOf (history_of context.now) (placed_puts (history_of context.now)) rows.items) }
+    ensures { IfOk result (λ rows. AreRowsOf (history_of context.now) (placed_puts (history_of context.now))
+        rows.items) }
 {
     let log = context.log();
     let start = context.setup().start.get();
@@ -124,7 +126,8 @@ fn removal_rows<'a>(
     context: &'a Context,
     lines: &[PlacedLine],
 ) -> Result<Rows<'a>, OutOfMemory>
-    ensures { IfOk result (λ rows. AreRowsOf (history_of context.now) (placed_removals (history_of context.now) lines.now) rows.items) }
+    ensures { IfOk result (λ rows. AreRowsOf (history_of context.now) (placed_removals
+        (history_of context.now) lines.now) rows.items) }
 {
     let log = context.log();
     let removals = context.past().removals();
@@ -154,7 +157,8 @@ fn reply_rows<'a>(
     context: &'a Context,
     lines: &[PlacedLine],
 ) -> Result<Rows<'a>, OutOfMemory>
-    ensures { IfOk result (λ rows. AreRowsOf (history_of context.now) (placed_replies (history_of context.now) lines.now) rows.items) }
+    ensures { IfOk result (λ rows. AreRowsOf (history_of context.now) (placed_replies (history_of context.now)
+        lines.now) rows.items) }
 {
     let log = context.log();
     let mut rows = Vec::new(alloc);

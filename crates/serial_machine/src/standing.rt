@@ -37,7 +37,8 @@ fn standing_code(event: &LogEvent, word: Word) -> Option<Reason>
 // That code of the event of this number.
 fn code_at(context: &Context, number: u32) -> Option<Reason>
     requires { number < length context.now.log }
-    ensures { (event : Event) → IsEvent (history_of context.now) number event → IsLeastOf (HasStandingCode (history_of context.now) number event) result }
+    ensures { (event : Event) → IsEvent (history_of context.now) number event
+        → IsLeastOf (HasStandingCode (history_of context.now) number event) result }
 {
     let event = &context.log()[number as usize];
     standing_code(event, word_at(context, number))
@@ -47,7 +48,8 @@ fn code_at(context: &Context, number: u32) -> Option<Reason>
 pub fn first_standing(context: &Context) -> Option<(u64, Reason)>
     ensures line { IfSome result (λ found. IsLeastLine (HasSomeCodeAt (history_of context.now)) found.0) }
     ensures code { IfSome result (λ found. HasCodeAt (history_of context.now) found.0 found.1) }
-    ensures least { IfSome result (λ found. (other : Reason) → HasCodeAt (history_of context.now) found.0 other → code_number found.1 ≤ code_number other) }
+    ensures least { IfSome result (λ found. (other : Reason)
+        → HasCodeAt (history_of context.now) found.0 other → code_number found.1 ≤ code_number other) }
     ensures none { IfNone result (NoLine (HasSomeCodeAt (history_of context.now))) }
 {
     for number in 0..event_count(context) {

@@ -25,7 +25,8 @@ fn put_verdict(
     version: &Version,
 ) -> Result<Option<Reason>, OutOfMemory>
     requires { Contains (history_of scene.context.now).versions (version_of version.now) }
-    ensures { IfOk result (IsVerdictOn (history_of scene.entry.context.now) (scene_objects scene.entry) (model.Put (version_of version.now))) }
+    ensures { IfOk result (IsVerdictOn (history_of scene.entry.context.now) (scene_objects scene.entry)
+        (model.Put (version_of version.now))) }
 {
     // For the proof alone, as for a machine's start.
     let _log = scene.context.log();
@@ -63,7 +64,8 @@ fn meets_preconditions(
     removal: &Removal,
     last: Revision,
 ) -> bool
-    ensures { IsTrue result ↔ MeetsPreconditions (history_of context.now) (event_of event.now) (recorded removal.now) last }
+    ensures { IsTrue result ↔ MeetsPreconditions (history_of context.now) (event_of event.now)
+        (recorded removal.now) last }
 {
     if !is_wanted_uid(&event.preconditions.uid, &removal.uid) {
         return false;
@@ -76,7 +78,8 @@ fn meets_preconditions(
 
 // Whether the object that is there is the one to remove.
 fn may_remove(scene: Scene<'_>, event: &LogEvent, removal: &Removal) -> bool
-    ensures { IsTrue result ↔ MayRemove (history_of scene.entry.context.now) (event_of event.now) (recorded removal.now) (scene_objects scene.entry removal.now.key) }
+    ensures { IsTrue result ↔ MayRemove (history_of scene.entry.context.now) (event_of event.now)
+        (recorded removal.now) (scene_objects scene.entry removal.now.key) }
 {
     let Some(version) = scene.object(&removal.key) else {
         return false;
@@ -89,7 +92,8 @@ fn may_remove(scene: Scene<'_>, event: &LogEvent, removal: &Removal) -> bool
 
 // Why the removal doesn't have the object of the key to remove.
 fn remove_verdict(scene: Scene<'_>, removal: &Removal) -> Option<Reason>
-    ensures { (place : ℕ) → IsVerdictOn (history_of scene.entry.context.now) (scene_objects scene.entry) (model.Remove (record { removal = recorded removal.now; place = place })) result }
+    ensures { (place : ℕ) → IsVerdictOn (history_of scene.entry.context.now) (scene_objects scene.entry)
+        (model.Remove (record { removal = recorded removal.now; place = place })) result }
 {
     let Some(event) = event_at(scene.context.log(), removal.range.event) else {
         return None;
@@ -108,7 +112,8 @@ pub fn verdict(
 ) -> Result<Option<Reason>, OutOfMemory>
     requires known { IsOfHistory (history_of scene.context.now) (step_of step) }
     requires rooms { HasRooms (history_of scene.context.now) scene.machine.now.objects }
-    ensures { IfOk result (IsVerdictOn (history_of scene.entry.context.now) (scene_objects scene.entry) (step_of step.entry)) }
+    ensures { IfOk result (IsVerdictOn (history_of scene.entry.context.now) (scene_objects scene.entry)
+        (step_of step.entry)) }
 {
     match step {
         Step::Put(version) => put_verdict(alloc, scene, version),

@@ -48,7 +48,8 @@ fn is_made_by(maker: Maker, number: u32) -> bool
 
 // What a write is at the version of the revision that it was answered with.
 fn version_word(version: &Version, number: u32, item: &Item) -> Word
-    ensures { (event : Event) (created : Bool) → IsSaid (write_word (making number event (item_of item.now) created) (Some (version_of version.now))) result }
+    ensures { (event : Event) (created : Bool)
+        → IsSaid (write_word (making number event (item_of item.now) created) (Some (version_of version.now))) result }
 {
     if !is_same(&version.key, &item.key) {
         return Word::Strays;
@@ -82,7 +83,8 @@ fn removal_at(removals: &[Removal], position: u32) -> Option<&Removal>
 
 /// The removal by the event of this number.
 pub fn removal_by(past: &Past, number: u32) -> Option<&Removal>
-    ensures { option_map (λ removal. removal.now) result ≡ find (λ removal. removal.range.event == number) past.now.removals }
+    ensures { option_map (λ removal. removal.now) result ≡ find (λ removal. removal.range.event == number)
+        past.now.removals }
 {
     let position = past.removal_by(number)?;
     removal_at(past.removals(), position)
@@ -90,7 +92,8 @@ pub fn removal_by(past: &Past, number: u32) -> Option<&Removal>
 
 // What a removal is: without a range it is an answer.
 fn removed_word(past: &Past, number: u32) -> Word
-    ensures { (h : History) → HasPast past.now h → IsSaid (removal_word (find (λ removal. removal.range.event == number) h.removals)) result }
+    ensures { (h : History) → HasPast past.now h
+        → IsSaid (removal_word (find (λ removal. removal.range.event == number) h.removals)) result }
 {
     match removal_by(past, number) {
         Some(removal) => Word::Removes(removal.range),
@@ -100,7 +103,8 @@ fn removed_word(past: &Past, number: u32) -> Word
 
 // What an event of this number is.
 fn word_of(past: &Past, start: Revision, number: u32, event: &LogEvent) -> Word
-    ensures { (h : History) → h.start ≡ start → HasPast past.now h → IsSaid (word h number (event_of event.now)) result }
+    ensures { (h : History) → h.start ≡ start → HasPast past.now h
+        → IsSaid (word h number (event_of event.now)) result }
 {
     match &event.answer {
         Shown::Made { item, created: _ } => made_word(past, start, number, item),
@@ -127,7 +131,8 @@ pub fn event_count(context: &Context) -> u32
 /// What the event of this number is in a placement.
 pub fn word_at(context: &Context, number: u32) -> Word
     requires { number < length context.now.log }
-    ensures { (event : Event) → IsEvent (history_of context.now) number event → IsSaid (word (history_of context.now) number event) result }
+    ensures { (event : Event) → IsEvent (history_of context.now) number event
+        → IsSaid (word (history_of context.now) number event) result }
 {
     let event = &context.log()[number as usize];
     word_of(context.past(), context.setup().start, number, event)

@@ -1,7 +1,8 @@
 ghost use Rattle.std.specs.Prelude.{◌≡◌, IfOk, option_map, is_some, codes};
 ghost use Rattle.std.specs.List.{list_all};
 ghost use Rattle.rbac_rules.specs.Forms.{role_of, binding_of};
-ghost use Rattle.setup_file.specs.Authorization.{authorize_of, groups_or, authorization_of, rbac_group, is_rbac, is_readable, has_rbac, is_authorized, rbac_resources};
+ghost use Rattle.setup_file.specs.Authorization.{authorize_of, groups_or, authorization_of, rbac_group, is_rbac};
+ghost use Rattle.setup_file.specs.Authorization.{is_readable, has_rbac, is_authorized, rbac_resources};
 ghost use Rattle.setup_file.specs.Resources.{tracked_as};
 
 use crate::resources::tracked_as;

@@ -1,5 +1,6 @@
 ghost use Rattle.std.specs.Prelude.{◌≡◌, ◌≤◌, ◌||◌, ◌&&◌, ◌++◌, length, IfOk, option_map, codes, decimal};
-ghost use Rattle.setup_file.specs.Checkpoints.{is_no_text, is_whole_at, checkpoint_of, checkpoints_from, few_checkpoints, checkpoints_of};
+ghost use Rattle.setup_file.specs.Checkpoints.{is_no_text, is_whole_at, checkpoint_of, checkpoints_from};
+ghost use Rattle.setup_file.specs.Checkpoints.{few_checkpoints, checkpoints_of};
 
 use crate::form::is_form;
 use crate::lists::{ListRead, read_list};
@@ -102,7 +103,8 @@ pub fn read_checkpoints(
     resources: &[Tracked],
     member: Option<&Tree>,
 ) -> Result<Option<Checkpoints>, OutOfMemory>
-    ensures { IfOk result (λ found. found ≡ checkpoints_of start resources.now (option_map (λ tree. tree.now) member.entry)) }
+    ensures { IfOk result (λ found. found ≡ checkpoints_of start resources.now
+        (option_map (λ tree. tree.now) member.entry)) }
 {
     let Some(list) = member else {
         return Ok(Some(Checkpoints::new(alloc)));

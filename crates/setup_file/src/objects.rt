@@ -1,6 +1,7 @@
 ghost use Rattle.std.specs.Prelude.{◌≡◌, IfOk, option_map, bytes_eq, codes};
 ghost use Rattle.base_types.specs.Stored.{stored};
-ghost use Rattle.setup_file.specs.Objects.{api_version_of, has_text_at, has_no, is_of_kind, namespace_in, is_under, is_in_namespace, object_of};
+ghost use Rattle.setup_file.specs.Objects.{api_version_of, has_text_at, has_no, is_of_kind, namespace_in, is_under};
+ghost use Rattle.setup_file.specs.Objects.{is_in_namespace, object_of};
 
 use crate::form::{filled_at, revision_at};
 use crate::setup::{SnapshotObject, Tracked};
@@ -81,7 +82,12 @@ pub fn key_of(
     namespace: &str,
     name: &Text,
 ) -> Result<ObjectKey, OutOfMemory>
-    ensures { IfOk result (λ key. key ≡ record { group = tracked.now.group; resource = tracked.now.resource; namespace = namespace.now; name = name.now }) }
+    ensures { IfOk result (λ key. key ≡ record {
+      group = tracked.now.group;
+      resource = tracked.now.resource;
+      namespace = namespace.now;
+      name = name.now;
+    }) }
 {
     Ok(ObjectKey {
         group: tracked.group.clone()?,

@@ -7,7 +7,8 @@ ghost use Rattle.base_types.specs.Meaning.{Meaning};
 ghost use Rattle.base_types.specs.Values.{InRange};
 ghost use Rattle.setup_file.specs.declared.fault.SetupRule.TheVariants.{S1};
 ghost use Rattle.setup_file.specs.Forms.{is_form};
-ghost use Rattle.setup_file.specs.Reading.{is_version, known, known_2, has_known, has_all, is_setup_form, is_known_version, policy_at, setup_with, setup_of, IsTreeOf, ReadsAs};
+ghost use Rattle.setup_file.specs.Reading.{is_version, known, known_2, has_known, has_all, is_setup_form};
+ghost use Rattle.setup_file.specs.Reading.{is_known_version, policy_at, setup_with, setup_of, IsTreeOf, ReadsAs};
 ghost use Rattle.setup_file.specs.Sound.{IsSound};
 ghost use Rattle.setup_file.specs.Steps.{IsCause};
 
@@ -187,7 +188,8 @@ fn setup_of(alloc: Global, tree: &Tree, seed: Seed) -> Result<Setup, SetupFault>
 fn tree_of(alloc: Global, bytes: &[u8]) -> Result<Tree, SetupFault>
     ensures tree { IfOk result (IsTreeOf bytes.now) }
     ensures range { IfOk result InRange }
-    ensures none { (rule : SetupRule) → result ≡ Err (Rule rule) → (rule ≡ S1) × ((tree : Meaning) → IsTreeOf bytes.now tree → ⊥) }
+    ensures none { (rule : SetupRule) → result ≡ Err (Rule rule) → (rule ≡ S1) × ((tree : Meaning)
+        → IsTreeOf bytes.now tree → ⊥) }
 {
     let value = match Value::from_slice(alloc, bytes) {
         Ok(value) => value,

@@ -1,7 +1,10 @@
 ghost use Rattle.std.specs.Prelude.{◌≡◌, IfOk, IfErr, option_map, option_and_then, codes};
 ghost use Rattle.std.specs.List.{list_all};
 ghost use Rattle.base_types.specs.Parts.{member_of, flag_of};
-ghost use Rattle.setup_file.specs.Resources.{merges_as, merges_of, entry_of, entries_in, are_apart, shape_or_root, shape_at, has_shape, effect_as, subresource_of, subresources_in, are_named_apart, subresources_or_none, tracked_of, tracked_in, tracked_as};
+ghost use Rattle.setup_file.specs.Resources.{merges_as, merges_of, entry_of, entries_in, are_apart, shape_or_root};
+ghost use Rattle.setup_file.specs.Resources.{shape_at, has_shape, effect_as, subresource_of, subresources_in};
+ghost use Rattle.setup_file.specs.Resources.{are_named_apart, subresources_or_none, tracked_of, tracked_in};
+ghost use Rattle.setup_file.specs.Resources.{tracked_as};
 ghost use Rattle.setup_file.specs.Reading.{resources_at};
 ghost use Rattle.setup_file.specs.Steps.{IsCause};
 

@@ -1,7 +1,8 @@
 ghost use Rattle.std.specs.Prelude.{◌≡◌, ◌==◌, IfOk, IfErr, map, option_map, bytes_eq, nat_le};
 ghost use Rattle.std.specs.List.{list_all};
 ghost use Rattle.setup_file.specs.Distinct.{are_distinct, key_eq};
-ghost use Rattle.setup_file.specs.Snapshots.{own_namespace, may_be_kind, snapshot_object_of, snapshot_entry_of, snapshot_in, are_at_start};
+ghost use Rattle.setup_file.specs.Snapshots.{own_namespace, may_be_kind, snapshot_object_of, snapshot_entry_of};
+ghost use Rattle.setup_file.specs.Snapshots.{snapshot_in, are_at_start};
 ghost use Rattle.setup_file.specs.Reading.{snapshot_at};
 ghost use Rattle.setup_file.specs.Steps.{IsCause};
 

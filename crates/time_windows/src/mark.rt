@@ -12,7 +12,8 @@ pub struct Mark {
     pub revision: u64,
 }
 
-ghost use Rattle.time_windows.specs.Marks.{start_of, end_of, IsInOrder, IsGreatestSoFar, IsLeastFromThere, IsRunningGreatest, IsRunningLeast};
+ghost use Rattle.time_windows.specs.Marks.{start_of, end_of, IsInOrder, IsGreatestSoFar, IsLeastFromThere};
+ghost use Rattle.time_windows.specs.Marks.{IsRunningGreatest, IsRunningLeast};
 
 /// The end of each span.
 pub fn ends_of(alloc: Global, spans: &[Span]) -> Result<Vec<Mark>, OutOfMemory>

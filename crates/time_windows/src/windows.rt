@@ -27,7 +27,8 @@ impl Model for Windows {
 
     ghost view = { λ w. record { start = w.start; spans = spans_of w.ends.value.items w.starts.value.items } };
 
-    ghost invariant = { λ w. IsKept w.start (spans_of w.ends.value.items w.starts.value.items) w.by_hi.items w.by_lo.items };
+    ghost invariant = { λ w. IsKept w.start (spans_of w.ends.value.items w.starts.value.items) w.by_hi.items
+        w.by_lo.items };
 }
 
 impl Windows {

@@ -21,9 +21,9 @@ use std::mem::ManuallyDrop;
 use std::thread::Threads;
 use version_store::Context;
 
-/// Reads a setup and then a log from a desk, each by its name, judges the log, and gives the page of its verdict, with the
-/// status of the verdict; or the refusal of the two, as the judge says it. What they tell isn't freed: the program ends
-/// soon after.
+/// Reads a setup and then a log from a desk, each by its name, judges the log, and gives the page of its verdict, with
+/// the status of the verdict; or the refusal of the two, as the judge says it. What they tell isn't freed: the program
+/// ends soon after.
 pub fn picture<R: Threads + Sync, D: Desk, G: Gate, H: Gate>(
     rt: &R,
     alloc: Global,
@@ -33,16 +33,21 @@ pub fn picture<R: Threads + Sync, D: Desk, G: Gate, H: Gate>(
     gates: Gates<'_, G, H>,
 ) -> Result<Report, Stop>
     requires { setup.now ≢ log.now }
-    ensures pictured { IfOk result (λ report. (of_setup of_log : List ℕ) → D.left desk.old setup.now ≡ Some of_setup → D.left desk.old log.now ≡ Some of_log
+    ensures pictured { IfOk result (λ report. (of_setup of_log : List ℕ)
+        → D.left desk.old setup.now ≡ Some of_setup → D.left desk.old log.now ≡ Some of_log
         → IsPictured of_setup of_log (report_answer report)) }
-    ensures whole { IfOk result (λ report. HasPage (report_answer report) → IsAtEnd (D.left desk.new setup.now) × IsAtEnd (D.left desk.new log.now)) }
+    ensures whole { IfOk result (λ report. HasPage (report_answer report)
+        → IsAtEnd (D.left desk.new setup.now) × IsAtEnd (D.left desk.new log.now)) }
     ensures fault { IsErrOf result Stop.ReadFault → Rose (D.faults desk.old) (D.faults desk.new) }
     ensures counted { D.faults desk.old ≤ D.faults desk.new }
-    ensures setup_taken { TakesSetup (D.left desk.old setup.now) (D.left desk.new setup.now) (IsErrOf result Stop.ReadFault) }
+    ensures setup_taken { TakesSetup (D.left desk.old setup.now) (D.left desk.new setup.now)
+        (IsErrOf result Stop.ReadFault) }
     ensures log_taken { TakesLog (D.left desk.old log.now) (D.left desk.new log.now) (IsErrOf result Stop.ReadFault) }
-    ensures log_left { (of_setup : List ℕ) (refusal : Refusal) → D.left desk.old setup.now ≡ Some of_setup → IsSetupRefused of_setup refusal
+    ensures log_left { (of_setup : List ℕ) (refusal : Refusal) → D.left desk.old setup.now ≡ Some of_setup
+        → IsSetupRefused of_setup refusal
         → D.left desk.new log.now ≡ D.left desk.old log.now }
-    ensures others { (other : List ℕ) → other ≢ setup.now → other ≢ log.now → D.left desk.new other ≡ D.left desk.old other }
+    ensures others { (other : List ℕ) → other ≢ setup.now → other ≢ log.now
+        → D.left desk.new other ≡ D.left desk.old other }
 {
     let found = read_context(rt, alloc, desk, setup, log, gates.lines)?;
     let told = ManuallyDrop::new(found);

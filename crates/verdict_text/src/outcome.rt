@@ -9,11 +9,12 @@ use crate::placed::append_placed;
 use base_types::{Bytes, OutOfMemory, Outcome, PlacedLine, WriteLine, escape};
 use std::alloc::Global;
 
-/// The text of an outcome, as `judge` prints it. Each of its lines ends with a newline. That of an explained log is one that
-/// `read_placement` takes.
+/// The text of an outcome, as `judge` prints it. Each of its lines ends with a newline. That of an explained log is
+/// one that `read_placement` takes.
 pub fn print_outcome(alloc: Global, outcome: &Outcome) -> Result<Bytes, OutOfMemory>
     ensures text { IfOk result (λ text. text ≡ outcome_text outcome.now) }
-    ensures placement { OnOk result ((lines : List PlacedLine) → outcome.now ≡ Outcome.Explained lines → IsPlacement lines) }
+    ensures placement { OnOk result ((lines : List PlacedLine) → outcome.now ≡ Outcome.Explained lines
+        → IsPlacement lines) }
 {
     let mut text = String::new(alloc);
     match outcome {

@@ -5,7 +5,8 @@ ghost use Rattle.base_types.specs.declared.placed.PlacedAnswer.{PlacedAnswer};
 ghost use Rattle.base_types.specs.declared.placed.PlacedDecision.{PlacedDecision};
 ghost use Rattle.base_types.specs.declared.placed.PlacedLine.{PlacedLine};
 ghost use Rattle.verdict_text.specs.Words.{ended};
-ghost use Rattle.verdict_text.specs.Placed.{answer_text, decision_text, decision_word, placed_text, places_text, FitsAnswer, FitsDecision, FitsPlaced, FitsPlaces};
+ghost use Rattle.verdict_text.specs.Placed.{answer_text, decision_text, decision_word, placed_text, places_text};
+ghost use Rattle.verdict_text.specs.Placed.{FitsAnswer, FitsDecision, FitsPlaced, FitsPlaces};
 
 use crate::words::{after_front, read_number, read_spaced_number};
 use base_types::{Decision, OutOfMemory, PlacedAnswer, PlacedDecision, PlacedLine, Places};
@@ -82,7 +83,8 @@ pub fn read_placed(text: &str) -> Option<PlacedLine>
 fn read_answer(text: &str) -> Option<(PlacedAnswer, &str)>
     ensures some { IfSome result (λ found. text.now ≡ answer_text found.0 ++ 32 ∷ found.1.now) }
     ensures fits { IfSome result (λ found. FitsAnswer found.0) }
-    ensures none { IfNone result ((answer : PlacedAnswer) (rest : List ℕ) → FitsAnswer answer → text.now ≢ answer_text answer ++ 32 ∷ rest) }
+    ensures none { IfNone result ((answer : PlacedAnswer) (rest : List ℕ) → FitsAnswer answer
+        → text.now ≢ answer_text answer ++ 32 ∷ rest) }
 {
     if let Some(rest) = after_front(text, "made ") {
         let (revision, rest) = read_spaced_number(rest)?;
@@ -103,7 +105,8 @@ fn read_answer(text: &str) -> Option<(PlacedAnswer, &str)>
 fn read_decision(text: &str) -> Option<Option<PlacedDecision>>
     ensures some { IfSome result (λ decision. text.now ≡ decision_text decision) }
     ensures fits { IfSome result FitsDecision }
-    ensures none { IfNone result ((decision : Option PlacedDecision) → FitsDecision decision → text.now ≢ decision_text decision) }
+    ensures none { IfNone result ((decision : Option PlacedDecision) → FitsDecision decision
+        → text.now ≢ decision_text decision) }
 {
     if text == "none" {
         return Some(None);
@@ -116,7 +119,8 @@ fn read_decision(text: &str) -> Option<Option<PlacedDecision>>
 // What was decided and the space behind it, and what follows.
 fn read_decision_word(text: &str) -> Option<(Decision, &str)>
     ensures some { IfSome result (λ found. text.now ≡ decision_word found.0 ++ 32 ∷ found.1.now) }
-    ensures none { IfNone result ((decision : Decision) (rest : List ℕ) → text.now ≢ decision_word decision ++ 32 ∷ rest) }
+    ensures none { IfNone result ((decision : Decision) (rest : List ℕ)
+        → text.now ≢ decision_word decision ++ 32 ∷ rest) }
 {
     if let Some(rest) = after_front(text, "allow ") {
         return Some((Decision::Allow, rest));

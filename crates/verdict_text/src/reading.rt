@@ -1,4 +1,5 @@
-ghost use Rattle.std.specs.Prelude.{◌≡◌, ◌≢◌, ◌<◌, ◌+◌, ◌↔◌, ℕ, List, [], ◌∷◌, ◌++◌, length, All, IfOk, IfErr, IfSome, IfNone, IsTrue};
+ghost use Rattle.std.specs.Prelude.{◌≡◌, ◌≢◌, ◌<◌, ◌+◌, ◌↔◌, ℕ, List, [], ◌∷◌, ◌++◌, length, All, IfOk, IfErr};
+ghost use Rattle.std.specs.Prelude.{IfSome, IfNone, IsTrue};
 ghost use Rattle.base_types.specs.declared.placed.PlacedLine.{PlacedLine};
 ghost use Rattle.verdict_text.specs.Words.{IsNumber, Lacks};
 ghost use Rattle.base_types.specs.Placements.{RisesByLine};
@@ -36,7 +37,8 @@ impl From<OutOfMemory> for PlacementFault {
 pub fn read_placement(alloc: Global, bytes: &[u8]) -> Result<Placement, PlacementFault>
     ensures ok { IfOk result (λ placement. explained_text placement ≡ bytes.now) }
     ensures placement { IfOk result IsPlacement }
-    ensures alone { IfOk result (λ placement. (other : List PlacedLine) → IsPlacement other → explained_text other ≡ bytes.now → other ≡ placement) }
+    ensures alone { IfOk result (λ placement. (other : List PlacedLine) → IsPlacement other
+        → explained_text other ≡ bytes.now → other ≡ placement) }
     ensures fault { IfErr result (IsCause bytes.now) }
 {
     let Some((first, mut rest)) = cut_line(bytes) else {

@@ -44,7 +44,8 @@ fn cut_at_space(text: &str) -> Option<(&str, &str)>
 pub fn read_spaced_number(text: &str) -> Option<(u64, &str)>
     ensures some { IfSome result (λ found. text.now ≡ decimal found.0 ++ 32 ∷ found.1.now) }
     ensures fits { IfSome result (λ found. IsNumber found.0) }
-    ensures none { IfNone result ((number : ℕ) (rest : List ℕ) → IsNumber number → text.now ≢ decimal number ++ 32 ∷ rest) }
+    ensures none { IfNone result ((number : ℕ) (rest : List ℕ) → IsNumber number
+        → text.now ≢ decimal number ++ 32 ∷ rest) }
 {
     let (word, rest) = cut_at_space(text)?;
     Some((read_number(word)?, rest))

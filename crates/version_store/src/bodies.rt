@@ -31,7 +31,8 @@ fn made_node(event: &LogEvent) -> Option<NodeId>
 }
 
 fn tree_at(pool: &Pool, node: Option<NodeId>) -> Result<Option<Tree>, OutOfMemory>
-    ensures { IfOk result (λ tree. tree ≡ option_and_then (slice_get pool.now.trees) (option_map (λ node. node.0) node)) }
+    ensures { IfOk result (λ tree. tree ≡ option_and_then (slice_get pool.now.trees)
+        (option_map (λ node. node.0) node)) }
 {
     let Some(node) = node else {
         return Ok(None);

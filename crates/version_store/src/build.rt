@@ -135,8 +135,10 @@ fn faults_in(
 ) -> Result<Vec<Option<Reason>>, OutOfMemory>
     requires { length bodies.now.log.now < 2 ^ 32 }
     ensures { IfOk result (λ faults. (h : History) → IsReadable h → h.start ≡ bodies.now.setup.now.start
-        → h.body ≡ body_test bodies.now.setup.now bodies.now.events.now bodies.now.log.now bodies.now.pool.now.trees → HasPast parts.now.past h
-        → ((makings : BTreeMap ℕ (Option Reason)) → AreMakingsOf parts.now.judged.items makings → AreMakersCodes h makings)
+        → h.body ≡ body_test bodies.now.setup.now bodies.now.events.now bodies.now.log.now
+        bodies.now.pool.now.trees → HasPast parts.now.past h
+        → ((makings : BTreeMap ℕ (Option Reason)) → AreMakingsOf parts.now.judged.items makings
+        → AreMakersCodes h makings)
         → HasEvents bodies.now.log.now h → AreFaults h faults.items) }
 {
     let makings = makings_of(alloc, &parts.judged)?;
@@ -150,12 +152,16 @@ fn told_of(alloc: Global, bodies: &RequestBodies<'_>, parts: &Parts) -> Result<T
     requires numbered { length parts.now.past.versions < 2 ^ 32 }
     requires nodes { All (λ v. v.node.0 < length bodies.now.pool.now.trees) parts.now.past.versions }
     ensures faults { IfOk result (λ told. (h : History) → IsReadable h → h.start ≡ bodies.now.setup.now.start
-        → h.body ≡ body_test bodies.now.setup.now bodies.now.events.now bodies.now.log.now bodies.now.pool.now.trees → HasPast parts.now.past h
-        → ((makings : BTreeMap ℕ (Option Reason)) → AreMakingsOf parts.now.judged.items makings → AreMakersCodes h makings)
+        → h.body ≡ body_test bodies.now.setup.now bodies.now.events.now bodies.now.log.now
+        bodies.now.pool.now.trees → HasPast parts.now.past h
+        → ((makings : BTreeMap ℕ (Option Reason)) → AreMakingsOf parts.now.judged.items makings
+        → AreMakersCodes h makings)
         → HasEvents bodies.now.log.now h → AreFaults h told.faults.items) }
-    ensures roles { IfOk result (λ told. AreRoles bodies.now.pool.now.trees parts.now.past.versions told.timeline.versions) }
+    ensures roles { IfOk result (λ told. AreRoles bodies.now.pool.now.trees parts.now.past.versions
+        told.timeline.versions) }
     ensures ends { IfOk result (λ told. told.timeline.ends ≡ role_ends parts.now.past.removals) }
-    ensures spans { IfOk result (λ told. (h : History) → HasTimes parts.now.windows h → told.timeline.spans ≡ unrecorded_in h bodies.now.log.now) }
+    ensures spans { IfOk result (λ told. (h : History) → HasTimes parts.now.windows h
+        → told.timeline.spans ≡ unrecorded_in h bodies.now.log.now) }
     ensures bypass { IfOk result (λ told. told.timeline.bypass ≡ bodies.now.setup.now.bypass) }
     ensures sound { IfOk result (λ told. AreSound told.timeline.versions told.timeline.ends) }
     ensures keys { IfOk result (λ told. AreKeys parts.now.past.versions bodies.now.log.now told.keys.items) }
@@ -220,7 +226,8 @@ fn gather<R: Threads + Sync>(
     requires events { All IsSoundEvent events.now }
     requires lines { AreLines events.now }
     requires few { length events.now + length setup.now.checkpoints < 2 ^ 32 }
-    ensures found { IfOk result (λ gathered. IsFound setup.now events.now gathered.pool.trees gathered.log gathered.found) }
+    ensures found { IfOk result (λ gathered. IsFound setup.now events.now gathered.pool.trees gathered.log
+        gathered.found) }
     ensures full { result ≡ Err BuildFault.PoolFull → limit < length (pooled setup.now events.now) }
     ensures fits { IfOk result (λ gathered. length (pooled setup.now events.now) ≤ limit) }
 {

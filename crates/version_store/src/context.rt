@@ -120,7 +120,8 @@ impl Model for Context {
 
 // What is told of the event of this number.
 fn fault_at(faults: &[Option<Reason>], number: u32) -> Option<Reason>
-    ensures { (h : History) (e : model.Event) → AreFaults h faults.now → IsEvent h number e → IsFaultOf h number e result }
+    ensures { (h : History) (e : model.Event) → AreFaults h faults.now → IsEvent h number e
+        → IsFaultOf h number e result }
 {
     match faults.get(number as usize) {
         Some(fault) => *fault,
@@ -174,7 +175,8 @@ impl Context {
         ensures few { length self.now.log < 2 ^ 32 }
         ensures logged { AreLogged self.now.setup self.now.trees self.now.events self.now.log }
         ensures readable { IsReadable (history_of self.now) }
-        ensures moments { (number : ℕ) (e : model.Event) → IsEvent (history_of self.now) number e → neg_ℤ (pos (2 ^ 101)) ≤ℤ e.lo }
+        ensures moments { (number : ℕ) (e : model.Event) → IsEvent (history_of self.now) number e
+            → neg_ℤ (pos (2 ^ 101)) ≤ℤ e.lo }
     {
         self.log.events.as_slice()
     }
@@ -190,8 +192,10 @@ impl Context {
     /// The places at which an event's answer may be right.
     pub fn window(&self, event: u32) -> Window
         requires { event < length self.now.log }
-        ensures low { (e : model.Event) → IsEvent (history_of self.now) event e → result.low ≡ low_end (history_of self.now) e }
-        ensures high { (e : model.Event) → IsEvent (history_of self.now) event e → result.high ≡ high_end (history_of self.now) e }
+        ensures low { (e : model.Event) → IsEvent (history_of self.now) event e
+            → result.low ≡ low_end (history_of self.now) e }
+        ensures high { (e : model.Event) → IsEvent (history_of self.now) event e → result.high ≡ high_end
+            (history_of self.now) e }
     {
         let logged = self.log.events.as_slice();
         window_of(&self.windows, self.setup.start, &logged[event as usize])
@@ -271,7 +275,8 @@ impl Context {
     /// it; `U3` for a write of another key than its revision's; None for every other event.
     pub fn fault(&self, event: u32) -> Option<Reason>
         requires { event < length self.now.log }
-        ensures { (e : model.Event) → IsEvent (history_of self.now) event e → IsFaultOf (history_of self.now) event e result }
+        ensures { (e : model.Event) → IsEvent (history_of self.now) event e
+            → IsFaultOf (history_of self.now) event e result }
     {
         fault_at(self.faults.as_slice(), event)
     }

@@ -60,8 +60,10 @@ fn write_fault<B: Bodies>(
     makings: &Makings,
     making: Making<'_>,
 ) -> Result<Option<Reason>, OutOfMemory>
-    ensures { IfOk result (λ fault. (h : History) → IsReadable h → h.start ≡ start → h.body ≡ B.body bodies.now → HasPast past.now h
-        → AreMakersCodes h makings.now → IsMaking h (making_of making.entry) → IsFaultOf h making.entry.number (event_of making.entry.event.now) fault) }
+    ensures { IfOk result (λ fault. (h : History) → IsReadable h → h.start ≡ start
+        → h.body ≡ B.body bodies.now → HasPast past.now h
+        → AreMakersCodes h makings.now → IsMaking h (making_of making.entry) → IsFaultOf h making.entry.number
+        (event_of making.entry.event.now) fault) }
 {
     let revision = making.item.revision.get();
     if revision <= start.get() {
@@ -89,8 +91,10 @@ fn event_fault<B: Bodies>(
     number: u32,
     event: &LogEvent,
 ) -> Result<Option<Reason>, OutOfMemory>
-    ensures { IfOk result (λ fault. (h : History) → IsReadable h → h.start ≡ start → h.body ≡ B.body bodies.now → HasPast past.now h
-        → AreMakersCodes h makings.now → IsEvent h number (event_of event.now) → IsFaultOf h number (event_of event.now) fault) }
+    ensures { IfOk result (λ fault. (h : History) → IsReadable h → h.start ≡ start
+        → h.body ≡ B.body bodies.now → HasPast past.now h
+        → AreMakersCodes h makings.now → IsEvent h number (event_of event.now)
+        → IsFaultOf h number (event_of event.now) fault) }
 {
     match &event.answer {
         Shown::Made { item, created } => {
@@ -124,7 +128,8 @@ pub fn faults_of<B: Bodies>(
     makings: &Makings,
 ) -> Result<Vec<Option<Reason>>, OutOfMemory>
     requires { length log.now < 2 ^ 32 }
-    ensures { IfOk result (λ faults. (h : History) → IsReadable h → h.start ≡ start → h.body ≡ B.body bodies.now → HasPast past.now h
+    ensures { IfOk result (λ faults. (h : History) → IsReadable h → h.start ≡ start
+        → h.body ≡ B.body bodies.now → HasPast past.now h
         → AreMakersCodes h makings.now → HasEvents log.now h → AreFaults h faults.items) }
 {
     let mut faults = Vec::with_capacity(alloc, log.len())?;

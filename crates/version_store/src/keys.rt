@@ -24,7 +24,8 @@ fn named_key(alloc: Global, event: &LogEvent) -> Result<Option<ObjectKey>, OutOf
 
 // Puts the keys that have a version behind those that are there.
 fn add_keys(keys: &mut BTreeSet<ObjectKey>, more: &[ObjectKey]) -> Result<(), OutOfMemory>
-    ensures { OnOk result ((key : Key) → IsTrue (contains key_order keys.new key) ↔ (IsTrue (contains key_order keys.old key) ⊎ Contains more.now key)) }
+    ensures { OnOk result ((key : Key) → IsTrue (contains key_order keys.new key)
+        ↔ (IsTrue (contains key_order keys.old key) ⊎ Contains more.now key)) }
 {
     for key in more {
         let _new = keys.insert(key.clone()?)?;
@@ -38,7 +39,8 @@ fn add_named(
     keys: &mut BTreeSet<ObjectKey>,
     log: &[LogEvent],
 ) -> Result<(), OutOfMemory>
-    ensures { OnOk result ((key : Key) → IsTrue (contains key_order keys.new key) ↔ (IsTrue (contains key_order keys.old key) ⊎ Any (IsNamedBy key) log.now)) }
+    ensures { OnOk result ((key : Key) → IsTrue (contains key_order keys.new key)
+        ↔ (IsTrue (contains key_order keys.old key) ⊎ Any (IsNamedBy key) log.now)) }
 {
     for event in log {
         if let Some(key) = named_key(alloc, event)? {
@@ -51,7 +53,8 @@ fn add_named(
 // The keys of a set, in order.
 fn listed(alloc: Global, keys: &BTreeSet<ObjectKey>) -> Result<Vec<ObjectKey>, OutOfMemory>
     ensures order { IfOk result (λ list. AreInOrder list.items) }
-    ensures exact { IfOk result (λ list. (key : Key) → Contains list.items key ↔ IsTrue (contains key_order keys.now key)) }
+    ensures exact { IfOk result (λ list. (key : Key) → Contains list.items key
+        ↔ IsTrue (contains key_order keys.now key)) }
 {
     let mut list = Vec::with_capacity(alloc, keys.len())?;
     for key in keys.iter() {

@@ -7,5 +7,6 @@ ghost use Rattle.version_store.specs.Told.{IsTold};
 
 /// A setup and the events of a log tell one history.
 pub fn one_history_law()
-    ensures { (a b : Known) → IsTold a → IsTold b → a.setup ≡ b.setup → a.events ≡ b.events → history_of a ≡ history_of b }
+    ensures { (a b : Known) → IsTold a → IsTold b → a.setup ≡ b.setup → a.events ≡ b.events
+        → history_of a ≡ history_of b }
 {}

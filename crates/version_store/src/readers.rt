@@ -1,4 +1,5 @@
-ghost use Rattle.std.specs.Prelude.{◌≡◌, ◌<◌, ◌==◌, ◌&&◌, ◌∷◌, [], Some, length, find, option_map, slice_get, AllPairs, Contains, IfSome};
+ghost use Rattle.std.specs.Prelude.{◌≡◌, ◌<◌, ◌==◌, ◌&&◌, ◌∷◌, [], Some, length, find, option_map, slice_get};
+ghost use Rattle.std.specs.Prelude.{AllPairs, Contains, IfSome};
 ghost use Rattle.history_model.specs.Events as model;
 ghost use Rattle.history_model.specs.Histories.{IsEvent};
 ghost use Rattle.base_types.specs.Keys.{same_key};
@@ -82,7 +83,8 @@ impl Context {
     /// The tree of the object in the answer of a write or a read, for item 0, and of an item of a list.
     pub fn shown(&self, event: u32, item: u32) -> Option<NodeId>
         requires { event < length self.now.log }
-        ensures shown { (e : model.Event) → IsEvent (history_of self.now) event e → option_map (λ node. node.0) result ≡ slice_get (shown_trees e.answer) item }
+        ensures shown { (e : model.Event) → IsEvent (history_of self.now) event e
+            → option_map (λ node. node.0) result ≡ slice_get (shown_trees e.answer) item }
         ensures within { IfSome result (λ node. node.0 < length self.now.trees) }
     {
         shown_in(&self.log.events.as_slice()[event as usize].answer, item)
@@ -100,14 +102,16 @@ impl Context {
 
     /// The version of this key and revision.
     pub fn version(&self, key: &ObjectKey, revision: Revision) -> Option<&Version>
-        ensures { option_map (λ v. v.now) result ≡ find (λ v. same_key v.key key.now && v.revision == revision) self.now.versions }
+        ensures { option_map (λ v. v.now) result ≡ find (λ v. same_key v.key key.now && v.revision ==
+            revision) self.now.versions }
     {
         self.past.version(key, revision.get())
     }
 
     /// The key's latest version at or below a place.
     pub fn latest(&self, key: &ObjectKey, place: u64) -> Option<&Version>
-        ensures latest { option_map (λ v. version_of v.now) result ≡ latest (history_of self.now).versions key.now place }
+        ensures latest { option_map (λ v. version_of v.now) result ≡ latest (history_of self.now).versions
+            key.now place }
         ensures known { IfSome result (λ v. Contains self.now.versions v.now) }
     {
         self.past.latest(key, place)
@@ -115,7 +119,8 @@ impl Context {
 
     /// The incarnations of a key's object, in order.
     pub fn incarnations(&self, key: &ObjectKey) -> &[Incarnation]
-        ensures { AreIncarnations (record { versions = self.now.versions; removals = self.now.removals }) key.now result.now }
+        ensures { AreIncarnations (record { versions = self.now.versions; removals = self.now.removals })
+            key.now result.now }
     {
         self.past.incarnations(key)
     }

@@ -31,7 +31,8 @@ fn put_use(uses: &mut Uses, uid: &Text, revision: u64) -> Result<(), OutOfMemory
 }
 
 fn add_use(uses: &mut Uses, version: &Version) -> Result<(), OutOfMemory>
-    ensures { OnOk result ((versions : List Recorded) → AreUses versions uses.old → AreUses (versions ++ version.now ∷ []) uses.new) }
+    ensures { OnOk result ((versions : List Recorded) → AreUses versions uses.old
+        → AreUses (versions ++ version.now ∷ []) uses.new) }
 {
     if is_used(uses, version.revision, &version.uid) {
         return Ok(());

@@ -7,7 +7,9 @@ ghost use Rattle.object_past.specs.Modelled.{version_of};
 ghost use Rattle.version_store.specs.Histories.{history_of};
 ghost use Rattle.window_writes.specs.Lines.{AreWriteLines};
 ghost use Rattle.window_writes.specs.Lines.{write_line};
-ghost use Rattle.window_writes.specs.Turns.{made_write, removed_write, turn_order, write_of_turn, AreMadeTurns, AreRemovedTurns, AreTurns, IsFirstWriter, IsLineOf, IsMadeTurn, IsMadeWithin, IsRemovedTurn, IsRemovedWithin, IsShownBy};
+ghost use Rattle.window_writes.specs.Turns.{made_write, removed_write, turn_order, write_of_turn, AreMadeTurns};
+ghost use Rattle.window_writes.specs.Turns.{AreRemovedTurns, AreTurns, IsFirstWriter, IsLineOf, IsMadeTurn};
+ghost use Rattle.window_writes.specs.Turns.{IsMadeWithin, IsRemovedTurn, IsRemovedWithin, IsShownBy};
 
 use base_types::{OutOfMemory, WriteLine, WriteLines, key_text};
 use object_past::{Maker, Removal, Version};
@@ -56,7 +58,8 @@ fn turns_within(alloc: Global, context: &Context, window: Window) -> Result<Vec<
 // The turns of the revisions above the start in a window.
 fn made_within(alloc: Global, context: &Context, window: Window) -> Result<Vec<Turn>, OutOfMemory>
     requires { IsReadable (history_of context.now) }
-    ensures { IfOk result (λ turns. AreMadeTurns context.now window.low window.high (length context.now.versions) turns.items) }
+    ensures { IfOk result (λ turns. AreMadeTurns context.now window.low window.high
+        (length context.now.versions) turns.items) }
 {
     let start = context.setup().start.get();
     let versions = context.versions();
@@ -128,7 +131,8 @@ fn removed_within(
     window: Window,
 ) -> Result<Vec<Turn>, OutOfMemory>
     requires { IsReadable (history_of context.now) }
-    ensures { IfOk result (λ turns. AreRemovedTurns context.now window.low window.high (length context.now.removals) turns.items) }
+    ensures { IfOk result (λ turns. AreRemovedTurns context.now window.low window.high
+        (length context.now.removals) turns.items) }
 {
     let removals = context.past().removals();
     let mut turns = Vec::new(alloc);

@@ -56,8 +56,8 @@ const PHASE: &str = r#"{"phase":"Ready","data":{"k":"2"}}"#;
 
 const PHASED: &str = r#"{"phase":"Ready","data":{"k":"1"}}"#;
 
-// The verb, the path and the body of a request, its code, the object before it and the one that is answered, and whether
-// that is what was asked.
+// The verb, the path and the body of a request, its code, the object before it and the one that is answered, and
+// whether that is what was asked.
 static BODIES: [((&str, &str, &str), u16, &str, &str, bool); 27] = [
     (("create", MAP, ONE), 201, NOTHING, ONE, true),
     (("create", MAP, ONE), 201, NOTHING, TWO, false),

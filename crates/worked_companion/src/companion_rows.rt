@@ -8,8 +8,8 @@ use std::marker::Sync;
 use std::process::Abort;
 use std::thread::Threads;
 
-// Words with a space between two; behind `|` the status that is wanted and, behind a space, the one line that is written, the
-// front of what is written and two dots, or `=` and the name of the file that is written.
+// Words with a space between two; behind `|` the status that is wanted and, behind a space, the one line that is
+// written, the front of what is written and two dots, or `=` and the name of the file that is written.
 const CASES: &str = r#"explain M1|0 M1: the line isn't one JSON text..
 explain S3|0 S3: ..
 explain U14|0 U14: the event records a decision..
@@ -101,7 +101,8 @@ fn words_of(rt: &(impl Abort + AllocGlobal), text: &str) -> Vec<String> {
     words
 }
 
-// The status of the program for words, a space, and what it writes, in pieces of 7 bytes. Reads and writes are counted from 1.
+// The status of the program for words, a space, and what it writes, in pieces of 7 bytes. Reads and writes are counted
+// from 1.
 fn answer_of<R: Threads + Sync + Abort + AllocGlobal>(
     rt: &R,
     words: &str,

@@ -1,7 +1,7 @@
 //! The files of the desk from which the companion's calls are answered, and texts that are wanted.
 
-// Each begins with a line of `=` and its name. The log has an event, a line that isn't one, a blank line, the event again,
-// and one of its audit ID that differs from it.
+// Each begins with a line of `=` and its name. The log has an event, a line that isn't one, a blank line, the event
+// again, and one of its audit ID that differs from it.
 const FILES: &str = r#"=log
 {"kind":"Event","apiVersion":"audit.k8s.io/v1","level":"Metadata","auditID":"a1","stage":"ResponseComplete","requestURI":"/readyz","verb":"get","user":{"username":"u"},"requestReceivedTimestamp":"2024-05-01T10:00:01Z","stageTimestamp":"2024-05-01T10:00:02Z"}
 {

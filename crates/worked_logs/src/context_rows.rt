@@ -2,8 +2,8 @@
 
 use crate::setups::{CHECKED, EMPTY};
 
-/// A setup, the events of a log with a line each, and what is found of them, as `found` tells it. A line has the seconds
-/// of the receipt and of the answer, and further members of the event.
+/// A setup, the events of a log with a line each, and what is found of them, as `found` tells it. A line has the
+/// seconds of the receipt and of the answer, and further members of the event.
 pub struct Row {
     pub name: &'static str,
     pub setup: &'static str,

@@ -1,5 +1,5 @@
-//! One request as an event of a log: where in the history its answer may be, whether its decision is judged, and the number
-//! of its object.
+//! One request as an event of a log: where in the history its answer may be, whether its decision is judged, and the
+//! number of its object.
 
 ghost use Rattle.std.specs.Prelude.{◌≡◌, length, All, IfOk};
 ghost use Rattle.audit_event.specs.Events.{IsSound};

@@ -3,7 +3,8 @@ ghost use Rattle.std.specs.BTreeMap.{Updates};
 ghost use Rattle.std.specs.Ordering.{nat_cmp};
 ghost use Rattle.history_model.specs.Histories.{History};
 ghost use Rattle.history_model.specs.Judging.{IsOrder};
-ghost use Rattle.write_groups.specs.Grouped.{made_item, item_at, is_of_key, members_of, group_in, numbers_at, number_if, revision_above, AreGathered, AreGroups, AreWrites};
+ghost use Rattle.write_groups.specs.Grouped.{made_item, item_at, is_of_key, members_of, group_in, numbers_at};
+ghost use Rattle.write_groups.specs.Grouped.{number_if, revision_above, AreGathered, AreGroups, AreWrites};
 ghost use Rattle.write_groups.specs.Members.{AreGroupsOf};
 ghost use Rattle.write_groups.specs.Modelled.{HasEvents};
 
@@ -51,7 +52,8 @@ fn add(
     revision: u64,
     number: u32,
 ) -> Result<(), OutOfMemory>
-    ensures { OnOk result ((other : ℕ) → numbers_at made.new other ≡ numbers_at made.old other ++ number_if revision number other) }
+    ensures { OnOk result ((other : ℕ) → numbers_at made.new other ≡ numbers_at made.old other ++ number_if
+        revision number other) }
 {
     match made.get_mut(&revision) {
         Some(numbers) => {
@@ -149,7 +151,8 @@ fn group_each(
     events: &[LogEvent],
     made: &BTreeMap<u64, Numbers>,
 ) -> Result<Groups, OutOfMemory>
-    ensures { IfOk result (λ groups. (start : ℕ) (order : List ℕ) → AreGathered start events.now order made.now → AreGroups start events.now order groups) }
+    ensures { IfOk result (λ groups. (start : ℕ) (order : List ℕ)
+        → AreGathered start events.now order made.now → AreGroups start events.now order groups) }
 {
     let mut groups = Groups::new(alloc);
     for numbers in made.values() {
@@ -170,7 +173,8 @@ pub fn groups_of(
     ensures rising { IfOk result (λ groups. AllPairs (λ a b. a.revision < b.revision) groups) }
     ensures above { IfOk result (λ groups. All (λ group. start < group.revision) groups) }
     ensures members { IfOk result (λ groups. All (λ group. AreWrites events.now group.members) groups) }
-    ensures groups { IfOk result (λ groups. (h : History) → HasEvents events.now h → h.start ≡ start → h.order ≡ order.now → IsOrder h → AreGroupsOf h groups) }
+    ensures groups { IfOk result (λ groups. (h : History) → HasEvents events.now h → h.start ≡ start
+        → h.order ≡ order.now → IsOrder h → AreGroupsOf h groups) }
 {
     let made = gather(alloc, start, events, order)?;
     group_each(alloc, events, &made)

@@ -1,10 +1,13 @@
-ghost use Rattle.std.specs.Prelude.{◌≡◌, ◌<◌, ◌↔◌, [], ◌∷◌, IfOk, IfSome, IfNone, IsTrue, All, AllPairs, map, length, option_map};
+ghost use Rattle.std.specs.Prelude.{◌≡◌, ◌<◌, ◌↔◌, [], ◌∷◌, IfOk, IfSome, IfNone, IsTrue, All, AllPairs, map};
+ghost use Rattle.std.specs.Prelude.{length, option_map};
 ghost use Rattle.history_model.specs.Groups.{AreSpans};
 ghost use Rattle.history_model.specs.Histories.{History};
 ghost use Rattle.history_model.specs.Judging.{IsOrder};
 ghost use Rattle.write_groups.specs.Members.{AreGroupsOf};
 ghost use Rattle.write_groups.specs.Modelled.{HasEvents, span_of};
-ghost use Rattle.write_groups.specs.Spanned.{earlier_of, or_earlier, end_at, start_at, first_end, first_start, is_sure, made_surely, made_surely_at, IsBeginningOf, IsSpanIn, AreSpansOf};
+ghost use Rattle.write_groups.specs.Spanned.{earlier_of, or_earlier, end_at, start_at, first_end, first_start};
+ghost use Rattle.write_groups.specs.Spanned.{is_sure, made_surely, made_surely_at, IsBeginningOf, IsSpanIn};
+ghost use Rattle.write_groups.specs.Spanned.{AreSpansOf};
 
 use crate::event::{LogEvent, Shown};
 use crate::groups::{Group, made_item};
@@ -103,8 +106,8 @@ fn or_earlier(recorded: Moment, since: Option<Moment>) -> Moment
     }
 }
 
-// When the group's revision may have begun to be written: with the first recorded start, or where no member is sure with
-// an unrecorded write before.
+// When the group's revision may have begun to be written: with the first recorded start, or where no member is sure
+// with an unrecorded write before.
 fn beginning(events: &[LogEvent], hidden: &Hidden, group: &Group, recorded: Moment) -> Moment
     ensures { IsBeginningOf events.now hidden.now group.now recorded result }
 {

@@ -1,8 +1,10 @@
-ghost use Rattle.std.specs.Prelude.{◌≡◌, ◌<◌, ◌≤◌, ◌^◌, length, ℕ, Some, None, Err, IfOk, IfErr, IfSome, IfNone, OnErr, List, option_map, option_and_then};
+ghost use Rattle.std.specs.Prelude.{◌≡◌, ◌<◌, ◌≤◌, ◌^◌, length, ℕ, Some, None, Err, IfOk, IfErr, IfSome, IfNone};
+ghost use Rattle.std.specs.Prelude.{OnErr, List, option_map, option_and_then};
 ghost use Rattle.std.specs.List.{slice_split, list_all};
 ghost use Rattle.std.specs.Char.{is_ascii_digit};
 ghost use Rattle.std.specs.Str.Iter.{chars_rest};
-ghost use Rattle.base_types.specs.Pointers.{is_slash, escape_of, unescaped, all_unescaped, IsNextChar, pointer_of, pointer_text, index_of, child_of, pointed, kid_at, is_index};
+ghost use Rattle.base_types.specs.Pointers.{is_slash, escape_of, unescaped, all_unescaped, IsNextChar, pointer_of};
+ghost use Rattle.base_types.specs.Pointers.{pointer_text, index_of, child_of, pointed, kid_at, is_index};
 ghost use Rattle.base_types.specs.Meaning.{kids_of};
 
 use crate::json::tree::{Node, Tree, Trees};
@@ -195,7 +197,8 @@ impl Trees {
 
     /// The item at an index, where the token is one.
     pub fn item(&self, token: &str) -> Option<&Tree>
-        ensures { option_map (λ t. t.now) result ≡ option_and_then (λ n. kid_at n (kids_of self.now)) (index_of token.now) }
+        ensures { option_map (λ t. t.now) result ≡ option_and_then (λ n. kid_at n (kids_of self.now))
+            (index_of token.now) }
     {
         match self.find(token) {
             Some(index) => Some(&self.all[index]),

@@ -2,7 +2,8 @@ ghost use Rattle.std.specs.Prelude.{◌≡◌, Some, None, Err, IfOk};
 ghost use Rattle.serde_json.specs.View.{view, number_view, items_view, members_view};
 ghost use Rattle.serde_json.specs.Find.{of_integer};
 ghost use Rattle.base_types.specs.Meaning.{whole, kids_of, fields_of};
-ghost use Rattle.base_types.specs.Values.{of_number, of_data, of_items, of_members, IsInteger, InRange, KidsInRange, FieldsInRange, data_of, data_items, data_members};
+ghost use Rattle.base_types.specs.Values.{of_number, of_data, of_items, of_members, IsInteger, InRange};
+ghost use Rattle.base_types.specs.Values.{KidsInRange, FieldsInRange, data_of, data_items, data_members};
 
 use crate::json::tree::{Member, MemberList, Node, Tree, TreeFault, Trees};
 use crate::memory::OutOfMemory;

@@ -38,7 +38,8 @@ fn logged_event(
     ensures logged { IfOk result (λ logged. IsLoggedAs pool.new.trees classified logged.event) }
     ensures selector { IfOk result (λ logged. logged.selector ≡ selector_in classified.answer) }
     ensures added { OnOk result (pool.new.trees ≡ with_trees pool.old.trees (answer_trees classified.answer)) }
-    ensures full { result ≡ Err BuildFault.PoolFull → pool.old.limit < length (with_trees pool.old.trees (answer_trees classified.answer)) }
+    ensures full { result ≡ Err BuildFault.PoolFull → pool.old.limit < length (with_trees pool.old.trees
+        (answer_trees classified.answer)) }
     ensures limit { pool.new.limit ≡ pool.old.limit }
 {
     let Classified {
@@ -96,10 +97,13 @@ fn add_all(
     classified: Vec<Classified>,
 ) -> Result<(), BuildFault>
     requires few { length all.old.events + length classified.items < 2 ^ 32 }
-    ensures logged { OnOk result (AddsLogged pool.old.trees pool.new.trees classified.items all.old.events all.new.events) }
-    ensures selectors { OnOk result (AddsSelectors all.old.events classified.items all.old.selectors all.new.selectors) }
+    ensures logged { OnOk result (AddsLogged pool.old.trees pool.new.trees classified.items all.old.events
+        all.new.events) }
+    ensures selectors { OnOk result (AddsSelectors all.old.events classified.items all.old.selectors
+        all.new.selectors) }
     ensures added { OnOk result (pool.new.trees ≡ with_trees pool.old.trees (classified_trees classified.items)) }
-    ensures full { result ≡ Err BuildFault.PoolFull → pool.old.limit < length (with_trees pool.old.trees (classified_trees classified.items)) }
+    ensures full { result ≡ Err BuildFault.PoolFull → pool.old.limit < length (with_trees pool.old.trees
+        (classified_trees classified.items)) }
     ensures limit { pool.new.limit ≡ pool.old.limit }
 {
     for one in classified {
@@ -124,7 +128,8 @@ pub fn events_of<R: Threads + Sync>(
     ensures logged { IfOk result (λ all. AreLoggedEvents setup.now pool.new.trees events.now all.events) }
     ensures selectors { IfOk result (λ all. AreSelectorsOf setup.now events.now all.selectors) }
     ensures added { OnOk result (pool.new.trees ≡ with_trees pool.old.trees (event_trees setup.now events.now)) }
-    ensures full { result ≡ Err BuildFault.PoolFull → pool.old.limit < length (with_trees pool.old.trees (event_trees setup.now events.now)) }
+    ensures full { result ≡ Err BuildFault.PoolFull → pool.old.limit < length (with_trees pool.old.trees
+        (event_trees setup.now events.now)) }
     ensures limit { pool.new.limit ≡ pool.old.limit }
 {
     let mut all = LoggedEvents {

@@ -1,6 +1,7 @@
 ghost use Rattle.std.specs.Prelude.{◌≡◌, option_map};
 ghost use Rattle.audit_event.specs.Members.{is_text};
-ghost use Rattle.version_store.specs.Readings.{is_list, is_read, takes_any, wants_exactly, reading_at, reading_from, reading_of};
+ghost use Rattle.version_store.specs.Readings.{is_list, is_read, takes_any, wants_exactly, reading_at};
+ghost use Rattle.version_store.specs.Readings.{reading_from, reading_of};
 
 use answer_class::{first_value, has_filled};
 use base_types::{RequestAttrs, Revision, Text};

@@ -39,7 +39,8 @@ fn item_of(
 fn copied_item(pool: &mut Pool, object: &SnapshotObject) -> Result<Item, BuildFault>
     ensures item { IfOk result (IsItemOf pool.new.trees object.now) }
     ensures added { OnOk result (pool.new.trees ≡ interned pool.old.trees object.now.tree) }
-    ensures full { result ≡ Err BuildFault.PoolFull → pool.old.limit < length (interned pool.old.trees object.now.tree) }
+    ensures full { result ≡ Err BuildFault.PoolFull → pool.old.limit < length
+        (interned pool.old.trees object.now.tree) }
     ensures limit { pool.new.limit ≡ pool.old.limit }
 {
     let key = object.key.clone()?;
@@ -55,7 +56,8 @@ pub fn items_of(
 ) -> Result<Items, BuildFault>
     ensures items { IfOk result (AreItemsOf pool.new.trees objects.now) }
     ensures added { OnOk result (pool.new.trees ≡ with_trees pool.old.trees (object_trees objects.now)) }
-    ensures full { result ≡ Err BuildFault.PoolFull → pool.old.limit < length (with_trees pool.old.trees (object_trees objects.now)) }
+    ensures full { result ≡ Err BuildFault.PoolFull → pool.old.limit < length (with_trees pool.old.trees
+        (object_trees objects.now)) }
     ensures limit { pool.new.limit ≡ pool.old.limit }
 {
     let mut items = Items::new(alloc);
@@ -84,7 +86,8 @@ fn moved_item(pool: &mut Pool, object: SnapshotObject) -> Result<Item, BuildFaul
 fn moved_items(alloc: Global, pool: &mut Pool, objects: Snapshot) -> Result<Items, BuildFault>
     ensures items { IfOk result (AreItemsOf pool.new.trees objects) }
     ensures added { OnOk result (pool.new.trees ≡ with_trees pool.old.trees (object_trees objects)) }
-    ensures full { result ≡ Err BuildFault.PoolFull → pool.old.limit < length (with_trees pool.old.trees (object_trees objects)) }
+    ensures full { result ≡ Err BuildFault.PoolFull → pool.old.limit < length (with_trees pool.old.trees
+        (object_trees objects)) }
     ensures limit { pool.new.limit ≡ pool.old.limit }
 {
     let mut items = Items::new(alloc);
@@ -116,7 +119,8 @@ pub fn tell(alloc: Global, pool: &mut Pool, answer: Answer) -> Result<Told, Buil
     ensures shown { IfOk result (λ told. IsShownAs pool.new.trees answer told.shown) }
     ensures selector { IfOk result (λ told. told.selector ≡ selector_in answer) }
     ensures added { OnOk result (pool.new.trees ≡ with_trees pool.old.trees (answer_trees answer)) }
-    ensures full { result ≡ Err BuildFault.PoolFull → pool.old.limit < length (with_trees pool.old.trees (answer_trees answer)) }
+    ensures full { result ≡ Err BuildFault.PoolFull → pool.old.limit < length (with_trees pool.old.trees
+        (answer_trees answer)) }
     ensures limit { pool.new.limit ≡ pool.old.limit }
 {
     match answer {
