@@ -33,13 +33,15 @@ ROOT = os.path.dirname(os.path.dirname(os.path.abspath(__file__)))
 LISTS = os.path.join(ROOT, "docs", "planted")
 # A change of a comment, which a proved crate bears: without it, a crate that isn't proved would seem to refuse all.
 CONTROL = "as_it_stands"
-CONTROL_LINES = ["file: src/lib.rt", "old: #![tactic(auto)]", "new: #![tactic(auto)] // as it stands"]
+CONTROL_LINES = ["old: #![tactic(auto)]", "new: #![tactic(auto)] // as it stands"]
 KINDS = {"refused, as it must be": "refused", "NOT REFUSED": "proved", "BAD EDIT": "bad", "NOT TRIED": "bad"}
 
 
 def listed(crate):
     """The lines of each edit of a crate's list, by its name."""
-    edits, lines = {CONTROL: CONTROL_LINES}, None
+    # A program's root is main.rt.
+    root = next(it for it in ("src/lib.rt", "src/main.rt") if os.path.isfile(os.path.join(ROOT, "crates", crate, it)))
+    edits, lines = {CONTROL: ["file: " + root] + CONTROL_LINES}, None
     with open(os.path.join(LISTS, crate + ".edits"), encoding="utf-8") as file:
         for row, line in enumerate(file.read().split("\n"), 1):
             if line.startswith("== "):

@@ -1,9 +1,20 @@
 //! companion explains the codes of kubepast, prepares what it reads, and shows its verdicts.
 #![tactic(auto)]
 
-use companion_answers::run;
+mod ending;
+mod gathering;
+mod making;
+mod picturing;
+mod reading;
+mod report;
+mod reporting;
+mod running;
+mod sifting;
+mod words;
+
 use edge_io::{FileDesk, StdSink};
 use judge_pool::FreeGate;
+use running::run;
 use std::alloc::Global;
 use std::env;
 use std::env::Env;
@@ -42,3 +53,6 @@ fn main(rt: HostRuntime) -> ExitCode {
     );
     ExitCode::from(status)
 }
+
+#[cfg(test)]
+mod tests;

@@ -1,0 +1,23 @@
+-- What is read of a policy and of files, each by its name.
+use Rattle.std.specs.Prelude.{◌≡◌, ◌≤◌, ℕ, List, ◌∷◌, ◌++◌, map, Contains, Option, Result, IfOk, OnOk, IsErrOf}
+use Rattle.edge_io.specs.Faults.{Rose}
+use Rattle.edge_io.specs.declared.whole.WholeStop.{WholeStop}
+use Rattle.edge_io.specs.declared.whole.WholeStop.TheVariants.{TooLong, ReadFault}
+use Rattle.companion.specs.Making.{SomeLong, TellsAll}
+use Rattle.companion.specs.declared.gathering.Given.{Given}
+
+-- files of these names were read up to the first that is too long, and put behind others; the faults are those of the desk
+pub record AreGathered {A : Type 0} (names before now : List (List ℕ)) (old left : List ℕ → Option (List ℕ)) (faults_before faults_now : ℕ) (found : Result A WholeStop) : Type 0 where
+  pub read : OnOk found ((told : List ℕ → List ℕ) → TellsAll names old told → (now ≡ before ++ map told names) × (SomeLong (map told names) → ⊥))
+  pub long : IsErrOf found TooLong → (told : List ℕ → List ℕ) → TellsAll names old told → SomeLong (map told names)
+  pub fault : IsErrOf found ReadFault → Rose faults_before faults_now
+  pub counted : faults_before ≤ faults_now
+  pub others : (other : List ℕ) → (Contains names other → ⊥) → left other ≡ old other
+
+-- a policy and files of these names were read up to the first that is too long
+pub record AreGiven (policy : List ℕ) (names : List (List ℕ)) (old left : List ℕ → Option (List ℕ)) (faults_before faults_now : ℕ) (found : Result Given WholeStop) : Type 0 where
+  pub read : IfOk found (λ given. (told : List ℕ → List ℕ) → TellsAll (policy ∷ names) old told
+      → (given.policy ≡ told policy) × (given.files.items ≡ map told names) × (SomeLong (given.policy ∷ given.files.items) → ⊥))
+  pub long : IsErrOf found TooLong → (told : List ℕ → List ℕ) → TellsAll (policy ∷ names) old told → SomeLong (map told (policy ∷ names))
+  pub fault : IsErrOf found ReadFault → Rose faults_before faults_now
+  pub others : (other : List ℕ) → (Contains (policy ∷ names) other → ⊥) → left other ≡ old other

@@ -1,0 +1,7 @@
+pub mod Command
+pub mod Gathering
+pub mod Making
+pub mod Picturing
+pub mod Program
+pub mod Reported
+pub mod Sifted

@@ -1,0 +1,53 @@
+ghost use Rattle.std.specs.Prelude.{◌≡◌};
+ghost use Rattle.companion.specs.Reported.{status_number};
+
+use base_types::Bytes;
+use log_sift::Stretches;
+
+/// How a command was answered.
+#[derive(Clone, Copy)]
+pub enum Status {
+    /// It was done; a log that is shown is explained.
+    Done,
+    /// No placement explains the log that is shown.
+    Unexplained,
+    /// No setup can be made of what was given, or the setup breaks a rule.
+    SetupRefused,
+    /// An event of the log that is to be shown breaks a rule.
+    LogRefused,
+    /// What was given is too large.
+    LimitPassed,
+}
+
+impl Status {
+    /// The exit status.
+    pub fn number(self) -> u8
+        ensures { result ≡ status_number self }
+    {
+        match self {
+            Status::Done => 0,
+            Status::Unexplained => 1,
+            Status::SetupRefused => 3,
+            Status::LogRefused => 4,
+            Status::LimitPassed => 7,
+        }
+    }
+}
+
+/// The text of an answer.
+#[derive(Drop)]
+pub enum Body {
+    /// A text that the program has.
+    Fixed(&'static str),
+    /// One that was made.
+    Made(Bytes),
+    /// The stretches of a log that stay, one behind another.
+    Cut { log: Bytes, stays: Stretches },
+}
+
+/// A status and the text that goes with it.
+#[derive(Drop)]
+pub struct Report {
+    pub status: Status,
+    pub body: Body,
+}

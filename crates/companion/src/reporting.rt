@@ -1,0 +1,118 @@
+ghost use Rattle.std.specs.Prelude.{◌≡◌, ◌≢◌, ◌∷◌, true, map, string_bytes};
+ghost use Rattle.log_verdict.specs.Answers.{report_answer as verdict_answer, status_number as verdict_number};
+ghost use Rattle.companion.specs.Command.{Explain, IsSpelled, Picture, Setup, Sift, are_distinct, command_asked};
+ghost use Rattle.companion.specs.Reported.{IsCutWithin, IsReported, report_answer, status_number};
+
+use crate::making::make_named;
+use crate::picturing::picture;
+use crate::report::{Body, Report, Status};
+use crate::sifting::sift_named;
+use crate::words::Command;
+use context_intake::Stop;
+use edge_io::Desk;
+use judge_pool::Gate;
+use log_verdict::Gates;
+use std::alloc::Global;
+use std::marker::Sync;
+use std::thread::Threads;
+
+/// What a command comes to, as a status and a text.
+pub fn report_of<R: Threads + Sync, D: Desk, G: Gate, H: Gate>(
+    rt: &R,
+    alloc: Global,
+    command: Command<'_>,
+    desk: &mut D,
+    gates: Gates<'_, G, H>,
+) -> Result<Report, Stop>
+    requires { IsSpelled (command_asked command) }
+    ensures { IsReported (command_asked command.entry) (D.left desk.old) (D.left desk.new)
+        (desk.new ≡ desk.old) (D.faults desk.old) (D.faults desk.new) result }
+{
+    match command {
+        Command::Explain { text } => explained(desk, text),
+        Command::Sift { left, log } => sifted(alloc, desk, log, left),
+        Command::Setup {
+            authorize,
+            time,
+            policy,
+            files,
+        } => made(alloc, desk, authorize, time, policy, files),
+        Command::Picture { setup, log } => pictured(rt, alloc, desk, setup, log, gates),
+    }
+}
+
+// The text of a code. The desk is left as it is.
+fn explained<D: Desk>(desk: &mut D, text: &'static str) -> Result<Report, Stop>
+    ensures { IsReported (Explain text.now) (D.left desk.old) (D.left desk.new) (desk.new ≡ desk.old)
+        (D.faults desk.old) (D.faults desk.new) result }
+{
+    Ok(Report {
+        status: Status::Done,
+        body: Body::Fixed(text),
+    })
+}
+
+// What becomes of the lines of a log.
+fn sifted<D: Desk>(alloc: Global, desk: &mut D, log: &str, left: bool) -> Result<Report, Stop>
+    ensures { IsReported (Sift left log.now) (D.left desk.old) (D.left desk.new) (desk.new ≡ desk.old)
+        (D.faults desk.old) (D.faults desk.new) result }
+{
+    sift_named(alloc, desk, log, left)
+}
+
+// The setup of a policy and files, each by its name.
+fn made<D: Desk>(
+    alloc: Global,
+    desk: &mut D,
+    authorize: bool,
+    time: &str,
+    policy: &str,
+    files: &[String],
+) -> Result<Report, Stop>
+    requires { are_distinct (policy.now ∷ map string_bytes files.now) ≡ true }
+    ensures { IsReported (Setup authorize time.now policy.now (map string_bytes files.now)) (D.left desk.old)
+        (D.left desk.new) (desk.new ≡ desk.old) (D.faults desk.old) (D.faults desk.new) result }
+{
+    make_named(alloc, desk, authorize, time, policy, files)
+}
+
+// The page of the verdict on a log.
+fn pictured<R: Threads + Sync, D: Desk, G: Gate, H: Gate>(
+    rt: &R,
+    alloc: Global,
+    desk: &mut D,
+    setup: &str,
+    log: &str,
+    gates: Gates<'_, G, H>,
+) -> Result<Report, Stop>
+    requires { setup.now ≢ log.now }
+    ensures { IsReported (Picture setup.now log.now) (D.left desk.old) (D.left desk.new) (desk.new ≡ desk.old)
+        (D.faults desk.old) (D.faults desk.new) result }
+{
+    match picture(rt, alloc, desk, setup, log, gates) {
+        Ok(found) => Ok(page_report(found)),
+        Err(stop) => Err(stop),
+    }
+}
+
+fn page_report(found: log_verdict::Report) -> Report
+    ensures answer { report_answer result ≡ verdict_answer found }
+    ensures within { IsCutWithin result.body }
+{
+    Report {
+        status: status_of(found.status),
+        body: Body::Made(found.text),
+    }
+}
+
+fn status_of(status: log_verdict::Status) -> Status
+    ensures { status_number result ≡ verdict_number status }
+{
+    match status {
+        log_verdict::Status::Explained => Status::Done,
+        log_verdict::Status::Unexplained => Status::Unexplained,
+        log_verdict::Status::SetupRefused => Status::SetupRefused,
+        log_verdict::Status::LogRefused => Status::LogRefused,
+        log_verdict::Status::LimitPassed => Status::LimitPassed,
+    }
+}

@@ -1,0 +1,71 @@
+ghost use Rattle.std.specs.Prelude.{◌≡◌, ℕ, List, None, IfOk, map, string_bytes};
+ghost use Rattle.std.specs.Io.KnownBytes.{Keeps};
+ghost use Rattle.edge_io.specs.Faults.{Rose};
+ghost use Rattle.companion.specs.Command.{IsAsked, ReadsWords, TellsWords};
+ghost use Rattle.edge_io.specs.Endings.{Ends};
+ghost use Rattle.log_verdict.specs.Endings.{IsAnswered};
+ghost use Rattle.companion.specs.Program.{IsAnswer, usage_answer};
+ghost use Rattle.companion.specs.Reported.{Concludes, IsCutWithin};
+
+use crate::ending::end_with_body;
+use crate::report::Report;
+use crate::reporting::report_of;
+use crate::words::read_words;
+use context_intake::Stop;
+use edge_io::{Desk, Sink, end_with};
+use judge_pool::Gate;
+use log_verdict::Gates;
+use std::alloc::Global;
+use std::marker::Sync;
+use std::thread::Threads;
+
+/// Does what the words of the command line ask for: reads the desk, writes the answer to the sink, and gives the exit
+/// status. The text is made whole before it is written. For a page several threads decode the lines of a batch and
+/// take the claims of the events; `gate` is told of each event, and `lines` of each line's index in its batch.
+pub fn run<R: Threads + Sync, D: Desk, K: Sink, G: Gate, H: Gate>(
+    rt: &R,
+    alloc: Global,
+    words: &[String],
+    desk: &mut D,
+    out: &mut K,
+    gate: &G,
+    lines: &H,
+) -> u8
+    ensures answer { (files : List ℕ → List ℕ) → TellsWords (map string_bytes words.now) (D.left desk.old) files
+        → IsAnswered (IsAnswer (map string_bytes words.now) files)
+        (D.faults desk.old) (D.faults desk.new) (K.faults out.old) (K.faults out.new)
+        (K.written out.old) (K.written out.new) result }
+
+    // Whether the desk tells its bytes or not.
+    ensures usage { IsAsked (map string_bytes words.now) None
+        → Ends 2 usage_answer.text (K.faults out.old) (K.faults out.new) (K.written out.old)
+        (K.written out.new) result }
+    ensures usage_only { result ≡ 2 → IsAsked (map string_bytes words.now) None }
+    ensures read_fault { result ≡ 5 → Rose (D.faults desk.old) (D.faults desk.new) }
+    ensures write_fault { result ≡ 6 → Rose (K.faults out.old) (K.faults out.new) }
+    ensures memory { result ≡ 8 → Keeps (K.written out.old) (K.written out.new) }
+    ensures desk_left { ((name : List ℕ) → ReadsWords (map string_bytes words.now) name → ⊥) → desk.new ≡ desk.old }
+    ensures others_left { (name : List ℕ) → (ReadsWords (map string_bytes words.now) name → ⊥)
+        → D.left desk.new name ≡ D.left desk.old name }
+{
+    let gates = Gates {
+        events: gate,
+        lines,
+    };
+    match read_words(words) {
+        Some(command) => conclude(out, report_of(rt, alloc, command, desk, gates)),
+        None => end_with(out, 2, b"usage\n"),
+    }
+}
+
+// Writes what was found, or why nothing was, and gives the exit status.
+fn conclude<K: Sink>(out: &mut K, found: Result<Report, Stop>) -> u8
+    requires { IfOk found (λ report. IsCutWithin report.body) }
+    ensures { Concludes found (K.faults out.old) (K.faults out.new) (K.written out.old) (K.written out.new) result }
+{
+    match found {
+        Ok(report) => end_with_body(out, report.status.number(), &report.body),
+        Err(Stop::ReadFault) => end_with(out, 5, b"read fault\n"),
+        Err(Stop::OutOfMemory) => 8,
+    }
+}

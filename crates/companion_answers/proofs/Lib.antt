@@ -1,6 +1,0 @@
-pub mod EndingFacts
-pub mod ReportedFacts
-pub mod RunFacts
-pub mod GatheringFacts
-pub mod MakingFacts
-pub mod SetupWords

@@ -1,6 +1,0 @@
-pub mod Command
-pub mod Gathering
-pub mod Making
-pub mod Program
-pub mod Reported
-pub mod Sifted
