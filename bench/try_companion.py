@@ -8,6 +8,7 @@ try_companion.py JUDGE COMPANION
 - `sift` over the log with twelve lines put in, one for each rule from M1 to M12, gives back the log byte for byte, and
   `sift --left` the twelve lines with their codes.
 - `judge` refuses the log with these lines, and gives the stored verdict of what `sift` printed.
+- `setup` refuses a list, and a policy, of one byte more than 2^28 with `limit file`, and takes 2^28 bytes for no JSON.
 
 Both programs are named as they were built, crates/NAME/out/NAME. The last line says how many of the trials held.
 """
@@ -19,6 +20,7 @@ import tempfile
 
 REAL = os.path.join(os.path.dirname(os.path.dirname(os.path.abspath(__file__))), "examples", "real")
 LISTS = os.path.join(REAL, "lists")
+MOST_FILE = 2**28
 
 
 def odd_lines(line):
@@ -44,6 +46,14 @@ def spoilt(log):
         lines.insert(at, text)
         told.append(f"{at + 1} {code}\n")
     return "\n".join(lines), "".join(told)
+
+
+def sparse(folder, name, size):
+    """A file of so many zeros, which takes no room on most disks."""
+    path = os.path.join(folder, name)
+    with open(path, "wb") as file:
+        file.truncate(size)
+    return path
 
 
 def main():
@@ -77,6 +87,11 @@ def main():
         with open(sifted, "w", encoding="utf-8") as file:
             file.write(kept)
         held.append(("judged", called(judge, "judge", setup, sifted) == (0, verdict)))
+        long, most = (sparse(folder, name, size) for name, size in (("long.json", MOST_FILE + 1), ("most.json", MOST_FILE)))
+        limit, no_json = (7, "limit file\n"), (3, f"file {most} json\n")
+        held.append(("long list", called(companion, "setup", moment, *lists, long) == limit))
+        held.append(("long policy", called(companion, "setup", moment, long, *lists[1:]) == limit))
+        held.append(("longest file", called(companion, "setup", moment, *lists, most) == no_json))
     for name, holds in held:
         print(name, "holds" if holds else "DOESN'T HOLD")
     print(f"{sum(holds for _, holds in held)} of {len(held)}")

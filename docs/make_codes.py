@@ -3,8 +3,8 @@
 
 A table stands between the lines `<!-- codes: FAMILY -->` and `<!-- end of codes -->`, and what stands there is written
 anew. FAMILY is M, S, U or V, or the first word of a code of two words, as status and limit. With --check nothing is
-written: the status is 1 where a table differs from the texts. It is 2 where a text isn't of its form, or a mark is
-wanting or names no family.
+written: the status is 1 where a table differs from the texts. It is 2 where a text isn't of its form, a mark names no
+family, or a family hasn't exactly one table.
 """
 
 import pathlib
@@ -58,12 +58,15 @@ def rows_of(sources):
 def main():
     rows = rows_of(sorted(SOURCES.glob("*.rt")))
     document = DOCUMENT.read_text(encoding="utf-8")
-    if not TABLE.search(document):
-        fail(f"{DOCUMENT.name} has no table between marks")
+    tables = [match.group(2) for match in TABLE.finditer(document)]
+    for family in tables:
+        if family not in rows:
+            fail(f"there is no code of the family {family}")
+    for family in rows:
+        if tables.count(family) != 1:
+            fail(f"{DOCUMENT.name} has {tables.count(family)} tables of the family {family}")
 
     def written(match):
-        if match.group(2) not in rows:
-            fail(f"there is no code of the family {match.group(2)}")
         return match.group(1) + HEAD + "".join(rows[match.group(2)]) + match.group(4)
 
     made = TABLE.sub(written, document)

@@ -18,7 +18,7 @@ limit_names = codes "setup" ∷ codes "line" ∷ codes "events" ∷ codes "input
 
 -- why no setup can be made
 abbrev pub making_names : List (List ℕ)
-making_names = codes "time" ∷ codes "policy" ∷ codes "empty" ∷ []
+making_names = codes "time" ∷ codes "policy" ∷ codes "empty" ∷ codes "resources" ∷ []
 
 abbrev pub file_names : List (List ℕ)
 file_names = codes "json" ∷ codes "kind" ∷ codes "pages" ∷ codes "unknown" ∷ codes "version" ∷ codes "twice" ∷ codes "revision" ∷ []

@@ -13,15 +13,15 @@ in it holds a fraction.
 Look at: the file that the line names.
 
 What to do: Take it again with `kubectl get --raw PATH`. A resource whose objects hold
-fractions can't be tracked.
+fractions can't be tracked: leave its list out.
 ";
 
 /// `file kind`
 pub const FILE_KIND: &str =
     "file kind: the file is neither an `APIResourceList` nor a list of objects.
 
-How it comes about: It was taken with `kubectl get -o json`, which puts objects into a list
-of its own, or holds a single object.
+How it comes about: It holds a single object, or names groups and versions alone, as `/apis`
+and `/apis/GROUP` do.
 
 Look at: `kind` and `apiVersion` of the file.
 
@@ -43,12 +43,14 @@ What to do: Take the whole list, without `limit`.
 pub const FILE_UNKNOWN: &str =
     "file unknown: the file is a list of a resource that no `APIResourceList` given has.
 
-How it comes about: The file that names the resources of its group is missing.
+How it comes about: The file that names the resources of its group is missing; or the list
+was taken with `kubectl get -o json`, which puts objects into a list of its own, of `kind`
+`List`.
 
 Look at: `apiVersion` and `kind` of the list.
 
 What to do: Give `kubectl get --raw /api/v1`, or `/apis/GROUP/VERSION` of that group, as one
-more file.
+more file. Take a list of `kind` `List` again with `kubectl get --raw PATH`.
 ";
 
 /// `file version`
@@ -80,11 +82,14 @@ pub const FILE_REVISION: &str =
     "file revision: the file is a list without a revision, or of another revision than the first
 list.
 
-How it comes about: Somebody wrote between two lists.
+How it comes about: Somebody wrote between two lists. A list without a revision comes from a
+server that keeps none, as that of `metrics.k8s.io`, or a program has rewritten it.
 
-Look at: `metadata.resourceVersion` of each list.
+Look at: `metadata.resourceVersion` of each list: it is a number, written as a text.
 
 What to do: Take all lists at one revision: `?resourceVersion=N&resourceVersionMatch=Exact`.
+Take a list without a revision again with `kubectl get --raw PATH`; where it has none then
+either, its resource can't be tracked: leave its list out.
 ";
 
 // Each fault of a file that a setup is to be made of, with its text.

@@ -5,17 +5,19 @@ ghost use Rattle.code_guide.specs.LimitGuides.{limit_guides};
 use crate::guide::{Guide, text_in};
 
 /// `limit setup`
-pub const LIMIT_SETUP: &str = "limit setup: the setup has more than 268,435,456 bytes.
+pub const LIMIT_SETUP: &str =
+    "limit setup: the setup has more than 268,435,456 bytes. It is read whole.
 
 How it comes about: Its snapshot has very many objects.
 
 Look at: which resources have the most.
 
-What to do: Track fewer resources. It is read whole.
+What to do: Track fewer resources.
 ";
 
 /// `limit line`
-pub const LIMIT_LINE: &str = "limit line: a line of the log has more than 16,777,216 bytes.
+pub const LIMIT_LINE: &str =
+    "limit line: a line of the log has more than 16,777,216 bytes. Each line is read whole.
 
 How it comes about: In a large cluster one list of everything can have that size.
 
@@ -26,7 +28,9 @@ line out with `kubepast sift`, and say so beside the verdict.
 ";
 
 /// `limit events`
-pub const LIMIT_EVENTS: &str = "limit events: the log has more than 4,194,304 events, repeats aside.
+pub const LIMIT_EVENTS: &str =
+    "limit events: the log has more than 4,194,304 events, repeats aside. Each takes about 300
+bytes of memory, beside its bodies.
 
 How it comes about: It is long, or records stages and resources that aren't judged.
 
@@ -37,7 +41,8 @@ tracked.
 ";
 
 /// `limit input`
-pub const LIMIT_INPUT: &str = "limit input: the log has more than 2^40 bytes.
+pub const LIMIT_INPUT: &str =
+    "limit input: the log has more than 2^40 bytes. The numbers of its lines end there.
 
 How it comes about: It is very long, or what is read never ends.
 
@@ -49,16 +54,20 @@ What to do: Judge it in parts, each with a setup of its own.
 /// `limit file`
 pub const LIMIT_FILE: &str =
     "limit file: a policy or a file that is given to `setup` has more than 268,435,456 bytes.
+Each is read whole.
 
-How it comes about: A list of everything in a large cluster can have that size.
+How it comes about: In a large cluster the list of one resource can have that size. No policy
+has it.
 
 Look at: the sizes of the files.
 
-What to do: Take lists of fewer resources.
+What to do: Leave that list out, so that its resource isn't tracked; a list can't be given in
+parts. A setup of several lists may have no more bytes either (`limit setup`).
 ";
 
 /// `limit placement`
-pub const LIMIT_PLACEMENT: &str = "limit placement: the placement has more than 1,073,741,824 bytes.
+pub const LIMIT_PLACEMENT: &str =
+    "limit placement: the placement has more than 1,073,741,824 bytes. It is read whole.
 
 How it comes about: It isn't what `judge` printed: no text of an explained log reaches that
 size.
@@ -70,7 +79,8 @@ What to do: Give the text that `judge` printed.
 
 /// `limit pool`
 pub const LIMIT_POOL: &str =
-    "limit pool: the objects of setup and log have more than 50,000,000 distinct values.
+    "limit pool: the objects of setup and log have more than 50,000,000 distinct values. Each takes
+about 80 bytes of memory, equal ones once.
 
 How it comes about: Very many large objects, each different, were written.
 

@@ -36,8 +36,23 @@ What to do: Give at least one list, as `kubectl get --raw /api/v1/configmaps` ta
 revision is where the log begins.
 ";
 
+/// `setup resources`
+pub const SETUP_RESOURCES: &str =
+    "setup resources: the resources of the lists break a rule of setups, whatever their objects
+are. The line names the rule, as `resources S14`.
+
+How it comes about: With `--authorize` the list of one of RBAC's four resources is missing
+(S14). Any other rule is broken where an `APIResourceList` was changed.
+
+Look at: the rule, as `kubepast explain S14` tells it, and which lists were given.
+
+What to do: Give the lists of `roles`, `clusterroles`, `rolebindings` and
+`clusterrolebindings`, with `kubectl get --raw /apis/rbac.authorization.k8s.io/v1`, which
+names them; or leave `--authorize` out. Of another rule take the `APIResourceList` again.
+";
+
 // Each reason for which no setup can be made, with its text.
-const MAKING_GUIDES: [Guide; 3] = [
+const MAKING_GUIDES: [Guide; 4] = [
     Guide {
         name: "time",
         text: SETUP_TIME,
@@ -49,6 +64,10 @@ const MAKING_GUIDES: [Guide; 3] = [
     Guide {
         name: "empty",
         text: SETUP_EMPTY,
+    },
+    Guide {
+        name: "resources",
+        text: SETUP_RESOURCES,
     },
 ];
 

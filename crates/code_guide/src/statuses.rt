@@ -7,7 +7,8 @@ use crate::guide::{Guide, text_in};
 /// `status 0`
 pub const STATUS_0: &str =
     "status 0: the log is explained (with `--strict`: and nothing crosses), the placement holds,
-or what was asked for was done.
+or what was asked for was done. Written is the verdict, `holds`, or the text that was asked
+for; a history is answered whatever the verdict is.
 
 How it comes about: This is what a true log gives under a setup that fits it.
 
@@ -18,7 +19,8 @@ What to do: Nothing. It says that the log can be true, not that it is.
 
 /// `status 1`
 pub const STATUS_1: &str =
-    "status 1: the log is unexplained, two of its lines cross, or the placement is wrong.
+    "status 1: the log is unexplained, two of its lines cross, or the placement is wrong. Written
+is the verdict, `crossed A B` or `wrong LINE CODE`; by `picture` a page.
 
 How it comes about: True logs were seen that don't fit their setup: fields that a server
 fills in, lost events, deleted namespaces, clocks that differ.
@@ -30,7 +32,7 @@ first shows an earlier revision than the second, and began after that had ended.
 ";
 
 /// `status 2`
-pub const STATUS_2: &str = "status 2: the words are no command, or name no code.
+pub const STATUS_2: &str = "status 2: the words are no command, or name no code. Written is `usage`.
 
 How it comes about: A name is missing, SETUP and LOG are one name, SETUP is `-`, or a number
 has leading zeros.
@@ -42,20 +44,24 @@ What to do: Call again. A key begins with a slash where its group is empty.
 
 /// `status 3`
 pub const STATUS_3: &str =
-    "status 3: the setup breaks a rule, or none can be made of what was given.
+    "status 3: the setup breaks a rule, or none can be made of what was given. Written is
+`setup CODE`; by `setup` one of the lines `time`, `policy`, `empty`, `resources RULE` and
+`file FILE CODE`.
 
 How it comes about: It was written by hand, or its lists were taken at different moments.
 
-Look at: the code: `judge` says `setup S12`; `setup` says `time`, or names a file as in
-`file pods.json pages`.
+Look at: the code: `judge` says `setup S12`; `setup` says `time`, or names a rule as in
+`resources S14`, or a file as in `file pods.json pages`.
 
 What to do: Ask for that code: `kubepast explain S12`, `kubepast explain setup time`,
-`kubepast explain file pages`.
+`kubepast explain setup resources`, `kubepast explain file pages`.
 ";
 
 /// `status 4`
 pub const STATUS_4: &str =
-    "status 4: an event of the log breaks a rule, or a placement can't be read.
+    "status 4: an event of the log breaks a rule, or a placement can't be read. Written is
+`malformed LINE CODE` of the first such event, or `placement LINE` of the first line that
+can't be read.
 
 How it comes about: A line was cut off, or a client sent what a server logs and no rule
 admits.
@@ -67,10 +73,10 @@ can't be continued: give the whole text that `judge` printed.
 ";
 
 /// `status 5`
-pub const STATUS_5: &str = "status 5: opening or reading a file failed.
+pub const STATUS_5: &str = "status 5: opening or reading a file failed. Written is `read fault`.
 
-How it comes about: A name is misspelt, the file can't be read by you, or a disk failed.
-Nothing that was read before is refused.
+How it comes about: A name is misspelt, the file can't be read by you, or a disk failed. In
+what the judge read before, nothing is refused; `setup` reads all files before it refuses any.
 
 Look at: the names and their permissions.
 
@@ -89,7 +95,7 @@ What to do: Call again; the text isn't whole.
 ";
 
 /// `status 7`
-pub const STATUS_7: &str = "status 7: a limit is passed.
+pub const STATUS_7: &str = "status 7: a limit is passed. Written is `limit NAME`.
 
 How it comes about: The log, the setup or another file is larger than what is held in
 memory.

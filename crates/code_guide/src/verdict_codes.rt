@@ -187,7 +187,7 @@ in `skipGroups`. Else a binding isn't in the log, or a decision was changed.
 /// `V1`
 pub const V1: &str =
     "V1: the line, or its word, isn't that of an event: the log or the placement lacks it, or it
-has another word or another decision than its event.
+has another word than `made`, `removed`, `at` or `none` of its event, or another decision.
 
 How it comes about: The placement is that of another log, of another setup or of an older
 copy, or was changed.

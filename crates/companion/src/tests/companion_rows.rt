@@ -1,7 +1,7 @@
 use crate::running::run;
 use crate::tests::desk_files::files;
 use base_types::{Bytes, Text};
-use cluster_setup::{SetupRefusal, make_setup};
+use cluster_setup::{SetupRefusal, make_setup, refusal_words};
 use edge_io::{InputFile, InputFiles, MemoryDesk, MemorySink};
 use judge_pool::FreeGate;
 use std::marker::Sync;
@@ -65,7 +65,13 @@ picture made sifted|1 <!DOCTYPE html>..
 picture odd sifted|3 setup S1
 picture made log|4 malformed 2 M1
 picture made made|2 usage
-picture made|2 usage"#;
+picture made|2 usage
+explain status 8|0 status 8: no memory was found; ..
+explain status 9|2 usage
+explain limit file|0 limit file: a policy or a file..
+explain setup resources|0 setup resources: the resources..
+explain file revision|0 file revision: the file is a list without a revision..
+explain setup revision|2 usage"#;
 
 fn cases() -> &'static str {
     CASES
@@ -198,4 +204,45 @@ fn is_empty(rt: &impl AllocGlobal) -> bool {
 #[test]
 fn no_setup_is_made_of_no_files(rt: HostRuntime) {
     assert!(&rt; is_empty(&rt));
+}
+
+fn add_bytes(rt: &(impl Abort + AllocGlobal), all: &mut Vec<Bytes>, text: &str) {
+    let bytes = Bytes::from_vec(text_of(rt, text).into_bytes());
+    all.push(bytes).expect(rt, "memory");
+}
+
+// The refusal of a document that has the core's pods, and of a list behind it, or the setup of both.
+fn listed_words(rt: &(impl Abort + AllocGlobal), list: &str) -> String {
+    let policy = r#"{"apiVersion":"audit.k8s.io/v1","kind":"Policy","rules":[]}"#;
+    let document =
+        r#"{"kind":"APIResourceList","groupVersion":"v1","resources":[{"name":"pods","kind":"Pod"}]}"#;
+    let mut all = Vec::new(rt.alloc());
+    add_bytes(rt, &mut all, document);
+    add_bytes(rt, &mut all, list);
+    let time = "2024-05-01T10:00:00Z";
+    match make_setup(rt.alloc(), time, policy.as_bytes(), &all, false) {
+        Ok(text) => text,
+        Err(refusal) => {
+            let names = words_of(rt, "document list");
+            refusal_words(rt.alloc(), &names, refusal).expect(rt, "memory")
+        }
+    }
+}
+
+#[test]
+fn a_list_has_a_revision(rt: HostRuntime) {
+    for list in [
+        r#"{"kind":"PodList","apiVersion":"v1","metadata":{},"items":[]}"#,
+        r#"{"kind":"PodList","apiVersion":"v1","metadata":{"resourceVersion":""},"items":[]}"#,
+        r#"{"kind":"PodList","apiVersion":"v1","metadata":{"resourceVersion":"0"},"items":[]}"#,
+    ] {
+        assert!(&rt; listed_words(&rt, list).as_str() == "file list revision");
+    }
+}
+
+// As `kubectl get pods -o json` prints it.
+#[test]
+fn a_list_names_its_kind(rt: HostRuntime) {
+    let list = r#"{"kind":"List","apiVersion":"v1","metadata":{"resourceVersion":""},"items":[]}"#;
+    assert!(&rt; listed_words(&rt, list).as_str() == "file list unknown");
 }
