@@ -109,7 +109,8 @@ What to do: Ask for it: `kubepast explain limit events`.
 pub const STATUS_8: &str = "status 8: no memory was found; nothing was written.
 
 How it comes about: The log needs more memory than the machine, or its limit for the
-program, has.
+program, has. Words of a question of which only KEY, POINTER or URI is wrong may end so too,
+since to read these takes memory.
 
 Look at: the size of the log, and the limits that are set for the program.
 

@@ -1,5 +1,5 @@
 -- The words of a question to a history.
-use Rattle.std.specs.Prelude.{◌≡◌, ◌<◌, ◌⊎◌, ◌==◌, ℕ, Bool, List, [], ◌∷◌, Option, Some, None, bytes_eq, codes, decimal, if◌then◌else◌}
+use Rattle.std.specs.Prelude.{◌≡◌, ◌<◌, ◌==◌, ℕ, Bool, List, [], ◌∷◌, Option, Some, None, bytes_eq, codes, decimal, if◌then◌else◌}
 use Rattle.std.specs.List.{slice_split}
 use Rattle.base_types.specs.Keys.{IsNamed, key_spelling}
 use Rattle.base_types.specs.declared.key.ObjectKey.{ObjectKey}
@@ -19,20 +19,15 @@ verb_of (State place) = codes "state"
 verb_of (Blame key pointer place) = codes "blame"
 verb_of (Can place who attrs) = codes "can"
 
--- the verb of a question
-abbrev pub IsVerb : List ℕ → Type 0
-IsVerb word = (word ≡ codes "show") ⊎ (word ≡ codes "versions") ⊎ (word ≡ codes "state") ⊎ (word ≡ codes "blame") ⊎ (word ≡ codes "can")
-
--- the first word is one
-abbrev pub BeginsQuestion : List (List ℕ) → Type 0
-BeginsQuestion [] = ⊥
-BeginsQuestion (word ∷ words) = IsVerb word
-
 -- PLACE: a decimal number from 1
 pub record IsPlaceWord (word : List ℕ) (place : ℕ) : Type 0 where
   pub spelled : word ≡ decimal place
   pub above : 0 < place
   pub number : IsNumber place
+
+-- the word is one
+abbrev pub IsPlace : List ℕ → Type 0
+IsPlace word = (place : ℕ) × IsPlaceWord word place
 
 -- KEY: GROUP/RESOURCE/NAMESPACE/NAME
 pub record IsKeyWord (word : List ℕ) (key : ObjectKey) : Type 0 where
@@ -71,3 +66,11 @@ SpellsQuestion (Can place who attrs) words = AreCanWords place who attrs words
 abbrev pub IsQuestionRead : (verb : List ℕ) → List (List ℕ) → Option Question → Type 0
 IsQuestionRead verb words None = (question : Question) → verb ≡ verb_of question → SpellsQuestion question words → ⊥
 IsQuestionRead verb words (Some question) = (verb ≡ verb_of question) × SpellsQuestion question words
+
+-- the verb and the words behind the names ask a question whose reading takes memory, as far as their number and PLACE tell
+abbrev pub TakesMemory : (verb : List ℕ) → List (List ℕ) → Type 0
+TakesMemory verb (key ∷ []) = verb ≡ codes "versions"
+TakesMemory verb (key ∷ place ∷ []) = (verb ≡ codes "show") × IsPlace place
+TakesMemory verb (key ∷ pointer ∷ place ∷ []) = (verb ≡ codes "blame") × IsPlace place
+TakesMemory verb (place ∷ user ∷ groups ∷ request ∷ uri ∷ []) = (verb ≡ codes "can") × IsPlace place
+TakesMemory verb words = ⊥

@@ -2,7 +2,7 @@
 use Rattle.std.specs.Prelude.{◌≡◌, ◌≢◌, ◌≤◌, ◌⊎◌, ℕ, List, [], ◌∷◌, Option, Some, None, codes, decimal}
 use Rattle.history_query.specs.declared.question.Question.{Question}
 use Rattle.verdict_text.specs.Words.{IsNumber}
-use Rattle.command_words.specs.Asking.{SpellsQuestion, verb_of}
+use Rattle.command_words.specs.Asking.{SpellsQuestion, TakesMemory, verb_of}
 use Rattle.command_words.specs.declared.words.Command.{Command}
 use Rattle.command_words.specs.declared.words.Command.TheVariants as word
 
@@ -104,3 +104,8 @@ IsPlainRead words (Some command) = Spells (command_asked command) words
 abbrev pub IsAskRead : List (List ℕ) → Option Command → Type 0
 IsAskRead words None = (setup log : List ℕ) (question : Question) → Spells (Ask setup log question) words → ⊥
 IsAskRead words (Some command) = Spells (command_asked command) words
+
+-- the words may want memory to be read: their number, the command, the names and PLACE are a question's
+abbrev pub MayWantMemory : List (List ℕ) → Type 0
+MayWantMemory (verb ∷ setup ∷ log ∷ words) = AreNames setup log × TakesMemory verb words
+MayWantMemory words = ⊥

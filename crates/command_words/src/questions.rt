@@ -1,8 +1,8 @@
-ghost use Rattle.std.specs.Prelude.{◌≡◌, ◌≢◌, ◌∷◌, [], ℕ, None, IfOk, IfSome, IfNone, IsErrOf, IsTrue, ◌↔◌, OnErr};
+ghost use Rattle.std.specs.Prelude.{◌≡◌, ◌≢◌, ◌∷◌, [], ℕ, None, IfOk, IfSome, IfNone, IsErrOf, OnErr};
 ghost use Rattle.std.specs.Prelude.{map, string_bytes, codes};
 ghost use Rattle.base_types.specs.Keys.{IsNamed};
-ghost use Rattle.command_words.specs.Asking.{BeginsQuestion, IsPlaceWord, IsQuestionRead, IsVerb, groups_of};
-ghost use Rattle.command_words.specs.Command.{IsAskRead};
+ghost use Rattle.command_words.specs.Asking.{IsPlace, IsPlaceWord, IsQuestionRead, TakesMemory, groups_of};
+ghost use Rattle.command_words.specs.Command.{IsAskRead, MayWantMemory};
 
 use crate::words::{Command, are_names};
 use base_types::json::{Pointer, PointerFault, read_pointer};
@@ -12,11 +12,10 @@ use request_attrs::{UriFault, attrs_of};
 use std::alloc::Global;
 use verdict_text::read_number;
 
-/// Reads the words of a question to a history, which stands behind the names of a setup and a log. Only words that
-/// begin with the verb of a question want memory.
+/// Reads the words of a question to a history, which stands behind the names of a setup and a log.
 pub fn read_asked(alloc: Global, words: &[String]) -> Result<Option<Command<'_>>, OutOfMemory>
     ensures read { IfOk result (IsAskRead (map string_bytes words.now)) }
-    ensures memory { OnErr result (BeginsQuestion (map string_bytes words.now)) }
+    ensures memory { OnErr result (MayWantMemory (map string_bytes words.now)) }
 {
     match words {
         [verb, setup, log, rest @ ..] => read_named(alloc, verb, setup, log, rest),
@@ -32,11 +31,9 @@ fn read_named<'a>(
     rest: &[String],
 ) -> Result<Option<Command<'a>>, OutOfMemory>
     ensures read { IfOk result (IsAskRead (verb.now ∷ setup.entry.now ∷ log.entry.now ∷ map string_bytes rest.now)) }
-    ensures memory { OnErr result (IsVerb verb.now) }
+    ensures memory { OnErr result (MayWantMemory (verb.now ∷ setup.entry.now ∷ log.entry.now
+        ∷ map string_bytes rest.now)) }
 {
-    if !is_verb(verb) {
-        return Ok(None);
-    }
     if !are_names(setup, log) {
         return Ok(None);
     }
@@ -50,19 +47,14 @@ fn read_named<'a>(
     }))
 }
 
-fn is_verb(word: &str) -> bool
-    ensures { IsTrue result ↔ IsVerb word.now }
-{
-    word == "show" || word == "versions" || word == "state" || word == "blame" || word == "can"
-}
-
 // Each question has a number of words of its own, but for `versions` and `state`.
 fn read_question(
     alloc: Global,
     verb: &str,
     rest: &[String],
 ) -> Result<Option<Question>, OutOfMemory>
-    ensures { IfOk result (IsQuestionRead verb.now (map string_bytes rest.now)) }
+    ensures read { IfOk result (IsQuestionRead verb.now (map string_bytes rest.now)) }
+    ensures memory { OnErr result (TakesMemory verb.now (map string_bytes rest.now)) }
 {
     match rest {
         [word] => read_one(alloc, verb, word),
@@ -76,7 +68,8 @@ fn read_question(
 }
 
 fn read_one(alloc: Global, verb: &str, word: &str) -> Result<Option<Question>, OutOfMemory>
-    ensures { IfOk result (IsQuestionRead verb.now (word.now ∷ [])) }
+    ensures read { IfOk result (IsQuestionRead verb.now (word.now ∷ [])) }
+    ensures memory { OnErr result (TakesMemory verb.now (word.now ∷ [])) }
 {
     if verb == "versions" {
         return Ok(read_key(alloc, word)?.map(|key| Question::Versions { key }));
@@ -93,7 +86,8 @@ fn read_show(
     key: &str,
     place: &str,
 ) -> Result<Option<Question>, OutOfMemory>
-    ensures { IfOk result (IsQuestionRead verb.now (key.now ∷ place.now ∷ [])) }
+    ensures read { IfOk result (IsQuestionRead verb.now (key.now ∷ place.now ∷ [])) }
+    ensures memory { OnErr result (TakesMemory verb.now (key.now ∷ place.now ∷ [])) }
 {
     if verb != "show" {
         return Ok(None);
@@ -111,7 +105,8 @@ fn read_blame(
     pointer: &str,
     place: &str,
 ) -> Result<Option<Question>, OutOfMemory>
-    ensures { IfOk result (IsQuestionRead verb.now (key.now ∷ pointer.now ∷ place.now ∷ [])) }
+    ensures read { IfOk result (IsQuestionRead verb.now (key.now ∷ pointer.now ∷ place.now ∷ [])) }
+    ensures memory { OnErr result (TakesMemory verb.now (key.now ∷ pointer.now ∷ place.now ∷ [])) }
 {
     if verb != "blame" {
         return Ok(None);
@@ -142,7 +137,10 @@ fn read_can(
     request: &str,
     uri: &str,
 ) -> Result<Option<Question>, OutOfMemory>
-    ensures { IfOk result (IsQuestionRead verb.now (place.now ∷ user.now ∷ groups.now ∷ request.now ∷ uri.now ∷ [])) }
+    ensures read { IfOk result (IsQuestionRead verb.now
+        (place.now ∷ user.now ∷ groups.now ∷ request.now ∷ uri.now ∷ [])) }
+    ensures memory { OnErr result (TakesMemory verb.now
+        (place.now ∷ user.now ∷ groups.now ∷ request.now ∷ uri.now ∷ [])) }
 {
     if verb != "can" {
         return Ok(None);
@@ -175,6 +173,7 @@ fn without_attrs(fault: UriFault) -> Result<Option<Question>, OutOfMemory>
 // A place is a decimal number from 1.
 fn read_place(word: &str) -> Option<u64>
     ensures some { IfSome result (IsPlaceWord word.now) }
+    ensures place { IfSome result (λ place. IsPlace word.now) }
     ensures none { IfNone result ((place : ℕ) → IsPlaceWord word.now place → ⊥) }
 {
     let place = read_number(word)?;

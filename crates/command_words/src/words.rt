@@ -1,7 +1,6 @@
 ghost use Rattle.std.specs.Prelude.{◌≡◌, ◌≢◌, ◌≤◌, ℕ, ◌∷◌, [], IfOk, OnErr, IfSome, IfNone, IsTrue, ◌↔◌, map};
 ghost use Rattle.std.specs.Prelude.{string_bytes, codes, decimal};
-ghost use Rattle.command_words.specs.Asking.{BeginsQuestion};
-ghost use Rattle.command_words.specs.Command.{AreNames, IsPlainRead, IsRead, IsThirdName, most_made};
+ghost use Rattle.command_words.specs.Command.{AreNames, IsPlainRead, IsRead, IsThirdName, MayWantMemory, most_made};
 
 use crate::questions::read_asked;
 use base_types::OutOfMemory;
@@ -44,11 +43,11 @@ pub enum Command<'a> {
     },
 }
 
-/// Reads the words behind the program's name: none where they are no command. Only words that begin with the verb of a
-/// question want memory.
+/// Reads the words behind the program's name: none where they are no command. Memory is taken only where the number of
+/// words, the command, the names and the place are those of a question to a history.
 pub fn read_words(alloc: Global, words: &[String]) -> Result<Option<Command<'_>>, OutOfMemory>
     ensures read { IfOk result (IsRead (map string_bytes words.now)) }
-    ensures memory { OnErr result (BeginsQuestion (map string_bytes words.now)) }
+    ensures memory { OnErr result (MayWantMemory (map string_bytes words.now)) }
 {
     match read_plain(words) {
         Some(command) => Ok(Some(command)),

@@ -10,8 +10,8 @@ use Rattle.log_intake.specs.Setup.{TakesSetup}
 use Rattle.log_intake.specs.Taking.{TakesLog}
 use Rattle.command_words.specs.Command.{Ask, Asked, AsksOf, IsAsked, IsOfNames, Judge, Make, Reads, Spells, Strict, Tells, TellsWords, Verify}
 use Rattle.log_verdict.specs.Endings.{IsAnswered}
-use Rattle.kubepast.specs.Program.{Concludes, IsAnswer, IsAnswerTo}
-use Rattle.log_verdict.specs.Answers.{Answer, IsPlacementText, report_answer, status_number}
+use Rattle.kubepast.specs.Program.{Concludes, IsAnswer, IsAnswerTo, IsOfTable}
+use Rattle.log_verdict.specs.Answers.{Answer, IsPlacementText, answer, report_answer, status_number}
 use Rattle.context_intake.specs.Refusals.{IsSetupRefused}
 use Rattle.std.specs.Io.KnownBytes.{Appends}
 use Rattle.kubepast.specs.Reported.{IsPrinted, IsReported, Takes, TakesNames, TakesPlacement}
@@ -31,6 +31,18 @@ no_fault Unexplained is = omega (arith, is)
 no_fault SetupRefused is = omega (arith, is)
 no_fault LogRefused is = omega (arith, is)
 no_fault LimitPassed is = omega (arith, is)
+
+-- a report is an answer of the table
+report_of_table : (status : Status) (text : List ℕ) → IsOfTable (answer (status_number status) text)
+report_of_table Explained text = inr (inl refl)
+report_of_table Unexplained text = inr (inr (inl refl))
+report_of_table SetupRefused text = inr (inr (inr (inl refl)))
+report_of_table LogRefused text = inr (inr (inr (inr (inl refl))))
+report_of_table LimitPassed text = inr (inr (inr (inr (inr refl))))
+
+of_table : (found : Result Report Stop) → IfOk found (λ report. IsOfTable (report_answer report))
+of_table (Ok report) = report_of_table report.status report.text
+of_table (Err stop) = tt
 
 pub keeps_same : (known : Option (List ℕ)) → Keeps known known
 keeps_same None = tt
@@ -100,6 +112,9 @@ module _ {words : List (List ℕ)} {asked : Asked} {old now : List ℕ → Optio
   pub run_answer : (files : List ℕ → List ℕ) → TellsWords words old files → IsAnswered (IsAnswer words files) desk_before desk_now sink_before sink_now before written result
   run_answer files tells =
       concluded_answer sink_before sink_now before written result found (IsAnswer words files) desk_before desk_now (answer_to_words words asked old files found r.spelled tells r.reported.answered) r.reported.fault r.concluded
+
+  pub run_table : IsAnswered IsOfTable desk_before desk_now sink_before sink_now before written result
+  run_table = concluded_answer sink_before sink_now before written result found IsOfTable desk_before desk_now (of_table found) r.reported.fault r.concluded
 
   pub run_desk_left : ((setup log : List ℕ) → AsksOf words setup log → ⊥) → untouched
   run_desk_left none = nothing_named asked old now untouched found (λ setup log of. none setup log (asked, r.spelled, of)) r.reported.taken

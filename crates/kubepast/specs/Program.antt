@@ -1,5 +1,5 @@
 -- The answer of the program: a status and a text, of the words and the bytes of each name.
-use Rattle.std.specs.Prelude.{◌≡◌, ℕ, List, Option, Some, None, Result, Ok, Err, codes}
+use Rattle.std.specs.Prelude.{◌≡◌, ◌⊎◌, ℕ, List, Option, Some, None, Result, Ok, Err, codes}
 use Rattle.std.specs.Io.KnownBytes.{Keeps}
 use Rattle.case_maker.specs.Case.{log_text, setup_text}
 use Rattle.command_words.specs.Command.{Ask, Asked, Judge, Make, Strict, Verify, IsAsked}
@@ -42,6 +42,12 @@ IsAnswerTo (Some (Make number events)) files answered =
 -- the answer to the words, whose names have these bytes
 abbrev pub IsAnswer : List (List ℕ) → (List ℕ → List ℕ) → Answer → Type 0
 IsAnswer words files answered = (asked : Option Asked) × IsAsked words asked × IsAnswerTo asked files answered
+
+-- an answer of the table, whatever was read: `usage` with 2, or some text with the status of a verdict or of a refusal
+abbrev pub IsOfTable : Answer → Type 0
+IsOfTable answered =
+    (answered ≡ usage_answer)
+    ⊎ (answered.status ≡ 0) ⊎ (answered.status ≡ 1) ⊎ (answered.status ≡ 3) ⊎ (answered.status ≡ 4) ⊎ (answered.status ≡ 7)
 
 -- the report was written with its status, or why there is none; for want of memory nothing is written
 abbrev pub Concludes : Result Report Stop → ℕ → ℕ → Option (List ℕ) → Option (List ℕ) → ℕ → Type 0

@@ -7,12 +7,11 @@ ghost use Rattle.edge_io.specs.Faults.{Rose};
 ghost use Rattle.edge_io.specs.Whole.{TakesWhole};
 ghost use Rattle.log_intake.specs.Setup.{TakesSetup};
 ghost use Rattle.log_intake.specs.Taking.{TakesLog};
-ghost use Rattle.command_words.specs.Asking.{BeginsQuestion};
-ghost use Rattle.command_words.specs.Command.{Asked, AsksOf, IsAsked, Judge, Reads, TellsWords, Verify};
+ghost use Rattle.command_words.specs.Command.{Asked, AsksOf, IsAsked, Judge, MayWantMemory, Reads, TellsWords, Verify};
 ghost use Rattle.log_verdict.specs.Answers.{IsPlacementText};
 ghost use Rattle.log_verdict.specs.Verifying.{IsReadLast, most_placement};
 ghost use Rattle.log_verdict.specs.Endings.{IsAnswered};
-ghost use Rattle.kubepast.specs.Program.{Concludes, IsAnswer, usage_answer};
+ghost use Rattle.kubepast.specs.Program.{Concludes, IsAnswer, IsOfTable, usage_answer};
 
 use crate::reporting::report_of;
 use command_words::read_words;
@@ -42,9 +41,11 @@ pub fn run<R: Threads + Sync, D: Desk, K: Sink, G: Gate, H: Gate>(
         (K.written out.old) (K.written out.new) result }
 
     // Whether the desk tells its bytes or not.
+    ensures table { IsAnswered IsOfTable (D.faults desk.old) (D.faults desk.new) (K.faults out.old) (K.faults out.new)
+        (K.written out.old) (K.written out.new) result }
     ensures usage { IsAsked (map string_bytes words.now) None
         → Ends 2 usage_answer.text (K.faults out.old) (K.faults out.new) (K.written out.old)
-        (K.written out.new) result ⊎ (BeginsQuestion (map string_bytes words.now) × (result ≡ 8)) }
+        (K.written out.new) result ⊎ (MayWantMemory (map string_bytes words.now) × (result ≡ 8)) }
     ensures usage_only { result ≡ 2 → IsAsked (map string_bytes words.now) None }
     ensures read_fault { result ≡ 5 → Rose (D.faults desk.old) (D.faults desk.new) }
     ensures write_fault { result ≡ 6 → Rose (K.faults out.old) (K.faults out.new) }

@@ -4,7 +4,7 @@ use Rattle.log_intake.specs.Setup.{most_setup}
 use Rattle.command_words.specs.Command.{IsRead, Judge, Verify, command_asked}
 use Rattle.kubepast.specs.Program.{usage_answer}
 use Rattle.log_verdict.specs.Verifying.{most_placement}
-use Rattle.kubepast.proofs.RunFacts.{HasRun, keeps_same, run_answer, run_desk_left, run_log_left, run_log_taken, run_others_left, run_placement_after, run_placement_left, run_placement_taken, run_printed, run_setup_taken}
+use Rattle.kubepast.proofs.RunFacts.{HasRun, keeps_same, run_answer, run_desk_left, run_log_left, run_log_taken, run_others_left, run_placement_after, run_placement_left, run_placement_taken, run_printed, run_setup_taken, run_table}
 use Rattle.log_verdict.proofs.VerifyingFacts.{whole_untouched}
 use Rattle.kubepast.proofs.run.run.Given.{Over}
 use Rattle.kubepast.proofs.run.run.Goals as goal
@@ -12,6 +12,9 @@ use Rattle.kubepast.proofs.run.run.Goals as goal
 -- words that are no command
 pub returns-in-Ok-None-clause-answer : goal.returns-in-Ok-None-clause-answer
 returns-in-Ok-None-clause-answer g c = λ files tells. inl (usage_answer, (None, subst (IsRead (map (string_bytes {Z = Global}) c.args.words.now)) c.in-Ok-None.field-0-is c.in-Ok-None.ensures.read, refl), c.end_with.ensures.ends)
+
+pub returns-in-Ok-None-clause-table : goal.returns-in-Ok-None-clause-table
+returns-in-Ok-None-clause-table g c = inl (usage_answer, inl refl, c.end_with.ensures.ends)
 
 pub returns-in-Ok-None-clause-placement_taken : goal.returns-in-Ok-None-clause-placement_taken
 returns-in-Ok-None-clause-placement_taken g c = λ setup log placement asks. absurd (subst (IsRead (map (string_bytes {Z = Global}) c.args.words.now)) c.in-Ok-None.field-0-is c.in-Ok-None.ensures.read (Verify setup log placement) asks)
@@ -25,6 +28,9 @@ returns-in-Ok-None-clause-printed g c = λ setup log asks is. absurd (subst (IsR
 -- no memory for the words
 pub returns-in-Err-clause-answer : goal.returns-in-Err-clause-answer
 returns-in-Err-clause-answer g c = λ files tells. inr (inr (refl, keeps_same (g.K.Sink.written c.args.out.now)))
+
+pub returns-in-Err-clause-table : goal.returns-in-Err-clause-table
+returns-in-Err-clause-table g c = inr (inr (refl, keeps_same (g.K.Sink.written c.args.out.now)))
 
 pub returns-in-Err-clause-usage : goal.returns-in-Err-clause-usage
 returns-in-Err-clause-usage g c = λ none. inr (c.in-Err.ensures.memory, refl)
@@ -57,6 +63,9 @@ ran g c = record {
 
 pub returns-in-Ok-Some-clause-answer : goal.returns-in-Ok-Some-clause-answer
 returns-in-Ok-Some-clause-answer g c = run_answer (ran g c)
+
+pub returns-in-Ok-Some-clause-table : goal.returns-in-Ok-Some-clause-table
+returns-in-Ok-Some-clause-table g c = run_table (ran g c)
 
 pub returns-in-Ok-Some-clause-desk_left : goal.returns-in-Ok-Some-clause-desk_left
 returns-in-Ok-Some-clause-desk_left g c = run_desk_left (ran g c)
