@@ -1,5 +1,5 @@
 -- Names that are looked at one after another: which are equal.
-use Rattle.std.proofs.Common.{◌≡◌, ℕ, zero, suc, ◌+◌, ◌<◌, List, [], ◌∷◌, length, map, drop, get_or, Bool, true, false, cond, ◌||◌, bytes_eq, if◌then◌else◌, Bor, BTreeSet, nat_cmp, is_eq, refl, sym, ◌∙◌, ap}
+use Rattle.std.proofs.Common.{◌≡◌, ℕ, zero, suc, ◌+◌, ◌<◌, List, [], ◌∷◌, length, map, drop, get_or, Bool, true, false, cond, not, ◌||◌, bytes_eq, if◌then◌else◌, Bor, BTreeSet, nat_cmp, is_eq, refl, sym, ◌∙◌, ap}
 use Rattle.std.specs.BTreeSet.{Updates, contains_by}
 use Rattle.std.specs.Cmp.Lexicographic.{slice_cmp}
 use Rattle.std.specs.List.{list_any}
@@ -49,12 +49,25 @@ or_is : (a b : Bool) → cond a true b ≡ (a || b)
 or_is true b = refl
 or_is false b = refl
 
+is_absent : (present added : Bool) → added ≡ not present → added ≡ true → present ≡ false
+is_absent true added is said = absurd (let both : true ≡ false = sym said ∙ is in cc)
+is_absent false added is said = refl
+
+is_present : (present added : Bool) → added ≡ not present → added ≡ false → present ≡ true
+is_present true added is said = refl
+is_present false added is said = absurd (let both : false ≡ true = sym said ∙ is in cc)
+
+-- a name that the set doesn't take is one of those behind it
+pub held_twice : (old : BTreeSet (Bor (List ℕ))) (key : Bor (List ℕ)) (names : List (List ℕ)) (added : Bool) → AreHeld old names
+    → added ≡ not (contains_by (λ (other : Bor (List ℕ)). slice_cmp nat_cmp key.now other.now) old) → added ≡ false → are_distinct (key.now ∷ names) ≡ false
+held_twice old key names added held is said = distinct_by key.now names true (sym (held.holds key.now) ∙ is_present _ added is said)
+
 -- one name more
-pub one_held : (old new : BTreeSet (Bor (List ℕ))) (key : Bor (List ℕ)) (names : List (List ℕ)) → AreHeld old names
-    → contains_by (λ (other : Bor (List ℕ)). slice_cmp nat_cmp key.now other.now) old ≡ false
+pub one_held : (old new : BTreeSet (Bor (List ℕ))) (key : Bor (List ℕ)) (names : List (List ℕ)) (added : Bool) → AreHeld old names
+    → added ≡ not (contains_by (λ (other : Bor (List ℕ)). slice_cmp nat_cmp key.now other.now) old) → added ≡ true
     → Updates (λ (x y : Bor (List ℕ)). slice_cmp nat_cmp x.now y.now) old new key true → AreHeld new (key.now ∷ names)
-one_held old new key names held absent updates = record {
-  differ = distinct_by key.now names false (sym (held.holds key.now) ∙ absent) ∙ held.differ;
+one_held old new key names added held is said updates = record {
+  differ = distinct_by key.now names false (sym (held.holds key.now) ∙ is_absent _ added is said) ∙ held.differ;
   holds = λ name.
       let query : Bor (List ℕ) = record { ref_ptr = (0, 0); now = name } in
       updates.0 query
