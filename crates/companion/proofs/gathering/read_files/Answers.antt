@@ -1,4 +1,4 @@
-use Rattle.std.proofs.Common.{◌≡◌, ◌∷◌, ◌+◌, map, string_bytes, drop, Global, ap, rules}
+use Rattle.std.proofs.Common.{◌≡◌, ◌+◌, map, string_bytes, drop, Global, ap, rules}
 use Rattle.std.proofs.lemmas.List.{drop_all}
 use Rattle.companion.proofs.GatheringFacts.{all_read, ended, ended_for_memory, none_read, read_on}
 use Rattle.companion.proofs.NameFacts.{item_in_front}

@@ -1,4 +1,4 @@
-use Rattle.std.proofs.Common.{◌≡◌, ◌∷◌, ◌+◌, ◌-◌, ◌<◌, [], true, false, length, map, string_bytes, drop, Global, arith, rules, sym, ◌∙◌, ap, subst}
+use Rattle.std.proofs.Common.{◌≡◌, ◌+◌, ◌-◌, ◌<◌, [], true, length, map, string_bytes, drop, Global, arith, rules, sym, ◌∙◌, ap, subst}
 use Rattle.std.proofs.lemmas.List.{drop_all}
 use Rattle.companion.specs.Command.{are_distinct}
 use Rattle.companion.proofs.NameFacts.{AreHeld, equal_behind, held_twice, item_in_front, none_held, one_held}
