@@ -65,14 +65,12 @@ pub fn first_refused(trees: &[Tree], left: &[Tree]) -> Option<SetupRefusal>
     requires { length left.now ≤ length trees.now }
     ensures { result ≡ first_refused trees.now left.now }
 {
-    match left {
-        [] => None,
-        [tree, later @ ..] => match file_fault(trees, later, tree) {
-            Some(code) => {
-                let number = trees.len() - later.len();
-                Some(SetupRefusal::File { number, code })
-            }
-            None => first_refused(trees, later),
-        },
+    for at in 0..left.len() {
+        let later = &left[at + 1..];
+        if let Some(code) = file_fault(trees, later, &left[at]) {
+            let number = trees.len() - later.len();
+            return Some(SetupRefusal::File { number, code });
+        }
     }
+    None
 }

@@ -1,9 +1,8 @@
 -- Files that are read one after another.
-use Rattle.std.proofs.Common.{◌≡◌, ◌≢◌, ℕ, zero, suc, ◌-◌, ◌<◌, ◌≤◌, List, [], ◌∷◌, ◌++◌, length, map, take, drop, get_or, Bool, true, false, Contains, Option, Some, Result, Ok, Err, OnOk, IsErrOf, bytes_eq, if◌then◌else◌, inl, inr, refl, sym, ◌∙◌, ap, subst, arith, append_assoc}
+use Rattle.std.proofs.Common.{◌≡◌, ◌≢◌, ℕ, zero, ◌<◌, ◌≤◌, List, [], ◌∷◌, ◌++◌, length, map, Bool, true, false, Contains, Option, Some, Result, Ok, Err, OnOk, IsErrOf, bytes_eq, if◌then◌else◌, inl, inr, refl, sym, ◌∙◌, ap, subst, arith, append_assoc}
 use Rattle.std.specs.List.{list_any}
 use Rattle.std.proofs.lemmas.Cmp.{nat_list_eq_equiv}
 use Rattle.std.proofs.lemmas.List.{append-nil}
-use Rattle.std.proofs.Math.Seq.{take-length}
 use Rattle.std.proofs.lemmas.List.Elements.{Contains-append_right}
 use Rattle.std.proofs.lemmas.Map.Views.{list_any-from_Contains}
 use Rattle.edge_io.specs.Faults.{Rose}
@@ -15,13 +14,6 @@ use Rattle.companion.specs.Gathering.{AreGathered, AreGiven}
 use Rattle.companion.specs.Making.{SomeLong, TellsAll, most_file}
 use Rattle.companion.specs.declared.gathering.Given.{Given}
 
--- a list, as its first item and what stands behind it
-pub first_in_front : {A B : Type 0} (f : A → B) (xs : List A) (first : A) → 1 ≤ length xs → first ≡ get_or xs 0 first → map f xs ≡ f first ∷ map f (take (length xs - 1) (drop 1 xs))
-first_in_front f [] first some is = absurd (omega arith)
-first_in_front f (x ∷ xs) first some is =
-    let e : suc (length xs) - 1 ≡ length xs = omega arith in
-    ap (λ y. f y ∷ map f xs) (sym is) ∙ ap (λ l. f first ∷ map f l) (sym (ap (λ n. take n xs) e ∙ take-length xs))
-
 first_of : (name : List ℕ) (names : List (List ℕ)) → Contains (name ∷ names) name
 first_of name names = (zero, omega arith, refl)
 
@@ -32,7 +24,7 @@ distinct_parts : (among rest : Bool) → (if among then false else rest) ≡ tru
 distinct_parts true rest is = absurd (let no : false ≡ true = is in cc)
 distinct_parts false rest is = (refl, is)
 
-pub distinct_rest : (name : List ℕ) (names : List (List ℕ)) → are_distinct (name ∷ names) ≡ true → are_distinct names ≡ true
+distinct_rest : (name : List ℕ) (names : List (List ℕ)) → are_distinct (name ∷ names) ≡ true → are_distinct names ≡ true
 distinct_rest name names differ = (distinct_parts (list_any (bytes_eq name) names) (are_distinct names) differ).1
 
 apart : (name : List ℕ) (names : List (List ℕ)) → are_distinct (name ∷ names) ≡ true → (other : List ℕ) → Contains names other → other ≢ name
@@ -94,7 +86,7 @@ stop_long OutOfMemory bytes answers is = absurd (cc)
 
 -- the first of the names, what the desk had before and what it has now, and the counts of its faults
 module _ (name : List ℕ) (names : List (List ℕ)) (old mid : List ℕ → Option (List ℕ)) (faults_before faults_mid : ℕ) where
-  pub stopped : {A : Type 0} (before now : List (List ℕ)) (stop : WholeStop) → ((bytes : List ℕ) → old name ≡ Some bytes → AnswersWhole most_file bytes (Err stop))
+  stopped : {A : Type 0} (before now : List (List ℕ)) (stop : WholeStop) → ((bytes : List ℕ) → old name ≡ Some bytes → AnswersWhole most_file bytes (Err stop))
       → (◌≡◌ {A = Result (List ℕ) WholeStop} (Err stop) (Err ReadFault) → Rose faults_before faults_mid) → faults_before ≤ faults_mid → ((other : List ℕ) → other ≢ name → mid other ≡ old other)
       → AreGathered {A = A} (name ∷ names) before now old mid faults_before faults_mid (Err stop)
   stopped before now stop answers fault counted others = record {
@@ -105,7 +97,7 @@ module _ (name : List ℕ) (names : List (List ℕ)) (old mid : List ℕ → Opt
     others = left_first name names old mid others;
   }
 
-  pub gave_up : {A : Type 0} (before now : List (List ℕ)) → faults_before ≤ faults_mid → ((other : List ℕ) → other ≢ name → mid other ≡ old other)
+  gave_up : {A : Type 0} (before now : List (List ℕ)) → faults_before ≤ faults_mid → ((other : List ℕ) → other ≢ name → mid other ≡ old other)
       → AreGathered {A = A} (name ∷ names) before now old mid faults_before faults_mid (Err OutOfMemory)
   gave_up before now counted others = record {
     read = tt;
@@ -137,7 +129,7 @@ module _ (name : List ℕ) (names : List (List ℕ)) (old mid : List ℕ → Opt
           (gathered told name bytes names before between now pushed (is_told told tells) behind.0, none_long (told name) (map told names) (short_told told tells) behind.1)
       read_behind before (Err stop) pushed rest = tt
 
-      pub more : {A : Type 0} (before : List (List ℕ)) (found : Result A WholeStop) → between ≡ before ++ bytes ∷ [] → AreGathered names between now mid left faults_mid faults_now found
+      more : {A : Type 0} (before : List (List ℕ)) (found : Result A WholeStop) → between ≡ before ++ bytes ∷ [] → AreGathered names between now mid left faults_mid faults_now found
           → AreGathered (name ∷ names) before now old left faults_before faults_now found
       more before found pushed rest =
           let later = rest.counted in
@@ -173,7 +165,7 @@ module _ (name : List ℕ) (names : List (List ℕ)) (old mid : List ℕ → Opt
         others = left_behind name names old mid left others rest.others;
       }
 
-pub nothing_gathered : {A : Type 0} (items : List (List ℕ)) (old : List ℕ → Option (List ℕ)) (faults : ℕ) (value : A) → AreGathered [] items items old old faults faults (Ok value)
+nothing_gathered : {A : Type 0} (items : List (List ℕ)) (old : List ℕ → Option (List ℕ)) (faults : ℕ) (value : A) → AreGathered [] items items old old faults faults (Ok value)
 nothing_gathered items old faults value = record {
   read = λ told tells. (sym (append-nil items), λ long. long);
   long = λ is. absurd (no_stop value TooLong is);
@@ -192,3 +184,42 @@ policy_stopped policy names old mid faults_before faults_mid stop answers fault 
   fault = λ is. fault (as_stop stop ReadFault is);
   others = left_first policy names old mid others;
 }
+
+-- some names were read, and what is made of those behind is made of all
+pub record IsUnderWay (names behind before between : List (List ℕ)) (old mid : List ℕ → Option (List ℕ)) (faults_before faults_mid : ℕ) : Type 0 where
+  pub differ : are_distinct behind ≡ true
+  pub whole : (now : List (List ℕ)) (left : List ℕ → Option (List ℕ)) (faults_now : ℕ) (found : Result (Unit {0}) WholeStop)
+      → AreGathered behind between now mid left faults_mid faults_now found → AreGathered names before now old left faults_before faults_now found
+
+pub none_read : (names before : List (List ℕ)) (old : List ℕ → Option (List ℕ)) (faults : ℕ) → are_distinct names ≡ true → IsUnderWay names names before before old old faults faults
+none_read names before old faults differ = record { differ = differ; whole = λ now left faults_now found gathered. gathered }
+
+pub all_read : (names behind before between : List (List ℕ)) (old mid : List ℕ → Option (List ℕ)) (faults_before faults_mid : ℕ) (value : Unit {0})
+    → behind ≡ [] → IsUnderWay names behind before between old mid faults_before faults_mid → AreGathered names before between old mid faults_before faults_mid (Ok value)
+all_read names behind before between old mid faults_before faults_mid value none under =
+    under.whole between mid faults_mid (Ok value)
+    (subst (λ b. AreGathered b between between mid mid faults_mid faults_mid (Ok value)) (sym none) (nothing_gathered between mid faults_mid value))
+
+-- one name more is read, or the reading ends there
+module _ (names behind later : List (List ℕ)) (name : List ℕ) (before between : List (List ℕ)) (old mid left : List ℕ → Option (List ℕ)) (faults_before faults_mid faults_left : ℕ)
+    (front : behind ≡ name ∷ later) (under : IsUnderWay names behind before between old mid faults_before faults_mid)
+    (counted : faults_mid ≤ faults_left) (others : (other : List ℕ) → other ≢ name → left other ≡ mid other) where
+  here : IsUnderWay names (name ∷ later) before between old mid faults_before faults_mid
+  here = subst (λ b. IsUnderWay names b before between old mid faults_before faults_mid) front under
+
+  pub read_on : (bytes : List ℕ) (items : List (List ℕ)) → ((all : List ℕ) → mid name ≡ Some all → AnswersWhole most_file all (Ok bytes)) → length bytes ≤ most_file
+      → items ≡ between ++ bytes ∷ [] → IsUnderWay names later before items old left faults_before faults_left
+  read_on bytes items answers short pushed = record {
+    differ = distinct_rest name later here.differ;
+    whole = λ now end faults_now found rest.
+        here.whole now end faults_now found
+        (more name later mid left faults_mid faults_left bytes here.differ answers short counted others items now end faults_now between found pushed rest);
+  }
+
+  pub ended : (stop : WholeStop) → ((bytes : List ℕ) → mid name ≡ Some bytes → AnswersWhole most_file bytes (Err stop))
+      → (◌≡◌ {A = Result (List ℕ) WholeStop} (Err stop) (Err ReadFault) → Rose faults_mid faults_left)
+      → AreGathered {A = Unit {0}} names before between old left faults_before faults_left (Err stop)
+  ended stop answers fault = here.whole between left faults_left (Err stop) (stopped name later mid left faults_mid faults_left between between stop answers fault counted others)
+
+  pub ended_for_memory : (now : List (List ℕ)) → AreGathered {A = Unit {0}} names before now old left faults_before faults_left (Err OutOfMemory)
+  ended_for_memory now = here.whole now left faults_left (Err OutOfMemory) (gave_up name later mid left faults_mid faults_left between now counted others)

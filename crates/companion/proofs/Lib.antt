@@ -5,3 +5,4 @@ pub mod GatheringFacts
 pub mod MakingFacts
 pub mod SetupWords
 pub mod PicturingFacts
+pub mod NameFacts

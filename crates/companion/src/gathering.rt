@@ -54,14 +54,14 @@ fn read_files<D: Desk>(
     ensures { AreGathered (map string_bytes names.now) given.old.items given.new.items (D.left desk.old)
         (D.left desk.new) (D.faults desk.old) (D.faults desk.new) result }
 {
-    match names {
-        [name, behind @ ..] => match read_input(alloc, desk, name, MOST_FILE) {
+    for name in names {
+        match read_input(alloc, desk, name, MOST_FILE) {
             Ok(bytes) => match given.push(bytes) {
-                Ok(()) => read_files(alloc, desk, behind, given),
-                Err(_) => Err(WholeStop::OutOfMemory),
+                Ok(()) => {}
+                Err(_) => return Err(WholeStop::OutOfMemory),
             },
-            Err(stop) => Err(stop),
-        },
-        [] => Ok(()),
+            Err(stop) => return Err(stop),
+        }
     }
+    Ok(())
 }

@@ -52,7 +52,7 @@ pub fn run<R: Threads + Sync, D: Desk, K: Sink, G: Gate, H: Gate>(
         events: gate,
         lines,
     };
-    match read_words(words) {
+    match read_words(alloc, words) {
         Some(command) => conclude(out, report_of(rt, alloc, command, desk, gates)),
         None => end_with(out, 2, b"usage\n"),
     }

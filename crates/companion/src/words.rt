@@ -1,8 +1,11 @@
-ghost use Rattle.std.specs.Prelude.{◌≡◌, ◌∷◌, [], true, bytes_eq, map, string_bytes, codes};
+ghost use Rattle.std.specs.Prelude.{◌≡◌, ◌∷◌, [], true, IfOk, bytes_eq, map, string_bytes, codes};
 ghost use Rattle.std.specs.List.{list_any};
 ghost use Rattle.companion.specs.Command.{IsRead, IsSetupRead, are_distinct};
 
+use base_types::OutOfMemory;
 use code_guide::explain;
+use std::alloc::Global;
+use std::collections::BTreeSet;
 
 /// What the words of the command line ask for.
 #[derive(Drop)]
@@ -31,16 +34,16 @@ pub enum Command<'a> {
 }
 
 /// Reads the words behind the program's name: none where they are no command.
-pub fn read_words(words: &[String]) -> Option<Command<'_>>
+pub fn read_words(alloc: Global, words: &[String]) -> Option<Command<'_>>
     ensures { IsRead (map string_bytes words.now) result }
 {
     match words {
-        [verb, rest @ ..] => read_verb(verb, rest),
+        [verb, rest @ ..] => read_verb(alloc, verb, rest),
         _ => None,
     }
 }
 
-fn read_verb<'a>(verb: &str, rest: &'a [String]) -> Option<Command<'a>>
+fn read_verb<'a>(alloc: Global, verb: &str, rest: &'a [String]) -> Option<Command<'a>>
     ensures { IsRead (verb.now ∷ map string_bytes rest.entry.now) result }
 {
     if verb == "explain" {
@@ -50,7 +53,7 @@ fn read_verb<'a>(verb: &str, rest: &'a [String]) -> Option<Command<'a>>
         return sift_words(rest);
     }
     if verb == "setup" {
-        return setup_words(rest);
+        return setup_words(alloc, rest);
     }
     if verb == "picture" {
         return picture_words(rest);
@@ -86,34 +89,40 @@ fn left_words<'a>(mode: &str, log: &'a str) -> Option<Command<'a>>
     None
 }
 
-fn setup_words<'a>(rest: &'a [String]) -> Option<Command<'a>>
+fn setup_words<'a>(alloc: Global, rest: &'a [String]) -> Option<Command<'a>>
     ensures { IsRead (codes "setup" ∷ map string_bytes rest.entry.now) result }
 {
     match rest {
-        [first, second, others @ ..] => mode_words(first, second, others),
+        [first, second, others @ ..] => mode_words(alloc, first, second, others),
         _ => None,
     }
 }
 
-fn mode_words<'a>(first: &'a str, second: &'a str, others: &'a [String]) -> Option<Command<'a>>
+fn mode_words<'a>(
+    alloc: Global,
+    first: &'a str,
+    second: &'a str,
+    others: &'a [String],
+) -> Option<Command<'a>>
     ensures { IsRead (codes "setup" ∷ first.entry.now ∷ second.entry.now ∷ map string_bytes others.entry.now) result }
 {
     if first == "--authorize" {
-        return authorized_words(second, others);
+        return authorized_words(alloc, second, others);
     }
-    named_words(false, first, second, others)
+    named_words(alloc, false, first, second, others)
 }
 
-fn authorized_words<'a>(time: &'a str, others: &'a [String]) -> Option<Command<'a>>
+fn authorized_words<'a>(alloc: Global, time: &'a str, others: &'a [String]) -> Option<Command<'a>>
     ensures { IsSetupRead true (time.entry.now ∷ map string_bytes others.entry.now) result }
 {
     match others {
-        [policy, files @ ..] => named_words(true, time, policy, files),
+        [policy, files @ ..] => named_words(alloc, true, time, policy, files),
         [] => None,
     }
 }
 
 fn named_words<'a>(
+    alloc: Global,
     authorize: bool,
     time: &'a str,
     policy: &'a str,
@@ -130,7 +139,7 @@ fn named_words<'a>(
     if is_among(policy, files) {
         return None;
     }
-    if !are_distinct(files) {
+    if !are_distinct(alloc, files) {
         return None;
     }
     Some(Command::Setup {
@@ -163,18 +172,40 @@ fn pictured_words<'a>(setup: &'a str, log: &'a str) -> Option<Command<'a>>
 fn is_among(name: &str, names: &[String]) -> bool
     ensures { result ≡ list_any (bytes_eq name.now) (map string_bytes names.now) }
 {
-    match names {
-        [first, others @ ..] => name == first.as_str() || is_among(name, others),
-        [] => false,
-    }
+    names.iter().any(|other| name == other.as_str())
 }
 
-// Whether no two names are equal.
-fn are_distinct(names: &[String]) -> bool
+// Whether no two names are equal, by a set of the names behind each.
+fn are_distinct_by_set(alloc: Global, names: &[String]) -> Result<bool, OutOfMemory>
+    ensures { IfOk result (λ distinct. distinct ≡ are_distinct (map string_bytes names.now)) }
+{
+    let mut behind = BTreeSet::new(alloc);
+    for at in (0..names.len()).rev() {
+        if !behind.insert(names[at].as_str())? {
+            return Ok(false);
+        }
+    }
+    Ok(true)
+}
+
+// The same with no memory: each name is compared with those behind it.
+fn are_distinct_by_name(names: &[String]) -> bool
     ensures { result ≡ are_distinct (map string_bytes names.now) }
 {
-    match names {
-        [first, others @ ..] => !is_among(first, others) && are_distinct(others),
-        [] => true,
+    for at in 0..names.len() {
+        if is_among(&names[at], &names[at + 1..]) {
+            return false;
+        }
+    }
+    true
+}
+
+// Whether no two names are equal. A set is faster, but there may be no memory for one.
+fn are_distinct(alloc: Global, names: &[String]) -> bool
+    ensures { result ≡ are_distinct (map string_bytes names.now) }
+{
+    match are_distinct_by_set(alloc, names) {
+        Ok(distinct) => distinct,
+        Err(_) => are_distinct_by_name(names),
     }
 }

@@ -77,6 +77,12 @@ fn cases() -> &'static str {
     CASES
 }
 
+// How many files more a setup is given, where it is given many.
+const MANY: u32 = 2_000;
+
+// Such a file.
+const NO_RESOURCES: &str = r#"{"kind":"APIResourceList"}"#;
+
 fn text_of(rt: &(impl Abort + AllocGlobal), text: &str) -> String {
     String::from_str(rt.alloc(), text).expect(rt, "memory")
 }
@@ -91,10 +97,15 @@ fn add_file(rt: &(impl Abort + AllocGlobal), all: &mut InputFiles, piece: &str) 
     }
 }
 
-fn desk_of(rt: &(impl Abort + AllocGlobal), failing_read: u64) -> MemoryDesk {
+// The files, and so many more whose names are the numbers from 0 on.
+fn desk_of(rt: &(impl Abort + AllocGlobal), more: u32, failing_read: u64) -> MemoryDesk {
     let mut all = InputFiles::new(rt.alloc());
     for piece in files().split('=') {
         add_file(rt, &mut all, piece);
+    }
+    for number in 0..more {
+        let piece = format!(in rt.alloc(); "{number}\n{}", NO_RESOURCES).expect(rt, "memory");
+        add_file(rt, &mut all, piece.as_str());
     }
     MemoryDesk::new(rt.alloc(), all, 64, &[failing_read]).expect(rt, "memory")
 }
@@ -107,21 +118,18 @@ fn words_of(rt: &(impl Abort + AllocGlobal), text: &str) -> Vec<String> {
     words
 }
 
-// The status of the program for words, a space, and what it writes, in pieces of 7 bytes. Reads and writes are counted
-// from 1.
-fn answer_of<R: Threads + Sync + Abort + AllocGlobal>(
+// The status of the program for words, a space, and what it writes, in pieces of 7 bytes.
+fn answer_from<R: Threads + Sync + Abort + AllocGlobal>(
     rt: &R,
-    words: &str,
-    failing_read: u64,
+    words: &[String],
+    mut desk: MemoryDesk,
     failing_write: u64,
 ) -> String {
-    let given = words_of(rt, words);
-    let mut desk = desk_of(rt, failing_read);
     let mut sink = MemorySink::new(rt.alloc(), 7, &[failing_write]).expect(rt, "memory");
     let status = run(
         rt,
         rt.alloc(),
-        &given,
+        words,
         &mut desk,
         &mut sink,
         &FreeGate,
@@ -130,6 +138,17 @@ fn answer_of<R: Threads + Sync + Abort + AllocGlobal>(
     let written = sink.written().to_vec(rt.alloc()).expect(rt, "memory");
     let text = String::from_utf8(written).expect(rt, "text");
     format!(in rt.alloc(); "{status} {}", text.as_str()).expect(rt, "memory")
+}
+
+// The same for words with a space between two. Reads and writes are counted from 1.
+fn answer_of<R: Threads + Sync + Abort + AllocGlobal>(
+    rt: &R,
+    words: &str,
+    failing_read: u64,
+    failing_write: u64,
+) -> String {
+    let given = words_of(rt, words);
+    answer_from(rt, &given, desk_of(rt, 0, failing_read), failing_write)
 }
 
 // Whether a text is that of a file, behind a front.
@@ -186,6 +205,23 @@ fn is_write_fault<R: Threads + Sync + Abort + AllocGlobal>(rt: &R) -> bool {
 #[test]
 fn faults_of_desk_and_sink_are_told(rt: HostRuntime) {
     assert!(&rt; is_read_fault(&rt) && is_write_fault(&rt));
+}
+
+// The answer to a setup of many files, and of one more with this name.
+fn answer_to_many<R: Threads + Sync + Abort + AllocGlobal>(rt: &R, last: &str) -> String {
+    let mut words = words_of(rt, "setup 2024-05-01T10:00:00Z policy");
+    for number in 0..MANY {
+        let name = format!(in rt.alloc(); "{number}").expect(rt, "memory");
+        words.push(name).expect(rt, "memory");
+    }
+    words.push(text_of(rt, last)).expect(rt, "memory");
+    answer_from(rt, &words, desk_of(rt, MANY, 0), 0)
+}
+
+#[test]
+fn many_files_are_read_if_their_names_differ(rt: HostRuntime) {
+    assert!(&rt; answer_to_many(&rt, "core").as_str() == "3 empty\n");
+    assert!(&rt; answer_to_many(&rt, "0").as_str() == "2 usage\n");
 }
 
 // No file is given, as no words can ask for.
