@@ -13,7 +13,7 @@ use Rattle.version_store.specs.Known.{Known}
 use Rattle.write_groups.specs.declared.event.LogEvent.{LogEvent}
 use Rattle.write_groups.specs.declared.event.Shown.{Shown}
 use Rattle.write_groups.specs.declared.event.Shown.TheVariants.{Made, Removed, Opaque, Saw, SawNone, SawSome, SawOther, Listed, Free, Aside}
-use Rattle.finding_picture.specs.Limits.{most_marks, most_rows}
+use Rattle.finding_picture.specs.Limits.{most_rows, most_versions}
 use Rattle.finding_picture.specs.declared.objects.TheConstants.{BEFORE_OBJECT, BEHIND_OBJECT, NO_OBJECT}
 
 -- the object that an answer speaks of, where it is one
@@ -77,10 +77,10 @@ removals_of known key = filter (λ removal. same_key removal.key key) known.remo
 -- the first of them as rows, and how many others there are
 unfoldable pub object_rows : List LogEvent → List Version → List Removal → List ℕ
 object_rows log versions removals =
-    flat_map (version_row log) (take most_marks versions)
+    flat_map (version_row log) (take most_versions versions)
     ++ (flat_map (removal_row log) (take most_rows removals)
     ++ (shown (fixed (codes "</table>\n") ∷ [])
-    ++ (rest_text most_marks (length versions) (codes "Versions that aren't listed")
+    ++ (rest_text most_versions (length versions) (codes "Versions that aren't listed")
     ++ rest_text most_rows (length removals) (codes "Removals that aren't listed"))))
 
 unfoldable pub object_text : Known → Option ObjectKey → List ℕ

@@ -4,7 +4,7 @@ ghost use Rattle.finding_picture.specs.Objects.{answer_key, key_on, line_at, log
 ghost use Rattle.finding_picture.specs.Objects.{object_section, object_text, removal_row, removals_of, version_row};
 ghost use Rattle.finding_picture.specs.Objects.{versions_of};
 
-use crate::limits::{MOST_MARKS, MOST_ROWS};
+use crate::limits::{MOST_ROWS, MOST_VERSIONS};
 use base_types::{ObjectKey, OutOfMemory, key_text};
 use markup::{Told, first_of, push_rest};
 use object_past::{Maker, Removal, Version};
@@ -113,12 +113,12 @@ fn push_object_rows(
     ensures { OnOk result (string_bytes text.new ≡ string_bytes text.old
         ++ object_rows log.now (map (λ v. v.now) versions.now) (map (λ r. r.now) removals.now)) }
 {
-    push_versions(text, log, first_of(versions, MOST_MARKS))?;
+    push_versions(text, log, first_of(versions, MOST_VERSIONS))?;
     push_removals(text, log, first_of(removals, MOST_ROWS))?;
     text.push_str("</table>\n")?;
     push_rest(
         text,
-        MOST_MARKS,
+        MOST_VERSIONS,
         versions.len(),
         "Versions that aren't listed",
     )?;

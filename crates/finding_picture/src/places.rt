@@ -1,13 +1,15 @@
-ghost use Rattle.std.specs.Prelude.{◌≡◌, ◌++◌, OnOk, string_bytes};
-ghost use Rattle.finding_picture.specs.Places.{band_text, marks_text, places_text};
+ghost use Rattle.std.specs.Prelude.{◌≡◌, ◌++◌, OnOk, map, option_map, string_bytes};
+ghost use Rattle.finding_picture.specs.Places.{band_text, drawing_text, marks_text, places_text};
 
 use crate::finding::Finding;
-use crate::limits::MOST_MARKS;
+use crate::limits::{MOST_MARKS, MOST_SEGMENTS};
 use crate::marks::{places_axis, push_mark};
 use crate::objects::key_on;
-use crate::segments::push_segments;
-use base_types::{OutOfMemory, WriteLine};
+use crate::segments::{push_segments, versions_on};
+use base_types::{ObjectKey, OutOfMemory, WriteLine};
 use markup::{Axis, first_of, push_rest};
+use object_past::Version;
+use std::alloc::Global;
 use version_store::Context;
 
 /// What stands before how many writes are drawn.
@@ -30,9 +32,10 @@ pub const BAND_AND_AXIS: &str = r#". The table of the writes has each.</desc>
 /// What stands behind the marks.
 pub const BEHIND_PLACES: &str = "</svg>\n</figure>\n";
 
-/// Appends the drawing of the window and of the writes in it.
+/// Appends the drawing of the window, of the writes in it and of the versions of the event's object.
 #[tactic(auto, unfolding(crate::specs::Places::places_text))]
 pub fn push_places(
+    alloc: Global,
     text: &mut String,
     context: &Context,
     finding: &Finding<'_>,
@@ -41,9 +44,26 @@ pub fn push_places(
 {
     let versions = context.versions();
     let axis = places_axis(versions, finding.low, finding.high);
+    let key = key_on(context.log(), finding.line);
+    let own = versions_on(alloc, &axis, versions, key)?;
+    push_drawing(text, &axis, finding, key, own.as_slice())?;
+    Ok(())
+}
+
+#[tactic(auto, unfolding(crate::specs::Places::drawing_text))]
+fn push_drawing(
+    text: &mut String,
+    axis: &Axis,
+    finding: &Finding<'_>,
+    key: Option<&ObjectKey>,
+    own: &[&Version],
+) -> Result<(), OutOfMemory>
+    ensures { OnOk result (string_bytes text.new ≡ string_bytes text.old
+        ++ drawing_text axis.now finding.now (option_map (λ key. key.now) key.entry) (map (λ v. v.now) own.now)) }
+{
     push_band(text, finding)?;
-    push_marks(text, &axis, finding.writes)?;
-    push_segments(text, &axis, versions, key_on(context.log(), finding.line))?;
+    push_marks(text, axis, finding.writes)?;
+    push_segments(text, axis, key, own)?;
     text.push_str(BEHIND_PLACES)?;
     push_rest(
         text,
@@ -51,6 +71,7 @@ pub fn push_places(
         finding.writes.len(),
         "Writes that aren't drawn",
     )?;
+    push_rest(text, MOST_SEGMENTS, own.len(), "Versions that aren't drawn")?;
     Ok(())
 }
 

@@ -13,7 +13,7 @@ returns c = rw (
   c.in_ok-push_versions.ensures,
   c.first_of.ensures,
   c.first_of-2.ensures,
-  take-map (λ v. v.now) 2000 c.args.versions.now,
+  take-map (λ v. v.now) 1800 c.args.versions.now,
   take-map (λ r. r.now) 200 c.args.removals.now,
   length-map c.args.versions.now (λ v. v.now),
   length-map c.args.removals.now (λ r. r.now),
