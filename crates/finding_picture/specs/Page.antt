@@ -21,7 +21,7 @@ page_text known finding =
     ++ (places_text known finding
     ++ (times_text known.events (event_on known.events finding.line) finding.writes.now
     ++ (rows_text known.events finding.writes.now
-    ++ (object_section known finding.line
+    ++ (object_section known finding.line finding.low
     ++ (hiding_text known
     ++ (caches_text known finding
     ++ end_text))))))))

@@ -12,6 +12,7 @@ use Rattle.finding_picture.specs.Limits.{most_marks, most_segments}
 use Rattle.finding_picture.specs.Marks.{mark_text, places_axis}
 use Rattle.finding_picture.specs.Objects.{key_on}
 use Rattle.finding_picture.specs.Segments.{segments_text, versions_on}
+use Rattle.finding_picture.specs.Lasting.{since}
 use Rattle.finding_picture.specs.declared.finding.Finding.{Finding}
 use Rattle.finding_picture.specs.declared.places.TheConstants.{BEFORE_PLACES, BAND_AND_AXIS, BEHIND_PLACES}
 
@@ -43,4 +44,4 @@ finding_axis known finding = places_axis known.versions finding.low finding.high
 unfoldable pub places_text : Known → Finding → List ℕ
 places_text known finding =
     drawing_text (finding_axis known finding) finding (key_on known.log finding.line)
-    (versions_on (finding_axis known finding) known.versions (key_on known.log finding.line))
+    (since finding.low (versions_on (finding_axis known finding) known.versions (key_on known.log finding.line)))

@@ -21,7 +21,7 @@ segment_text axis version = shown (
     ∷ fixed (codes "\" height=\"18\"><title>from revision ") ∷ number version.revision
     ∷ fixed (codes ": uid ") ∷ told version.uid ∷ fixed (codes "</title></rect>\n") ∷ [])
 
--- it is one of the object, and there at some place of the axis
+-- it is one of the object, and comes up to the last place of the axis
 abbrev pub is_on_axis : Axis → ObjectKey → Version → Bool
 is_on_axis axis key version = same_key version.key key && nat_le version.revision axis.high
 

@@ -2,6 +2,7 @@ ghost use Rattle.std.specs.Prelude.{◌≡◌, ◌++◌, OnOk, map, option_map, 
 ghost use Rattle.finding_picture.specs.Places.{band_text, drawing_text, marks_text, places_text};
 
 use crate::finding::Finding;
+use crate::lasting::since;
 use crate::limits::{MOST_MARKS, MOST_SEGMENTS};
 use crate::marks::{places_axis, push_mark};
 use crate::objects::key_on;
@@ -46,7 +47,8 @@ pub fn push_places(
     let axis = places_axis(versions, finding.low, finding.high);
     let key = key_on(context.log(), finding.line);
     let own = versions_on(alloc, &axis, versions, key)?;
-    push_drawing(text, &axis, finding, key, own.as_slice())?;
+    let drawn = since(finding.low, own.as_slice());
+    push_drawing(text, &axis, finding, key, drawn)?;
     Ok(())
 }
 
@@ -56,14 +58,14 @@ fn push_drawing(
     axis: &Axis,
     finding: &Finding<'_>,
     key: Option<&ObjectKey>,
-    own: &[&Version],
+    drawn: &[&Version],
 ) -> Result<(), OutOfMemory>
     ensures { OnOk result (string_bytes text.new ≡ string_bytes text.old
-        ++ drawing_text axis.now finding.now (option_map (λ key. key.now) key.entry) (map (λ v. v.now) own.now)) }
+        ++ drawing_text axis.now finding.now (option_map (λ key. key.now) key.entry) (map (λ v. v.now) drawn.now)) }
 {
     push_band(text, finding)?;
     push_marks(text, axis, finding.writes)?;
-    push_segments(text, axis, key, own)?;
+    push_segments(text, axis, key, drawn)?;
     text.push_str(BEHIND_PLACES)?;
     push_rest(
         text,
@@ -71,7 +73,12 @@ fn push_drawing(
         finding.writes.len(),
         "Writes that aren't drawn",
     )?;
-    push_rest(text, MOST_SEGMENTS, own.len(), "Versions that aren't drawn")?;
+    push_rest(
+        text,
+        MOST_SEGMENTS,
+        drawn.len(),
+        "Versions that aren't drawn",
+    )?;
     Ok(())
 }
 

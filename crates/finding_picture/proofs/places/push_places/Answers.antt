@@ -3,4 +3,4 @@ use Rattle.finding_picture.proofs.places.push_places.Goals as goal
 
 pub returns : goal.returns
 unfolding places_text
-returns c = rw (c.in_ok-push_drawing.ensures, c.as_slice.ensures.value, c.in_ok-own.ensures, c.key_on-key.ensures, c.log.ensures.log, c.places_axis-axis.ensures, c.versions-versions.ensures.versions)
+returns c = rw (c.in_ok-push_drawing.ensures, c.since-drawn.ensures, c.as_slice.ensures.value, c.in_ok-own.ensures, c.key_on-key.ensures, c.log.ensures.log, c.places_axis-axis.ensures, c.versions-versions.ensures.versions)
