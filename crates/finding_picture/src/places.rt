@@ -48,23 +48,25 @@ pub fn push_places(
     let key = key_on(context.log(), finding.line);
     let own = versions_on(alloc, &axis, versions, key)?;
     let drawn = since(finding.low, own.as_slice());
-    push_drawing(text, &axis, finding, key, drawn)?;
+    push_drawing(text, context, &axis, finding, key, drawn)?;
     Ok(())
 }
 
 #[tactic(auto, unfolding(crate::specs::Places::drawing_text))]
 fn push_drawing(
     text: &mut String,
+    context: &Context,
     axis: &Axis,
     finding: &Finding<'_>,
     key: Option<&ObjectKey>,
     drawn: &[&Version],
 ) -> Result<(), OutOfMemory>
     ensures { OnOk result (string_bytes text.new ≡ string_bytes text.old
-        ++ drawing_text axis.now finding.now (option_map (λ key. key.now) key.entry) (map (λ v. v.now) drawn.now)) }
+        ++ drawing_text context.now.events axis.now finding.now (option_map (λ key. key.now) key.entry)
+        (map (λ v. v.now) drawn.now)) }
 {
     push_band(text, finding)?;
-    push_marks(text, axis, finding.writes)?;
+    push_marks(text, context, axis, finding.writes)?;
     push_segments(text, axis, key, drawn)?;
     text.push_str(BEHIND_PLACES)?;
     push_rest(
@@ -99,11 +101,17 @@ fn push_band(text: &mut String, finding: &Finding<'_>) -> Result<(), OutOfMemory
     Ok(())
 }
 
-fn push_marks(text: &mut String, axis: &Axis, writes: &[WriteLine]) -> Result<(), OutOfMemory>
-    ensures { OnOk result (string_bytes text.new ≡ string_bytes text.old ++ marks_text axis.now writes.now) }
+fn push_marks(
+    text: &mut String,
+    context: &Context,
+    axis: &Axis,
+    writes: &[WriteLine],
+) -> Result<(), OutOfMemory>
+    ensures { OnOk result (string_bytes text.new ≡ string_bytes text.old
+        ++ marks_text context.now.events axis.now writes.now) }
 {
     for write in first_of(writes, MOST_MARKS) {
-        push_mark(text, axis, write)?;
+        push_mark(text, context, axis, write)?;
     }
     Ok(())
 }
