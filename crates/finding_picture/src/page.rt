@@ -35,7 +35,7 @@ pub fn finding_page(
     push_times(&mut text, context, event, finding.writes)?;
     push_rows(&mut text, context, finding.writes)?;
     push_object_section(alloc, &mut text, context, finding.line, finding.low)?;
-    push_hiding(alloc, &mut text, context)?;
+    push_hiding(alloc, &mut text, context, finding.line)?;
     push_caches(alloc, &mut text, context, finding)?;
     push_end(&mut text)?;
     Ok(text)
