@@ -1,5 +1,5 @@
 -- The test of a cover tells what the cover covers.
-use Rattle.std.proofs.Common.{◌≡◌, ℕ, ◌&&◌, List, Decides, bytes_eq, nat_eq, drop, length, refl}
+use Rattle.std.proofs.Common.{ℕ, List, Decides, bytes_eq, nat_eq, drop, length, refl}
 use Rattle.std.specs.List.{starts_with}
 use Rattle.std.proofs.lemmas.Bool.Decides.{Decides-and, Decides-eqb, Decides-like}
 use Rattle.std.proofs.lemmas.Slice.Eq.{bytes_eq-Decides, starts_is}
