@@ -1,79 +1,82 @@
--- A list that is cut behind its first elements, when one more comes.
-use Rattle.std.proofs.Common.{◌≡◌, ℕ, ◌+◌, ◌<◌, ◌≤◌, Bool, true, false, List, [], ◌∷◌, ◌++◌, length, min, take, filter, get_or, sym, ap, ◌∙◌, inl, inr, arith, append-nil, append_assoc, length-append}
-use Rattle.std.specs.Prelude.{if◌then◌else◌, nat_lt}
-use Rattle.std.specs.List.{flat_map}
+-- What one more version changes of those that count from a place on.
+use Rattle.std.proofs.Common.{◌≡◌, ℕ, ◌+◌, ◌-◌, ◌<◌, ◌≤◌, ◌||◌, Bool, true, false, List, [], ◌∷◌, ◌++◌, Bor, length, drop, get_or, map, take, ap, arith, refl, sym, ◌∙◌}
+use Rattle.std.specs.Prelude.{if◌then◌else◌}
+use Rattle.std.specs.List.{list_any}
 use Rattle.std.proofs.Math.Seq.{take-length}
-use Rattle.std.proofs.lemmas.Bool.{cond-true, cond-false, cases_Bool}
-use Rattle.std.proofs.lemmas.Bool.Decides.{nat_tests}
-use Rattle.std.proofs.lemmas.Grind.{flat_map-append}
-use Rattle.std.proofs.lemmas.List.{length-take, take-append-le, take_min, take_more}
-use Rattle.std.proofs.lemmas.List.Elements.{filter-append}
+use Rattle.std.proofs.lemmas.Bool.{cond-true}
+use Rattle.std.proofs.lemmas.List.{drop_at, drop-append-le, drop-map, length-drop, length-map, length-take, map_more}
+use Rattle.std.proofs.lemmas.List.Folds.{list_any-append}
+use Rattle.object_past.specs.declared.version.Version.{Version}
+use Rattle.finding_picture.specs.Lasting.{is_upto, since}
 
-take_whole : {X : Type 0} (n : ℕ) (l : List X) → length l ≤ n → take n l ≡ l
-take_whole n l short =
-    let all : min n (length l) ≡ length l = omega (arith, short) in
-    sym (take_min n l) ∙ ap (λ k. take k l) all ∙ take-length l
+or_true : (b : Bool) → (b || true) ≡ true
+or_true true = refl
+or_true false = refl
 
--- there is room for it
-roomy : {X : Type 0} (n : ℕ) (ys : List X) (x : X) → length (take n ys) < n → take n (ys ++ x ∷ []) ≡ take n ys ++ x ∷ []
-roomy n ys x room =
-    let size = length-take n ys in
-    let short : length ys < n = omega (arith, room, size) in
-    let more : length (ys ++ x ∷ []) ≤ n = omega (arith, short, length-append ys (x ∷ [])) in
-    take_whole n (ys ++ x ∷ []) more ∙ ap (λ l. l ++ x ∷ []) (sym (take_whole n ys (omega (arith, short))))
+or_false : (b : Bool) → (b || false) ≡ b
+or_false true = refl
+or_false false = refl
 
--- there is none
-full : {X : Type 0} (n : ℕ) (ys : List X) (x : X) → n ≤ length (take n ys) → take n (ys ++ x ∷ []) ≡ take n ys
-full n ys x none =
-    let size = length-take n ys in
-    take-append-le n ys (x ∷ []) (omega (arith, none, size))
+any_upto : (p : Version → Bool) (ys : List Version) (x : Version) → p x ≡ true → list_any p (ys ++ x ∷ []) ≡ true
+any_upto p ys x upto = list_any-append p ys (x ∷ []) ∙ ap (λ b. list_any p ys || (b || false)) upto ∙ or_true (list_any p ys)
 
-pub one_more_text : {X : Type 0} (n : ℕ) (f : X → List ℕ) (ys : List X) (x : X)
-    → flat_map f (take n (ys ++ x ∷ [])) ≡ flat_map f (take n ys) ++ (if nat_lt (length (take n ys)) n then f x else [])
-one_more_text n f ys x =
-    elim (cases_Bool (nat_lt (length (take n ys)) n)) [
-      | inl room ↦
-          let below : length (take n ys) < n = grind (arith, nat_tests, room) in
-          ap (flat_map f) (roomy n ys x below) ∙ flat_map-append f (take n ys) (x ∷ []) ∙ ap (λ t. flat_map f (take n ys) ++ t) (append-nil (f x) ∙ sym (cond-true _ (f x) [] room))
-      | inr none ↦
-          let above : n ≤ length (take n ys) = grind (arith, nat_tests, none) in
-          ap (flat_map f) (full n ys x above) ∙ sym (append-nil _) ∙ ap (λ t. flat_map f (take n ys) ++ t) (sym (cond-false _ (f x) [] none))
-    ]
+any_behind : (p : Version → Bool) (ys : List Version) (x : Version) → p x ≡ false → list_any p (ys ++ x ∷ []) ≡ list_any p ys
+any_behind p ys x behind = list_any-append p ys (x ∷ []) ∙ ap (λ b. list_any p ys || (b || false)) behind ∙ or_false (list_any p ys)
 
-pub one_more_count : {X : Type 0} (n : ℕ) (ys : List X) (x : X) → length (take n (ys ++ x ∷ [])) ≡ min (length (take n ys) + 1) n
-one_more_count n ys x =
-    let a = length-take n ys in
-    let b = length-take n (ys ++ x ∷ []) in
-    let c = length-append ys (x ∷ []) in
-    omega (arith, a, b, c)
+either : {X : Type 0} (b : Bool) (a c d e more : List X) → a ≡ d ++ more → c ≡ e ++ more → (if b then a else c) ≡ (if b then d else e) ++ more
+either true a c d e more first second = first
+either false a c d e more first second = second
 
-pub taken_few : {X : Type 0} (n : ℕ) (ys : List X) → length (take n ys) ≤ n
-taken_few n ys = omega (arith, length-take n ys)
+-- one at or below the place is the first that counts
+since_upto : (place : ℕ) (ys : List Version) (x : Version) → is_upto place x ≡ true → since place (ys ++ x ∷ []) ≡ x ∷ []
+unfolding since
+since_upto place [] x upto = refl
+since_upto place (y ∷ ys) x upto =
+    cond-true (list_any (is_upto place) (ys ++ x ∷ [])) (since place (ys ++ x ∷ [])) (y ∷ (ys ++ x ∷ [])) (any_upto (is_upto place) ys x upto)
+    ∙ since_upto place ys x upto
 
--- what passes a test, when one more is looked at
-filter_more : {X : Type 0} (p : X → Bool) (xs : List X) (i : ℕ) (x : X) → i < length xs → x ≡ get_or xs i x
-    → filter p (take (i + 1) xs) ≡ filter p (take i xs) ++ (if p x then x ∷ [] else [])
-filter_more p xs i x lt is = ap (filter p) (take_more xs i x lt ∙ ap (λ y. take i xs ++ y ∷ []) (sym is)) ∙ filter-append p (take i xs) (x ∷ [])
+-- one behind it counts beside the others
+since_behind : (place : ℕ) (ys : List Version) (x : Version) → is_upto place x ≡ false → since place (ys ++ x ∷ []) ≡ since place ys ++ x ∷ []
+unfolding since
+since_behind place [] x behind = refl
+since_behind place (y ∷ ys) x behind =
+    ap (λ b. if b then since place (ys ++ x ∷ []) else y ∷ (ys ++ x ∷ [])) (any_behind (is_upto place) ys x behind)
+    ∙ either (list_any (is_upto place) ys) _ _ (since place ys) (y ∷ ys) (x ∷ []) (since_behind place ys x behind) refl
 
-pub one_passes : {X : Type 0} (p : X → Bool) (xs : List X) (i : ℕ) (x : X) → i < length xs → x ≡ get_or xs i x → p x ≡ true
-    → filter p (take (i + 1) xs) ≡ filter p (take i xs) ++ x ∷ []
-one_passes p xs i x lt is passes = filter_more p xs i x lt is ∙ ap (λ l. filter p (take i xs) ++ l) (cond-true (p x) (x ∷ []) [] passes)
+upto_next : (place i : ℕ) (ys zs : List Version) (x : Version) → zs ≡ ys ++ x ∷ [] → length ys ≡ i → is_upto place x ≡ true → since place zs ≡ drop i zs
+upto_next place i ys zs x more size upto =
+    ap (since place) more ∙ since_upto place ys x upto ∙ sym (drop_at ys (x ∷ []) i size) ∙ ap (drop i) (sym more)
 
-pub none_passes : {X : Type 0} (p : X → Bool) (xs : List X) (i : ℕ) (x : X) → i < length xs → x ≡ get_or xs i x → p x ≡ false
-    → filter p (take (i + 1) xs) ≡ filter p (take i xs)
-none_passes p xs i x lt is fails = filter_more p xs i x lt is ∙ ap (λ l. filter p (take i xs) ++ l) (cond-false (p x) (x ∷ []) [] fails) ∙ append-nil (filter p (take i xs))
+behind_next : (place first : ℕ) (ys zs : List Version) (x : Version) → zs ≡ ys ++ x ∷ [] → first ≤ length ys → is_upto place x ≡ false → since place ys ≡ drop first ys
+    → since place zs ≡ drop first zs
+behind_next place first ys zs x more bound behind held =
+    ap (since place) more ∙ since_behind place ys x behind ∙ ap (λ l. l ++ x ∷ []) held ∙ sym (drop-append-le first ys (x ∷ []) bound) ∙ ap (drop first) (sym more)
 
-pub counted_in : {X : Type 0} (n : ℕ) (ys zs : List X) (x : X) (count now : ℕ) → zs ≡ ys ++ x ∷ [] → count ≡ length (take n ys) → now ≡ min (count + 1) n
-    → now ≡ length (take n zs)
-counted_in n ys zs x count now more counted is =
-    is ∙ ap (λ k. min (k + 1) n) counted ∙ sym (one_more_count n ys x) ∙ ap (λ l. length (take n l)) (sym more)
+-- the same of versions behind references
+abbrev seen : List (Bor Version) → List Version
+seen versions = map (λ one. one.now) versions
 
-pub drawn_in : {X : Type 0} (n : ℕ) (f : X → List ℕ) (ys zs : List X) (x : X) (count : ℕ) (begin before now : List ℕ) → zs ≡ ys ++ x ∷ [] → count ≡ length (take n ys)
-    → before ≡ begin ++ flat_map f (take n ys) → now ≡ before ++ (if nat_lt count n then f x else []) → now ≡ begin ++ flat_map f (take n zs)
-drawn_in n f ys zs x count begin before now more counted drawn is =
-    is
-    ∙ ap (λ k. before ++ (if nat_lt k n then f x else [])) counted
-    ∙ ap (λ t. t ++ (if nat_lt (length (take n ys)) n then f x else [])) drawn
-    ∙ append_assoc begin (flat_map f (take n ys)) (if nat_lt (length (take n ys)) n then f x else [])
-    ∙ ap (λ t. begin ++ t) (sym (one_more_text n f ys x))
-    ∙ ap (λ l. begin ++ flat_map f (take n l)) (sym more)
+more_seen : (vs : List (Bor Version)) (i : ℕ) (x : Bor Version) → i < length vs → x ≡ get_or vs i x → seen (take (i + 1) vs) ≡ seen (take i vs) ++ x.now ∷ []
+more_seen vs i x inside is = map_more (λ (one : Bor Version). one.now) vs i x inside ∙ ap (λ (one : Bor Version). seen (take i vs) ++ one.now ∷ []) (sym is)
+
+seen_length : (vs : List (Bor Version)) (i : ℕ) → i < length vs → length (seen (take i vs)) ≡ i
+seen_length vs i inside = omega (arith, inside, length-map (take i vs) (λ (one : Bor Version). one.now), length-take i vs)
+
+pub upto_seen : (place : ℕ) (vs : List (Bor Version)) (i first : ℕ) (x : Bor Version) → i < length vs → x ≡ get_or vs i x → is_upto place x.now ≡ true → first ≡ i
+    → since place (seen (take (i + 1) vs)) ≡ drop first (seen (take (i + 1) vs))
+upto_seen place vs i first x inside is upto at =
+    upto_next place i (seen (take i vs)) (seen (take (i + 1) vs)) x.now (more_seen vs i x inside is) (seen_length vs i inside) upto
+    ∙ ap (λ n. drop n (seen (take (i + 1) vs))) (sym at)
+
+pub behind_seen : (place : ℕ) (vs : List (Bor Version)) (i before first : ℕ) (x : Bor Version) → i < length vs → x ≡ get_or vs i x → is_upto place x.now ≡ false → first ≡ before
+    → before ≤ i → since place (seen (take i vs)) ≡ drop before (seen (take i vs)) → since place (seen (take (i + 1) vs)) ≡ drop first (seen (take (i + 1) vs))
+behind_seen place vs i before first x inside is behind at bound held =
+    behind_next place before (seen (take i vs)) (seen (take (i + 1) vs)) x.now (more_seen vs i x inside is) (omega (arith, bound, seen_length vs i inside)) behind held
+    ∙ ap (λ n. drop n (seen (take (i + 1) vs))) (sym at)
+
+-- the rest of a slice of references
+pub rest_seen : (n : ℕ) (vs : List (Bor Version)) → seen (take (length vs - n) (drop n vs)) ≡ drop n (seen vs)
+rest_seen n vs =
+    ap (λ k. seen (take k (drop n vs))) (sym (length-drop n vs))
+    ∙ ap seen (take-length (drop n vs))
+    ∙ sym (drop-map (λ (one : Bor Version). one.now) n vs)

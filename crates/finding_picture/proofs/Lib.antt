@@ -1,3 +1,4 @@
 pub mod Counting
+pub mod Covering
 pub mod Joining
 pub mod Timing

@@ -4,10 +4,12 @@ use Rattle.std.specs.List.{flat_map}
 use Rattle.base_types.specs.declared.key.Cover.{Cover}
 use Rattle.base_types.specs.declared.key.CoverName.{CoverName}
 use Rattle.base_types.specs.declared.key.CoverName.TheVariants.{Exact, Prefix, Any}
+use Rattle.base_types.specs.declared.key.ObjectKey.{ObjectKey}
 use Rattle.history_model.specs.Histories.{History}
 use Rattle.history_model.specs.Windows.{low_end}
 use Rattle.markup.specs.Limits.{rest_text}
 use Rattle.markup.specs.Pieces.{fixed, number, told, shown}
+use Rattle.rbac_timeline.specs.Hidden.{covers}
 use Rattle.version_store.specs.Histories.{history_of}
 use Rattle.version_store.specs.Known.{Known}
 use Rattle.write_groups.specs.Modelled.{event_of}
@@ -15,7 +17,8 @@ use Rattle.write_groups.specs.declared.event.LogEvent.{LogEvent}
 use Rattle.write_groups.specs.declared.event.Shown.{Shown}
 use Rattle.write_groups.specs.declared.event.Shown.TheVariants.{Made, Removed, Opaque, Saw, SawNone, SawSome, SawOther, Listed, Free, Aside}
 use Rattle.finding_picture.specs.Limits.{most_rows}
-use Rattle.finding_picture.specs.declared.hiding.TheConstants.{BEFORE_HIDING}
+use Rattle.finding_picture.specs.Objects.{key_on}
+use Rattle.finding_picture.specs.declared.hiding.TheConstants.{BEFORE_HIDING, BEFORE_OWN, HIDING_COLUMNS}
 
 unfoldable pub namespace_text : Option (List ℕ) → List ℕ
 namespace_text None = shown (fixed (codes "any") ∷ [])
@@ -74,13 +77,47 @@ is_unrecorded event = is_opaque event.answer
 abbrev pub unrecorded_in : List LogEvent → List LogEvent
 unrecorded_in log = filter is_unrecorded log
 
+-- an unrecorded write whose cover takes the key may have changed its object
+abbrev pub may_change : ObjectKey → Shown → Bool
+may_change key (Made item created) = false
+may_change key (Removed of_key uid) = false
+may_change key (Opaque cover) = covers cover key
+may_change key (Saw item) = false
+may_change key (SawNone of_key) = false
+may_change key (SawSome of_key) = false
+may_change key (SawOther of_key) = false
+may_change key (Listed listing) = false
+may_change key Free = false
+may_change key Aside = false
+
+abbrev pub hides : ObjectKey → LogEvent → Bool
+hides key event = may_change key event.answer
+
+-- those of a log that may have changed the object of a key
+abbrev pub hiding_in : ObjectKey → List LogEvent → List LogEvent
+hiding_in key log = filter (hides key) log
+
 -- the first of them as rows, and how many others there are
 unfoldable pub hiding_rows : History → List LogEvent → List ℕ
 hiding_rows h writes =
-    shown (fixed BEFORE_HIDING.now ∷ [])
-    ++ (flat_map (hidden_row h) (take most_rows writes)
+    flat_map (hidden_row h) (take most_rows writes)
     ++ (shown (fixed (codes "</table>\n") ∷ [])
-    ++ rest_text most_rows (length writes) (codes "Unrecorded writes that aren't listed")))
+    ++ rest_text most_rows (length writes) (codes "Unrecorded writes that aren't listed"))
 
-unfoldable pub hiding_text : Known → List ℕ
-hiding_text known = hiding_rows (history_of known) (unrecorded_in known.log)
+-- those that may have changed the event's object, and how many others there are in the log
+unfoldable pub own_rows : History → List LogEvent → List LogEvent → List ℕ
+own_rows h own all =
+    shown (fixed BEFORE_OWN.now ∷ fixed HIDING_COLUMNS.now ∷ [])
+    ++ (hiding_rows h own
+    ++ rest_text (length own) (length all) (codes "Other unrecorded writes, of other objects alone"))
+
+-- Where the event isn't about a single object, all of the log.
+unfoldable pub hiding_text : Known → Option ObjectKey → List ℕ
+hiding_text known None =
+    shown (fixed BEFORE_HIDING.now ∷ fixed HIDING_COLUMNS.now ∷ [])
+    ++ hiding_rows (history_of known) (unrecorded_in known.log)
+hiding_text known (Some key) = own_rows (history_of known) (hiding_in key known.log) (unrecorded_in known.log)
+
+-- of the event with this line
+unfoldable pub hiding_section : Known → ℕ → List ℕ
+hiding_section known line = hiding_text known (key_on known.log line)

@@ -1,6 +1,7 @@
 pub mod Caches
 pub mod Heading
 pub mod Hiding
+pub mod Lasting
 pub mod Limits
 pub mod Looking
 pub mod Marks

@@ -13,7 +13,8 @@ use Rattle.version_store.specs.Known.{Known}
 use Rattle.write_groups.specs.declared.event.LogEvent.{LogEvent}
 use Rattle.write_groups.specs.declared.event.Shown.{Shown}
 use Rattle.write_groups.specs.declared.event.Shown.TheVariants.{Made, Removed, Opaque, Saw, SawNone, SawSome, SawOther, Listed, Free, Aside}
-use Rattle.finding_picture.specs.Limits.{most_marks, most_rows}
+use Rattle.finding_picture.specs.Limits.{most_rows, most_versions}
+use Rattle.finding_picture.specs.Lasting.{since}
 use Rattle.finding_picture.specs.declared.objects.TheConstants.{BEFORE_OBJECT, BEHIND_OBJECT, NO_OBJECT}
 
 -- the object that an answer speaks of, where it is one
@@ -74,20 +75,22 @@ versions_of known key = filter (λ v. same_key v.key key) known.versions
 abbrev pub removals_of : Known → ObjectKey → List Removal
 removals_of known key = filter (λ removal. same_key removal.key key) known.removals
 
--- the first of them as rows, and how many others there are
-unfoldable pub object_rows : List LogEvent → List Version → List Removal → List ℕ
-object_rows log versions removals =
-    flat_map (version_row log) (take most_marks versions)
+-- the first of the versions that count from the place `low` on, and of the removals, as rows; and how many others there are
+unfoldable pub object_rows : List LogEvent → ℕ → List Version → List Removal → List ℕ
+object_rows log low versions removals =
+    flat_map (version_row log) (take most_versions (since low versions))
     ++ (flat_map (removal_row log) (take most_rows removals)
     ++ (shown (fixed (codes "</table>\n") ∷ [])
-    ++ (rest_text most_marks (length versions) (codes "Versions that aren't listed")
-    ++ rest_text most_rows (length removals) (codes "Removals that aren't listed"))))
+    ++ (rest_text (length (since low versions)) (length versions) (codes "Earlier versions that aren't listed")
+    ++ (rest_text most_versions (length (since low versions)) (codes "Later versions that aren't listed")
+    ++ rest_text most_rows (length removals) (codes "Removals that aren't listed")))))
 
-unfoldable pub object_text : Known → Option ObjectKey → List ℕ
-object_text known None = shown (fixed NO_OBJECT.now ∷ [])
-object_text known (Some key) =
+unfoldable pub object_text : Known → Option ObjectKey → ℕ → List ℕ
+object_text known None low = shown (fixed NO_OBJECT.now ∷ [])
+object_text known (Some key) low =
     shown (fixed BEFORE_OBJECT.now ∷ told (key_spelling key) ∷ fixed BEHIND_OBJECT.now ∷ [])
-    ++ object_rows known.log (versions_of known key) (removals_of known key)
+    ++ object_rows known.log low (versions_of known key) (removals_of known key)
 
-unfoldable pub object_section : Known → ℕ → List ℕ
-object_section known line = object_text known (key_on known.log line)
+-- of the event with this line, whose window begins at the place `low`
+unfoldable pub object_section : Known → ℕ → ℕ → List ℕ
+object_section known line low = object_text known (key_on known.log line) low

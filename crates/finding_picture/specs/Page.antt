@@ -4,7 +4,7 @@ use Rattle.markup.specs.Frame.{begin_text, end_text}
 use Rattle.version_store.specs.Known.{Known}
 use Rattle.finding_picture.specs.Caches.{caches_text}
 use Rattle.finding_picture.specs.Heading.{heading_text}
-use Rattle.finding_picture.specs.Hiding.{hiding_text}
+use Rattle.finding_picture.specs.Hiding.{hiding_section}
 use Rattle.finding_picture.specs.Looking.{event_on}
 use Rattle.finding_picture.specs.Objects.{logged_on, object_section}
 use Rattle.finding_picture.specs.Places.{places_text}
@@ -21,7 +21,7 @@ page_text known finding =
     ++ (places_text known finding
     ++ (times_text known.events (event_on known.events finding.line) finding.writes.now
     ++ (rows_text known.events finding.writes.now
-    ++ (object_section known finding.line
-    ++ (hiding_text known
+    ++ (object_section known finding.line finding.low
+    ++ (hiding_section known finding.line
     ++ (caches_text known finding
     ++ end_text))))))))

@@ -1,12 +1,13 @@
 -- The writes in the window as a table.
-use Rattle.std.specs.Prelude.{ℕ, List, [], ◌∷◌, ◌++◌, Option, Some, None, codes, take}
+use Rattle.std.specs.Prelude.{ℕ, List, [], ◌∷◌, ◌++◌, Option, Some, None, codes, length, take}
 use Rattle.std.specs.List.{flat_map}
 use Rattle.audit_event.specs.declared.event.Event.{Event}
 use Rattle.base_types.specs.declared.placed.WriteLine.{WriteLine}
 use Rattle.base_types.specs.declared.placed.WriteLine.TheVariants.{Made, Removed}
+use Rattle.markup.specs.Limits.{rest_text}
 use Rattle.markup.specs.Moments.{moment_text}
 use Rattle.markup.specs.Pieces.{fixed, number, told, shown}
-use Rattle.finding_picture.specs.Limits.{most_marks}
+use Rattle.finding_picture.specs.Limits.{most_writes}
 use Rattle.finding_picture.specs.Looking.{event_on}
 
 -- who wrote, and when it was received and answered
@@ -33,8 +34,10 @@ row_text events (Made revision line key) =
 row_text events (Removed low high line key) =
     shown (fixed (codes "<tr><td>removed from ") ∷ number low ∷ fixed (codes " to ") ∷ number high ∷ fixed (codes " ") ∷ []) ++ author_text events line key
 
+-- the first of them as rows, and how many others there are
 unfoldable pub rows_text : List Event → List WriteLine → List ℕ
 rows_text events writes =
     shown (fixed (codes "<h2>Writes in the window</h2>\n<table>\n<tr><th scope=\"col\">Revision or range</th><th scope=\"col\">Line</th><th scope=\"col\">Object</th><th scope=\"col\">User</th><th scope=\"col\">Received</th><th scope=\"col\">Staged</th></tr>\n") ∷ [])
-    ++ (flat_map (row_text events) (take most_marks writes)
-    ++ shown (fixed (codes "</table>\n") ∷ []))
+    ++ (flat_map (row_text events) (take most_writes writes)
+    ++ (shown (fixed (codes "</table>\n") ∷ [])
+    ++ rest_text most_writes (length writes) (codes "Writes that aren't listed")))

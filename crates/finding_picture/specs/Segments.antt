@@ -7,7 +7,7 @@ use Rattle.markup.specs.Drawing.{position}
 use Rattle.markup.specs.Pieces.{fixed, number, told, shown}
 use Rattle.markup.specs.declared.drawing.Axis.{Axis}
 use Rattle.object_past.specs.declared.version.Version.{Version}
-use Rattle.finding_picture.specs.Limits.{most_marks}
+use Rattle.finding_picture.specs.Limits.{most_segments}
 
 -- up to the end of the axis
 abbrev pub segment_width : Axis → ℕ → ℕ
@@ -21,15 +21,18 @@ segment_text axis version = shown (
     ∷ fixed (codes "\" height=\"18\"><title>from revision ") ∷ number version.revision
     ∷ fixed (codes ": uid ") ∷ told version.uid ∷ fixed (codes "</title></rect>\n") ∷ [])
 
--- it is one of the object, and there at some place of the axis
+-- it is one of the object, and comes up to the last place of the axis
 abbrev pub is_on_axis : Axis → ObjectKey → Version → Bool
 is_on_axis axis key version = same_key version.key key && nat_le version.revision axis.high
 
-abbrev pub drawn_versions : Axis → List Version → ObjectKey → List Version
-drawn_versions axis versions key = take most_marks (filter (is_on_axis axis key) versions)
+-- those of the object that the event is about, where it is about one
+abbrev pub versions_on : Axis → List Version → Option ObjectKey → List Version
+versions_on axis versions None = []
+versions_on axis versions (Some key) = filter (is_on_axis axis key) versions
 
-unfoldable pub segments_text : Axis → List Version → Option ObjectKey → List ℕ
-segments_text axis versions None = []
-segments_text axis versions (Some key) =
+-- the first of them as boxes
+unfoldable pub segments_text : Axis → Option ObjectKey → List Version → List ℕ
+segments_text axis None versions = []
+segments_text axis (Some key) versions =
     shown (fixed (codes "<text x=\"40\" y=\"102\">versions of the event's object</text>\n") ∷ [])
-    ++ flat_map (segment_text axis) (drawn_versions axis versions key)
+    ++ flat_map (segment_text axis) (take most_segments versions)

@@ -1,15 +1,16 @@
 -- The event over the line of time, with the writes of its window by their events' receipt and stage.
-use Rattle.std.specs.Prelude.{ℕ, pos, ◌+◌, ◌*◌, ◌%◌, List, [], ◌∷◌, ◌++◌, Option, Some, None, codes, int_lt, max, min, take, unsigned_abs, if◌then◌else◌}
+use Rattle.std.specs.Prelude.{ℕ, pos, ◌+◌, ◌*◌, ◌%◌, List, [], ◌∷◌, ◌++◌, Option, Some, None, codes, int_lt, length, max, min, take, unsigned_abs, if◌then◌else◌}
 use Rattle.std.specs.List.{flat_map, fold}
 use Rattle.audit_event.specs.declared.event.Event.{Event}
 use Rattle.base_types.specs.declared.placed.WriteLine.{WriteLine}
 use Rattle.base_types.specs.declared.placed.WriteLine.TheVariants.{Made, Removed}
 use Rattle.base_types.specs.declared.revision.Moment.{Moment}
 use Rattle.markup.specs.Drawing.{position}
+use Rattle.markup.specs.Limits.{rest_text}
 use Rattle.markup.specs.Moments.{moment_at, moment_text}
 use Rattle.markup.specs.Pieces.{fixed, number, shown}
 use Rattle.markup.specs.declared.drawing.Axis.{Axis}
-use Rattle.finding_picture.specs.Limits.{most_marks}
+use Rattle.finding_picture.specs.Limits.{most_bars}
 use Rattle.finding_picture.specs.Looking.{event_on}
 use Rattle.finding_picture.specs.Marks.{bar_width}
 use Rattle.finding_picture.specs.declared.times.TheConstants.{BEFORE_TIMES, BEHIND_TIMES, TIMES_AXIS}
@@ -40,10 +41,10 @@ later events high write = end_or high (event_on events (line_of write))
 
 -- from the first receipt to the last stage of the event and of the writes that are drawn
 abbrev pub first_instant : List Event → Event → List WriteLine → ℕ
-first_instant events event writes = fold (earlier events) (instant event.received) (take most_marks writes)
+first_instant events event writes = fold (earlier events) (instant event.received) (take most_bars writes)
 
 abbrev pub last_instant : List Event → Event → List WriteLine → ℕ
-last_instant events event writes = fold (later events) (instant event.staged) (take most_marks writes)
+last_instant events event writes = fold (later events) (instant event.staged) (take most_bars writes)
 
 abbrev pub times_axis : List Event → Event → List WriteLine → Axis
 times_axis events event writes =
@@ -90,8 +91,9 @@ times_section events event writes =
     times_band (times_axis events event writes) event
     ++ (span_text event
     ++ (shown (fixed (codes "</text>\n") ∷ [])
-    ++ (flat_map (write_bar events (times_axis events event writes)) (take most_marks writes)
-    ++ ends_text (times_axis events event writes))))
+    ++ (flat_map (write_bar events (times_axis events event writes)) (take most_bars writes)
+    ++ (ends_text (times_axis events event writes)
+    ++ rest_text most_bars (length writes) (codes "Writes that aren't drawn")))))
 
 -- A checkpoint has no times.
 unfoldable pub times_text : List Event → Option Event → List WriteLine → List ℕ

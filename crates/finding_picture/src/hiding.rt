@@ -1,37 +1,107 @@
-ghost use Rattle.std.specs.Prelude.{◌≡◌, ◌++◌, IfOk, OnOk, map, string_bytes};
+ghost use Rattle.std.specs.Prelude.{◌≡◌, ◌++◌, IfOk, None, OnOk, Some, map, string_bytes};
 ghost use Rattle.std.specs.List.{flat_map};
 ghost use Rattle.history_model.specs.Windows.{low_end};
+ghost use Rattle.rbac_timeline.specs.Hidden.{covers};
 ghost use Rattle.write_groups.specs.Modelled.{event_of};
-ghost use Rattle.finding_picture.specs.Hiding.{cover_row, hidden_row, hiding_rows, hiding_text, is_unrecorded};
-ghost use Rattle.finding_picture.specs.Hiding.{name_text, namespace_text, unrecorded_in};
+ghost use Rattle.finding_picture.specs.Hiding.{cover_row, hidden_row, hides, hiding_in, hiding_rows, hiding_section};
+ghost use Rattle.finding_picture.specs.Hiding.{hiding_text, is_unrecorded, name_text, namespace_text, own_rows};
+ghost use Rattle.finding_picture.specs.Hiding.{unrecorded_in};
 ghost use Rattle.version_store.specs.Histories.{history_of};
 
 use crate::limits::MOST_ROWS;
-use base_types::{Cover, CoverName, OutOfMemory, Text};
+use crate::objects::key_on;
+use base_types::{Cover, CoverName, ObjectKey, OutOfMemory, Text, covers};
 use markup::{Told, first_of, push_rest};
 use std::alloc::Global;
 use version_store::Context;
 use write_groups::{LogEvent, Shown, window_of};
 
-/// What stands before the rows of the unrecorded writes.
+/// What stands before the unrecorded writes of a log.
 pub const BEFORE_HIDING: &str = "<h2>Unrecorded writes</h2>
 <p>The log doesn't tell what these writes left. Behind the place that is named, an object that a row stands for may be
 anything until a recorded revision shows it again.</p>
-<table>
+";
+
+/// What stands before those that may have changed the event's object.
+pub const BEFORE_OWN: &str = "<h2>Unrecorded writes that may have changed the event's object</h2>
+<p>The log doesn't tell what these writes left. Behind the place that is named, the object may be anything until a
+recorded revision shows it again.</p>
+";
+
+/// What stands before the rows.
+pub const HIDING_COLUMNS: &str = "<table>
 <tr><th scope=\"col\">Line</th><th scope=\"col\">Hides</th><th scope=\"col\">Group</th>
 <th scope=\"col\">Resource</th><th scope=\"col\">Namespace</th><th scope=\"col\">Name</th></tr>
 ";
 
-/// Appends the unrecorded writes of the log.
+/// Appends the unrecorded writes that may have changed the object of the event with this line; where it isn't about a
+/// single object, all of the log.
+#[tactic(auto, unfolding(crate::specs::Hiding::hiding_section))]
+pub fn push_hiding(
+    alloc: Global,
+    text: &mut String,
+    context: &Context,
+    line: u64,
+) -> Result<(), OutOfMemory>
+    ensures { OnOk result (string_bytes text.new ≡ string_bytes text.old ++ hiding_section context.now line) }
+{
+    match key_on(context.log(), line) {
+        Some(key) => push_own(alloc, text, context, key)?,
+        None => push_all(alloc, text, context)?,
+    }
+    Ok(())
+}
+
 #[tactic(auto, unfolding(crate::specs::Hiding::hiding_text))]
-pub fn push_hiding(alloc: Global, text: &mut String, context: &Context) -> Result<(), OutOfMemory>
-    ensures { OnOk result (string_bytes text.new ≡ string_bytes text.old ++ hiding_text context.now) }
+fn push_all(alloc: Global, text: &mut String, context: &Context) -> Result<(), OutOfMemory>
+    ensures { OnOk result (string_bytes text.new ≡ string_bytes text.old ++ hiding_text context.now None) }
 {
     let writes = unrecorded_in(alloc, context.log())?;
+    text.push_str(BEFORE_HIDING)?;
+    text.push_str(HIDING_COLUMNS)?;
     push_hiding_rows(text, context, writes.as_slice())?;
     Ok(())
 }
 
+#[tactic(auto, unfolding(crate::specs::Hiding::hiding_text))]
+fn push_own(
+    alloc: Global,
+    text: &mut String,
+    context: &Context,
+    key: &ObjectKey,
+) -> Result<(), OutOfMemory>
+    ensures { OnOk result (string_bytes text.new ≡ string_bytes text.old ++ hiding_text context.now (Some key.now)) }
+{
+    let log = context.log();
+    let own = hiding_in(alloc, log, key)?;
+    let all = unrecorded_in(alloc, log)?;
+    push_own_rows(text, context, own.as_slice(), all.as_slice())?;
+    Ok(())
+}
+
+#[tactic(auto, unfolding(crate::specs::Hiding::own_rows))]
+fn push_own_rows(
+    text: &mut String,
+    context: &Context,
+    own: &[&LogEvent],
+    all: &[&LogEvent],
+) -> Result<(), OutOfMemory>
+    ensures { OnOk result (string_bytes text.new ≡ string_bytes text.old
+        ++ own_rows (history_of context.now) (map (λ event. event.now) own.now) (map (λ event. event.now) all.now)) }
+{
+    text.push_str(BEFORE_OWN)?;
+    text.push_str(HIDING_COLUMNS)?;
+    push_hiding_rows(text, context, own)?;
+    push_rest(
+        text,
+        own.len(),
+        all.len(),
+        "Other unrecorded writes, of other objects alone",
+    )?;
+    Ok(())
+}
+
+// The first of these as rows, and how many others there are.
 #[tactic(auto, unfolding(crate::specs::Hiding::hiding_rows))]
 fn push_hiding_rows(
     text: &mut String,
@@ -41,7 +111,6 @@ fn push_hiding_rows(
     ensures { OnOk result (string_bytes text.new ≡ string_bytes text.old
         ++ hiding_rows (history_of context.now) (map (λ event. event.now) writes.now)) }
 {
-    text.push_str(BEFORE_HIDING)?;
     push_hidden_rows(text, context, first_of(writes, MOST_ROWS))?;
     text.push_str("</table>\n")?;
     push_rest(
@@ -65,6 +134,38 @@ fn unrecorded_in(alloc: Global, log: &[LogEvent]) -> Result<Vec<&LogEvent>, OutO
     let mut writes = Vec::new(alloc);
     for event in log {
         if is_unrecorded(event) {
+            writes.push(event)?;
+        }
+    }
+    Ok(writes)
+}
+
+fn covers_key(cover: &Cover, key: &ObjectKey) -> bool
+    ensures { result ≡ covers cover.now key.now }
+{
+    covers(cover, key)
+}
+
+// Whether it is an unrecorded write that may have changed the object of this key.
+fn hides(key: &ObjectKey, event: &LogEvent) -> bool
+    ensures { result ≡ hides key.now event.now }
+{
+    match &event.answer {
+        Shown::Opaque { cover } => covers_key(cover, key),
+        _ => false,
+    }
+}
+
+fn hiding_in<'a>(
+    alloc: Global,
+    log: &'a [LogEvent],
+    key: &ObjectKey,
+) -> Result<Vec<&'a LogEvent>, OutOfMemory>
+    ensures { IfOk result (λ writes. map (λ event. event.now) writes.items ≡ hiding_in key.now log.now) }
+{
+    let mut writes = Vec::new(alloc);
+    for event in log {
+        if hides(key, event) {
             writes.push(event)?;
         }
     }

@@ -6,6 +6,7 @@ mod caches;
 mod finding;
 mod heading;
 mod hiding;
+mod lasting;
 mod limits;
 mod looking;
 mod marks;

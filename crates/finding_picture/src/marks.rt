@@ -2,9 +2,11 @@ ghost use Rattle.std.specs.Prelude.{◌≡◌, ◌++◌, OnOk, string_bytes};
 ghost use Rattle.finding_picture.specs.Marks.{bar_width, drawn_high, last_revision, mark_text, places_axis};
 ghost use Rattle.finding_picture.specs.Marks.{range_text, tick_text};
 
+use crate::looking::user_on;
 use base_types::{OutOfMemory, Text, WriteLine};
 use markup::{Axis, Told};
 use object_past::Version;
+use version_store::Context;
 
 fn last_revision(versions: &[Version]) -> u64
     ensures { result ≡ last_revision versions.now }
@@ -46,23 +48,29 @@ pub fn bar_width(axis: &Axis, low: u64, high: u64) -> u64
         .max(4)
 }
 
-/// Appends the tick of a write that made a revision, or the bar of a removal.
+/// Appends the tick of a write that made a revision, or the bar of a removal, with who wrote.
 #[tactic(auto, unfolding(crate::specs::Marks::mark_text))]
-pub fn push_mark(text: &mut String, axis: &Axis, write: &WriteLine) -> Result<(), OutOfMemory>
-    ensures { OnOk result (string_bytes text.new ≡ string_bytes text.old ++ mark_text axis.now write.now) }
+pub fn push_mark(
+    text: &mut String,
+    context: &Context,
+    axis: &Axis,
+    write: &WriteLine,
+) -> Result<(), OutOfMemory>
+    ensures { OnOk result (string_bytes text.new ≡ string_bytes text.old
+        ++ mark_text context.now.events axis.now write.now) }
 {
     match write {
         WriteLine::Made {
             revision,
             line,
             key,
-        } => push_tick(text, axis, *revision, *line, key)?,
+        } => push_tick(text, axis, *revision, *line, key, user_on(context, *line))?,
         WriteLine::Removed {
             low,
             high,
             line,
             key,
-        } => push_range(text, axis, *low, *high, *line, key)?,
+        } => push_range(text, axis, *low, *high, *line, key, user_on(context, *line))?,
     }
     Ok(())
 }
@@ -74,14 +82,21 @@ fn push_tick(
     revision: u64,
     line: u64,
     key: &Text,
+    user: &str,
 ) -> Result<(), OutOfMemory>
-    ensures { OnOk result (string_bytes text.new ≡ string_bytes text.old ++ tick_text axis.now revision line key.now) }
+    ensures { OnOk result (string_bytes text.new ≡ string_bytes text.old
+        ++ tick_text axis.now revision line key.now user.now) }
 {
     let x = axis.position(revision);
     let object = Told(key.as_str());
+    let user = Told(user);
+    write!(
+        text,
+        r#"<line class="tick" x1="{x}" y1="36" x2="{x}" y2="80"><title>"#
+    )?;
     writeln!(
         text,
-        r#"<line class="tick" x1="{x}" y1="36" x2="{x}" y2="80"><title>revision {revision} by line {line}: {object}</title></line>"#
+        "revision {revision} by line {line}: {object}, user {user}</title></line>"
     )?;
     Ok(())
 }
@@ -94,20 +109,23 @@ fn push_range(
     high: u64,
     line: u64,
     key: &Text,
+    user: &str,
 ) -> Result<(), OutOfMemory>
-    ensures { OnOk result (string_bytes text.new ≡ string_bytes text.old ++ range_text axis.now low high line key.now) }
+    ensures { OnOk result (string_bytes text.new ≡ string_bytes text.old
+        ++ range_text axis.now low high line key.now user.now) }
 {
     let x = axis.position(low);
     let y = 40 + line % 3 * 13;
     let width = bar_width(axis, low, high);
     let object = Told(key.as_str());
+    let user = Told(user);
     write!(
         text,
         r#"<rect class="bar" x="{x}" y="{y}" width="{width}" height="9"><title>"#
     )?;
     writeln!(
         text,
-        "removal from {low} to {high} by line {line}: {object}</title></rect>"
+        "removal from {low} to {high} by line {line}: {object}, user {user}</title></rect>"
     )?;
     Ok(())
 }

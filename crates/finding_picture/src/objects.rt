@@ -4,7 +4,8 @@ ghost use Rattle.finding_picture.specs.Objects.{answer_key, key_on, line_at, log
 ghost use Rattle.finding_picture.specs.Objects.{object_section, object_text, removal_row, removals_of, version_row};
 ghost use Rattle.finding_picture.specs.Objects.{versions_of};
 
-use crate::limits::{MOST_MARKS, MOST_ROWS};
+use crate::lasting::since;
+use crate::limits::{MOST_ROWS, MOST_VERSIONS};
 use base_types::{ObjectKey, OutOfMemory, key_text};
 use markup::{Told, first_of, push_rest};
 use object_past::{Maker, Removal, Version};
@@ -23,25 +24,26 @@ pub const BEFORE_OBJECT: &str = "<h2>What an answer would have been</h2>
 
 /// What stands behind it, before the rows.
 pub const BEHIND_OBJECT: &str =
-    "</code>. Before its first version it is absent. A version is there up to the next one, or to the removal of
-its UID.</p>
+    "</code>. Before its first version of all it is absent. A version is there up to the next one, or to the removal of
+its UID. The versions are listed from the last one at or below the window's low end on.</p>
 <table>
 <tr><th scope=\"col\">At places</th><th scope=\"col\">An answer shows</th><th scope=\"col\">UID</th>
 <th scope=\"col\">Written by</th></tr>
 ";
 
-/// Appends what an answer about the object of the event with this line would have been at each place.
+/// Appends what an answer about the object of the event with this line would have been at each place from `low` on.
 #[tactic(auto, unfolding(crate::specs::Objects::object_section))]
 pub fn push_object_section(
     alloc: Global,
     text: &mut String,
     context: &Context,
     line: u64,
+    low: u64,
 ) -> Result<(), OutOfMemory>
-    ensures { OnOk result (string_bytes text.new ≡ string_bytes text.old ++ object_section context.now line) }
+    ensures { OnOk result (string_bytes text.new ≡ string_bytes text.old ++ object_section context.now line low) }
 {
     match key_on(context.log(), line) {
-        Some(key) => push_object(alloc, text, context, key)?,
+        Some(key) => push_object(alloc, text, context, key, low)?,
         None => text.push_str(NO_OBJECT)?,
     }
     Ok(())
@@ -53,8 +55,10 @@ fn push_object(
     text: &mut String,
     context: &Context,
     key: &ObjectKey,
+    low: u64,
 ) -> Result<(), OutOfMemory>
-    ensures { OnOk result (string_bytes text.new ≡ string_bytes text.old ++ object_text context.now (Some key.now)) }
+    ensures { OnOk result (string_bytes text.new ≡ string_bytes text.old
+        ++ object_text context.now (Some key.now) low) }
 {
     let name = key_text(alloc, key)?;
     let versions = versions_of(alloc, context, key)?;
@@ -65,6 +69,7 @@ fn push_object(
     push_object_rows(
         text,
         context.log(),
+        low,
         versions.as_slice(),
         removals.as_slice(),
     )?;
@@ -107,20 +112,28 @@ fn removals_of<'a>(
 fn push_object_rows(
     text: &mut String,
     log: &[LogEvent],
+    low: u64,
     versions: &[&Version],
     removals: &[&Removal],
 ) -> Result<(), OutOfMemory>
     ensures { OnOk result (string_bytes text.new ≡ string_bytes text.old
-        ++ object_rows log.now (map (λ v. v.now) versions.now) (map (λ r. r.now) removals.now)) }
+        ++ object_rows log.now low (map (λ v. v.now) versions.now) (map (λ r. r.now) removals.now)) }
 {
-    push_versions(text, log, first_of(versions, MOST_MARKS))?;
+    let listed = since(low, versions);
+    push_versions(text, log, first_of(listed, MOST_VERSIONS))?;
     push_removals(text, log, first_of(removals, MOST_ROWS))?;
     text.push_str("</table>\n")?;
     push_rest(
         text,
-        MOST_MARKS,
+        listed.len(),
         versions.len(),
-        "Versions that aren't listed",
+        "Earlier versions that aren't listed",
+    )?;
+    push_rest(
+        text,
+        MOST_VERSIONS,
+        listed.len(),
+        "Later versions that aren't listed",
     )?;
     push_rest(
         text,

@@ -31,11 +31,11 @@ pub fn finding_page(
     push_heading(alloc, &mut text, finding)?;
     let event = event_on(context, finding.line);
     push_request(&mut text, event, logged_on(context.log(), finding.line))?;
-    push_places(&mut text, context, finding)?;
+    push_places(alloc, &mut text, context, finding)?;
     push_times(&mut text, context, event, finding.writes)?;
     push_rows(&mut text, context, finding.writes)?;
-    push_object_section(alloc, &mut text, context, finding.line)?;
-    push_hiding(alloc, &mut text, context)?;
+    push_object_section(alloc, &mut text, context, finding.line, finding.low)?;
+    push_hiding(alloc, &mut text, context, finding.line)?;
     push_caches(alloc, &mut text, context, finding)?;
     push_end(&mut text)?;
     Ok(text)

@@ -1,13 +1,16 @@
-ghost use Rattle.std.specs.Prelude.{◌≡◌, ◌++◌, OnOk, string_bytes};
-ghost use Rattle.finding_picture.specs.Places.{band_text, marks_text, places_text};
+ghost use Rattle.std.specs.Prelude.{◌≡◌, ◌++◌, OnOk, map, option_map, string_bytes};
+ghost use Rattle.finding_picture.specs.Places.{band_text, drawing_text, marks_text, places_text};
 
 use crate::finding::Finding;
-use crate::limits::MOST_MARKS;
+use crate::lasting::since;
+use crate::limits::{MOST_MARKS, MOST_SEGMENTS};
 use crate::marks::{places_axis, push_mark};
 use crate::objects::key_on;
-use crate::segments::push_segments;
-use base_types::{OutOfMemory, WriteLine};
+use crate::segments::{push_segments, versions_on};
+use base_types::{ObjectKey, OutOfMemory, WriteLine};
 use markup::{Axis, first_of, push_rest};
+use object_past::Version;
+use std::alloc::Global;
 use version_store::Context;
 
 /// What stands before how many writes are drawn.
@@ -30,9 +33,10 @@ pub const BAND_AND_AXIS: &str = r#". The table of the writes has each.</desc>
 /// What stands behind the marks.
 pub const BEHIND_PLACES: &str = "</svg>\n</figure>\n";
 
-/// Appends the drawing of the window and of the writes in it.
+/// Appends the drawing of the window, of the writes in it and of the versions of the event's object.
 #[tactic(auto, unfolding(crate::specs::Places::places_text))]
 pub fn push_places(
+    alloc: Global,
     text: &mut String,
     context: &Context,
     finding: &Finding<'_>,
@@ -41,15 +45,41 @@ pub fn push_places(
 {
     let versions = context.versions();
     let axis = places_axis(versions, finding.low, finding.high);
+    let key = key_on(context.log(), finding.line);
+    let own = versions_on(alloc, &axis, versions, key)?;
+    let drawn = since(finding.low, own.as_slice());
+    push_drawing(text, context, &axis, finding, key, drawn)?;
+    Ok(())
+}
+
+#[tactic(auto, unfolding(crate::specs::Places::drawing_text))]
+fn push_drawing(
+    text: &mut String,
+    context: &Context,
+    axis: &Axis,
+    finding: &Finding<'_>,
+    key: Option<&ObjectKey>,
+    drawn: &[&Version],
+) -> Result<(), OutOfMemory>
+    ensures { OnOk result (string_bytes text.new ≡ string_bytes text.old
+        ++ drawing_text context.now.events axis.now finding.now (option_map (λ key. key.now) key.entry)
+        (map (λ v. v.now) drawn.now)) }
+{
     push_band(text, finding)?;
-    push_marks(text, &axis, finding.writes)?;
-    push_segments(text, &axis, versions, key_on(context.log(), finding.line))?;
+    push_marks(text, context, axis, finding.writes)?;
+    push_segments(text, axis, key, drawn)?;
     text.push_str(BEHIND_PLACES)?;
     push_rest(
         text,
         MOST_MARKS,
         finding.writes.len(),
         "Writes that aren't drawn",
+    )?;
+    push_rest(
+        text,
+        MOST_SEGMENTS,
+        drawn.len(),
+        "Versions that aren't drawn",
     )?;
     Ok(())
 }
@@ -71,11 +101,17 @@ fn push_band(text: &mut String, finding: &Finding<'_>) -> Result<(), OutOfMemory
     Ok(())
 }
 
-fn push_marks(text: &mut String, axis: &Axis, writes: &[WriteLine]) -> Result<(), OutOfMemory>
-    ensures { OnOk result (string_bytes text.new ≡ string_bytes text.old ++ marks_text axis.now writes.now) }
+fn push_marks(
+    text: &mut String,
+    context: &Context,
+    axis: &Axis,
+    writes: &[WriteLine],
+) -> Result<(), OutOfMemory>
+    ensures { OnOk result (string_bytes text.new ≡ string_bytes text.old
+        ++ marks_text context.now.events axis.now writes.now) }
 {
     for write in first_of(writes, MOST_MARKS) {
-        push_mark(text, axis, write)?;
+        push_mark(text, context, axis, write)?;
     }
     Ok(())
 }

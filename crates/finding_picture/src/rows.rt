@@ -1,13 +1,13 @@
 ghost use Rattle.std.specs.Prelude.{◌≡◌, ◌++◌, OnOk, Some, option_map, string_bytes, take};
 ghost use Rattle.std.specs.List.{flat_map};
-ghost use Rattle.finding_picture.specs.Limits.{most_marks};
+ghost use Rattle.finding_picture.specs.Limits.{most_writes};
 ghost use Rattle.finding_picture.specs.Rows.{author_text, event_cells, row_text, rows_text};
 
-use crate::limits::MOST_MARKS;
+use crate::limits::MOST_WRITES;
 use crate::looking::event_on;
 use audit_event::Event;
 use base_types::{OutOfMemory, Text, WriteLine};
-use markup::{Told, first_of, push_moment};
+use markup::{Told, first_of, push_moment, push_rest};
 use version_store::Context;
 
 /// Appends the table of the writes in the window.
@@ -26,14 +26,15 @@ pub fn push_rows(
     )?;
     push_each(text, context, writes)?;
     text.push_str("</table>\n")?;
+    push_rest(text, MOST_WRITES, writes.len(), "Writes that aren't listed")?;
     Ok(())
 }
 
 fn push_each(text: &mut String, context: &Context, writes: &[WriteLine]) -> Result<(), OutOfMemory>
     ensures { OnOk result (string_bytes text.new ≡ string_bytes text.old ++ flat_map
-        (row_text context.now.events) (take most_marks writes.now)) }
+        (row_text context.now.events) (take most_writes writes.now)) }
 {
-    for write in first_of(writes, MOST_MARKS) {
+    for write in first_of(writes, MOST_WRITES) {
         push_row(text, context, write)?;
     }
     Ok(())

@@ -1,50 +1,45 @@
-ghost use Rattle.std.specs.Prelude.{◌≡◌, ◌++◌, ◌+◌, ◌≤◌, [], IfOk, OnOk, Some, if◌then◌else◌, min, nat_lt};
-ghost use Rattle.std.specs.Prelude.{option_map, string_bytes};
+ghost use Rattle.std.specs.Prelude.{◌≡◌, ◌++◌, IfOk, OnOk, Some, filter, map, option_map, string_bytes};
 ghost use Rattle.std.specs.List.{flat_map};
-ghost use Rattle.finding_picture.specs.Limits.{most_marks};
-ghost use Rattle.finding_picture.specs.Segments.{drawn_versions, is_on_axis, segment_text, segment_width};
-ghost use Rattle.finding_picture.specs.Segments.{segments_text};
+ghost use Rattle.finding_picture.specs.Segments.{is_on_axis, segment_text, segment_width, segments_text, versions_on};
 
-use crate::limits::MOST_MARKS;
+use crate::limits::MOST_SEGMENTS;
 use base_types::{ObjectKey, OutOfMemory};
-use markup::{Axis, Told};
+use markup::{Axis, Told, first_of};
 use object_past::Version;
+use std::alloc::Global;
 
-/// Appends the versions of an object that were there on the axis as boxes from their revisions on; nothing where there
-/// is no key.
-#[tactic(auto, unfolding(crate::specs::Segments::segments_text))]
-pub fn push_segments(
-    text: &mut String,
+/// The versions of an object that were there on the axis; none where there is no key.
+pub fn versions_on<'a>(
+    alloc: Global,
     axis: &Axis,
-    versions: &[Version],
+    versions: &'a [Version],
     key: Option<&ObjectKey>,
-) -> Result<(), OutOfMemory>
-    ensures { OnOk result (string_bytes text.new ≡ string_bytes text.old
-        ++ segments_text axis.now versions.now (option_map (λ key. key.now) key.entry)) }
+) -> Result<Vec<&'a Version>, OutOfMemory>
+    ensures { IfOk result (λ found. map (λ v. v.now) found.items
+        ≡ versions_on axis.now versions.now (option_map (λ key. key.now) key.entry)) }
 {
-    if let Some(key) = key {
-        text.push_str("<text x=\"40\" y=\"102\">versions of the event's object</text>\n")?;
-        push_object_segments(text, axis, versions, key)?;
+    match key {
+        Some(key) => own_versions(alloc, axis, versions, key),
+        None => Ok(Vec::new(alloc)),
     }
-    Ok(())
 }
 
-fn push_object_segments(
-    text: &mut String,
+fn own_versions<'a>(
+    alloc: Global,
     axis: &Axis,
-    versions: &[Version],
+    versions: &'a [Version],
     key: &ObjectKey,
-) -> Result<(), OutOfMemory>
-    ensures { OnOk result (string_bytes text.new ≡ string_bytes text.old
-        ++ flat_map (segment_text axis.now) (drawn_versions axis.now versions.now key.now)) }
+) -> Result<Vec<&'a Version>, OutOfMemory>
+    ensures { IfOk result (λ found. map (λ v. v.now) found.items
+        ≡ filter (is_on_axis axis.now key.now) versions.now) }
 {
-    let mut drawn = 0;
+    let mut found = Vec::new(alloc);
     for version in versions {
         if is_on_axis(axis, key, version) {
-            drawn = push_next(text, axis, version, drawn)?;
+            found.push(version)?;
         }
     }
-    Ok(())
+    Ok(found)
 }
 
 // Whether a version is one of an object, and was there at some place of the axis.
@@ -54,23 +49,32 @@ fn is_on_axis(axis: &Axis, key: &ObjectKey, version: &Version) -> bool
     version.key == *key && version.revision.get() <= axis.high
 }
 
-// One more box, where not too many are drawn yet. Gives how many are drawn.
-fn push_next(
+/// Appends the first of these versions of an object as boxes from their revisions on; nothing where there is no key.
+#[tactic(auto, unfolding(crate::specs::Segments::segments_text))]
+pub fn push_segments(
     text: &mut String,
     axis: &Axis,
-    version: &Version,
-    drawn: usize,
-) -> Result<usize, OutOfMemory>
-    requires { drawn ≤ most_marks }
-    ensures count { IfOk result (λ now. now ≡ min (drawn + 1) most_marks) }
-    ensures text { OnOk result (string_bytes text.new ≡ string_bytes text.old
-        ++ (if nat_lt drawn most_marks then segment_text axis.now version.now else [])) }
+    key: Option<&ObjectKey>,
+    versions: &[&Version],
+) -> Result<(), OutOfMemory>
+    ensures { OnOk result (string_bytes text.new ≡ string_bytes text.old
+        ++ segments_text axis.now (option_map (λ key. key.now) key.entry) (map (λ v. v.now) versions.now)) }
 {
-    if drawn < MOST_MARKS {
-        push_segment(text, axis, version)?;
-        return Ok(drawn + 1);
+    if let Some(_) = key {
+        text.push_str("<text x=\"40\" y=\"102\">versions of the event's object</text>\n")?;
+        push_boxes(text, axis, first_of(versions, MOST_SEGMENTS))?;
     }
-    Ok(drawn)
+    Ok(())
+}
+
+fn push_boxes(text: &mut String, axis: &Axis, versions: &[&Version]) -> Result<(), OutOfMemory>
+    ensures { OnOk result (string_bytes text.new ≡ string_bytes text.old ++ flat_map (segment_text axis.now)
+        (map (λ v. v.now) versions.now)) }
+{
+    for version in versions {
+        push_segment(text, axis, version)?;
+    }
+    Ok(())
 }
 
 fn segment_width(axis: &Axis, revision: u64) -> u64

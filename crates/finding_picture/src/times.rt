@@ -1,16 +1,16 @@
 ghost use Rattle.std.specs.Prelude.{◌≡◌, ◌++◌, OnOk, Some, option_map, string_bytes, take};
 ghost use Rattle.std.specs.List.{flat_map};
-ghost use Rattle.finding_picture.specs.Limits.{most_marks};
+ghost use Rattle.finding_picture.specs.Limits.{most_bars};
 ghost use Rattle.finding_picture.specs.Times.{bar_text, begin_or, end_or, ends_text, first_instant, instant};
 ghost use Rattle.finding_picture.specs.Times.{last_instant, line_of, span_text, times_axis, times_band};
 ghost use Rattle.finding_picture.specs.Times.{times_section, times_text, write_bar};
 
-use crate::limits::MOST_MARKS;
+use crate::limits::MOST_BARS;
 use crate::looking::event_on;
 use crate::marks::bar_width;
 use audit_event::Event;
 use base_types::{Moment, OutOfMemory, WriteLine};
-use markup::{Axis, first_of, moment_at, push_moment};
+use markup::{Axis, first_of, moment_at, push_moment, push_rest};
 use version_store::Context;
 
 /// What stands before the event's span.
@@ -62,6 +62,7 @@ fn push_section(
     text.push_str("</text>\n")?;
     push_bars(text, context, &axis, writes)?;
     push_ends(text, &axis)?;
+    push_rest(text, MOST_BARS, writes.len(), "Writes that aren't drawn")?;
     Ok(())
 }
 
@@ -111,7 +112,7 @@ fn first_instant(context: &Context, event: &Event, writes: &[WriteLine]) -> u64
     ensures { result ≡ first_instant context.now.events event.now writes.now }
 {
     let mut low = instant(event.received);
-    for write in first_of(writes, MOST_MARKS) {
+    for write in first_of(writes, MOST_BARS) {
         low = begin_or(low, event_on(context, line_of(write)));
     }
     low
@@ -123,7 +124,7 @@ fn last_instant(context: &Context, event: &Event, writes: &[WriteLine]) -> u64
     ensures { result ≡ last_instant context.now.events event.now writes.now }
 {
     let mut high = instant(event.staged);
-    for write in first_of(writes, MOST_MARKS) {
+    for write in first_of(writes, MOST_BARS) {
         high = end_or(high, event_on(context, line_of(write)));
     }
     high
@@ -183,9 +184,9 @@ fn push_bars(
     writes: &[WriteLine],
 ) -> Result<(), OutOfMemory>
     ensures { OnOk result (string_bytes text.new ≡ string_bytes text.old ++ flat_map
-        (write_bar context.now.events axis.now) (take most_marks writes.now)) }
+        (write_bar context.now.events axis.now) (take most_bars writes.now)) }
 {
-    for write in first_of(writes, MOST_MARKS) {
+    for write in first_of(writes, MOST_BARS) {
         let line = line_of(write);
         push_bar(text, axis, line, event_on(context, line))?;
     }

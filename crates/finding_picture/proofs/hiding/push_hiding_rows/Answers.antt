@@ -5,4 +5,4 @@ use Rattle.finding_picture.proofs.hiding.push_hiding_rows.Goals as goal
 
 pub returns : goal.returns
 unfolding hiding_rows
-returns c = rw (c.in_ok-push_rest.ensures, c.in_ok-push_str-2.ensures.bytes, c.in_ok-push_hidden_rows.ensures, c.in_ok-push_str.ensures.bytes, c.first_of.ensures, take-map (λ event. event.now) 200 c.args.writes.now, length-map c.args.writes.now (λ event. event.now)) (simp append_assoc)
+returns c = rw (c.in_ok-push_rest.ensures, c.in_ok-push_str.ensures.bytes, c.in_ok-push_hidden_rows.ensures, c.first_of.ensures, take-map (λ event. event.now) 200 c.args.writes.now, length-map c.args.writes.now (λ event. event.now)) (simp append_assoc)

@@ -6,6 +6,7 @@ use Rattle.finding_picture.proofs.objects.push_object_rows.Goals as goal
 pub returns : goal.returns
 unfolding object_rows
 returns c = rw (
+  c.in_ok-push_rest-3.ensures,
   c.in_ok-push_rest-2.ensures,
   c.in_ok-push_rest.ensures,
   c.in_ok-push_str.ensures.bytes,
@@ -13,8 +14,10 @@ returns c = rw (
   c.in_ok-push_versions.ensures,
   c.first_of.ensures,
   c.first_of-2.ensures,
-  take-map (λ v. v.now) 2000 c.args.versions.now,
+  ← c.since-listed.ensures,
+  take-map (λ v. v.now) 1800 c.since-listed.result.now,
   take-map (λ r. r.now) 200 c.args.removals.now,
+  length-map c.since-listed.result.now (λ v. v.now),
   length-map c.args.versions.now (λ v. v.now),
   length-map c.args.removals.now (λ r. r.now),
 ) (simp append_assoc)

@@ -6,4 +6,4 @@ pub returns-in_ok-push_str-in-None : goal.returns-in_ok-push_str-in-None
 unfolding object_section object_text
 returns-in_ok-push_str-in-None c =
     let none = sym (ap (λ log. key_on log c.args.line) c.log.ensures.log) ∙ sym c.in-None.ensures in
-    rw (c.in_ok-push_str-in-None.ensures.bytes) (ap (λ key. string_bytes c.args.text.now ++ object_text c.args.context.now key) (sym none))
+    rw (c.in_ok-push_str-in-None.ensures.bytes) (ap (λ key. string_bytes c.args.text.now ++ object_text c.args.context.now key c.args.low) (sym none))

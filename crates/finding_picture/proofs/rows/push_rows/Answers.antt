@@ -4,4 +4,4 @@ use Rattle.finding_picture.proofs.rows.push_rows.Goals as goal
 
 pub returns : goal.returns
 unfolding rows_text
-returns c = rw (c.in_ok-push_str-2.ensures.bytes, c.in_ok-push_each.ensures, c.in_ok-push_str.ensures.bytes) (simp append_assoc)
+returns c = rw (c.in_ok-push_rest.ensures, c.in_ok-push_str-2.ensures.bytes, c.in_ok-push_each.ensures, c.in_ok-push_str.ensures.bytes) (simp append_assoc)
