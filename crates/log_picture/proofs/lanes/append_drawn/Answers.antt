@@ -5,4 +5,4 @@ use Rattle.log_picture.proofs.lanes.append_drawn.Goals as goal
 
 pub returns : goal.returns
 unfolding drawn_text
-returns c = rw (c.in_ok-append_table.ensures, c.in_ok-push_rest.ensures, c.in_ok-append_drawing.ensures, c.first_of-drawn.ensures, take-map pair_of 1000 c.args.marked.now, length-map c.args.marked.now pair_of) (simp append_assoc)
+returns c = rw (c.in_ok-append_table.ensures, c.in_ok-push_rest.ensures, c.in_ok-append_drawing.ensures, c.first_of-drawn.ensures, take-map pair_of 500 c.args.marked.now, length-map c.args.marked.now pair_of) (simp append_assoc)
