@@ -1,10 +1,11 @@
-ghost use Rattle.std.specs.Prelude.{◌≡◌, ◌++◌, OnOk, flat_map, string_bytes};
+ghost use Rattle.std.specs.Prelude.{◌≡◌, ◌++◌, OnOk, flat_map, map, string_bytes};
 ghost use Rattle.log_picture.specs.Gone.{line_at, place_of, place_text, removal_row, removals_text, removed_at};
 ghost use Rattle.log_picture.specs.Gone.{removed_by, removed_text};
 
 use crate::limits::REMOVAL_LIMIT;
+use crate::spreading::spread;
 use base_types::{OutOfMemory, PlacedAnswer, PlacedLine, key_text};
-use markup::{Told, first_of, push_rest};
+use markup::{Told, push_rest};
 use object_past::Removal;
 use std::alloc::Global;
 use write_groups::LogEvent;
@@ -70,17 +71,18 @@ pub fn append_removals(
     text: &mut String,
     log: &[LogEvent],
     lines: &[PlacedLine],
-    removals: &[Removal],
+    removals: &[&Removal],
 ) -> Result<(), OutOfMemory>
     ensures { OnOk result (string_bytes text.new ≡ string_bytes text.old ++ removals_text log.now lines.now
-        removals.now) }
+        (map (λ one. one.now) removals.now)) }
 {
+    let listed = spread(alloc, removals, REMOVAL_LIMIT)?;
     text.push_str(REMOVALS_HEAD)?;
-    append_rows(alloc, text, log, lines, first_of(removals, REMOVAL_LIMIT))?;
+    append_rows(alloc, text, log, lines, listed.as_slice())?;
     text.push_str(TABLE_END)?;
     push_rest(
         text,
-        REMOVAL_LIMIT,
+        listed.len(),
         removals.len(),
         "Removals that aren't listed",
     )?;
@@ -92,10 +94,10 @@ fn append_rows(
     text: &mut String,
     log: &[LogEvent],
     lines: &[PlacedLine],
-    removals: &[Removal],
+    removals: &[&Removal],
 ) -> Result<(), OutOfMemory>
     ensures { OnOk result (string_bytes text.new ≡ string_bytes text.old ++ flat_map
-        (removal_row log.now lines.now) removals.now) }
+        (removal_row log.now lines.now) (map (λ one. one.now) removals.now)) }
 {
     for removal in removals {
         append_row(alloc, text, log, lines, removal)?;

@@ -8,9 +8,10 @@ ghost use Rattle.log_picture.specs.Lanes.{time_text, title_text};
 use crate::kind::{Kind, kind_of, kind_words};
 use crate::limits::EVENT_LIMIT;
 use crate::overview::receipt;
+use crate::spreading::spread;
 use audit_event::Event;
 use base_types::{Decision, OutOfMemory};
-use markup::{Axis, Told, first_of, moment_at, push_moment, push_rest};
+use markup::{Axis, Told, moment_at, push_moment, push_rest};
 use std::alloc::Global;
 use write_groups::LogEvent;
 
@@ -195,32 +196,42 @@ pub fn append_time(
     ensures { OnOk result (string_bytes text.new ≡ string_bytes text.old ++ time_text axis.now events.now log.now) }
 {
     let marked = marked_of(alloc, events, log)?;
-    append_marked(text, axis, marked.as_slice())?;
+    append_marked(alloc, text, axis, marked.as_slice())?;
     Ok(())
 }
 
 #[tactic(auto, unfolding(crate::specs::Lanes::marked_text))]
-fn append_marked(text: &mut String, axis: &Axis, marked: &[Marked<'_>]) -> Result<(), OutOfMemory>
+fn append_marked(
+    alloc: Global,
+    text: &mut String,
+    axis: &Axis,
+    marked: &[Marked<'_>],
+) -> Result<(), OutOfMemory>
     ensures { OnOk result (string_bytes text.new ≡ string_bytes text.old ++ marked_text axis.now
         (map pair_of marked.now)) }
 {
     if marked.is_empty() {
         text.push_str(NO_EVENTS)?;
     } else {
-        append_drawn(text, axis, marked)?;
+        append_drawn(alloc, text, axis, marked)?;
     }
     Ok(())
 }
 
 #[tactic(auto, unfolding(crate::specs::Lanes::drawn_text))]
-fn append_drawn(text: &mut String, axis: &Axis, marked: &[Marked<'_>]) -> Result<(), OutOfMemory>
+fn append_drawn(
+    alloc: Global,
+    text: &mut String,
+    axis: &Axis,
+    marked: &[Marked<'_>],
+) -> Result<(), OutOfMemory>
     ensures { OnOk result (string_bytes text.new ≡ string_bytes text.old ++ drawn_text axis.now
         (map pair_of marked.now)) }
 {
-    let drawn = first_of(marked, EVENT_LIMIT);
-    append_drawing(text, axis, drawn)?;
-    push_rest(text, EVENT_LIMIT, marked.len(), "Events that aren't drawn")?;
-    append_table(text, drawn)?;
+    let drawn = spread(alloc, marked, EVENT_LIMIT)?;
+    append_drawing(text, axis, drawn.as_slice())?;
+    push_rest(text, drawn.len(), marked.len(), "Events that aren't drawn")?;
+    append_table(text, drawn.as_slice())?;
     Ok(())
 }
 

@@ -1,12 +1,13 @@
-ghost use Rattle.std.specs.Prelude.{◌≡◌, ◌++◌, OnOk, flat_map, string_bytes};
+ghost use Rattle.std.specs.Prelude.{◌≡◌, ◌++◌, OnOk, flat_map, map, string_bytes};
 ghost use Rattle.log_picture.specs.Revised.{gap_row, gaps_table, maker_text, version_cells, version_row};
 ghost use Rattle.log_picture.specs.Revised.{versions_table};
 
 use crate::gone::{TABLE_END, line_at};
 use crate::limits::{GAP_LIMIT, VERSION_LIMIT};
 use crate::revised::Gap;
+use crate::spreading::spread;
 use base_types::{OutOfMemory, key_text};
-use markup::{Told, first_of};
+use markup::Told;
 use object_past::{Maker, Version};
 use std::alloc::Global;
 use write_groups::LogEvent;
@@ -32,12 +33,14 @@ pub fn append_versions(
     alloc: Global,
     text: &mut String,
     log: &[LogEvent],
-    versions: &[Version],
+    versions: &[&Version],
 ) -> Result<(), OutOfMemory>
-    ensures { OnOk result (string_bytes text.new ≡ string_bytes text.old ++ versions_table log.now versions.now) }
+    ensures { OnOk result (string_bytes text.new ≡ string_bytes text.old ++ versions_table log.now
+        (map (λ one. one.now) versions.now)) }
 {
+    let listed = spread(alloc, versions, VERSION_LIMIT)?;
     text.push_str(VERSIONS_HEAD)?;
-    append_version_rows(alloc, text, log, first_of(versions, VERSION_LIMIT))?;
+    append_version_rows(alloc, text, log, listed.as_slice())?;
     text.push_str(TABLE_END)?;
     Ok(())
 }
@@ -46,10 +49,10 @@ fn append_version_rows(
     alloc: Global,
     text: &mut String,
     log: &[LogEvent],
-    versions: &[Version],
+    versions: &[&Version],
 ) -> Result<(), OutOfMemory>
     ensures { OnOk result (string_bytes text.new ≡ string_bytes text.old ++ flat_map
-        (version_row log.now) versions.now) }
+        (version_row log.now) (map (λ one. one.now) versions.now)) }
 {
     for version in versions {
         append_version_row(alloc, text, log, version)?;
@@ -104,11 +107,12 @@ fn append_maker(text: &mut String, log: &[LogEvent], maker: Maker) -> Result<(),
 
 /// Appends the table of the drawn unrecorded writes.
 #[tactic(auto, unfolding(crate::specs::Revised::gaps_table))]
-pub fn append_gaps(text: &mut String, gaps: &[Gap]) -> Result<(), OutOfMemory>
+pub fn append_gaps(alloc: Global, text: &mut String, gaps: &[Gap]) -> Result<(), OutOfMemory>
     ensures { OnOk result (string_bytes text.new ≡ string_bytes text.old ++ gaps_table gaps.now) }
 {
+    let listed = spread(alloc, gaps, GAP_LIMIT)?;
     text.push_str(GAPS_HEAD)?;
-    append_gap_rows(text, first_of(gaps, GAP_LIMIT))?;
+    append_gap_rows(text, listed.as_slice())?;
     text.push_str(TABLE_END)?;
     Ok(())
 }
