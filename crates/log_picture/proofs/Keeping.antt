@@ -69,9 +69,9 @@ fits limit n q below = let e : (q + 1) * limit ≡ q * limit + limit = add-mul q
 few : (k limit all taken : ℕ) → 0 < k → all ≤ k * limit → k * taken ≤ all + (k - 1 - 0) → taken ≤ limit
 few k limit all taken some within least = ⊎_elim
     (λ over. absurd (
-      let more = mul-le-mul_left {m = limit + 1} {n = taken} k (omega (arith, over)) in
-      let e : k * (limit + 1) ≡ k * limit + k = mul-add k limit 1 ∙ ap (λ n. k * limit + n) (mul-one k) in
-      omega (arith, more, e, within, least, some)))
+    let more = mul-le-mul_left {m = limit + 1} {n = taken} k (omega (arith, over)) in
+    let e : k * (limit + 1) ≡ k * limit + k = mul-add k limit 1 ∙ ap (λ n. k * limit + n) (mul-one k) in
+    omega (arith, more, e, within, least, some)))
     (λ kept. omega (arith, kept))
     (cases_lt limit taken)
 

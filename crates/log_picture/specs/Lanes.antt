@@ -11,7 +11,8 @@ use Rattle.log_picture.specs.declared.kind.Kind.TheVariants as kind
 use Rattle.log_picture.specs.declared.lanes.Form.{Form}
 use Rattle.log_picture.specs.declared.lanes.Form.TheVariants as form
 use Rattle.log_picture.specs.declared.lanes.Marked.{Marked}
-use Rattle.log_picture.specs.declared.lanes.TheConstants.{EVENTS_END, EVENTS_HEAD, NO_EVENTS, TIME_HEAD}
+use Rattle.log_picture.specs.declared.lanes.TheConstants.{NO_EVENTS, TIME_HEAD}
+use Rattle.log_picture.specs.declared.tables.TheConstants.{EVENTS_END, EVENTS_HEAD}
 use Rattle.markup.specs.Drawing.{position}
 use Rattle.markup.specs.Moments.{moment_at, moment_text}
 use Rattle.markup.specs.Pieces.{fixed, number, told, shown}

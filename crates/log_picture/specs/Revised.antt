@@ -1,5 +1,5 @@
 -- The drawing of the history by revision.
-use Rattle.std.specs.Prelude.{ℕ, ◌+◌, ◌-◌, ◌*◌, ◌%◌, max, List, [], ◌∷◌, ◌++◌, codes, flat_map}
+use Rattle.std.specs.Prelude.{ℕ, ◌+◌, ◌-◌, ◌*◌, ◌%◌, max, Bool, true, false, List, [], ◌∷◌, ◌++◌, codes, filter, flat_map}
 use Rattle.base_types.specs.Keys.{key_spelling}
 use Rattle.base_types.specs.declared.claim.Range.{Range}
 use Rattle.log_picture.specs.Gone.{line_at}
@@ -16,6 +16,16 @@ use Rattle.object_past.specs.declared.version.Maker.{Maker}
 use Rattle.object_past.specs.declared.version.Maker.TheVariants.{Snapshot, Event, Unknown}
 use Rattle.object_past.specs.declared.version.Version.{Version}
 use Rattle.write_groups.specs.declared.event.LogEvent.{LogEvent}
+
+-- a write gave the object this version: it isn't one of the snapshot
+abbrev pub is_written : Maker → Bool
+is_written Snapshot = false
+is_written (Event n) = true
+is_written Unknown = true
+
+-- the versions behind the start
+abbrev pub written_versions : List Version → List Version
+written_versions versions = filter (λ v. is_written v.maker) versions
 
 unfoldable pub tick_text : ℕ → ℕ → List ℕ → List ℕ
 tick_text x revision key = shown (

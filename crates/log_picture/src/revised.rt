@@ -1,7 +1,7 @@
-ghost use Rattle.std.specs.Prelude.{◌≡◌, ◌++◌, OnOk, flat_map, map, string_bytes};
+ghost use Rattle.std.specs.Prelude.{◌≡◌, ◌++◌, IfOk, OnOk, flat_map, map, string_bytes};
 ghost use Rattle.log_picture.specs.Revised.{axis_text, bar_text, bar_width, gap_mark, history_drawing};
-ghost use Rattle.log_picture.specs.Revised.{history_marks, history_text, left_out_text, range_text, rect_text};
-ghost use Rattle.log_picture.specs.Revised.{removal_mark, tick_text, version_mark};
+ghost use Rattle.log_picture.specs.Revised.{history_marks, history_text, is_written, left_out_text, range_text};
+ghost use Rattle.log_picture.specs.Revised.{rect_text, removal_mark, tick_text, version_mark, written_versions};
 
 use crate::gone::line_at;
 use crate::limits::{GAP_LIMIT, REMOVAL_LIMIT, VERSION_LIMIT};
@@ -9,7 +9,7 @@ use crate::spreading::{append_rest, spread};
 use crate::tables::{append_gaps, append_versions};
 use base_types::{OutOfMemory, Range, key_text};
 use markup::{Axis, Told};
-use object_past::{Removal, Version};
+use object_past::{Maker, Removal, Version};
 use std::alloc::Global;
 use write_groups::LogEvent;
 
@@ -37,12 +37,35 @@ pub const HISTORY_HEAD: &str = r#"<h2>The history by revision</h2>
 <figure>
 <svg viewBox="0 0 960 205" role="img" aria-labelledby="history-title history-desc">
 <title id="history-title">The history by revision</title>
-<desc id="history-desc">Each version is a tick at its revision, each removal a bar over the range of its places, each
-unrecorded write a broken tick at the lowest place of its window. The tables below say the same.</desc>
+<desc id="history-desc">Each version behind the start is a tick at its revision, each removal a bar over the range of its
+places, each unrecorded write a broken tick at the lowest place of its window. The tables below say the same.</desc>
 <text x="4" y="36">Versions</text>
 <text x="4" y="98">Removals</text>
 <text x="4" y="158">Unrecorded writes</text>
 "#;
+
+fn is_written(maker: Maker) -> bool
+    ensures { result ≡ is_written maker }
+{
+    match maker {
+        Maker::Snapshot => false,
+        Maker::Event(_) => true,
+        Maker::Unknown => true,
+    }
+}
+
+/// The versions behind the start.
+pub fn written_of(alloc: Global, versions: &[Version]) -> Result<Vec<&Version>, OutOfMemory>
+    ensures { IfOk result (λ written. map (λ one. one.now) written.items ≡ written_versions versions.now) }
+{
+    let mut written = Vec::new(alloc);
+    for version in versions {
+        if is_written(version.maker) {
+            written.push(version)?;
+        }
+    }
+    Ok(written)
+}
 
 /// Appends the drawing of the history by revision, and its tables but that of the removals.
 #[tactic(auto, unfolding(crate::specs::Revised::history_text))]

@@ -14,6 +14,7 @@ returns c = rw (
   c.in_ok-push_str.ensures.bytes,
   c.as_slice.ensures.value,
   c.len.ensures,
+  c.in_ok-listed.listed.ok.0,
   c.in_ok-listed.ensures,
   spread-map (λ one. one.now) 200 c.args.removals.now,
   length-map (spread 200 c.args.removals.now) (λ one. one.now),
