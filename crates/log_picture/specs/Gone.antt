@@ -52,8 +52,12 @@ row_end = codes "</td></tr>\n"
 unfoldable pub removal_row : List LogEvent → List PlacedLine → Removal → List ℕ
 removal_row log lines removal = removed_text log removal ++ (place_text (place_of log lines removal.range.event) ++ row_end)
 
--- those that are drawn, and how many others there are
+-- the table of those that are drawn
+unfoldable pub removals_table : List LogEvent → List PlacedLine → List Removal → List ℕ
+removals_table log lines removals =
+    REMOVALS_HEAD.now ++ flat_map (removal_row log lines) (spread removal_limit removals) ++ TABLE_END.now
+
+-- the same, and how many others there are
 unfoldable pub removals_text : List LogEvent → List PlacedLine → List Removal → List ℕ
 removals_text log lines removals =
-    REMOVALS_HEAD.now ++ flat_map (removal_row log lines) (spread removal_limit removals) ++ TABLE_END.now
-    ++ rest_of removal_limit removals (codes "Removals that aren't listed")
+    removals_table log lines removals ++ rest_of removal_limit removals (codes "Removals that aren't listed")

@@ -37,8 +37,8 @@ pub const HISTORY_HEAD: &str = r#"<h2>The history by revision</h2>
 <figure>
 <svg viewBox="0 0 960 205" role="img" aria-labelledby="history-title history-desc">
 <title id="history-title">The history by revision</title>
-<desc id="history-desc">Each version behind the start is a tick at its revision, each removal a bar over the range of its
-places, each unrecorded write a broken tick at the lowest place of its window. The tables below say the same.</desc>
+<desc id="history-desc">Each version behind the start is a tick at its revision, each removal a bar over the range of
+its places, each unrecorded write a broken tick at the lowest place of its window. The tables below say the same.</desc>
 <text x="4" y="36">Versions</text>
 <text x="4" y="98">Removals</text>
 <text x="4" y="158">Unrecorded writes</text>

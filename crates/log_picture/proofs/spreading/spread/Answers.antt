@@ -1,4 +1,4 @@
-use Rattle.std.proofs.Common.{◌∙◌, ap, arith, sym}
+use Rattle.std.proofs.Common.{◌∙◌, ap, arith}
 use Rattle.log_picture.proofs.Stepping.{passed_by, taken_more}
 use Rattle.log_picture.proofs.spreading.spread.Goals as goal
 use Rattle.log_picture.proofs.spreading.spread.Goals.{then-position-step-eq0+in_ok-push, else-position-step-eq0}
