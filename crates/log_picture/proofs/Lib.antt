@@ -1,4 +1,6 @@
+mod Keeping
 mod Pairs
 mod Ranking
+mod Stepping
 mod Tallying
 mod Unique

@@ -1,12 +1,11 @@
 -- The table of removals: their ranges, and where the placement puts each.
-use Rattle.std.specs.Prelude.{ℕ, ◌==◌, List, [], ◌∷◌, ◌++◌, Option, Some, None, codes, flat_map, length, slice_get, take, option_and_then, if◌then◌else◌}
+use Rattle.std.specs.Prelude.{ℕ, ◌==◌, List, [], ◌∷◌, ◌++◌, Option, Some, None, codes, flat_map, slice_get, option_and_then, if◌then◌else◌}
 use Rattle.base_types.specs.Keys.{key_spelling}
 use Rattle.base_types.specs.declared.placed.PlacedAnswer.{PlacedAnswer}
 use Rattle.base_types.specs.declared.placed.PlacedAnswer.TheVariants.{Made, Removed, At, Nowhere}
 use Rattle.base_types.specs.declared.placed.PlacedLine.{PlacedLine}
-use Rattle.log_picture.specs.Limits.{removal_limit}
+use Rattle.log_picture.specs.Limits.{removal_limit, rest_of, spread}
 use Rattle.log_picture.specs.declared.gone.TheConstants.{REMOVALS_HEAD, TABLE_END}
-use Rattle.markup.specs.Limits.{rest_text}
 use Rattle.markup.specs.Pieces.{fixed, number, told, shown}
 use Rattle.object_past.specs.declared.removal.Removal.{Removal}
 use Rattle.write_groups.specs.declared.event.LogEvent.{LogEvent}
@@ -53,8 +52,12 @@ row_end = codes "</td></tr>\n"
 unfoldable pub removal_row : List LogEvent → List PlacedLine → Removal → List ℕ
 removal_row log lines removal = removed_text log removal ++ (place_text (place_of log lines removal.range.event) ++ row_end)
 
--- the first of them, and how many others there are
+-- the table of those that are drawn
+unfoldable pub removals_table : List LogEvent → List PlacedLine → List Removal → List ℕ
+removals_table log lines removals =
+    REMOVALS_HEAD.now ++ flat_map (removal_row log lines) (spread removal_limit removals) ++ TABLE_END.now
+
+-- the same, and how many others there are
 unfoldable pub removals_text : List LogEvent → List PlacedLine → List Removal → List ℕ
 removals_text log lines removals =
-    REMOVALS_HEAD.now ++ flat_map (removal_row log lines) (take removal_limit removals) ++ TABLE_END.now
-    ++ rest_text removal_limit (length removals) (codes "Removals that aren't listed")
+    removals_table log lines removals ++ rest_of removal_limit removals (codes "Removals that aren't listed")

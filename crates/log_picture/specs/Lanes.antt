@@ -1,20 +1,20 @@
 -- The drawing of the log over time.
-use Rattle.std.specs.Prelude.{ℕ, Bool, ◌||◌, ◌==◌, List, [], ◌∷◌, ◌++◌, Option, Some, None, is_some, length, take, filter, zip, codes, flat_map, if◌then◌else◌}
+use Rattle.std.specs.Prelude.{ℕ, Bool, ◌||◌, ◌==◌, List, [], ◌∷◌, ◌++◌, Option, Some, None, is_some, length, filter, zip, codes, flat_map, if◌then◌else◌}
 use Rattle.audit_event.specs.declared.event.Event.{Event}
 use Rattle.base_types.specs.declared.request.Decision.{Decision}
 use Rattle.base_types.specs.declared.request.Decision.TheVariants.{Allow, Forbid}
 use Rattle.log_picture.specs.Kinds.{kind_of, kind_words}
-use Rattle.log_picture.specs.Limits.{event_limit}
+use Rattle.log_picture.specs.Limits.{event_limit, rest_of, spread}
 use Rattle.log_picture.specs.Overview.{receipt}
 use Rattle.log_picture.specs.declared.kind.Kind.{Kind}
 use Rattle.log_picture.specs.declared.kind.Kind.TheVariants as kind
 use Rattle.log_picture.specs.declared.lanes.Form.{Form}
 use Rattle.log_picture.specs.declared.lanes.Form.TheVariants as form
 use Rattle.log_picture.specs.declared.lanes.Marked.{Marked}
-use Rattle.log_picture.specs.declared.lanes.TheConstants.{EVENTS_END, EVENTS_HEAD, NO_EVENTS, TIME_HEAD}
+use Rattle.log_picture.specs.declared.lanes.TheConstants.{NO_EVENTS, TIME_HEAD}
+use Rattle.log_picture.specs.declared.tables.TheConstants.{EVENTS_END, EVENTS_HEAD}
 use Rattle.markup.specs.Drawing.{position}
 use Rattle.markup.specs.Moments.{moment_at, moment_text}
-use Rattle.markup.specs.Limits.{rest_text}
 use Rattle.markup.specs.Pieces.{fixed, number, told, shown}
 use Rattle.markup.specs.declared.drawing.Axis.{Axis}
 use Rattle.write_groups.specs.declared.event.LogEvent.{LogEvent}
@@ -141,8 +141,8 @@ events_table drawn = EVENTS_HEAD.now ++ flat_map event_row drawn ++ EVENTS_END.n
 
 unfoldable pub drawn_text : Axis → List (Event × LogEvent) → List ℕ
 drawn_text axis marked =
-    time_drawing axis (take event_limit marked) ++ rest_text event_limit (length marked) (codes "Events that aren't drawn")
-    ++ events_table (take event_limit marked)
+    time_drawing axis (spread event_limit marked) ++ rest_of event_limit marked (codes "Events that aren't drawn")
+    ++ events_table (spread event_limit marked)
 
 unfoldable pub marked_text : Axis → List (Event × LogEvent) → List ℕ
 marked_text axis marked = if length marked == 0 then NO_EVENTS.now else drawn_text axis marked

@@ -41,6 +41,7 @@ first_text overview = OVERVIEW_HEAD.now ++ shown (
 unfoldable pub last_text : Overview → List ℕ
 last_text overview = shown (
     fixed (codes "</dd>\n<dt>Revision at the start</dt><dd>") ∷ number overview.start
+    ∷ fixed (codes "</dd>\n<dt>Objects at the start</dt><dd>") ∷ number overview.objects
     ∷ fixed (codes "</dd>\n<dt>Greatest revision</dt><dd>") ∷ number overview.greatest
     ∷ fixed (codes "</dd>\n</dl>\n") ∷ [])
 

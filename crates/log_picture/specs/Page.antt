@@ -9,7 +9,7 @@ use Rattle.log_picture.specs.Gone.{removals_text}
 use Rattle.log_picture.specs.Kinds.{is_of}
 use Rattle.log_picture.specs.Lanes.{time_text}
 use Rattle.log_picture.specs.Overview.{first_receipt, greatest_revision, last_receipt, overview_text}
-use Rattle.log_picture.specs.Revised.{history_text}
+use Rattle.log_picture.specs.Revised.{history_text, written_versions}
 use Rattle.log_picture.specs.declared.changed.Changed.{Changed}
 use Rattle.log_picture.specs.declared.kind.Kind.TheVariants.{Unrecorded}
 use Rattle.log_picture.specs.declared.overview.Overview.{Overview}
@@ -33,6 +33,7 @@ abbrev pub overview_of : Known → Overview
 overview_of known = record {
   events = length known.events;
   checkpoints = length known.setup.checkpoints;
+  objects = length known.setup.snapshot;
   first = first_receipt known.events;
   last = last_receipt known.events;
   start = known.setup.start;
@@ -54,7 +55,7 @@ events_text known overview = overview_text overview ++ counts_text known.log ++ 
 -- the history by revision, and the removals
 unfoldable pub objects_text : Known → Overview → List PlacedLine → List Gap → List ℕ
 objects_text known overview lines gaps =
-    history_text (revision_axis overview) known.log known.versions known.removals gaps ++ removals_text known.log lines known.removals
+    history_text (revision_axis overview) known.log (written_versions known.versions) known.removals gaps ++ removals_text known.log lines known.removals
 
 unfoldable pub sections_text : Known → Overview → List PlacedLine → List Gap → List Changed → List ℕ
 sections_text known overview lines gaps changes =

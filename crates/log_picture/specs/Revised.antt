@@ -1,15 +1,14 @@
 -- The drawing of the history by revision.
-use Rattle.std.specs.Prelude.{ℕ, ◌+◌, ◌-◌, ◌*◌, ◌%◌, max, List, [], ◌∷◌, ◌++◌, length, take, codes, flat_map}
+use Rattle.std.specs.Prelude.{ℕ, ◌+◌, ◌-◌, ◌*◌, ◌%◌, max, Bool, true, false, List, [], ◌∷◌, ◌++◌, codes, filter, flat_map}
 use Rattle.base_types.specs.Keys.{key_spelling}
 use Rattle.base_types.specs.declared.claim.Range.{Range}
 use Rattle.log_picture.specs.Gone.{line_at}
-use Rattle.log_picture.specs.Limits.{gap_limit, removal_limit, version_limit}
+use Rattle.log_picture.specs.Limits.{gap_limit, removal_limit, rest_of, spread, version_limit}
 use Rattle.log_picture.specs.declared.gone.TheConstants.{TABLE_END}
 use Rattle.log_picture.specs.declared.revised.Gap.{Gap}
 use Rattle.log_picture.specs.declared.revised.TheConstants.{HISTORY_HEAD}
 use Rattle.log_picture.specs.declared.tables.TheConstants.{GAPS_HEAD, VERSIONS_HEAD}
 use Rattle.markup.specs.Drawing.{position}
-use Rattle.markup.specs.Limits.{rest_text}
 use Rattle.markup.specs.Pieces.{fixed, number, told, shown}
 use Rattle.markup.specs.declared.drawing.Axis.{Axis}
 use Rattle.object_past.specs.declared.removal.Removal.{Removal}
@@ -17,6 +16,16 @@ use Rattle.object_past.specs.declared.version.Maker.{Maker}
 use Rattle.object_past.specs.declared.version.Maker.TheVariants.{Snapshot, Event, Unknown}
 use Rattle.object_past.specs.declared.version.Version.{Version}
 use Rattle.write_groups.specs.declared.event.LogEvent.{LogEvent}
+
+-- a write gave the object this version: it isn't one of the snapshot
+abbrev pub is_written : Maker → Bool
+is_written Snapshot = false
+is_written (Event n) = true
+is_written Unknown = true
+
+-- the versions behind the start
+abbrev pub written_versions : List Version → List Version
+written_versions versions = filter (λ v. is_written v.maker) versions
 
 unfoldable pub tick_text : ℕ → ℕ → List ℕ → List ℕ
 tick_text x revision key = shown (
@@ -70,11 +79,11 @@ axis_text axis = shown (
     ∷ fixed (codes "</text>\n<text x=\"930\" y=\"196\" text-anchor=\"end\">revision ") ∷ number axis.high
     ∷ fixed (codes "</text>\n</svg>\n</figure>\n") ∷ [])
 
--- the marks of the first versions, removals and unrecorded writes
+-- the marks of versions, removals and unrecorded writes, all over the log
 unfoldable pub history_marks : Axis → List LogEvent → List Version → List Removal → List Gap → List ℕ
 history_marks axis log versions removals gaps =
-    flat_map (version_mark axis) (take version_limit versions) ++ flat_map (removal_mark axis log) (take removal_limit removals)
-    ++ flat_map (gap_mark axis) (take gap_limit gaps)
+    flat_map (version_mark axis) (spread version_limit versions) ++ flat_map (removal_mark axis log) (spread removal_limit removals)
+    ++ flat_map (gap_mark axis) (spread gap_limit gaps)
 
 unfoldable pub history_drawing : Axis → List LogEvent → List Version → List Removal → List Gap → List ℕ
 history_drawing axis log versions removals gaps = HISTORY_HEAD.now ++ history_marks axis log versions removals gaps ++ axis_text axis
@@ -82,9 +91,9 @@ history_drawing axis log versions removals gaps = HISTORY_HEAD.now ++ history_ma
 -- how many aren't drawn
 unfoldable pub left_out_text : List Version → List Removal → List Gap → List ℕ
 left_out_text versions removals gaps =
-    rest_text version_limit (length versions) (codes "Versions that aren't drawn")
-    ++ rest_text removal_limit (length removals) (codes "Removals that aren't drawn")
-    ++ rest_text gap_limit (length gaps) (codes "Unrecorded writes that aren't drawn")
+    rest_of version_limit versions (codes "Versions that aren't drawn")
+    ++ rest_of removal_limit removals (codes "Removals that aren't drawn")
+    ++ rest_of gap_limit gaps (codes "Unrecorded writes that aren't drawn")
 
 -- the line that wrote the version
 unfoldable pub maker_text : List LogEvent → Maker → List ℕ
@@ -107,10 +116,10 @@ gap_row gap = shown (
 
 -- the versions and unrecorded writes that are drawn
 unfoldable pub versions_table : List LogEvent → List Version → List ℕ
-versions_table log versions = VERSIONS_HEAD.now ++ flat_map (version_row log) (take version_limit versions) ++ TABLE_END.now
+versions_table log versions = VERSIONS_HEAD.now ++ flat_map (version_row log) (spread version_limit versions) ++ TABLE_END.now
 
 unfoldable pub gaps_table : List Gap → List ℕ
-gaps_table gaps = GAPS_HEAD.now ++ flat_map gap_row (take gap_limit gaps) ++ TABLE_END.now
+gaps_table gaps = GAPS_HEAD.now ++ flat_map gap_row (spread gap_limit gaps) ++ TABLE_END.now
 
 unfoldable pub history_text : Axis → List LogEvent → List Version → List Removal → List Gap → List ℕ
 history_text axis log versions removals gaps =

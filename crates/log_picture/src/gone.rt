@@ -1,10 +1,11 @@
-ghost use Rattle.std.specs.Prelude.{◌≡◌, ◌++◌, OnOk, flat_map, string_bytes};
-ghost use Rattle.log_picture.specs.Gone.{line_at, place_of, place_text, removal_row, removals_text, removed_at};
-ghost use Rattle.log_picture.specs.Gone.{removed_by, removed_text};
+ghost use Rattle.std.specs.Prelude.{◌≡◌, ◌++◌, OnOk, flat_map, map, string_bytes};
+ghost use Rattle.log_picture.specs.Gone.{line_at, place_of, place_text, removal_row, removals_table, removals_text};
+ghost use Rattle.log_picture.specs.Gone.{removed_at, removed_by, removed_text};
 
 use crate::limits::REMOVAL_LIMIT;
+use crate::spreading::{append_rest, spread};
 use base_types::{OutOfMemory, PlacedAnswer, PlacedLine, key_text};
-use markup::{Told, first_of, push_rest};
+use markup::Told;
 use object_past::Removal;
 use std::alloc::Global;
 use write_groups::LogEvent;
@@ -70,20 +71,37 @@ pub fn append_removals(
     text: &mut String,
     log: &[LogEvent],
     lines: &[PlacedLine],
-    removals: &[Removal],
+    removals: &[&Removal],
 ) -> Result<(), OutOfMemory>
     ensures { OnOk result (string_bytes text.new ≡ string_bytes text.old ++ removals_text log.now lines.now
-        removals.now) }
+        (map (λ one. one.now) removals.now)) }
 {
-    text.push_str(REMOVALS_HEAD)?;
-    append_rows(alloc, text, log, lines, first_of(removals, REMOVAL_LIMIT))?;
-    text.push_str(TABLE_END)?;
-    push_rest(
+    append_listed(alloc, text, log, lines, removals)?;
+    append_rest(
+        alloc,
         text,
+        removals,
         REMOVAL_LIMIT,
-        removals.len(),
         "Removals that aren't listed",
     )?;
+    Ok(())
+}
+
+#[tactic(auto, unfolding(crate::specs::Gone::removals_table))]
+fn append_listed(
+    alloc: Global,
+    text: &mut String,
+    log: &[LogEvent],
+    lines: &[PlacedLine],
+    removals: &[&Removal],
+) -> Result<(), OutOfMemory>
+    ensures { OnOk result (string_bytes text.new ≡ string_bytes text.old ++ removals_table log.now lines.now
+        (map (λ one. one.now) removals.now)) }
+{
+    let listed = spread(alloc, removals, REMOVAL_LIMIT)?;
+    text.push_str(REMOVALS_HEAD)?;
+    append_rows(alloc, text, log, lines, listed.as_slice())?;
+    text.push_str(TABLE_END)?;
     Ok(())
 }
 
@@ -92,10 +110,10 @@ fn append_rows(
     text: &mut String,
     log: &[LogEvent],
     lines: &[PlacedLine],
-    removals: &[Removal],
+    removals: &[&Removal],
 ) -> Result<(), OutOfMemory>
     ensures { OnOk result (string_bytes text.new ≡ string_bytes text.old ++ flat_map
-        (removal_row log.now lines.now) removals.now) }
+        (removal_row log.now lines.now) (map (λ one. one.now) removals.now)) }
 {
     for removal in removals {
         append_row(alloc, text, log, lines, removal)?;

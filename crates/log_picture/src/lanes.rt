@@ -1,16 +1,17 @@
 ghost use Rattle.std.specs.Prelude.{◌≡◌, [], ◌∷◌, ◌++◌, IfOk, OnOk, filter, flat_map, map, string_bytes};
-ghost use Rattle.log_picture.specs.Lanes.{asked_cells, axis_high_text, axis_low_text, decision_form};
-ghost use Rattle.log_picture.specs.Lanes.{decision_words, drawn_text, event_row, events_table, form_mark, form_of};
-ghost use Rattle.log_picture.specs.Lanes.{has_mark, lane_of, mark_text, marked_events, marked_text, marks_text};
-ghost use Rattle.log_picture.specs.Lanes.{outline_of, pair_of, shape_text, style_of, time_axis_text, time_drawing};
-ghost use Rattle.log_picture.specs.Lanes.{time_text, title_text};
+ghost use Rattle.log_picture.specs.Lanes.{axis_high_text, axis_low_text, decision_form, drawn_text, form_mark};
+ghost use Rattle.log_picture.specs.Lanes.{form_of, has_mark, lane_of, mark_text, marked_events, marked_text};
+ghost use Rattle.log_picture.specs.Lanes.{marks_text, outline_of, pair_of, shape_text, style_of, time_axis_text};
+ghost use Rattle.log_picture.specs.Lanes.{time_drawing, time_text, title_text};
 
-use crate::kind::{Kind, kind_of, kind_words};
+use crate::kind::{Kind, kind_of};
 use crate::limits::EVENT_LIMIT;
 use crate::overview::receipt;
+use crate::spreading::spread;
+use crate::tables::append_events;
 use audit_event::Event;
 use base_types::{Decision, OutOfMemory};
-use markup::{Axis, Told, first_of, moment_at, push_moment, push_rest};
+use markup::{Axis, Told, moment_at, push_moment, push_rest};
 use std::alloc::Global;
 use write_groups::LogEvent;
 
@@ -51,18 +52,6 @@ broken ticks. The table below says the same.</desc>
 
 /// What stands in place of the drawing where no event has a mark.
 pub const NO_EVENTS: &str = "<h2>The log over time</h2>\n<p>No event is drawn.</p>\n";
-
-/// What stands in front of the rows of the drawn events.
-pub const EVENTS_HEAD: &str = r#"<details>
-<summary>The drawn events as a table</summary>
-<table>
-<thead><tr><th scope="col">Line</th><th scope="col">Receipt</th><th scope="col">Request</th>
-<th scope="col">What the answer says</th><th scope="col">Decision</th></tr></thead>
-<tbody>
-"#;
-
-/// What stands behind them.
-pub const EVENTS_END: &str = "</tbody>\n</table>\n</details>\n";
 
 fn form_of(kind: Kind) -> Option<Form>
     ensures { result ≡ form_of kind }
@@ -137,16 +126,6 @@ fn lane_of(form: Form) -> u32
     }
 }
 
-fn decision_words(decision: Option<Decision>) -> &'static str
-    ensures { result.now ≡ decision_words decision }
-{
-    match decision {
-        Some(Decision::Allow) => "allow",
-        Some(Decision::Forbid) => "forbid",
-        None => "not judged",
-    }
-}
-
 fn has_mark(event: &Event, logged: &LogEvent) -> bool
     ensures { result ≡ has_mark (event.now, logged.now) }
 {
@@ -195,32 +174,42 @@ pub fn append_time(
     ensures { OnOk result (string_bytes text.new ≡ string_bytes text.old ++ time_text axis.now events.now log.now) }
 {
     let marked = marked_of(alloc, events, log)?;
-    append_marked(text, axis, marked.as_slice())?;
+    append_marked(alloc, text, axis, marked.as_slice())?;
     Ok(())
 }
 
 #[tactic(auto, unfolding(crate::specs::Lanes::marked_text))]
-fn append_marked(text: &mut String, axis: &Axis, marked: &[Marked<'_>]) -> Result<(), OutOfMemory>
+fn append_marked(
+    alloc: Global,
+    text: &mut String,
+    axis: &Axis,
+    marked: &[Marked<'_>],
+) -> Result<(), OutOfMemory>
     ensures { OnOk result (string_bytes text.new ≡ string_bytes text.old ++ marked_text axis.now
         (map pair_of marked.now)) }
 {
     if marked.is_empty() {
         text.push_str(NO_EVENTS)?;
     } else {
-        append_drawn(text, axis, marked)?;
+        append_drawn(alloc, text, axis, marked)?;
     }
     Ok(())
 }
 
 #[tactic(auto, unfolding(crate::specs::Lanes::drawn_text))]
-fn append_drawn(text: &mut String, axis: &Axis, marked: &[Marked<'_>]) -> Result<(), OutOfMemory>
+fn append_drawn(
+    alloc: Global,
+    text: &mut String,
+    axis: &Axis,
+    marked: &[Marked<'_>],
+) -> Result<(), OutOfMemory>
     ensures { OnOk result (string_bytes text.new ≡ string_bytes text.old ++ drawn_text axis.now
         (map pair_of marked.now)) }
 {
-    let drawn = first_of(marked, EVENT_LIMIT);
-    append_drawing(text, axis, drawn)?;
-    push_rest(text, EVENT_LIMIT, marked.len(), "Events that aren't drawn")?;
-    append_table(text, drawn)?;
+    let drawn = spread(alloc, marked, EVENT_LIMIT)?;
+    append_drawing(text, axis, drawn.as_slice())?;
+    push_rest(text, drawn.len(), marked.len(), "Events that aren't drawn")?;
+    append_events(text, drawn.as_slice())?;
     Ok(())
 }
 
@@ -232,16 +221,6 @@ fn append_drawing(text: &mut String, axis: &Axis, drawn: &[Marked<'_>]) -> Resul
     text.push_str(TIME_HEAD)?;
     append_marks(text, axis, drawn)?;
     append_axis(text, axis)?;
-    Ok(())
-}
-
-#[tactic(auto, unfolding(crate::specs::Lanes::events_table))]
-fn append_table(text: &mut String, drawn: &[Marked<'_>]) -> Result<(), OutOfMemory>
-    ensures { OnOk result (string_bytes text.new ≡ string_bytes text.old ++ events_table (map pair_of drawn.now)) }
-{
-    text.push_str(EVENTS_HEAD)?;
-    append_rows(text, drawn)?;
-    text.push_str(EVENTS_END)?;
     Ok(())
 }
 
@@ -354,40 +333,5 @@ fn append_axis_high(text: &mut String, axis: &Axis) -> Result<(), OutOfMemory>
     text.push_str("</text>\n<text x=\"930\" y=\"216\" text-anchor=\"end\">")?;
     push_moment(text, moment_at(axis.high))?;
     text.push_str("</text>\n</svg>\n</figure>\n")?;
-    Ok(())
-}
-
-fn append_rows(text: &mut String, drawn: &[Marked<'_>]) -> Result<(), OutOfMemory>
-    ensures { OnOk result (string_bytes text.new ≡ string_bytes text.old ++ flat_map event_row
-        (map pair_of drawn.now)) }
-{
-    for one in drawn {
-        append_row(text, one.event, one.logged)?;
-    }
-    Ok(())
-}
-
-#[tactic(auto, unfolding(crate::specs::Lanes::event_row))]
-fn append_row(text: &mut String, event: &Event, logged: &LogEvent) -> Result<(), OutOfMemory>
-    ensures { OnOk result (string_bytes text.new ≡ string_bytes text.old ++ event_row (event.now, logged.now)) }
-{
-    write!(text, "<tr><td>{}</td><td>", event.line)?;
-    push_moment(text, event.received)?;
-    append_asked(text, event, logged)?;
-    Ok(())
-}
-
-#[tactic(auto, unfolding(crate::specs::Lanes::asked_cells))]
-fn append_asked(text: &mut String, event: &Event, logged: &LogEvent) -> Result<(), OutOfMemory>
-    ensures { OnOk result (string_bytes text.new ≡ string_bytes text.old ++ asked_cells event.now logged.now) }
-{
-    let answered = kind_words(kind_of(&logged.answer));
-    let decided = decision_words(logged.decision);
-    writeln!(
-        text,
-        "</td><td>{} {}</td><td>{answered}</td><td>{decided}</td></tr>",
-        Told(event.attrs.verb.as_str()),
-        Told(event.attrs.path.as_str())
-    )?;
     Ok(())
 }

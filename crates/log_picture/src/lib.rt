@@ -10,7 +10,9 @@ mod limits;
 mod overview;
 mod page;
 mod revised;
+mod spreading;
 mod tables;
 mod tallies;
 
 pub use page::{log_page, one_page_law};
+pub use spreading::spread_law;

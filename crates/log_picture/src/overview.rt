@@ -14,6 +14,8 @@ pub struct Overview {
     pub events: usize,
     /// How many checkpoints the setup has.
     pub checkpoints: usize,
+    /// How many objects the setup's snapshot has.
+    pub objects: usize,
     /// The earliest receipt of a request, in nanoseconds since 1970.
     pub first: u64,
     /// The latest receipt.
@@ -130,13 +132,14 @@ fn append_last(text: &mut String, overview: Overview) -> Result<(), OutOfMemory>
     ensures { OnOk result (string_bytes text.new ≡ string_bytes text.old ++ last_text overview) }
 {
     let Overview {
+        objects,
         start,
         greatest,
         ..
     } = overview;
     write!(
         text,
-        "</dd>\n<dt>Revision at the start</dt><dd>{start}</dd>\n<dt>Greatest revision</dt><dd>{greatest}</dd>\n</dl>\n"
+        "</dd>\n<dt>Revision at the start</dt><dd>{start}</dd>\n<dt>Objects at the start</dt><dd>{objects}</dd>\n<dt>Greatest revision</dt><dd>{greatest}</dd>\n</dl>\n"
     )?;
     Ok(())
 }

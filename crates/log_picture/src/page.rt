@@ -9,7 +9,8 @@ use crate::gone::append_removals;
 use crate::kind::{Kind, is_of};
 use crate::lanes::append_time;
 use crate::overview::{Overview, append_overview, first_receipt, greatest_revision, last_receipt};
-use crate::revised::{Drawn, Gap, append_history};
+use crate::revised::{Drawn, Gap, append_history, written_of};
+use crate::spreading::each_of;
 use base_types::{OutOfMemory, PlacedLine, Placement};
 use markup::{Axis, push_begin, push_end};
 use std::alloc::Global;
@@ -96,6 +97,7 @@ fn overview_of(context: &Context) -> Overview
     Overview {
         events: events.len(),
         checkpoints: setup.checkpoints.len(),
+        objects: setup.snapshot.len(),
         first: first_receipt(events),
         last: last_receipt(events),
         start: setup.start.get(),
@@ -176,15 +178,16 @@ fn append_objects(
         lines.now gaps.now) }
 {
     let log = context.log();
-    let removals = context.past().removals();
+    let versions = written_of(alloc, context.versions())?;
+    let removals = each_of(alloc, context.past().removals())?;
     let drawn = Drawn {
         axis: revision_axis(overview),
         log,
-        versions: context.versions(),
-        removals,
+        versions: versions.as_slice(),
+        removals: removals.as_slice(),
         gaps,
     };
     append_history(alloc, text, &drawn)?;
-    append_removals(alloc, text, log, lines, removals)?;
+    append_removals(alloc, text, log, lines, removals.as_slice())?;
     Ok(())
 }

@@ -1,14 +1,15 @@
-ghost use Rattle.std.specs.Prelude.{◌≡◌, ◌++◌, OnOk, flat_map, string_bytes};
+ghost use Rattle.std.specs.Prelude.{◌≡◌, ◌++◌, IfOk, OnOk, flat_map, map, string_bytes};
 ghost use Rattle.log_picture.specs.Revised.{axis_text, bar_text, bar_width, gap_mark, history_drawing};
-ghost use Rattle.log_picture.specs.Revised.{history_marks, history_text, left_out_text, range_text, rect_text};
-ghost use Rattle.log_picture.specs.Revised.{removal_mark, tick_text, version_mark};
+ghost use Rattle.log_picture.specs.Revised.{history_marks, history_text, is_written, left_out_text, range_text};
+ghost use Rattle.log_picture.specs.Revised.{rect_text, removal_mark, tick_text, version_mark, written_versions};
 
 use crate::gone::line_at;
 use crate::limits::{GAP_LIMIT, REMOVAL_LIMIT, VERSION_LIMIT};
+use crate::spreading::{append_rest, spread};
 use crate::tables::{append_gaps, append_versions};
 use base_types::{OutOfMemory, Range, key_text};
-use markup::{Axis, Told, first_of, push_rest};
-use object_past::{Removal, Version};
+use markup::{Axis, Told};
+use object_past::{Maker, Removal, Version};
 use std::alloc::Global;
 use write_groups::LogEvent;
 
@@ -26,8 +27,8 @@ pub struct Gap {
 pub struct Drawn<'a> {
     pub axis: Axis,
     pub log: &'a [LogEvent],
-    pub versions: &'a [Version],
-    pub removals: &'a [Removal],
+    pub versions: &'a [&'a Version],
+    pub removals: &'a [&'a Removal],
     pub gaps: &'a [Gap],
 }
 
@@ -36,12 +37,35 @@ pub const HISTORY_HEAD: &str = r#"<h2>The history by revision</h2>
 <figure>
 <svg viewBox="0 0 960 205" role="img" aria-labelledby="history-title history-desc">
 <title id="history-title">The history by revision</title>
-<desc id="history-desc">Each version is a tick at its revision, each removal a bar over the range of its places, each
-unrecorded write a broken tick at the lowest place of its window. The tables below say the same.</desc>
+<desc id="history-desc">Each version behind the start is a tick at its revision, each removal a bar over the range of
+its places, each unrecorded write a broken tick at the lowest place of its window. The tables below say the same.</desc>
 <text x="4" y="36">Versions</text>
 <text x="4" y="98">Removals</text>
 <text x="4" y="158">Unrecorded writes</text>
 "#;
+
+fn is_written(maker: Maker) -> bool
+    ensures { result ≡ is_written maker }
+{
+    match maker {
+        Maker::Snapshot => false,
+        Maker::Event(_) => true,
+        Maker::Unknown => true,
+    }
+}
+
+/// The versions behind the start.
+pub fn written_of(alloc: Global, versions: &[Version]) -> Result<Vec<&Version>, OutOfMemory>
+    ensures { IfOk result (λ written. map (λ one. one.now) written.items ≡ written_versions versions.now) }
+{
+    let mut written = Vec::new(alloc);
+    for version in versions {
+        if is_written(version.maker) {
+            written.push(version)?;
+        }
+    }
+    Ok(written)
+}
 
 /// Appends the drawing of the history by revision, and its tables but that of the removals.
 #[tactic(auto, unfolding(crate::specs::Revised::history_text))]
@@ -51,19 +75,21 @@ pub fn append_history(
     drawn: &Drawn<'_>,
 ) -> Result<(), OutOfMemory>
     ensures { OnOk result (string_bytes text.new ≡ string_bytes text.old ++ history_text drawn.now.axis
-        drawn.now.log.now drawn.now.versions.now drawn.now.removals.now drawn.now.gaps.now) }
+        drawn.now.log.now (map (λ one. one.now) drawn.now.versions.now) (map (λ one. one.now) drawn.now.removals.now)
+        drawn.now.gaps.now) }
 {
     append_drawing(alloc, text, drawn)?;
-    append_left_out(text, drawn)?;
+    append_left_out(alloc, text, drawn)?;
     append_versions(alloc, text, drawn.log, drawn.versions)?;
-    append_gaps(text, drawn.gaps)?;
+    append_gaps(alloc, text, drawn.gaps)?;
     Ok(())
 }
 
 #[tactic(auto, unfolding(crate::specs::Revised::history_drawing))]
 fn append_drawing(alloc: Global, text: &mut String, drawn: &Drawn<'_>) -> Result<(), OutOfMemory>
     ensures { OnOk result (string_bytes text.new ≡ string_bytes text.old ++ history_drawing drawn.now.axis
-        drawn.now.log.now drawn.now.versions.now drawn.now.removals.now drawn.now.gaps.now) }
+        drawn.now.log.now (map (λ one. one.now) drawn.now.versions.now) (map (λ one. one.now) drawn.now.removals.now)
+        drawn.now.gaps.now) }
 {
     text.push_str(HISTORY_HEAD)?;
     append_history_marks(alloc, text, drawn)?;
@@ -78,18 +104,16 @@ fn append_history_marks(
     drawn: &Drawn<'_>,
 ) -> Result<(), OutOfMemory>
     ensures { OnOk result (string_bytes text.new ≡ string_bytes text.old ++ history_marks drawn.now.axis
-        drawn.now.log.now drawn.now.versions.now drawn.now.removals.now drawn.now.gaps.now) }
+        drawn.now.log.now (map (λ one. one.now) drawn.now.versions.now) (map (λ one. one.now) drawn.now.removals.now)
+        drawn.now.gaps.now) }
 {
     let axis = &drawn.axis;
-    append_version_marks(alloc, text, axis, first_of(drawn.versions, VERSION_LIMIT))?;
-    append_removal_marks(
-        alloc,
-        text,
-        axis,
-        drawn.log,
-        first_of(drawn.removals, REMOVAL_LIMIT),
-    )?;
-    append_gap_marks(text, axis, first_of(drawn.gaps, GAP_LIMIT))?;
+    let versions = spread(alloc, drawn.versions, VERSION_LIMIT)?;
+    let removals = spread(alloc, drawn.removals, REMOVAL_LIMIT)?;
+    let gaps = spread(alloc, drawn.gaps, GAP_LIMIT)?;
+    append_version_marks(alloc, text, axis, versions.as_slice())?;
+    append_removal_marks(alloc, text, axis, drawn.log, removals.as_slice())?;
+    append_gap_marks(text, axis, gaps.as_slice())?;
     Ok(())
 }
 
@@ -97,10 +121,10 @@ fn append_version_marks(
     alloc: Global,
     text: &mut String,
     axis: &Axis,
-    versions: &[Version],
+    versions: &[&Version],
 ) -> Result<(), OutOfMemory>
     ensures { OnOk result (string_bytes text.new ≡ string_bytes text.old ++ flat_map
-        (version_mark axis.now) versions.now) }
+        (version_mark axis.now) (map (λ one. one.now) versions.now)) }
 {
     for version in versions {
         append_version_mark(alloc, text, axis, version)?;
@@ -140,10 +164,10 @@ fn append_removal_marks(
     text: &mut String,
     axis: &Axis,
     log: &[LogEvent],
-    removals: &[Removal],
+    removals: &[&Removal],
 ) -> Result<(), OutOfMemory>
     ensures { OnOk result (string_bytes text.new ≡ string_bytes text.old ++ flat_map
-        (removal_mark axis.now log.now) removals.now) }
+        (removal_mark axis.now log.now) (map (λ one. one.now) removals.now)) }
 {
     for removal in removals {
         append_removal_mark(alloc, text, axis, log, removal)?;
@@ -251,26 +275,30 @@ fn append_axis(text: &mut String, axis: &Axis) -> Result<(), OutOfMemory>
 }
 
 #[tactic(auto, unfolding(crate::specs::Revised::left_out_text))]
-fn append_left_out(text: &mut String, drawn: &Drawn<'_>) -> Result<(), OutOfMemory>
+fn append_left_out(alloc: Global, text: &mut String, drawn: &Drawn<'_>) -> Result<(), OutOfMemory>
     ensures { OnOk result (string_bytes text.new ≡ string_bytes text.old ++ left_out_text
-        drawn.now.versions.now drawn.now.removals.now drawn.now.gaps.now) }
+        (map (λ one. one.now) drawn.now.versions.now) (map (λ one. one.now) drawn.now.removals.now)
+        drawn.now.gaps.now) }
 {
-    push_rest(
+    append_rest(
+        alloc,
         text,
+        drawn.versions,
         VERSION_LIMIT,
-        drawn.versions.len(),
         "Versions that aren't drawn",
     )?;
-    push_rest(
+    append_rest(
+        alloc,
         text,
+        drawn.removals,
         REMOVAL_LIMIT,
-        drawn.removals.len(),
         "Removals that aren't drawn",
     )?;
-    push_rest(
+    append_rest(
+        alloc,
         text,
+        drawn.gaps,
         GAP_LIMIT,
-        drawn.gaps.len(),
         "Unrecorded writes that aren't drawn",
     )?;
     Ok(())

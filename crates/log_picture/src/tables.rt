@@ -1,18 +1,23 @@
-ghost use Rattle.std.specs.Prelude.{◌≡◌, ◌++◌, OnOk, flat_map, string_bytes};
+ghost use Rattle.std.specs.Prelude.{◌≡◌, ◌++◌, OnOk, flat_map, map, string_bytes};
+ghost use Rattle.log_picture.specs.Lanes.{asked_cells, decision_words, event_row, events_table, pair_of};
 ghost use Rattle.log_picture.specs.Revised.{gap_row, gaps_table, maker_text, version_cells, version_row};
 ghost use Rattle.log_picture.specs.Revised.{versions_table};
 
 use crate::gone::{TABLE_END, line_at};
+use crate::kind::{kind_of, kind_words};
+use crate::lanes::Marked;
 use crate::limits::{GAP_LIMIT, VERSION_LIMIT};
 use crate::revised::Gap;
-use base_types::{OutOfMemory, key_text};
-use markup::{Told, first_of};
+use crate::spreading::spread;
+use audit_event::Event;
+use base_types::{Decision, OutOfMemory, key_text};
+use markup::{Told, push_moment};
 use object_past::{Maker, Version};
 use std::alloc::Global;
 use write_groups::LogEvent;
 
 /// What stands in front of the rows of the versions.
-pub const VERSIONS_HEAD: &str = r#"<h3>Versions</h3>
+pub const VERSIONS_HEAD: &str = r#"<h3>Versions behind the start</h3>
 <table>
 <thead><tr><th scope="col">Revision</th><th scope="col">Object</th><th scope="col">Written by</th></tr></thead>
 <tbody>
@@ -26,18 +31,32 @@ pub const GAPS_HEAD: &str = r#"<h3>Unrecorded writes</h3>
 <tbody>
 "#;
 
+/// What stands in front of the rows of the drawn events.
+pub const EVENTS_HEAD: &str = r#"<details>
+<summary>The drawn events as a table</summary>
+<table>
+<thead><tr><th scope="col">Line</th><th scope="col">Receipt</th><th scope="col">Request</th>
+<th scope="col">What the answer says</th><th scope="col">Decision</th></tr></thead>
+<tbody>
+"#;
+
+/// What stands behind them.
+pub const EVENTS_END: &str = "</tbody>\n</table>\n</details>\n";
+
 /// Appends the table of the drawn versions.
 #[tactic(auto, unfolding(crate::specs::Revised::versions_table))]
 pub fn append_versions(
     alloc: Global,
     text: &mut String,
     log: &[LogEvent],
-    versions: &[Version],
+    versions: &[&Version],
 ) -> Result<(), OutOfMemory>
-    ensures { OnOk result (string_bytes text.new ≡ string_bytes text.old ++ versions_table log.now versions.now) }
+    ensures { OnOk result (string_bytes text.new ≡ string_bytes text.old ++ versions_table log.now
+        (map (λ one. one.now) versions.now)) }
 {
+    let listed = spread(alloc, versions, VERSION_LIMIT)?;
     text.push_str(VERSIONS_HEAD)?;
-    append_version_rows(alloc, text, log, first_of(versions, VERSION_LIMIT))?;
+    append_version_rows(alloc, text, log, listed.as_slice())?;
     text.push_str(TABLE_END)?;
     Ok(())
 }
@@ -46,10 +65,10 @@ fn append_version_rows(
     alloc: Global,
     text: &mut String,
     log: &[LogEvent],
-    versions: &[Version],
+    versions: &[&Version],
 ) -> Result<(), OutOfMemory>
     ensures { OnOk result (string_bytes text.new ≡ string_bytes text.old ++ flat_map
-        (version_row log.now) versions.now) }
+        (version_row log.now) (map (λ one. one.now) versions.now)) }
 {
     for version in versions {
         append_version_row(alloc, text, log, version)?;
@@ -104,11 +123,12 @@ fn append_maker(text: &mut String, log: &[LogEvent], maker: Maker) -> Result<(),
 
 /// Appends the table of the drawn unrecorded writes.
 #[tactic(auto, unfolding(crate::specs::Revised::gaps_table))]
-pub fn append_gaps(text: &mut String, gaps: &[Gap]) -> Result<(), OutOfMemory>
+pub fn append_gaps(alloc: Global, text: &mut String, gaps: &[Gap]) -> Result<(), OutOfMemory>
     ensures { OnOk result (string_bytes text.new ≡ string_bytes text.old ++ gaps_table gaps.now) }
 {
+    let listed = spread(alloc, gaps, GAP_LIMIT)?;
     text.push_str(GAPS_HEAD)?;
-    append_gap_rows(text, first_of(gaps, GAP_LIMIT))?;
+    append_gap_rows(text, listed.as_slice())?;
     text.push_str(TABLE_END)?;
     Ok(())
 }
@@ -128,5 +148,61 @@ fn append_gap_row(text: &mut String, gap: Gap) -> Result<(), OutOfMemory>
 {
     let Gap { line, low } = gap;
     writeln!(text, "<tr><td>{line}</td><td>{low}</td></tr>")?;
+    Ok(())
+}
+
+/// Appends the table of the drawn events.
+#[tactic(auto, unfolding(crate::specs::Lanes::events_table))]
+pub fn append_events(text: &mut String, drawn: &[Marked<'_>]) -> Result<(), OutOfMemory>
+    ensures { OnOk result (string_bytes text.new ≡ string_bytes text.old ++ events_table (map pair_of drawn.now)) }
+{
+    text.push_str(EVENTS_HEAD)?;
+    append_event_rows(text, drawn)?;
+    text.push_str(EVENTS_END)?;
+    Ok(())
+}
+
+fn decision_words(decision: Option<Decision>) -> &'static str
+    ensures { result.now ≡ decision_words decision }
+{
+    match decision {
+        Some(Decision::Allow) => "allow",
+        Some(Decision::Forbid) => "forbid",
+        None => "not judged",
+    }
+}
+
+fn append_event_rows(text: &mut String, drawn: &[Marked<'_>]) -> Result<(), OutOfMemory>
+    ensures { OnOk result (string_bytes text.new ≡ string_bytes text.old ++ flat_map event_row
+        (map pair_of drawn.now)) }
+{
+    for one in drawn {
+        append_event_row(text, one.event, one.logged)?;
+    }
+    Ok(())
+}
+
+#[tactic(auto, unfolding(crate::specs::Lanes::event_row))]
+fn append_event_row(text: &mut String, event: &Event, logged: &LogEvent) -> Result<(), OutOfMemory>
+    ensures { OnOk result (string_bytes text.new ≡ string_bytes text.old ++ event_row (event.now, logged.now)) }
+{
+    write!(text, "<tr><td>{}</td><td>", event.line)?;
+    push_moment(text, event.received)?;
+    append_asked(text, event, logged)?;
+    Ok(())
+}
+
+#[tactic(auto, unfolding(crate::specs::Lanes::asked_cells))]
+fn append_asked(text: &mut String, event: &Event, logged: &LogEvent) -> Result<(), OutOfMemory>
+    ensures { OnOk result (string_bytes text.new ≡ string_bytes text.old ++ asked_cells event.now logged.now) }
+{
+    let answered = kind_words(kind_of(&logged.answer));
+    let decided = decision_words(logged.decision);
+    writeln!(
+        text,
+        "</td><td>{} {}</td><td>{answered}</td><td>{decided}</td></tr>",
+        Told(event.attrs.verb.as_str()),
+        Told(event.attrs.path.as_str())
+    )?;
     Ok(())
 }

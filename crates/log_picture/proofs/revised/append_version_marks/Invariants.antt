@@ -1,7 +1,7 @@
-use Rattle.std.proofs.Common.{◌≡◌, ◌++◌, take, string_bytes}
+use Rattle.std.proofs.Common.{◌≡◌, ◌++◌, map, take, string_bytes}
 use Rattle.std.specs.List.{flat_map}
 use Rattle.log_picture.specs.Revised.{version_mark}
 use Rattle.log_picture.proofs.revised.append_version_marks.Given as goal
 
 abbrev pub invariant-loop-version : goal.invariant-loop-version
-invariant-loop-version l = string_bytes l.text ≡ string_bytes l.initial.text ++ flat_map (version_mark l.axis) (take l.version-index l.versions)
+invariant-loop-version l = string_bytes l.text ≡ string_bytes l.initial.text ++ flat_map (version_mark l.axis) (map (λ one. one.now) (take l.version-index l.versions))

@@ -4,4 +4,4 @@ use Rattle.log_picture.proofs.tables.append_gaps.Goals as goal
 
 pub returns : goal.returns
 unfolding gaps_table
-returns c = rw (c.in_ok-push_str-2.ensures.bytes, c.in_ok-append_gap_rows.ensures, c.first_of.ensures, c.in_ok-push_str.ensures.bytes) (simp append_assoc)
+returns c = rw (c.in_ok-push_str-2.ensures.bytes, c.in_ok-append_gap_rows.ensures, c.as_slice.ensures.value, c.in_ok-listed.ensures, c.in_ok-push_str.ensures.bytes) (simp append_assoc)

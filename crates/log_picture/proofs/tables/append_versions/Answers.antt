@@ -1,7 +1,8 @@
 use Rattle.std.proofs.Common.{append_assoc}
+use Rattle.log_picture.proofs.Stepping.{spread-map}
 use Rattle.log_picture.specs.Revised.{versions_table}
 use Rattle.log_picture.proofs.tables.append_versions.Goals as goal
 
 pub returns : goal.returns
 unfolding versions_table
-returns c = rw (c.in_ok-push_str-2.ensures.bytes, c.in_ok-append_version_rows.ensures, c.first_of.ensures, c.in_ok-push_str.ensures.bytes) (simp append_assoc)
+returns c = rw (c.in_ok-push_str-2.ensures.bytes, c.in_ok-append_version_rows.ensures, c.as_slice.ensures.value, c.in_ok-listed.ensures, c.in_ok-push_str.ensures.bytes, spread-map (λ one. one.now) 600 c.args.versions.now) (simp append_assoc)

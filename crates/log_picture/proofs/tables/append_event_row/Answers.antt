@@ -1,6 +1,6 @@
 use Rattle.std.proofs.Common.{append_assoc}
 use Rattle.log_picture.specs.Lanes.{event_row}
-use Rattle.log_picture.proofs.lanes.append_row.Goals as goal
+use Rattle.log_picture.proofs.tables.append_event_row.Goals as goal
 
 pub returns : goal.returns
 unfolding event_row

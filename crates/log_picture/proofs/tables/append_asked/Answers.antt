@@ -1,5 +1,5 @@
 use Rattle.log_picture.specs.Lanes.{asked_cells}
-use Rattle.log_picture.proofs.lanes.append_asked.Goals as goal
+use Rattle.log_picture.proofs.tables.append_asked.Goals as goal
 
 pub returns : goal.returns
 unfolding asked_cells
