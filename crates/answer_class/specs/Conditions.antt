@@ -2,10 +2,9 @@
 use Rattle.std.specs.Prelude.{◌||◌, Bool, Option, Some, None, codes, is_some, if◌then◌else◌}
 use Rattle.base_types.specs.Meaning.{Meaning}
 use Rattle.base_types.specs.Parts.{member_of}
-use Rattle.base_types.specs.Texts.{◌>>=◌}
+use Rattle.base_types.specs.Texts.{◌>>=◌, filled_at, revision_at}
 use Rattle.audit_event.specs.declared.event.Body.{Body}
 use Rattle.audit_event.specs.declared.event.Event.{Event}
-use Rattle.setup_file.specs.Forms.{filled_at, revision_at}
 use Rattle.setup_file.specs.declared.setup.Setup.{Setup}
 use Rattle.setup_file.specs.declared.setup.Tracked.{Tracked}
 use Rattle.audit_event.specs.Bodies.{kept}

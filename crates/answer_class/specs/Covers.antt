@@ -2,13 +2,12 @@
 use Rattle.std.specs.Prelude.{ℕ, Bool, true, false, List, [], Option, Some, None, codes, if◌then◌else◌}
 use Rattle.base_types.specs.Meaning.{Meaning}
 use Rattle.base_types.specs.Parts.{member_of}
-use Rattle.base_types.specs.Texts.{◌>>=◌}
+use Rattle.base_types.specs.Texts.{◌>>=◌, filled_at}
 use Rattle.base_types.specs.declared.key.Cover.{Cover}
 use Rattle.base_types.specs.declared.key.CoverName.{CoverName}
 use Rattle.base_types.specs.declared.key.CoverName.TheVariants.{Exact, Prefix, Any}
 use Rattle.base_types.specs.declared.request.RequestAttrs.{RequestAttrs}
 use Rattle.audit_event.specs.declared.event.Event.{Event}
-use Rattle.setup_file.specs.Forms.{filled_at}
 use Rattle.setup_file.specs.declared.setup.Tracked.{Tracked}
 use Rattle.audit_event.specs.Bodies.{kept}
 use Rattle.answer_class.specs.Requests.{is_empty, verb_of}

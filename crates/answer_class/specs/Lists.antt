@@ -2,13 +2,13 @@
 -- "Labels and Selectors").
 use Rattle.std.specs.Prelude.{ℕ, ◌&&◌, ◌||◌, Bool, true, false, not, List, [], ◌∷◌, Option, Some, None, filter, codes, bytes_eq, is_some, nat_lt, if◌then◌else◌}
 use Rattle.base_types.specs.Parts.{member_of}
-use Rattle.base_types.specs.Texts.{◌>>=◌}
+use Rattle.base_types.specs.Texts.{◌>>=◌, revision_at}
 use Rattle.label_select.specs.Readings.{selector_of}
 use Rattle.label_select.specs.declared.selector.Requirement.{Requirement}
 use Rattle.base_types.specs.declared.request.Pair.{Pair}
 use Rattle.base_types.specs.declared.request.RequestAttrs.{RequestAttrs}
 use Rattle.audit_event.specs.declared.event.Event.{Event}
-use Rattle.setup_file.specs.Forms.{revision_of, revision_at}
+use Rattle.base_types.specs.Revisions.{revision_of}
 use Rattle.setup_file.specs.Lists.{list_of}
 use Rattle.setup_file.specs.declared.lists.ListRead.{ListRead}
 use Rattle.setup_file.specs.declared.setup.Setup.{Setup}

@@ -16,7 +16,6 @@ use crate::bodies::{answered_object, asks_dry, body_member, is_ended, is_finaliz
 use crate::conditions::{has_conditions, tracked_conditions};
 use crate::covers::{cover_of, is_create};
 use crate::lists::{Extent, answered_list, extent_of, is_odd, is_old_list};
-use crate::members::filled_at;
 use crate::request::{
     Effect, Verb, effect_of, first_value, has_filled, is_code, is_completing, is_done,
     is_elsewhere, is_full, is_nothing, is_open, is_own, is_read, is_unknown, is_write, succeeds,
@@ -209,7 +208,7 @@ fn asked_name(event: &Event) -> Option<&str>
     ensures { option_map (λ text. text.now) result ≡ asked_name event.now }
 {
     let metadata = body_member(&event.request, "metadata")?;
-    filled_at(&metadata, "name")
+    metadata.filled_at("name")
 }
 
 // `409 AlreadyExists` for a create of this name.

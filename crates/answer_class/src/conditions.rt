@@ -3,7 +3,6 @@ ghost use Rattle.answer_class.specs.Conditions.{no_conditions, conditions_at, co
 ghost use Rattle.answer_class.specs.Conditions.{conditions_of, has_conditions};
 
 use crate::bodies::body_member;
-use crate::members::{filled_at, revision_at};
 use crate::patches::is_merge;
 use crate::request::{Verb, verb_of};
 use audit_event::{Body, Event};
@@ -36,8 +35,8 @@ fn conditions_at(alloc: Global, part: Option<PackedRef<'_>>) -> Result<Condition
     let Some(part) = part else {
         return Ok(no_conditions());
     };
-    let revision = revision_at(&part, "resourceVersion");
-    let uid = match filled_at(&part, "uid") {
+    let revision = part.revision_at("resourceVersion");
+    let uid = match part.filled_at("uid") {
         Some(uid) => Some(Text::from_str(alloc, uid)?),
         None => None,
     };

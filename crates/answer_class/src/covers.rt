@@ -2,7 +2,6 @@ ghost use Rattle.std.specs.Prelude.{◌≡◌, IfOk};
 ghost use Rattle.answer_class.specs.Covers.{is_create, created_name, cover_name, cover_namespace, cover_of};
 
 use crate::bodies::body_member;
-use crate::members::filled_at;
 use crate::request::{Verb, verb_of};
 use audit_event::Event;
 use base_types::{Cover, CoverName, OutOfMemory, RequestAttrs, Text};
@@ -23,10 +22,10 @@ fn created_name(alloc: Global, metadata: Option<PackedRef<'_>>) -> Result<CoverN
     let Some(metadata) = metadata else {
         return Ok(CoverName::Any);
     };
-    if let Some(name) = filled_at(&metadata, "name") {
+    if let Some(name) = metadata.filled_at("name") {
         return Ok(CoverName::Exact(Text::from_str(alloc, name)?));
     }
-    match filled_at(&metadata, "generateName") {
+    match metadata.filled_at("generateName") {
         Some(front) => Ok(CoverName::Prefix(Text::from_str(alloc, front)?)),
         None => Ok(CoverName::Any),
     }

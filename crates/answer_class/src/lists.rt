@@ -5,12 +5,11 @@ ghost use Rattle.answer_class.specs.Requests.{is_filled};
 ghost use Rattle.label_select.specs.Readings.{selector_of};
 
 use crate::bodies::{body_member, body_tree};
-use crate::members::revision_at;
 use crate::request::{Verb, first_value, has_filled, is_filled};
 use audit_event::Event;
-use base_types::{OutOfMemory, Pair, RequestAttrs, Revision, Text};
+use base_types::{OutOfMemory, Pair, RequestAttrs, Revision, Text, revision_of};
 use label_select::{Selector, SelectorFault, read_selector};
-use setup_file::{ListRead, Setup, Tracked, canonical, read_list};
+use setup_file::{ListRead, Setup, Tracked, read_list};
 use std::alloc::Global;
 
 /// Whether a list is all that there is, and which labels it asked for.
@@ -96,14 +95,14 @@ fn answered_at(event: &Event) -> Option<Revision>
     ensures { result ≡ answered_at event.now }
 {
     let metadata = body_member(&event.response, "metadata")?;
-    revision_at(&metadata, "resourceVersion")
+    metadata.revision_at("resourceVersion")
 }
 
 fn asks_revision(value: Option<&Text>) -> bool
     ensures { result ≡ asks_revision (option_map (λ text. text.now) value.entry) }
 {
     match value {
-        Some(text) => canonical(text).is_some(),
+        Some(text) => revision_of(text.as_str()).is_some(),
         None => false,
     }
 }
@@ -113,7 +112,7 @@ pub fn is_odd(value: Option<&Text>) -> bool
     ensures { result ≡ is_odd (option_map (λ text. text.now) value.entry) }
 {
     match value {
-        Some(text) => { !text.is_empty() && text.as_str() != "0" && canonical(text).is_none() }
+        Some(text) => { !text.is_empty() && text.as_str() != "0" && revision_of(text.as_str()).is_none() }
         None => false,
     }
 }

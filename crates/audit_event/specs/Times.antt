@@ -1,23 +1,15 @@
 -- When a request was received and when the event's stage was reached.
-use Rattle.std.specs.Prelude.{ℕ, ℤ, ◌≤ℤ◌, int_lt, List, Option, Some, None, option_and_then, option_map, codes, if◌then◌else◌}
-use Rattle.std.specs.Result.{result_ok}
+use Rattle.std.specs.Prelude.{ℕ, ℤ, ◌≤ℤ◌, int_lt, List, Option, Some, None, option_and_then, codes, if◌then◌else◌}
 use Rattle.serde_json.specs.Data.{Data}
-use Rattle.jiff_fmt.specs.Temporal.{parse_timestamp}
 use Rattle.base_types.specs.declared.revision.Moment.{Moment}
 use Rattle.audit_event.specs.declared.times.Times.{Times}
 use Rattle.audit_event.specs.Members.{text_at}
 use Rattle.base_types.specs.Moments.{IsMoment}
 use Rattle.base_types.specs.Texts.{◌>>=◌}
-
--- the instant of a text that `jiff` reads as a timestamp, in nanoseconds
-abbrev pub instant_of : List ℕ → Option ℤ
-instant_of text = result_ok (parse_timestamp text)
-
-abbrev pub moment : ℤ → Moment
-moment instant = record { 0 = instant }
+use Rattle.timestamps.specs.Timestamps.{moment_of}
 
 abbrev pub moment_at : List ℕ → Data → Option Moment
-moment_at name value = option_map moment (option_and_then instant_of (text_at name value))
+moment_at name value = option_and_then moment_of (text_at name value)
 
 -- no stage lies before the receipt
 abbrev pub in_turn : Moment → Moment → Option Times

@@ -1,12 +1,12 @@
-ghost use Rattle.std.specs.Prelude.{◌≡◌, IfSome, option_and_then, option_map};
+ghost use Rattle.std.specs.Prelude.{◌≡◌, IfSome, option_and_then};
 ghost use Rattle.serde_json.specs.View.{view};
 ghost use Rattle.base_types.specs.Moments.{IsMoment};
-ghost use Rattle.audit_event.specs.Times.{instant_of, moment, moment_at, times_in, AreSound};
+ghost use Rattle.audit_event.specs.Times.{moment_at, times_in, AreSound};
 
 use crate::members::text_at;
 use base_types::Moment;
-use jiff::Timestamp;
 use serde_json::Value;
+use timestamps::read_moment;
 
 /// When the request was received, and when the event's stage was reached.
 #[derive(Clone, Copy)]
@@ -15,23 +15,11 @@ pub(crate) struct Times {
     pub(crate) staged: Moment,
 }
 
-// The instant of a timestamp, in nanoseconds.
-fn instant_of(text: &str) -> Option<i128>
-    ensures instant { result ≡ instant_of text.now }
-    ensures range { IfSome result IsMoment }
-{
-    match text.parse::<Timestamp>() {
-        Ok(at) => Some(at.as_nanosecond()),
-        Err(_) => None,
-    }
-}
-
 fn moment_at(value: &Value, name: &str) -> Option<Moment>
     ensures moment { result ≡ moment_at name.now (view value.now) }
     ensures range { IfSome result (λ at. IsMoment at.0) }
 {
-    let text = text_at(value, name)?;
-    Some(Moment(instant_of(text)?))
+    read_moment(text_at(value, name)?)
 }
 
 pub(crate) fn times_of(value: &Value) -> Option<Times>

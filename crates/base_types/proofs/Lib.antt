@@ -1,6 +1,7 @@
 pub mod EscapeLemmas
 pub mod Escapes
 mod Examples
+pub mod Found
 pub mod Indices
 pub mod Integers
 pub mod KeyLemmas
@@ -15,4 +16,5 @@ pub mod Quantifiers
 pub mod Reading
 pub mod Removing
 pub mod RevisionTexts
+pub mod Spelling
 pub mod Upto

@@ -2,6 +2,7 @@
 use Rattle.std.specs.Prelude.{ℕ, List, [], ◌∷◌, Option, Some, None, option_and_then, if◌then◌else◌}
 use Rattle.base_types.specs.Meaning.{Meaning}
 use Rattle.base_types.specs.Parts.{member_of, is_null, text_of, items_of}
+use Rattle.base_types.specs.Revisions.{revision_of}
 
 -- the second step, where the first found something
 infixl 10 ◌>>=◌
@@ -11,6 +12,17 @@ found >>= next = option_and_then next found
 -- the text of the member of this name
 abbrev pub text_at : List ℕ → Meaning → Option (List ℕ)
 text_at name tree = member_of name tree >>= text_of
+
+abbrev pub non_empty : List ℕ → Option (List ℕ)
+non_empty [] = None
+non_empty (byte ∷ bytes) = Some (byte ∷ bytes)
+
+-- a text with at least one byte
+abbrev pub filled_at : List ℕ → Meaning → Option (List ℕ)
+filled_at name tree = text_at name tree >>= non_empty
+
+abbrev pub revision_at : List ℕ → Meaning → Option ℕ
+revision_at name tree = text_at name tree >>= revision_of
 
 -- the items of a list that may be missing or null
 abbrev pub items_or_none : Option Meaning → Option (List Meaning)

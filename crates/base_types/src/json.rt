@@ -15,4 +15,4 @@ pub use equality::equal;
 pub use pointers::{Pointer, PointerFault, get, read_index, read_pointer};
 pub use stored::stored_form;
 pub use tree::{Member, MemberList, Node, Tree, TreeFault, Trees};
-pub use values::{from_value, to_value};
+pub use values::{from_number, from_value, to_value};

@@ -25,5 +25,5 @@ pub use placed::{
 pub use request::{
     Decision, Level, Pair, Pairs, PolicyLevel, Possible, RequestAttrs, Stage, StageSet, User,
 };
-pub use revision::{Moment, Revision, read_revision};
+pub use revision::{Moment, Revision, read_revision, revision_of};
 pub use text::{Bytes, Text, Texts};

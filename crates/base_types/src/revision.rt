@@ -1,5 +1,5 @@
 ghost use Rattle.std.specs.Prelude.{◌≡◌, ◌≢◌, ℕ, IfSome, IfNone, IsSome, ◌↔◌, decimal};
-ghost use Rattle.base_types.specs.Revisions.{IsRevision};
+ghost use Rattle.base_types.specs.Revisions.{IsRevision, revision_of};
 
 use std::marker::Model;
 use std::str;
@@ -60,6 +60,16 @@ pub fn read_revision(text: &[u8]) -> Option<Revision>
         return None;
     };
     Revision::new(number)
+}
+
+/// The revision that a text spells, as an object's `resourceVersion` does: a decimal number from 1 to 2^64 - 2 without
+/// leading zeros.
+pub fn revision_of(text: &str) -> Option<Revision>
+    ensures { result ≡ revision_of text.now }
+{
+    let revision = read_revision(text.as_bytes())?;
+    let _number = revision.get();
+    Some(revision)
 }
 
 /// A moment of the wall clock, in nanoseconds since 1970-01-01T00:00:00Z.

@@ -6,7 +6,7 @@ use Rattle.base_types.specs.Meaning.{Meaning}
 use Rattle.base_types.specs.Values.{of_data}
 use Rattle.setup_file.specs.declared.fault.SetupRule.{SetupRule}
 use Rattle.setup_file.specs.Reading.{IsTreeOf, ReadsAs, setup_of}
-use Rattle.setup_file.proofs.Chains.{same_some}
+use Rattle.base_types.proofs.Found.{same_some}
 use Rattle.cluster_setup.specs.Answers.{json_text, IsAccepted, Breaks}
 
 same_data : (bytes : List ℕ) (d e : Data) → read bytes ≡ Some d → read bytes ≡ Some e → d ≡ e

@@ -19,12 +19,14 @@ use Rattle.setup_file.specs.declared.setup.Tracked.{Tracked}
 use Rattle.setup_file.specs.Authorization.{authorization_of, authorize_of, groups_or, is_authorized}
 use Rattle.setup_file.specs.Checkpoints.{checkpoints_of}
 use Rattle.setup_file.specs.Clocks.{start_of, until_of, nanos_of}
-use Rattle.setup_file.specs.Forms.{moment_of, revision_of}
+use Rattle.base_types.specs.Revisions.{revision_of}
+use Rattle.timestamps.specs.Timestamps.{moment_of}
 use Rattle.setup_file.specs.Reading.{chained, is_setup_form, is_known_version, clocks_of, policy_at, resources_at, snapshot_at, setup_with, setup_of}
 use Rattle.setup_file.specs.Resources.{entries_in, are_apart, has_shape, tracked_in}
 use Rattle.setup_file.specs.Snapshots.{snapshot_in, are_at_start}
 use Rattle.setup_file.specs.Steps.{or_breaks, unless_breaks}
-use Rattle.setup_file.proofs.Chains.{same_some, same_kept, found_both, kept_both, not_broken, test_kept, was_ok}
+use Rattle.base_types.proofs.Found.{same_some, found_both, was_ok}
+use Rattle.setup_file.proofs.Chains.{same_kept, kept_both, not_broken, test_kept}
 use Rattle.std.specs.List.{list_all}
 use Rattle.cluster_setup.specs.Files.{start_word}
 use Rattle.cluster_setup.specs.Making.{entries_of, lag_of, objects_of, setup_tree, start_tree}

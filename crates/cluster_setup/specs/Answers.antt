@@ -8,7 +8,7 @@ use Rattle.audit_policy.specs.Forms.{policy_of}
 use Rattle.setup_file.specs.declared.fault.SetupRule.{SetupRule}
 use Rattle.setup_file.specs.declared.fault.SetupRule.TheVariants.{S1}
 use Rattle.setup_file.specs.declared.setup.Setup.{Setup}
-use Rattle.setup_file.specs.Forms.{moment_of}
+use Rattle.timestamps.specs.Timestamps.{moment_of}
 use Rattle.setup_file.specs.Reading.{IsTreeOf, setup_of}
 use Rattle.cluster_setup.specs.declared.fault.FileFault.TheVariants.{Json, Rule as BreaksRule}
 use Rattle.cluster_setup.specs.declared.fault.SetupRefusal.{SetupRefusal}

@@ -3,8 +3,7 @@ use Rattle.std.specs.Prelude.{ℕ, ◌==◌, Bool, true, false, not, ◌&&◌, �
 use Rattle.std.specs.List.{before_first, after_first, find}
 use Rattle.base_types.specs.Meaning.{Meaning}
 use Rattle.base_types.specs.Parts.{member_of}
-use Rattle.base_types.specs.Texts.{◌>>=◌, text_at, items_or_none}
-use Rattle.setup_file.specs.Forms.{revision_at}
+use Rattle.base_types.specs.Texts.{◌>>=◌, text_at, items_or_none, revision_at}
 
 abbrev pub or_empty : Option (List ℕ) → List ℕ
 or_empty None = []

@@ -4,7 +4,8 @@ use Rattle.std.specs.List.{flat_map}
 use Rattle.audit_policy.specs.Forms.{policy_of}
 use Rattle.base_types.specs.Meaning.{Meaning}
 use Rattle.setup_file.specs.declared.setup.Setup.{Setup}
-use Rattle.setup_file.specs.Forms.{moment_of, revision_of}
+use Rattle.base_types.specs.Revisions.{revision_of}
+use Rattle.timestamps.specs.Timestamps.{moment_of}
 use Rattle.setup_file.specs.Reading.{ReadsAs}
 use Rattle.setup_file.specs.Resources.{tracked_in}
 use Rattle.setup_file.specs.Snapshots.{snapshot_in}

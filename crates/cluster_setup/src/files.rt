@@ -6,7 +6,6 @@ ghost use Rattle.cluster_setup.specs.Files.{list_revision, start_word};
 use crate::words::{metadata_word, word};
 use base_types::Revision;
 use base_types::json::Tree;
-use setup_file::revision_at;
 
 /// Whether a file has the resources that the API server has of a group's version.
 pub fn is_discovery(tree: &Tree) -> bool
@@ -48,7 +47,7 @@ pub fn has_more(tree: &Tree) -> bool
 pub fn list_revision(tree: &Tree) -> Option<Revision>
     ensures { result ≡ list_revision tree.now }
 {
-    revision_at(tree.member("metadata")?, "resourceVersion")
+    tree.member("metadata")?.revision_at("resourceVersion")
 }
 
 /// The text of the first list's revision.

@@ -4,7 +4,7 @@ ghost use Rattle.std.specs.Result.{result_ok};
 ghost use Rattle.audit_policy.specs.Forms.{policy_of};
 ghost use Rattle.base_types.specs.Meaning.{Meaning};
 ghost use Rattle.base_types.specs.Values.{InRange};
-ghost use Rattle.setup_file.specs.Forms.{moment_of};
+ghost use Rattle.timestamps.specs.Timestamps.{moment_of};
 ghost use Rattle.setup_file.specs.Reading.{IsTreeOf};
 ghost use Rattle.cluster_setup.specs.Answers.{IsTextOf, IsBlamed, IsPolicy, IsSetupText, IsRefused, IsMade};
 ghost use Rattle.cluster_setup.specs.Answers.{IsReadOut, IsUnread, Refuses, OrMemory};
@@ -21,8 +21,8 @@ use crate::refusing::first_refused;
 use audit_policy::{PolicyFault, read_policy};
 use base_types::json::Tree;
 use base_types::{Bytes, OutOfMemory};
-use setup_file::moment;
 use std::alloc::Global;
+use timestamps::read_moment;
 
 // The tree of a file behind as many others, which were JSON.
 fn read_file(alloc: Global, file: &Bytes, before: usize) -> Result<Tree, SetupRefusal>
@@ -230,7 +230,7 @@ pub fn make_setup(
     ensures told { IfOk result (λ text. Tells time.now policy.now files.now authorize (string_bytes text)) }
     ensures cause { IfErr result (OrMemory (Refuses time.now policy.now files.now authorize)) }
 {
-    match moment(time) {
+    match read_moment(time) {
         Some(_) => governed(alloc, time, policy, files, authorize),
         None => Err(SetupRefusal::Time),
     }

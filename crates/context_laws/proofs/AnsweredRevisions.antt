@@ -3,14 +3,13 @@ use Rattle.std.proofs.Common.{◌≡◌, ℕ, ◌-◌, ◌^◌, Bool, true, fals
 use Rattle.std.specs.Prelude.{⊤}
 use Rattle.std.specs.Str.Parse.{digits_value}
 use Rattle.std.proofs.lemmas.Bool.{and_parts, leb-true, ltb-true}
-use Rattle.base_types.specs.Revisions.{IsRevision}
+use Rattle.base_types.specs.Revisions.{IsRevision, revision_of, spells_revision}
 use Rattle.base_types.specs.Meaning.{Meaning}
 use Rattle.base_types.specs.Parts.{member_of}
-use Rattle.base_types.specs.Texts.{text_at}
+use Rattle.base_types.specs.Texts.{text_at, filled_at, revision_at}
 use Rattle.audit_event.specs.Bodies.{kept}
 use Rattle.audit_event.specs.declared.event.Event.{Event}
-use Rattle.setup_file.proofs.Chains.{found_both, same_some, where_true}
-use Rattle.setup_file.specs.Forms.{filled_at, revision_at, revision_of, spells_revision}
+use Rattle.base_types.proofs.Found.{found_both, same_some, where_true}
 use Rattle.setup_file.specs.Lists.{list_of}
 use Rattle.setup_file.specs.Objects.{is_in_namespace, is_of_kind, is_under, namespace_in, object_of}
 use Rattle.setup_file.specs.Requests.{tracked_of}

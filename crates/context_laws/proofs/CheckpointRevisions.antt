@@ -16,7 +16,8 @@ use Rattle.page_chains.proofs.Members.{Each, Maybe, anything, each_append, each_
 use Rattle.page_chains.specs.Chains.{chain_of, chains_in, chains_of}
 use Rattle.page_chains.specs.Pages.{is_selective, page_in, page_of, pages_of}
 use Rattle.page_chains.specs.declared.page.Page.{Page}
-use Rattle.setup_file.proofs.Chains.{found_both, kept_both, not_broken, same_kept, same_some, test_kept, where_true}
+use Rattle.base_types.proofs.Found.{found_both, same_some, where_true}
+use Rattle.setup_file.proofs.Chains.{kept_both, not_broken, same_kept, test_kept}
 use Rattle.setup_file.proofs.Gathered.{taken}
 use Rattle.setup_file.specs.Authorization.{authorization_of, is_authorized}
 use Rattle.setup_file.specs.Checkpoints.{checkpoint_of, checkpoints_from, checkpoints_of, few_checkpoints, is_no_text, is_whole_at}

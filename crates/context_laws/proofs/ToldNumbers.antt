@@ -3,7 +3,7 @@ use Rattle.std.proofs.Common.{◌≡◌, ℕ, ◌+◌, ◌≤◌, Bool, true, fa
 use Rattle.std.specs.Prelude.{⊤}
 use Rattle.std.proofs.lemmas.List.{length-map}
 use Rattle.std.proofs.lemmas.Option.{slice_get_within}
-use Rattle.base_types.specs.Revisions.{IsRevision}
+use Rattle.base_types.specs.Revisions.{IsRevision, revision_of}
 use Rattle.base_types.specs.declared.request.RequestAttrs.{RequestAttrs}
 use Rattle.base_types.specs.Meaning.{Meaning}
 use Rattle.audit_event.specs.declared.event.Event.{Event}
@@ -17,7 +17,6 @@ use Rattle.history_model.specs.Events as model
 use Rattle.history_model.specs.Histories.{IsEvent}
 use Rattle.log_intake.proofs.CheckpointFacts.{few_read}
 use Rattle.page_chains.specs.Chains.{chains_of}
-use Rattle.setup_file.specs.Forms.{revision_of}
 use Rattle.setup_file.specs.declared.setup.Checkpoint.{Checkpoint}
 use Rattle.setup_file.specs.declared.setup.Setup.{Setup}
 use Rattle.version_store.proofs.LogLemmas.{Standing, of_event, of_checkpoint, logged_length, standing}

@@ -11,7 +11,8 @@ use Rattle.setup_file.specs.Authorization.{authorization_of, is_authorized}
 use Rattle.setup_file.specs.Checkpoints.{checkpoint_of, checkpoints_from, checkpoints_of, few_checkpoints}
 use Rattle.setup_file.specs.Reading.{ReadsAs, clocks_of, is_known_version, is_setup_form, policy_at, resources_at, setup_with, snapshot_at}
 use Rattle.setup_file.specs.Steps.{or_breaks, unless_breaks}
-use Rattle.setup_file.proofs.Chains.{found_both, kept_both, not_broken, same_kept, same_some, test_kept, where_true}
+use Rattle.base_types.proofs.Found.{found_both, same_some, where_true}
+use Rattle.setup_file.proofs.Chains.{kept_both, not_broken, same_kept, test_kept}
 
 as_many : (start : ℕ) (resources : List Tracked) (number : ℕ) (trees : List Meaning) (checkpoints : List Checkpoint) → checkpoints_from start resources number trees ≡ Some checkpoints → length checkpoints ≡ length trees
 as_many start resources number [] checkpoints e = let same = ap length (same_some [] checkpoints e) in omega (arith, same)

@@ -2,6 +2,7 @@ ghost use Rattle.std.specs.Prelude.{◌≡◌, ◌++◌, ◌∷◌, [], IsTrue, 
 ghost use Rattle.base_types.specs.Meaning.{fields_of};
 ghost use Rattle.base_types.specs.Names.{AreSorted};
 ghost use Rattle.base_types.specs.Parts.{lookup, member_of, is_null, whole_of, text_of, items_of, members_of};
+ghost use Rattle.base_types.specs.Texts.{text_at, non_empty, filled_at, revision_at};
 ghost use Rattle.packed_tree.specs.Decoding.{decode};
 ghost use Rattle.packed_tree.specs.Showing.{meaning_of};
 ghost use Rattle.packed_tree.specs.Sound.{IsSound};
@@ -9,8 +10,8 @@ ghost use Rattle.packed_tree.specs.Sound.{IsSound};
 use crate::building::build;
 use crate::framing::cut;
 use crate::scalars::{below_zero, not_below_zero, str_of};
-use base_types::OutOfMemory;
 use base_types::json::Tree;
+use base_types::{OutOfMemory, Revision, revision_of};
 use std::alloc::Global;
 use std::marker::Model;
 
@@ -129,6 +130,12 @@ fn tagged_level(tag: u8, rest: &[u8]) -> Shown<'_>
     }
 }
 
+fn non_empty(text: &str) -> Option<&str>
+    ensures { option_map (λ text. text.now) result ≡ non_empty text.entry.now }
+{
+    if text.is_empty() { None } else { Some(text) }
+}
+
 impl<'a> PackedRef<'a> {
     /// What the value is, and what it holds.
     pub fn show(&self) -> Shown<'a>
@@ -145,6 +152,27 @@ impl<'a> PackedRef<'a> {
             Shown::Members(list) => list.get(name),
             _ => None,
         }
+    }
+
+    /// The text of a member that is a text.
+    pub fn text_at(&self, name: &str) -> Option<&'a str>
+        ensures { option_map (λ text. text.now) result ≡ text_at name.now self.now }
+    {
+        self.member(name)?.as_text()
+    }
+
+    /// The text of a member, where it has at least one byte.
+    pub fn filled_at(&self, name: &str) -> Option<&'a str>
+        ensures { option_map (λ text. text.now) result ≡ filled_at name.now self.now }
+    {
+        non_empty(self.text_at(name)?)
+    }
+
+    /// The revision that the text of a member spells.
+    pub fn revision_at(&self, name: &str) -> Option<Revision>
+        ensures { result ≡ revision_at name.now self.now }
+    {
+        revision_of(self.text_at(name)?)
     }
 
     pub fn is_null(&self) -> bool

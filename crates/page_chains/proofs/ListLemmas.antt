@@ -2,13 +2,12 @@
 use Rattle.std.proofs.Common.{◌≡◌, ℕ, List, Option, Some, None, subst, codes}
 use Rattle.base_types.specs.Meaning.{Meaning}
 use Rattle.base_types.specs.Parts.{member_of}
-use Rattle.setup_file.specs.Forms.{revision_at}
-use Rattle.base_types.specs.Texts.{items_or_none}
+use Rattle.base_types.specs.Texts.{revision_at, items_or_none}
 use Rattle.setup_file.specs.Lists.{objects_in, list_with, list_of}
 use Rattle.setup_file.specs.Objects.{has_text_at}
 use Rattle.setup_file.specs.declared.lists.ListRead.{ListRead}
 use Rattle.setup_file.specs.declared.setup.Tracked.{Tracked}
-use Rattle.setup_file.proofs.Chains.{same_some, found_both, where_true}
+use Rattle.base_types.proofs.Found.{same_some, found_both, where_true}
 
 pub record IsReadOf (tracked : Tracked) (name namespace : List ℕ) (tree : Meaning) (list : ListRead) : Type 0 where
   pub metadata : Meaning

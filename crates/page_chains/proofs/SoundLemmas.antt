@@ -15,7 +15,7 @@ use Rattle.setup_file.specs.declared.setup.Checkpoint.{Checkpoint}
 use Rattle.setup_file.specs.declared.setup.Setup.{Setup}
 use Rattle.setup_file.specs.declared.setup.SnapshotObject.{SnapshotObject}
 use Rattle.setup_file.specs.declared.setup.Tracked.{Tracked}
-use Rattle.setup_file.proofs.Chains.{found_both}
+use Rattle.base_types.proofs.Found.{found_both}
 use Rattle.setup_file.proofs.Gathered.{gathered_all}
 use Rattle.setup_file.proofs.InRange.{member_in_range}
 use Rattle.answer_class.specs.Classes.{class_of}

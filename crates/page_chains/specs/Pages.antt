@@ -2,11 +2,10 @@
 use Rattle.std.specs.Prelude.{ℕ, Bool, true, false, ◌||◌, List, [], ◌∷◌, Option, Some, None, filter, codes, if◌then◌else◌}
 use Rattle.std.specs.List.{filter_map}
 use Rattle.base_types.specs.Parts.{member_of}
-use Rattle.base_types.specs.Texts.{◌>>=◌}
+use Rattle.base_types.specs.Texts.{◌>>=◌, filled_at}
 use Rattle.base_types.specs.declared.request.Pair.{Pair}
 use Rattle.base_types.specs.declared.request.RequestAttrs.{RequestAttrs}
 use Rattle.audit_event.specs.declared.event.Event.{Event}
-use Rattle.setup_file.specs.Forms.{filled_at}
 use Rattle.setup_file.specs.declared.setup.Setup.{Setup}
 use Rattle.setup_file.specs.declared.setup.SnapshotObject.{SnapshotObject}
 use Rattle.audit_event.specs.Bodies.{kept}

@@ -4,7 +4,7 @@ ghost use Rattle.page_chains.specs.Pages.{token_of, asked_by, asked_of, is_first
 ghost use Rattle.page_chains.specs.Parts.{part_of, parts_of};
 
 use crate::page::{Asked, Joint, Page, Pages};
-use answer_class::{Answer, class_of, filled_at, has_filled, one_at_most};
+use answer_class::{Answer, class_of, has_filled, one_at_most};
 use audit_event::Event;
 use base_types::{OutOfMemory, RequestAttrs, Text};
 use setup_file::Setup;
@@ -15,7 +15,7 @@ fn token_of(event: &Event) -> Option<&str>
     ensures { option_map (λ text. text.now) result ≡ token_of event.now }
 {
     let metadata = event.response.kept()?.root().member("metadata")?;
-    filled_at(&metadata, "continue")
+    metadata.filled_at("continue")
 }
 
 #[tactic(auto, using(crate::proofs::ReadingLemmas::asked_as))]

@@ -96,17 +96,18 @@ fn asked_by_patch(
     alloc: Global,
     tracked: &Tracked,
     event: &Event,
-    body: &Tree,
+    body: &Packed,
     old: Option<&Tree>,
 ) -> Result<Asking, OutOfMemory>
     ensures { IfOk result (λ asking. asking ≡ asked_by_patch tracked.now event.now body.now
         (option_map (λ tree. tree.now) old.entry)) }
 {
-    if body.as_items().is_some() {
-        return asked_by_json_patch(alloc, tracked, body, old);
+    let root = body.root();
+    if root.as_items().is_some() {
+        return asked_by_json_patch(alloc, tracked, &body.tree(alloc)?, old);
     }
-    if is_merge_patch(tracked, &event.attrs, body) {
-        return asked_by_merge_patch(alloc, body, old);
+    if is_merge_patch(tracked, &event.attrs, &root) {
+        return asked_by_merge_patch(alloc, &body.tree(alloc)?, old);
     }
     Ok(Asking::NotJudged)
 }
@@ -128,8 +129,7 @@ fn asked_by(
             if is_created(event.status.code) {
                 return Ok(Asking::NotJudged);
             }
-            let body = body.tree(alloc)?;
-            asked_by_patch(alloc, tracked, event, &body, old)
+            asked_by_patch(alloc, tracked, event, body, old)
         }
         Write::Delete => Ok(Asking::Finalizing),
         Write::Other => Ok(Asking::NotJudged),

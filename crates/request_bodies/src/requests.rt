@@ -1,5 +1,4 @@
 ghost use Rattle.std.specs.Prelude.{◌≡◌, option_map, bytes_eq};
-ghost use Rattle.base_types.specs.Texts.{text_at};
 ghost use Rattle.setup_file.specs.Objects.{api_version_of};
 ghost use Rattle.request_bodies.specs.Requests.{shape_of, write_of, is_created, is_another, is_of_another};
 
@@ -81,17 +80,10 @@ fn is_of_another_kind(tracked: &Tracked, text: Option<&str>) -> bool
     }
 }
 
-// The text of a member that is a text.
-fn text_at<'a>(body: &PackedRef<'a>, name: &str) -> Option<&'a str>
-    ensures { option_map (λ text. text.now) result ≡ text_at name.now body.now }
-{
-    body.member(name)?.as_text()
-}
-
 /// Whether a body names another version or kind than those of the resource.
 pub fn is_of_another(tracked: &Tracked, body: &PackedRef<'_>) -> bool
     ensures { result ≡ is_of_another tracked.now body.now }
 {
-    is_of_another_version(tracked, text_at(body, "apiVersion"))
-        || is_of_another_kind(tracked, text_at(body, "kind"))
+    is_of_another_version(tracked, body.text_at("apiVersion"))
+        || is_of_another_kind(tracked, body.text_at("kind"))
 }

@@ -3,7 +3,7 @@ use Rattle.std.proofs.Common.{◌≡◌, ℕ, ◌+◌, ◌<◌, List, [], ◌∷
 use Rattle.std.specs.Prelude.{option_map, option_and_then}
 use Rattle.std.specs.List.{All}
 use Rattle.std.proofs.lemmas.List.Elements.{All-nil, All-cons, All-head, All-tail}
-use Rattle.setup_file.proofs.Chains.{same_some, found_both}
+use Rattle.base_types.proofs.Found.{same_some, found_both}
 use Rattle.setup_file.proofs.Seen.{cut}
 
 -- what one item makes, before what the others make

@@ -8,7 +8,7 @@ use Rattle.base_types.specs.Meaning.{Meaning, null, flag, whole, words, items, m
 use Rattle.base_types.specs.Parts.{lookup, member_of, items_of}
 use Rattle.base_types.specs.Stored.{fields_without, without, fields_with, with, stored}
 use Rattle.base_types.specs.Values.{InRange, KidsInRange, FieldsInRange}
-use Rattle.setup_file.proofs.Chains.{same_some, either}
+use Rattle.base_types.proofs.Found.{same_some, either}
 
 lookup_in_range : (name : List ℕ) (fields : Fields) (tree : Meaning) → FieldsInRange fields → lookup name fields ≡ Some tree → InRange tree
 lookup_in_range name no_fields tree range e = absurd (cc)

@@ -3,8 +3,6 @@ pub mod Chains
 pub mod Gathered
 pub mod InRange
 pub mod Mapped
-pub mod Moments
-pub mod RevisionTexts
 pub mod Seen
 pub mod SoundClocks
 pub mod SoundLists

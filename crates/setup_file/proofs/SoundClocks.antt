@@ -8,12 +8,15 @@ use Rattle.setup_file.specs.declared.clocks.Clocks.{Clocks}
 use Rattle.setup_file.specs.declared.clocks.Start.{Start}
 use Rattle.setup_file.specs.declared.fault.SetupRule.TheVariants.{S4, S5, S6}
 use Rattle.setup_file.specs.Clocks.{time_of, start_of, until_of, nanos_within, nanos_of}
-use Rattle.setup_file.specs.Forms.{moment_of, is_form, revision_at}
+use Rattle.base_types.specs.Texts.{revision_at}
+use Rattle.setup_file.specs.Forms.{is_form}
+use Rattle.timestamps.specs.Timestamps.{moment_of}
 use Rattle.setup_file.specs.Reading.{chained, clocks_of}
 use Rattle.base_types.specs.Moments.{IsMoment}
 use Rattle.setup_file.specs.Steps.{or_breaks}
-use Rattle.setup_file.proofs.Chains.{same_some, found_both, chained_both, kept_both, same_kept, not_broken, where_true, either}
-use Rattle.setup_file.proofs.Moments.{moment_is_sound}
+use Rattle.base_types.proofs.Found.{same_some, found_both, where_true, either}
+use Rattle.setup_file.proofs.Chains.{chained_both, kept_both, same_kept, not_broken}
+use Rattle.timestamps.proofs.Moments.{moment_is_sound}
 
 time_is_sound : (tree : Meaning) (moment : Moment) → time_of tree ≡ Some moment → IsMoment moment.0
 time_is_sound tree moment e = let text = found_both (text_of tree) moment_of moment e in moment_is_sound text.0 moment text.2

@@ -11,13 +11,13 @@ use Rattle.setup_file.specs.declared.setup.Checkpoint.{Checkpoint}
 use Rattle.setup_file.specs.declared.setup.SnapshotObject.{SnapshotObject}
 use Rattle.setup_file.specs.declared.setup.Tracked.{Tracked}
 use Rattle.setup_file.specs.Checkpoints.{is_no_text, is_whole_at, checkpoint_of, checkpoints_from, few_checkpoints, checkpoints_of}
-use Rattle.base_types.specs.Texts.{text_at, items_or_none}
-use Rattle.setup_file.specs.Forms.{filled_at, revision_at, is_form}
+use Rattle.base_types.specs.Texts.{text_at, items_or_none, filled_at, revision_at}
+use Rattle.setup_file.specs.Forms.{is_form}
 use Rattle.setup_file.specs.Lists.{objects_in, list_with, list_of}
 use Rattle.setup_file.specs.Objects.{has_text_at, is_of_kind, namespace_in, is_under, is_in_namespace, object_of}
 use Rattle.setup_file.specs.Resources.{tracked_as}
 use Rattle.setup_file.specs.Sound.{AreInRange, IsLaterList}
-use Rattle.setup_file.proofs.Chains.{same_some, found_both, where_true, either}
+use Rattle.base_types.proofs.Found.{same_some, found_both, where_true, either}
 use Rattle.setup_file.proofs.Gathered.{taken, gathered_all}
 use Rattle.setup_file.proofs.InRange.{member_in_range, items_in_range, stored_in_range}
 

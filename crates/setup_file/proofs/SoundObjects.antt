@@ -11,15 +11,16 @@ use Rattle.setup_file.specs.declared.fault.SetupRule.TheVariants.{S12, S13}
 use Rattle.setup_file.specs.declared.setup.SnapshotObject.{SnapshotObject}
 use Rattle.setup_file.specs.declared.setup.Tracked.{Tracked}
 use Rattle.setup_file.specs.Distinct.{are_distinct, key_eq}
-use Rattle.base_types.specs.Texts.{text_at}
-use Rattle.setup_file.specs.Forms.{non_empty, filled_at, revision_at, is_form}
+use Rattle.base_types.specs.Texts.{text_at, non_empty, filled_at, revision_at}
+use Rattle.setup_file.specs.Forms.{is_form}
 use Rattle.setup_file.specs.Reading.{chained, snapshot_at}
 use Rattle.setup_file.specs.Resources.{tracked_as}
 use Rattle.setup_file.specs.Snapshots.{own_namespace, may_be_kind, snapshot_object_of, snapshot_entry_of, snapshot_in, are_at_start}
 use Rattle.setup_file.specs.Sound.{IsObject, AreAtStart, AreInRange}
 use Rattle.setup_file.specs.Steps.{or_breaks}
 use Rattle.setup_file.proofs.Apart.{bytes_tell, numbers_tell, keys_tell, distinct_apart}
-use Rattle.setup_file.proofs.Chains.{same_some, same_kept, found_both, chained_both, kept_both, not_broken, test_kept, where_true, either}
+use Rattle.base_types.proofs.Found.{same_some, found_both, where_true, either}
+use Rattle.setup_file.proofs.Chains.{same_kept, chained_both, kept_both, not_broken, test_kept}
 use Rattle.setup_file.proofs.Gathered.{gathered_all}
 use Rattle.setup_file.proofs.InRange.{member_in_range, items_in_range, stored_in_range}
 use Rattle.setup_file.proofs.SoundResources.{tracked_as_itself}

@@ -17,7 +17,8 @@ use Rattle.setup_file.specs.Resources.{entry_of, entries_in, are_apart, shape_at
 use Rattle.setup_file.specs.Sound.{AreApart}
 use Rattle.setup_file.specs.Steps.{or_breaks}
 use Rattle.setup_file.proofs.Apart.{bytes_tell, pairs_tell, distinct_apart}
-use Rattle.setup_file.proofs.Chains.{same_some, found_both, kept_both, not_broken, test_kept, where_true, either}
+use Rattle.base_types.proofs.Found.{same_some, found_both, where_true, either}
+use Rattle.setup_file.proofs.Chains.{kept_both, not_broken, test_kept}
 use Rattle.setup_file.proofs.Gathered.{taken, gathered_all}
 
 -- what is found passes the test

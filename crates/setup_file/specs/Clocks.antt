@@ -3,9 +3,10 @@ use Rattle.std.specs.Prelude.{ℕ, ℤ, pos, negsuc, ◌^◌, [], ◌∷◌, Opt
 use Rattle.base_types.specs.declared.revision.Moment.{Moment}
 use Rattle.base_types.specs.Meaning.{Meaning}
 use Rattle.base_types.specs.Parts.{member_of, text_of, whole_of}
-use Rattle.base_types.specs.Texts.{◌>>=◌}
+use Rattle.base_types.specs.Texts.{◌>>=◌, revision_at}
 use Rattle.setup_file.specs.declared.clocks.Start.{Start}
-use Rattle.setup_file.specs.Forms.{revision_at, moment_of, is_form}
+use Rattle.setup_file.specs.Forms.{is_form}
+use Rattle.timestamps.specs.Timestamps.{moment_of}
 
 -- the moment of a text that is a timestamp
 abbrev pub time_of : Meaning → Option Moment

@@ -4,10 +4,9 @@ use Rattle.base_types.specs.Matching.{combined}
 use Rattle.base_types.specs.Meaning.{Meaning}
 use Rattle.base_types.specs.Parts.{member_of}
 use Rattle.base_types.specs.Stored.{stored}
-use Rattle.base_types.specs.Texts.{◌>>=◌, text_at}
+use Rattle.base_types.specs.Texts.{◌>>=◌, text_at, filled_at, revision_at}
 use Rattle.setup_file.specs.declared.setup.Tracked.{Tracked}
 use Rattle.setup_file.specs.declared.setup.SnapshotObject.{SnapshotObject}
-use Rattle.setup_file.specs.Forms.{filled_at, revision_at}
 
 -- the `apiVersion` of a group's version: the core group is left out
 abbrev pub api_version_of : List ℕ → List ℕ → List ℕ

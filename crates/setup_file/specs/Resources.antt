@@ -4,7 +4,7 @@ use Rattle.std.specs.Result.{result_ok}
 use Rattle.std.specs.List.{find}
 use Rattle.base_types.specs.Meaning.{Meaning}
 use Rattle.base_types.specs.Parts.{member_of, text_of, flag_of, items_of}
-use Rattle.base_types.specs.Texts.{◌>>=◌, text_at}
+use Rattle.base_types.specs.Texts.{◌>>=◌, text_at, filled_at}
 use Rattle.path_shape.specs.declared.shape.FieldClass.{FieldClass}
 use Rattle.path_shape.specs.declared.shape.FieldClass.TheVariants.{Asked, Kept}
 use Rattle.path_shape.specs.declared.shape.Shape.{Shape}
@@ -13,7 +13,7 @@ use Rattle.setup_file.specs.declared.resources.Entry.{Entry}
 use Rattle.setup_file.specs.declared.setup.Tracked.{Tracked}
 use Rattle.setup_file.specs.declared.setup.Subresource.{Subresource}
 use Rattle.setup_file.specs.Distinct.{are_distinct, pair_eq}
-use Rattle.setup_file.specs.Forms.{filled_at, is_form}
+use Rattle.setup_file.specs.Forms.{is_form}
 
 abbrev pub entry_members : List (List ℕ)
 entry_members =

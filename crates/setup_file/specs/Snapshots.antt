@@ -4,11 +4,11 @@ use Rattle.std.specs.List.{list_all}
 use Rattle.base_types.specs.Meaning.{Meaning}
 use Rattle.base_types.specs.Parts.{member_of}
 use Rattle.base_types.specs.Stored.{stored}
-use Rattle.base_types.specs.Texts.{◌>>=◌, text_at}
+use Rattle.base_types.specs.Texts.{◌>>=◌, text_at, filled_at, revision_at}
 use Rattle.setup_file.specs.declared.setup.Tracked.{Tracked}
 use Rattle.setup_file.specs.declared.setup.SnapshotObject.{SnapshotObject}
 use Rattle.setup_file.specs.Distinct.{are_distinct, key_eq}
-use Rattle.setup_file.specs.Forms.{filled_at, revision_at, is_form}
+use Rattle.setup_file.specs.Forms.{is_form}
 use Rattle.setup_file.specs.Objects.{has_text_at, has_no}
 use Rattle.setup_file.specs.Resources.{tracked_as}
 

@@ -4,9 +4,10 @@ ghost use Rattle.setup_file.specs.Clocks.{time_of, start_of, until_of, nanos_wit
 ghost use Rattle.setup_file.specs.Reading.{clocks_of};
 
 use crate::fault::SetupRule;
-use crate::form::{is_form, moment, revision_at};
+use crate::form::is_form;
 use base_types::json::Tree;
 use base_types::{Moment, Revision};
+use timestamps::read_moment;
 
 /// Where and when a log begins and ends, and by how much times may be off.
 #[derive(Clone, Copy)]
@@ -31,7 +32,7 @@ const MOST_NANOS: i128 = 1_000_000_000_000_000_000;
 fn time_of(tree: &Tree) -> Option<Moment>
     ensures { result ≡ time_of tree.now }
 {
-    moment(tree.as_text()?.as_str())
+    read_moment(tree.as_text()?.as_str())
 }
 
 fn start_of(tree: &Tree) -> Option<Start>
@@ -40,7 +41,7 @@ fn start_of(tree: &Tree) -> Option<Start>
     if !is_form(&["revision", "time"], tree) {
         return None;
     }
-    let revision = revision_at(tree, "revision")?;
+    let revision = tree.revision_at("revision")?;
     let time = time_of(tree.member("time")?)?;
     Some(Start { revision, time })
 }

@@ -16,7 +16,6 @@ mod setup;
 mod snapshot;
 
 pub use fault::{SetupFault, SetupRule};
-pub use form::{canonical, filled_at, moment, revision_at};
 pub use lists::{ListRead, read_list};
 pub use objects::read_object;
 pub use reading::read_setup;

@@ -2,7 +2,6 @@ ghost use Rattle.std.specs.Prelude.{◌≡◌, IfOk, option_map};
 ghost use Rattle.base_types.specs.Parts.{member_of};
 ghost use Rattle.setup_file.specs.Lists.{objects_in, is_blank, goes_on, list_with, list_of};
 
-use crate::form::revision_at;
 use crate::objects::{has_text_at, read_object};
 use crate::setup::{Snapshot, Tracked};
 use base_types::json::Tree;
@@ -66,7 +65,7 @@ fn list_with(
 ) -> Result<Option<ListRead>, OutOfMemory>
     ensures { IfOk result (λ found. found ≡ list_with tracked.now name.now namespace.now metadata.now tree.now) }
 {
-    let Some(revision) = revision_at(metadata, "resourceVersion") else {
+    let Some(revision) = metadata.revision_at("resourceVersion") else {
         return Ok(None);
     };
     let Some(trees) = tree.items_at("items") else {

@@ -3,7 +3,6 @@ ghost use Rattle.base_types.specs.Stored.{stored};
 ghost use Rattle.setup_file.specs.Objects.{api_version_of, has_text_at, has_no, is_of_kind, namespace_in, is_under};
 ghost use Rattle.setup_file.specs.Objects.{is_in_namespace, object_of};
 
-use crate::form::{filled_at, revision_at};
 use crate::setup::{SnapshotObject, Tracked};
 use base_types::json::{Tree, copy, stored_form};
 use base_types::{ObjectKey, OutOfMemory, Revision, Text, is_combined};
@@ -139,13 +138,13 @@ pub fn read_object(
     let Some(metadata) = tree.member("metadata") else {
         return Ok(None);
     };
-    let Some(own_name) = filled_at(metadata, "name") else {
+    let Some(own_name) = metadata.filled_at("name") else {
         return Ok(None);
     };
-    let Some(uid) = filled_at(metadata, "uid") else {
+    let Some(uid) = metadata.filled_at("uid") else {
         return Ok(None);
     };
-    let Some(revision) = revision_at(metadata, "resourceVersion") else {
+    let Some(revision) = metadata.revision_at("resourceVersion") else {
         return Ok(None);
     };
     let Some(own_namespace) = namespace_in(tracked, metadata) else {

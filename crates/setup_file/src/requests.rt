@@ -3,8 +3,8 @@ ghost use Rattle.setup_file.specs.Requests.{tracked_of, subresource_named, has_q
 
 use crate::resources::tracked_as;
 use crate::setup::{Setup, Subresource, Tracked};
-use base_types::json::Tree;
 use base_types::{RequestAttrs, Text};
+use packed_tree::PackedRef;
 
 /// The tracked resource that a request is for.
 pub fn tracked_of<'a>(setup: &'a Setup, attrs: &RequestAttrs) -> Option<&'a Tracked>
@@ -37,7 +37,8 @@ fn has_query(attrs: &RequestAttrs, name: &str) -> bool
     attrs.query.iter().any(|pair| pair.name.as_str() == name)
 }
 
-fn is_apply(attrs: &RequestAttrs, body: &Tree) -> bool
+// Whether a body is an apply configuration (Kubernetes "Server-Side Apply").
+fn is_apply(attrs: &RequestAttrs, body: &PackedRef<'_>) -> bool
     ensures { result ≡ is_apply attrs.now body.now }
 {
     body.text_at("apiVersion").is_some()
@@ -47,7 +48,7 @@ fn is_apply(attrs: &RequestAttrs, body: &Tree) -> bool
 
 /// Whether the body of a patch is a merge patch (RFC 7386): an object that is no apply configuration, where the
 /// resource's patches that are objects are merge patches.
-pub fn is_merge_patch(tracked: &Tracked, attrs: &RequestAttrs, body: &Tree) -> bool
+pub fn is_merge_patch(tracked: &Tracked, attrs: &RequestAttrs, body: &PackedRef<'_>) -> bool
     ensures { result ≡ is_merge_patch tracked.now attrs.now body.now }
 {
     body.as_members().is_some() && !is_apply(attrs, body) && tracked.merges

@@ -10,7 +10,7 @@ ghost use Rattle.setup_file.specs.Steps.{IsCause};
 
 use crate::distinct::{are_pairs_distinct, are_texts_distinct};
 use crate::fault::{SetupFault, SetupRule};
-use crate::form::{filled_at, is_form};
+use crate::form::is_form;
 use crate::setup::{Subresource, Subresources, Tracked, TrackedList};
 use base_types::json::Tree;
 use base_types::{OutOfMemory, Text};
@@ -156,16 +156,16 @@ fn read_entry(tree: &Tree) -> Result<Option<Entry>, OutOfMemory>
     let Some(group) = tree.text_at("group") else {
         return Ok(None);
     };
-    let Some(version) = filled_at(tree, "version") else {
+    let Some(version) = tree.filled_at("version") else {
         return Ok(None);
     };
-    let Some(resource) = filled_at(tree, "resource") else {
+    let Some(resource) = tree.filled_at("resource") else {
         return Ok(None);
     };
-    let Some(kind) = filled_at(tree, "kind") else {
+    let Some(kind) = tree.filled_at("kind") else {
         return Ok(None);
     };
-    let Some(list_kind) = filled_at(tree, "listKind") else {
+    let Some(list_kind) = tree.filled_at("listKind") else {
         return Ok(None);
     };
     let Some(namespaced) = namespaced_of(tree) else {

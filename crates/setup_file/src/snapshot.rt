@@ -8,7 +8,7 @@ ghost use Rattle.setup_file.specs.Steps.{IsCause};
 
 use crate::distinct::{are_keys_distinct, are_revisions_distinct, are_texts_distinct};
 use crate::fault::{SetupFault, SetupRule};
-use crate::form::{filled_at, is_form, revision_at};
+use crate::form::is_form;
 use crate::objects::{has_no, has_text_at, object_with};
 use crate::resources::tracked_as;
 use crate::setup::{Snapshot, SnapshotObject, Tracked};
@@ -22,9 +22,9 @@ fn own_namespace<'a>(tracked: &Tracked, metadata: &'a Tree) -> Option<&'a str>
     ensures { option_map (λ text. text.now) result ≡ own_namespace tracked.now metadata.now }
 {
     if tracked.namespaced {
-        return Some(filled_at(metadata, "namespace")?.as_str());
+        return Some(metadata.filled_at("namespace")?.as_str());
     }
-    match filled_at(metadata, "namespace") {
+    match metadata.filled_at("namespace") {
         Some(_) => None,
         None => Some(""),
     }
@@ -47,13 +47,13 @@ fn read_object(
     let Some(metadata) = tree.member("metadata") else {
         return Ok(None);
     };
-    let Some(name) = filled_at(metadata, "name") else {
+    let Some(name) = metadata.filled_at("name") else {
         return Ok(None);
     };
-    let Some(uid) = filled_at(metadata, "uid") else {
+    let Some(uid) = metadata.filled_at("uid") else {
         return Ok(None);
     };
-    let Some(revision) = revision_at(metadata, "resourceVersion") else {
+    let Some(revision) = metadata.revision_at("resourceVersion") else {
         return Ok(None);
     };
     let Some(namespace) = own_namespace(tracked, metadata) else {

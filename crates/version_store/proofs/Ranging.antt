@@ -19,7 +19,7 @@ use Rattle.setup_file.specs.declared.setup.Checkpoint.{Checkpoint}
 use Rattle.setup_file.specs.declared.setup.Setup.{Setup}
 use Rattle.setup_file.specs.declared.setup.SnapshotObject.{SnapshotObject}
 use Rattle.setup_file.specs.declared.setup.Tracked.{Tracked}
-use Rattle.setup_file.proofs.Chains.{found_both}
+use Rattle.base_types.proofs.Found.{found_both}
 use Rattle.answer_class.specs.Bodies.{answered_object}
 use Rattle.answer_class.specs.Covers.{cover_of}
 use Rattle.answer_class.specs.Lists.{answered_list, is_odd, is_old_list}

@@ -7,7 +7,7 @@ use Rattle.std.proofs.lemmas.Option.{slice_get-get_or}
 use Rattle.base_types.specs.declared.request.RequestAttrs.{RequestAttrs}
 use Rattle.base_types.specs.Meaning.{Meaning}
 use Rattle.audit_event.specs.declared.event.Event.{Event}
-use Rattle.setup_file.specs.Forms.{revision_of}
+use Rattle.base_types.specs.Revisions.{revision_of}
 use Rattle.setup_file.specs.Sound.{IsSound}
 use Rattle.setup_file.specs.declared.setup.Checkpoint.{Checkpoint}
 use Rattle.setup_file.specs.declared.setup.Setup.{Setup}

@@ -2,7 +2,7 @@
 -- list").
 use Rattle.std.specs.Prelude.{ℕ, ◌&&◌, ◌||◌, Bool, not, List, Option, Some, None, bytes_eq, codes, if◌then◌else◌}
 use Rattle.base_types.specs.declared.request.RequestAttrs.{RequestAttrs}
-use Rattle.setup_file.specs.Forms.{revision_of}
+use Rattle.base_types.specs.Revisions.{revision_of}
 use Rattle.answer_class.specs.Requests.{has_filled, first_value}
 use Rattle.audit_event.specs.Members.{is_text}
 use Rattle.write_groups.specs.declared.event.Reading.{Reading}

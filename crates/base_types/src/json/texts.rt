@@ -1,9 +1,11 @@
 ghost use Rattle.std.specs.Prelude.{◌≡◌, IfOk, option_map};
 ghost use Rattle.base_types.specs.Parts.{member_of};
-ghost use Rattle.base_types.specs.Texts.{text_at, items_or_none, texts_in, texts_of, texts_at};
+ghost use Rattle.base_types.specs.Texts.{text_at, non_empty, filled_at, revision_at};
+ghost use Rattle.base_types.specs.Texts.{items_or_none, texts_in, texts_of, texts_at};
 
 use crate::json::tree::Tree;
 use crate::memory::OutOfMemory;
+use crate::revision::{Revision, revision_of};
 use crate::text::{Text, Texts};
 use std::alloc::Global;
 
@@ -19,6 +21,12 @@ fn copied(alloc: Global, trees: &[Tree]) -> Result<Option<Texts>, OutOfMemory>
         texts.push(text.clone()?)?;
     }
     Ok(Some(texts))
+}
+
+fn non_empty(text: &Text) -> Option<&Text>
+    ensures { option_map (λ text. text.now) result ≡ non_empty text.now }
+{
+    if text.is_empty() { None } else { Some(text) }
 }
 
 // The items of a list that may be missing or null.
@@ -38,6 +46,20 @@ impl Tree {
         ensures { option_map (λ text. text.now) result ≡ text_at name.now self.now }
     {
         self.member(name)?.as_text()
+    }
+
+    /// The text of a member, where it has at least one byte.
+    pub fn filled_at(&self, name: &str) -> Option<&Text>
+        ensures { option_map (λ text. text.now) result ≡ filled_at name.now self.now }
+    {
+        non_empty(self.text_at(name)?)
+    }
+
+    /// The revision that the text of a member spells.
+    pub fn revision_at(&self, name: &str) -> Option<Revision>
+        ensures { result ≡ revision_at name.now self.now }
+    {
+        revision_of(self.text_at(name)?.as_str())
     }
 
     /// The items of a member that is a list; no items where it is missing or null.

@@ -30,7 +30,8 @@ pub fn from_value(alloc: Global, value: &Value) -> Result<Tree, TreeFault>
     Ok(Tree { node })
 }
 
-fn from_number(number: &Number) -> Result<i128, TreeFault>
+/// The whole number that a JSON number is. One that `serde_json` reads as floating point is none.
+pub fn from_number(number: &Number) -> Result<i128, TreeFault>
     ensures ok { IfOk result (λ z. of_number (number_view number.now) ≡ Some (whole z)) }
     ensures range { IfOk result IsInteger }
     ensures fraction { result ≡ Err TreeFault.Fraction → of_number (number_view number.now) ≡ None }

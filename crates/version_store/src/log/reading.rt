@@ -4,8 +4,7 @@ ghost use Rattle.version_store.specs.Readings.{is_list, is_read, takes_any, want
 ghost use Rattle.version_store.specs.Readings.{reading_from, reading_of};
 
 use answer_class::{first_value, has_filled};
-use base_types::{RequestAttrs, Revision, Text};
-use setup_file::canonical;
+use base_types::{RequestAttrs, Revision, Text, revision_of};
 use write_groups::Reading;
 
 fn is_list(attrs: &RequestAttrs) -> bool
@@ -58,7 +57,7 @@ fn reading_from(attrs: &RequestAttrs, asked: Option<&Text>) -> Reading
     let Some(text) = asked else {
         return Reading::MostRecent;
     };
-    match canonical(text) {
+    match revision_of(text.as_str()) {
         Some(revision) => reading_at(attrs, revision),
         None => Reading::MostRecent,
     }

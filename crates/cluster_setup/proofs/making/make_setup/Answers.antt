@@ -1,6 +1,6 @@
 use Rattle.std.proofs.Common.{◌≡◌, None, Ok, inl, sym, subst, refl, ◌∙◌}
 use Rattle.std.proofs.lemmas.Result.{IfOk-weaker}
-use Rattle.setup_file.specs.Forms.{moment_of}
+use Rattle.timestamps.specs.Timestamps.{moment_of}
 use Rattle.setup_file.specs.Reading.{ReadsAs}
 use Rattle.cluster_setup.proofs.Same.{reads_as}
 use Rattle.cluster_setup.proofs.ToldFacts.{setup_told}
@@ -25,5 +25,5 @@ returns-in-Some-clause-told c =
 
 pub returns-in-None-clause-cause : goal.returns-in-None-clause-cause
 returns-in-None-clause-cause c =
-    let none : moment_of c.args.time.now ≡ None = sym c.moment.ensures ∙ c.in-None.is in
+    let none : moment_of c.args.time.now ≡ None = sym c.read_moment.ensures.moment ∙ c.in-None.is in
     inl (refl, none)

@@ -5,8 +5,7 @@ use Rattle.std.specs.Str.Parse.{digits_value}
 use Rattle.std.proofs.lemmas.Fmt.{decimal_is_IsNumeral}
 use Rattle.std.proofs.lemmas.Grind.{common_steps}
 use Rattle.std.proofs.lemmas.Slice.Eq.{bytes_eq-Decides}
-use Rattle.base_types.specs.Revisions.{IsRevision}
-use Rattle.setup_file.specs.Forms.{revision_of, spells_revision}
+use Rattle.base_types.specs.Revisions.{IsRevision, revision_of, spells_revision}
 
 spelled : (text : List ℕ) (n : ℕ) → IsRevision n → text ≡ decimal n → spells_revision text n ≡ true
 spelled text n range e =

@@ -1,6 +1,6 @@
 use Rattle.std.proofs.Common.{sym, ◌∙◌}
-use Rattle.setup_file.proofs.RevisionTexts.{some_is}
-use Rattle.setup_file.proofs.form.canonical.Goals as goal
+use Rattle.base_types.proofs.Spelling.{some_is}
+use Rattle.base_types.proofs.revision.revision_of.Goals as goal
 
 pub returns : goal.returns
 returns c =

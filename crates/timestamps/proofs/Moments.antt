@@ -1,17 +1,17 @@
--- A moment that can be read lies among those that a setup may have.
+-- A moment that can be read lies in range.
 use Rattle.std.proofs.Common.{◌≡◌, ℕ, Bool, false, ◌||◌, List, Option, Some, Result, Ok, Err, ℤ, pos, neg_ℤ, inl, inr, refl, ap, subst, arith}
 use Rattle.std.specs.Prelude.{int_lt, ◌≤ℤ◌, ◌-ℤ◌, option_map}
 use Rattle.std.specs.Result.{result_ok}
 use Rattle.std.proofs.lemmas.Bool.{or_parts}
 use Rattle.std.proofs.lemmas.Int.{ints}
+use Rattle.base_types.specs.Moments.{IsMoment}
+use Rattle.base_types.proofs.Found.{either, same_some}
 use Rattle.base_types.specs.declared.revision.Moment.{Moment}
 use Rattle.jiff.specs.Words.{Error, nanos_of_seconds}
 use Rattle.jiff_fmt.specs.Reader.{◌>>=◌, or_err}
 use Rattle.jiff_fmt.specs.Offset.{to_offset}
 use Rattle.jiff_fmt.specs.Temporal.{DateTimeParts, temporal_datetime, full, to_timestamp, instant, parts_nanos, parse_timestamp}
-use Rattle.setup_file.specs.Forms.{moment_of}
-use Rattle.base_types.specs.Moments.{IsMoment}
-use Rattle.setup_file.proofs.Chains.{either, same_some}
+use Rattle.timestamps.specs.Timestamps.{moment_of}
 
 read_both : {A B : Type 0} (r : Result A Error) (f : A → Result B Error) (y : B) → (r >>= f) ≡ Ok y → (x : A) × (r ≡ Ok x) × (f x ≡ Ok y)
 read_both (Ok x) f y e = (x, refl, e)
