@@ -1,4 +1,4 @@
-use base_types::{Decision, Level, Listed, Moment, RequestAttrs, Stage, Text, User};
+use base_types::{Decision, Level, Listed, Moment, RequestAttrs, Shared, Stage, Text, User};
 use packed_tree::Packed;
 
 /// What an event records of an object that was sent or answered.
@@ -79,6 +79,8 @@ impl Drop for Event {
         drop(status);
     }
 }
+
+impl Shared for Event {}
 
 /// Events in order.
 pub type Events = Listed<Event>;

@@ -11,6 +11,7 @@ mod memory;
 mod placed;
 mod request;
 mod revision;
+mod shared;
 mod text;
 
 pub use claim::{Bound, Bounds, Claim, Claims, Range, Reason};
@@ -26,4 +27,5 @@ pub use request::{
     Decision, Level, Pair, Pairs, PolicyLevel, Possible, RequestAttrs, Stage, StageSet, User,
 };
 pub use revision::{Moment, Revision, read_revision, revision_of};
+pub use shared::Shared;
 pub use text::{Bytes, Text, Texts};

@@ -1,5 +1,5 @@
 use audit_event::{Events, Malformed};
-use base_types::Listed;
+use base_types::{Listed, Shared};
 
 /// Why the items of a line were read no further.
 #[derive(Clone, Copy, Debug, PartialEq, Eq)]
@@ -21,6 +21,8 @@ pub struct Decoded {
     /// The first broken item.
     pub fault: Option<ItemFault>,
 }
+
+impl Shared for Decoded {}
 
 /// What lines hold, in their order.
 pub type DecodedList = Listed<Decoded>;

@@ -236,6 +236,7 @@ behind_moves g h m a v next removal l x = record {
   of_last = x.of_last;
   low = x.low ∙ ap (λ z. max z v.revision + 1) (lowest_is g h m a x.event.lo);
   high = x.high ∙ ap (λ z. min z (place_before next)) (highest_is g h m a x.event.hi);
+  some_place = x.some_place;
 }
 
 -- a write of the revision m, and what was there before it

@@ -27,8 +27,7 @@ abbrev pub place_before : Option ℕ → ℕ
 place_before None = last_place
 place_before (Some next) = next - 1
 
--- The removal of the incarnation whose last version is v: the first removal of its uid. It came behind v,
--- within its event's window, and before the next incarnation; without such a place there is no removal.
+-- the removal of the incarnation whose last version is v: the first of its uid, at some place behind v, within its event's window, before the next incarnation
 pub record IsRemovalBehind (h : History) (v : Version) (next : Option ℕ) (removal : Removal) : Type 0 where
   pub only : IsFirstWithUid h.versions v
   pub event : Event
@@ -38,6 +37,7 @@ pub record IsRemovalBehind (h : History) (v : Version) (next : Option ℕ) (remo
   pub of_last : removal.last ≡ v.revision
   pub low : removal.range.low ≡ max (lowest h event.lo) v.revision + 1
   pub high : removal.range.high ≡ min (highest h event.hi) (place_before next)
+  pub some_place : removal.range.low ≤ removal.range.high
 
 -- a removal of the history, with the version that it ended
 pub record IsRemoval (h : History) (removal : Removal) : Type 0 where

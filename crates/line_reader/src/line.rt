@@ -1,4 +1,4 @@
-use base_types::{Bytes, OutOfMemory};
+use base_types::{Bytes, OutOfMemory, Shared};
 use thiserror::Error;
 
 /// A line of a log, without its newline.
@@ -8,6 +8,8 @@ pub struct Line {
     pub number: u64,
     pub bytes: Bytes,
 }
+
+impl Shared for Line {}
 
 /// Why no line was given.
 #[derive(Clone, Copy, Debug, PartialEq, Eq, Error)]

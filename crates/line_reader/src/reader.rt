@@ -89,12 +89,13 @@ impl LineReader {
         Ok(())
     }
 
-    /// Gives the next line that isn't blank. After `TooLong` each further call answers it too.
+    /// Gives the next line that isn't blank. A fault leaves the reader as it was, so that after `TooLong` each further
+    /// call answers it too, or want of memory.
     pub fn next_line(&mut self) -> Result<Option<Line>, LineFault>
         ensures gives { IfOk result (λ found. Gives self.old (given_line found) self.new) }
         ensures too_long { IfErr result (λ fault. (number : ℕ) → fault ≡ LineFault.TooLong number
             → IsTooLong number self.old × IsTooLong number self.new) }
-        ensures memory { result ≡ Err LineFault.OutOfMemory → self.new ≡ self.old }
+        ensures err { OnErr result (self.new ≡ self.old) }
         ensures ended { self.new.ended ≡ self.old.ended }
     {
         let place = self.next_place();

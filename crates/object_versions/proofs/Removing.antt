@@ -220,6 +220,7 @@ behind_is h events v next n e range only first number low high = record {
   of_last = refl;
   low = low;
   high = high;
+  some_place = range.ordered;
 }
 
 -- without a place there is no removal
@@ -230,7 +231,7 @@ behind_none h events v next n e removal only no_place behind =
     let one : behind.event ≡ event_of e = (only removal.range.event behind.event behind.first).1 in
     let low : removal.range.low ≡ max (lowest h e.lo.0) v.revision + 1 = behind.low ∙ ap (λ (x : event.Event). max (lowest h x.lo) v.revision + 1) one in
     let high : removal.range.high ≡ min (highest h e.hi.0) (place_before next) = behind.high ∙ ap (λ (x : event.Event). min (highest h x.hi) (place_before next)) one in
-    let room = removal.range.ordered in
+    let room = behind.some_place in
     omega arith
 
 -- what is known of the first removal that was kept

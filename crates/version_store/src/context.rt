@@ -9,14 +9,14 @@ ghost use Rattle.object_versions.specs.Modelled.{AreCloudsOf};
 use crate::log::Log;
 use crate::uses::Uses;
 use audit_event::{Event, Events};
-use base_types::{ObjectKey, Range, Reason};
+use base_types::{ObjectKey, Range, Reason, Shared};
 use clouds::Clouds;
 use hash_seed::Seed;
 use node_pool::Pool;
 use object_past::{Past, Version};
 use rbac_timeline::Timeline;
 use setup_file::Setup;
-use std::marker::{Model, Send, Sync};
+use std::marker::Model;
 use time_windows::Windows;
 use write_groups::{Groups, LogEvent, Window, window_of};
 
@@ -70,9 +70,6 @@ impl Drop for Context {
         drop(timeline);
     }
 }
-
-/// What threads may share, and send to one another.
-pub trait Shared: Send + Sync {}
 
 impl Shared for Context {}
 

@@ -17,7 +17,7 @@ mod roles;
 mod uses;
 
 pub use bodies::RequestBodies;
-pub use context::{Context, Shared};
+pub use context::Context;
 pub use faults::{Makings, faults_of, makings_of};
 pub use keys::keys_of;
 pub use law::one_history_law;

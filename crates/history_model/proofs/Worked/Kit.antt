@@ -503,6 +503,7 @@ one_removal_is h r0 v event listed known alone is holds others k u l low high = 
         of_last = l;
         low = low;
         high = high;
+        some_place = r0.range.ordered;
       };
     }
       where

@@ -66,7 +66,7 @@ removing key uid number event f = each_event (λ k e. e.answer ≡ Removed key u
 
 -- behind the first object and before the second there is no place
 no_room : (v : Version) (next : Option ℕ) (gone : Removal) → v ≡ v20 → next ≡ Some 21 → IsRemovalBehind removal_without_place v next gone → ⊥
-no_room v next gone e q i = omega (arith, low, high, gone.range.ordered)
+no_room v next gone e q i = omega (arith, low, high, i.some_place)
   where
     facts : (i.event ≡ e1) × (v.uid ≡ A)
     facts = removing v.key v.uid gone.range.event i.event i.first
