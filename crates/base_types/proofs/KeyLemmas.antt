@@ -9,6 +9,10 @@ use Rattle.base_types.specs.Escapes.{escaped}
 use Rattle.base_types.specs.Keys.{HasNoSlash, IsCut, IsJoined, key_spelling}
 use Rattle.base_types.proofs.EscapeLemmas.{no_slash-escaped, escaped_injective, escaped_nonempty, escaped-nil}
 
+-- keys with the same four parts are one
+pub key_from_parts : (a b : ObjectKey) → a.group ≡ b.group → a.resource ≡ b.resource → a.namespace ≡ b.namespace → a.name ≡ b.name → a ≡ b
+key_from_parts a b group resource namespace name = rw (group, resource, namespace, name) refl
+
 abbrev Other : ℕ → Type 0
 Other b = b ≢ 47
 

@@ -9,6 +9,7 @@ pub mod Lending
 pub mod Lists
 pub mod MatchingLemmas
 pub mod Ordered
+pub mod Orderings
 pub mod Placing
 pub mod Prefixes
 pub mod Printing

@@ -9,3 +9,8 @@ ComesFirst a b rest = (a < b) ⊎ ((a ≡ b) × rest)
 -- places are compared by their roles, then their cluster roles, bindings and cluster bindings
 abbrev pub IsUpTo : Places → Places → Type 0
 IsUpTo a b = ComesFirst a.roles b.roles (ComesFirst a.cluster_roles b.cluster_roles (ComesFirst a.bindings b.bindings (a.cluster_bindings ≤ b.cluster_bindings)))
+
+-- it holds of these places, and of no lesser ones
+pub record AreLeastPlaces (holds : Places → Type 0) (places : Places) : Type 0 where
+  pub decided : holds places
+  pub least : (other : Places) → holds other → IsUpTo places other

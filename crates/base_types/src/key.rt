@@ -1,6 +1,6 @@
 ghost use Rattle.std.specs.Prelude.{◌≡◌, ◌≢◌, IfOk, IfSome, IfNone, IsTrue, ◌↔◌};
 ghost use Rattle.base_types.specs.declared.key.ObjectKey.{ObjectKey};
-ghost use Rattle.base_types.specs.Keys.{key_spelling, HasNoSlash, IsCut, IsJoined, IsNamed, SpellsAlone};
+ghost use Rattle.base_types.specs.Keys.{key_spelling, same_key, HasNoSlash, IsCut, IsJoined, IsNamed, SpellsAlone};
 ghost use Rattle.base_types.specs.Covers.{TakesName, Covers, NamesExactly};
 
 use crate::escaping::{append_escaped, unescape};
@@ -16,6 +16,13 @@ pub struct ObjectKey {
     pub resource: Text,
     pub namespace: Text,
     pub name: Text,
+}
+
+/// Whether two keys are of one object.
+pub fn same_key(key: &ObjectKey, other: &ObjectKey) -> bool
+    ensures { result ≡ same_key key.now other.now }
+{
+    *key == *other
 }
 
 /// The text `GROUP/RESOURCE/NAMESPACE/NAME`, its parts as `escape` writes them.

@@ -16,7 +16,7 @@ mod text;
 
 pub use claim::{Bound, Bounds, Claim, Claims, Range, Reason};
 pub use escaping::escape;
-pub use key::{Cover, CoverName, ObjectKey, covers, exact_key, key_text, read_key};
+pub use key::{Cover, CoverName, ObjectKey, covers, exact_key, key_text, read_key, same_key};
 pub use listed::Listed;
 pub use matching::{has_text, is_combined, path_matches};
 pub use memory::OutOfMemory;

@@ -1,10 +1,11 @@
 -- The places at which a decision could be given, as contexts and as claims say them.
 use Rattle.std.proofs.Common.{◌≡◌, ℕ, Bool, Option}
 use Rattle.std.specs.Prelude.{IfSome, IfNone}
+use Rattle.base_types.specs.PlaceOrder.{AreLeastPlaces}
 use Rattle.base_types.specs.declared.placed.Places.{Places}
 use Rattle.event_claims.proofs.Options.{if_some, if_none}
-use Rattle.event_claims.specs.Given.{IsGivenAt, AreLeastWithin, AreNoneWithin}
-use Rattle.version_store.specs.Given.{IsGivenWithin, AreLeastGiven, AreNoneGiven}
+use Rattle.event_claims.specs.Given.{IsGivenAt, AreNoneWithin}
+use Rattle.version_store.specs.Given.{IsGivenWithin, AreNoneGiven}
 
 module _ (decides : Places → Bool) (low high : ℕ) where
   to_claims : (places : Places) → IsGivenWithin decides low high places → IsGivenAt decides low high places
@@ -31,8 +32,8 @@ module _ (decides : Places → Bool) (low high : ℕ) where
     right = g.right;
   }
 
-  pub least_given : (found : Option Places) → IfSome found (AreLeastGiven decides low high) → IfSome found (AreLeastWithin decides low high)
-  least_given found = if_some found _ _ (λ places least. record { given = to_claims places least.given; least = λ other g. least.least other (of_claims other g) })
+  pub least_given : (found : Option Places) → IfSome found (AreLeastPlaces (IsGivenWithin decides low high)) → IfSome found (AreLeastPlaces (IsGivenAt decides low high))
+  least_given found = if_some found _ _ (λ places least. record { decided = to_claims places least.decided; least = λ other g. least.least other (of_claims other g) })
 
   pub none_given : (found : Option Places) → IfNone found (AreNoneGiven decides low high) → IfNone found (AreNoneWithin decides low high)
   none_given found = if_none found _ _ (λ none places g. none places (of_claims places g))

@@ -14,6 +14,7 @@ use Rattle.std.proofs.lemmas.List.Elements.{Contains-append_left, Contains-push,
 use Rattle.std.proofs.lemmas.List.Sorted.{Contains-permutation, IsPermutation-sym}
 use Rattle.std.proofs.lemmas.Map.Lookups.{exact_bytes}
 use Rattle.base_types.specs.declared.key.ObjectKey.{ObjectKey}
+use Rattle.base_types.proofs.KeyLemmas.{key_from_parts}
 use Rattle.clouds.specs.Items.{AddsAt, items_at, items_of}
 use Rattle.clouds.specs.Kept.{key_order, text_order}
 
@@ -86,12 +87,9 @@ then_parts Less b other = cc
 then_parts Equal b is = (refl, is)
 then_parts Greater b other = cc
 
-pub same_key : (a b : ObjectKey) → a.group ≡ b.group → a.resource ≡ b.resource → a.namespace ≡ b.namespace → a.name ≡ b.name → a ≡ b
-same_key a b group resource namespace name = rw (group, resource, namespace, name) refl
-
 pub same_key_from : (a b : ObjectKey) → is_eq (key_order a b) ≡ true → a ≡ b
 same_key_from a b tied =
     let groups = then_parts (text_order a.group b.group) _ (equal_is (key_order a b) tied) in
     let resources = then_parts (text_order a.resource b.resource) _ groups.1 in
     let rest = then_parts (text_order a.namespace b.namespace) (text_order a.name b.name) resources.1 in
-    same_key a b (exact_bytes a.group b.group groups.0) (exact_bytes a.resource b.resource resources.0) (exact_bytes a.namespace b.namespace rest.0) (exact_bytes a.name b.name rest.1)
+    key_from_parts a b (exact_bytes a.group b.group groups.0) (exact_bytes a.resource b.resource resources.0) (exact_bytes a.namespace b.namespace rest.0) (exact_bytes a.name b.name rest.1)

@@ -5,7 +5,7 @@ use Rattle.std.proofs.lemmas.Bool.{cases_eq, cases_lt, ltb-false, ltb-true}
 use Rattle.std.proofs.lemmas.List.{get_or-drop, get_or_default}
 use Rattle.base_types.proofs.Quantifiers.{Any-at}
 use Rattle.clouds.specs.declared.mark.Mark.{Mark}
-use Rattle.clouds.specs.FirstPlace.{HoldsNowhere, IsFirstPlace, IsLeastPlace, earlier_of}
+use Rattle.clouds.specs.FirstPlace.{HoldsNowhere, IsFirstPlace, IsLeastPlace, lesser_place}
 use Rattle.clouds.specs.Marks.{AreMarks, Hides}
 use Rattle.clouds.proofs.Searching.{Parts, begins_below}
 
@@ -18,7 +18,7 @@ IsFirstPlace-same P Q low high (Some place) forth back first =
 abbrev pub Either : (ℕ → Type 0) → (ℕ → Type 0) → ℕ → Type 0
 Either P Q n = P n ⊎ Q n
 
-pub IsFirstPlace-either : (P Q : ℕ → Type 0) (low high : ℕ) (a b : Option ℕ) → IsFirstPlace P low high a → IsFirstPlace Q low high b → IsFirstPlace (Either P Q) low high (earlier_of a b)
+pub IsFirstPlace-either : (P Q : ℕ → Type 0) (low high : ℕ) (a b : Option ℕ) → IsFirstPlace P low high a → IsFirstPlace Q low high b → IsFirstPlace (Either P Q) low high (lesser_place a b)
 IsFirstPlace-either P Q low high None None nowhere_p nowhere_q = λ place from upto holds. ⊎_elim (nowhere_p place from upto) (nowhere_q place from upto) holds
 IsFirstPlace-either P Q low high None (Some b) nowhere first = record {
   from_low = first.from_low;

@@ -19,7 +19,7 @@ use Rattle.clouds.specs.declared.span.OpaqueSpan.{OpaqueSpan}
 use Rattle.clouds.specs.declared.wide.Folder.{Folder}
 use Rattle.clouds.specs.declared.wide.Scope.{Scope}
 use Rattle.clouds.specs.declared.wide.Wide.{Wide}
-use Rattle.clouds.specs.FirstPlace.{IsFirstPlace, earlier_of}
+use Rattle.clouds.specs.FirstPlace.{IsFirstPlace, lesser_place}
 use Rattle.clouds.specs.Items.{AddsAt, items_at}
 use Rattle.clouds.specs.Upto.{AreUpto}
 use Rattle.clouds.specs.Wide.{AddsWide, AnyIn, AnyWide, Extends, IsNumbered, any_scope, folder_order, front_of, lengths_of, number_of, own_scope, scope_from, scope_order, spans_at, spans_by}
@@ -64,12 +64,12 @@ Any-upto P lengths upto most are any = Any-contains P upto any.1 ((are any.1).1 
 -- the first place of the counts so far, and of one more
 pub IsFirstPlace-next : (Q : ℕ → ℕ → Type 0) (low high : ℕ) (counts : List ℕ) (i d : ℕ) (a b : Option ℕ) → i < length counts
     → IsFirstPlace (λ n. Any (Q n) (take i counts)) low high a → IsFirstPlace (λ n. Q n (get_or counts i d)) low high b
-    → IsFirstPlace (λ n. Any (Q n) (take (i + 1) counts)) low high (earlier_of a b)
+    → IsFirstPlace (λ n. Any (Q n) (take (i + 1) counts)) low high (lesser_place a b)
 IsFirstPlace-next Q low high counts i d a b within first next =
     let P : ℕ → Type 0 = λ n. Any (Q n) (take i counts) in
     let R : ℕ → Type 0 = λ n. Q n (get_or counts i d) in
-    subst (λ l. IsFirstPlace (λ n. Any (Q n) l) low high (earlier_of a b)) (sym (take_more counts i d within))
-    (IsFirstPlace-same (Either P R) (λ n. Any (Q n) (take i counts ++ get_or counts i d ∷ [])) low high (earlier_of a b)
+    subst (λ l. IsFirstPlace (λ n. Any (Q n) l) low high (lesser_place a b)) (sym (take_more counts i d within))
+    (IsFirstPlace-same (Either P R) (λ n. Any (Q n) (take i counts ++ get_or counts i d ∷ [])) low high (lesser_place a b)
     (λ n either. ⊎_elim (Any-append_left (Q n) (take i counts) (get_or counts i d ∷ []))
     (λ holds. Any-append_right (Q n) (take i counts) (get_or counts i d ∷ []) (Any-head (Q n) (get_or counts i d) [] holds)) either)
     (λ n any. ⊎_elim inl (λ last. inr (only_one (Q n) (get_or counts i d) last)) (Any-append_cases (Q n) (take i counts) (get_or counts i d ∷ []) any))

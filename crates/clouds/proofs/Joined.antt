@@ -5,7 +5,7 @@ use Rattle.std.proofs.lemmas.List.{take_all, take_more}
 use Rattle.std.proofs.lemmas.List.Concat.{flat_map-append}
 use Rattle.base_types.specs.declared.key.ObjectKey.{ObjectKey}
 use Rattle.clouds.specs.declared.span.OpaqueSpan.{OpaqueSpan}
-use Rattle.clouds.specs.FirstPlace.{IsFirstPlace, earlier_of}
+use Rattle.clouds.specs.FirstPlace.{IsFirstPlace, lesser_place}
 use Rattle.clouds.specs.Hiding.{HidesKey}
 use Rattle.clouds.proofs.FirstPlaces.{Either, IsFirstPlace-either, IsFirstPlace-same}
 use Rattle.clouds.proofs.Quantified.{Any-append_cases, Any-append_left, Any-append_right}
@@ -19,12 +19,12 @@ joined_more parts i part within is =
 
 pub IsFirstPlace-more : (revisions : List ℕ) (key : ObjectKey) (low high : ℕ) (parts : List (List OpaqueSpan)) (i : ℕ) (part : List OpaqueSpan) (a b : Option ℕ) → i < length parts → part ≡ get_or parts i part
     → IsFirstPlace (λ n. Any (HidesKey revisions key n) (joined (take i parts))) low high a → IsFirstPlace (λ n. Any (HidesKey revisions key n) part) low high b
-    → IsFirstPlace (λ n. Any (HidesKey revisions key n) (joined (take (i + 1) parts))) low high (earlier_of a b)
+    → IsFirstPlace (λ n. Any (HidesKey revisions key n) (joined (take (i + 1) parts))) low high (lesser_place a b)
 IsFirstPlace-more revisions key low high parts i part a b within is first next =
     let P : ℕ → Type 0 = λ n. Any (HidesKey revisions key n) (joined (take i parts)) in
     let Q : ℕ → Type 0 = λ n. Any (HidesKey revisions key n) part in
-    subst (λ spans. IsFirstPlace (λ n. Any (HidesKey revisions key n) spans) low high (earlier_of a b)) (sym (joined_more parts i part within is))
-    (IsFirstPlace-same (Either P Q) (λ n. Any (HidesKey revisions key n) (joined (take i parts) ++ part)) low high (earlier_of a b)
+    subst (λ spans. IsFirstPlace (λ n. Any (HidesKey revisions key n) spans) low high (lesser_place a b)) (sym (joined_more parts i part within is))
+    (IsFirstPlace-same (Either P Q) (λ n. Any (HidesKey revisions key n) (joined (take i parts) ++ part)) low high (lesser_place a b)
     (λ n either. ⊎_elim (Any-append_left (HidesKey revisions key n) (joined (take i parts)) part) (Any-append_right (HidesKey revisions key n) (joined (take i parts)) part) either)
     (λ n any. Any-append_cases (HidesKey revisions key n) (joined (take i parts)) part any)
     (IsFirstPlace-either P Q low high a b first next))

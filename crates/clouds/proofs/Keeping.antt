@@ -11,18 +11,19 @@ use Rattle.base_types.proofs.Quantifiers.{Any-contains, Any-weaker}
 use Rattle.base_types.specs.Covers.{Covers, NamesExactly, TakesName}
 use Rattle.base_types.specs.declared.key.Cover.{Cover}
 use Rattle.base_types.specs.declared.key.ObjectKey.{ObjectKey}
+use Rattle.base_types.proofs.KeyLemmas.{key_from_parts}
 use Rattle.clouds.specs.declared.span.KeyRevision.{KeyRevision}
 use Rattle.clouds.specs.declared.span.OpaqueSpan.{OpaqueSpan}
 use Rattle.clouds.specs.declared.wide.Wide.{Wide}
 use Rattle.clouds.specs.Clouds.{IsHiddenBy}
-use Rattle.clouds.specs.FirstPlace.{HoldsNowhere, IsFirstPlace, IsLeastPlace, earlier_of}
+use Rattle.clouds.specs.FirstPlace.{HoldsNowhere, IsFirstPlace, IsLeastPlace, lesser_place}
 use Rattle.clouds.specs.Hiding.{AreRevisionsOf, HidesKey, ReachesKey, revision_of}
 use Rattle.clouds.specs.Items.{AddsAt, items_at}
 use Rattle.clouds.specs.Filed.{AreFiled, AreRecorded}
 use Rattle.clouds.specs.Kept.{key_order}
 use Rattle.clouds.specs.Latest.{IsLatest}
 use Rattle.clouds.specs.Wide.{AddsWide, AnyWide}
-use Rattle.clouds.proofs.Adding.{same_key, same_key_from}
+use Rattle.clouds.proofs.Adding.{same_key_from}
 use Rattle.clouds.proofs.FirstPlaces.{Either, IsFirstPlace-either, IsFirstPlace-same}
 use Rattle.clouds.proofs.Fronts.{AnyWide-folder, AnyWide-weaker}
 use Rattle.clouds.proofs.Searching.{latest_from_unseen, unseen_from_latest}
@@ -33,7 +34,7 @@ taken_more f xs i x within is = ap (λ l. map f l) (take_more xs i x within) ∙
 
 -- a cover that names a key covers no other
 Covers-exact : (cover : Cover) (key other : ObjectKey) → NamesExactly cover key → Covers cover other → other ≡ key
-Covers-exact cover key other names covers = same_key other key
+Covers-exact cover key other names covers = key_from_parts other key
     (covers.group ∙ sym names.group)
     (covers.resource ∙ sym names.resource)
     (subst (λ n. MatchOption n (Unit {0}) (λ namespace. other.namespace ≡ namespace)) names.namespace covers.namespace)
@@ -153,11 +154,11 @@ pub first_clouded : (named : BTreeMap ObjectKey (List OpaqueSpan)) (wide : Wide)
     (key : ObjectKey) (low high : ℕ) (a b : Option ℕ) → AreFiled named wide spans → AreRevisionsOf given key revisions
     → IsFirstPlace (λ n. Any (HidesKey revisions key n) (items_at key_order named key)) low high a
     → IsFirstPlace (λ n. AnyWide wide key (HidesKey revisions key n)) low high b
-    → IsFirstPlace (λ n. Any (IsHiddenBy given key n) spans) low high (earlier_of a b)
+    → IsFirstPlace (λ n. Any (IsHiddenBy given key n) spans) low high (lesser_place a b)
 first_clouded named wide spans given revisions key low high a b filed are first_named first_wide =
     let P : ℕ → Type 0 = λ n. Any (HidesKey revisions key n) (items_at key_order named key) in
     let Q : ℕ → Type 0 = λ n. AnyWide wide key (HidesKey revisions key n) in
-    IsFirstPlace-same (Either P Q) (λ n. Any (IsHiddenBy given key n) spans) low high (earlier_of a b)
+    IsFirstPlace-same (Either P Q) (λ n. Any (IsHiddenBy given key n) spans) low high (lesser_place a b)
     (λ n either. Any-weaker (HidesKey revisions key n) (IsHiddenBy given key n) spans (λ span hides. IsHiddenBy-key given revisions key n span are hides)
     (Any-given named wide spans key (HidesKey revisions key n) filed either))
     (λ n any. Any-filed named wide spans key (HidesKey revisions key n) filed (λ span hides. hides.0)

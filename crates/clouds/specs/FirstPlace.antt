@@ -15,7 +15,7 @@ IsFirstPlace holds low high None = HoldsNowhere holds low high
 IsFirstPlace holds low high (Some place) = IsLeastPlace holds low high place
 
 -- the lesser of two places, where there are any
-abbrev pub earlier_of : Option ℕ → Option ℕ → Option ℕ
-earlier_of None b = b
-earlier_of (Some a) None = Some a
-earlier_of (Some a) (Some b) = Some (min a b)
+abbrev pub lesser_place : Option ℕ → Option ℕ → Option ℕ
+lesser_place None b = b
+lesser_place (Some a) None = Some a
+lesser_place (Some a) (Some b) = Some (min a b)

@@ -4,7 +4,7 @@ ghost use Rattle.std.specs.List.Sorted.{IsNonDecreasing};
 use crate::filing::{Filed, all_filed, all_recorded};
 use crate::recorded::{Recorded, latest};
 use crate::span::{KeyRevision, OpaqueSpan};
-use crate::unrecorded::{earlier, first_place, reach};
+use crate::unrecorded::{first_place, lesser_place, reach};
 use base_types::{ObjectKey, OutOfMemory, Revision};
 use std::alloc::Global;
 use std::collections::BTreeMap;
@@ -112,7 +112,7 @@ impl Clouds {
             return None;
         }
         let revisions = self.revisions_of(key);
-        earlier(
+        lesser_place(
             first_place(self.filed.named.get(key), key, revisions, low, high),
             self.filed.wide.first_place(key, revisions, low, high),
         )

@@ -14,4 +14,4 @@ mod wide;
 
 pub use clouds::Clouds;
 pub use span::{KeyRevision, KeyRevisions, OpaqueSpan, OpaqueSpans};
-pub use unrecorded::earlier;
+pub use unrecorded::lesser_place;

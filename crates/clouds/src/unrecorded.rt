@@ -1,6 +1,6 @@
 ghost use Rattle.std.specs.Prelude.{◌≡◌, ◌≤◌, ◌↔◌, [], ◌∷◌, ◌++◌, IsTrue, IfOk, OnOk, Any};
 ghost use Rattle.std.specs.List.Sorted.{IsNonDecreasing};
-ghost use Rattle.clouds.specs.FirstPlace.{IsFirstPlace, earlier_of};
+ghost use Rattle.clouds.specs.FirstPlace.{IsFirstPlace, lesser_place};
 ghost use Rattle.clouds.specs.Items.{AddsAt, items_of};
 ghost use Rattle.std.specs.Option.{option_copied};
 ghost use Rattle.clouds.specs.Hiding.{HidesKey, ReachesKey};
@@ -72,7 +72,7 @@ impl Unrecorded {
     {
         let mut first = None;
         for part in &self.parts {
-            first = earlier(first, part.first_place(key, revisions, low, high));
+            first = lesser_place(first, part.first_place(key, revisions, low, high));
         }
         first
     }
@@ -136,8 +136,8 @@ pub fn first_place(
 }
 
 /// The lesser of two places, where there are any.
-pub fn earlier(a: Option<u64>, b: Option<u64>) -> Option<u64>
-    ensures { result ≡ earlier_of a b }
+pub fn lesser_place(a: Option<u64>, b: Option<u64>) -> Option<u64>
+    ensures { result ≡ lesser_place a b }
 {
     match (a, b) {
         (Some(a), Some(b)) => Some(a.min(b)),

@@ -12,7 +12,7 @@ ghost use Rattle.clouds.specs.Wide.{any_scope, front_of, lengths_of, number_of, 
 use crate::lengths::Lengths;
 use crate::numbers::{Numbers, give_number, number_at};
 use crate::span::OpaqueSpan;
-use crate::unrecorded::{Unrecorded, add_span, earlier, first_place, reach};
+use crate::unrecorded::{Unrecorded, add_span, first_place, lesser_place, reach};
 use base_types::{Cover, CoverName, ObjectKey, OutOfMemory, Text};
 use std::alloc::Global;
 use std::collections::BTreeMap;
@@ -243,7 +243,7 @@ impl Wide {
         let mut first = None;
         for count in counts {
             let spans = self.spans_of_front(scope, front_of_name(&key.name, *count));
-            first = earlier(first, first_place(spans, key, revisions, low, high));
+            first = lesser_place(first, first_place(spans, key, revisions, low, high));
         }
         first
     }
@@ -279,7 +279,7 @@ impl Wide {
         ensures { IsFirstPlace (λ place. AnyWide self.now key.now (HidesKey revisions.now key.now place))
             low high result }
     {
-        earlier(
+        lesser_place(
             self.first_in_scope(self.own_scope(key), key, revisions, low, high),
             self.first_in_scope(self.any_scope(key), key, revisions, low, high),
         )

@@ -1,11 +1,12 @@
 -- Decisions and the places at which they could be given.
 use Rattle.std.proofs.Common.{◌≡◌, ℕ, ◌≤◌, Bool, sym, ◌∙◌, subst}
+use Rattle.base_types.specs.PlaceOrder.{AreLeastPlaces}
 use Rattle.base_types.specs.declared.placed.Places.{Places}
-use Rattle.history_model.specs.Decisions.{IsCachePlace, IsDecidedAt, AreLeastPlaces}
+use Rattle.history_model.specs.Decisions.{IsCachePlace, IsDecidedAt}
 use Rattle.history_model.specs.Events.{Event}
 use Rattle.history_model.specs.Histories.{History}
 use Rattle.history_model.specs.Windows.{decision_low, decision_high}
-use Rattle.event_claims.specs.Given.{IsWithin, IsGivenAt, AreLeastWithin, AreNoneWithin}
+use Rattle.event_claims.specs.Given.{IsWithin, IsGivenAt, AreNoneWithin}
 
 module _ (h : History) (number : ℕ) (event : Event) (gives : Places → Bool) (low high : ℕ)
     (same : (places : Places) → gives places ≡ h.decides number places) (l : low ≡ decision_low h event) (m : high ≡ decision_high h event) where
@@ -35,8 +36,8 @@ module _ (h : History) (number : ℕ) (event : Event) (gives : Places → Bool) 
     right = same places ∙ d.right;
   }
 
-  pub least_decided : (places : Places) → AreLeastWithin gives low high places → AreLeastPlaces h number event places
-  least_decided places a = record { decided = decided places a.given; least = λ other d. a.least other (given other d) }
+  pub least_decided : (places : Places) → AreLeastPlaces (IsGivenAt gives low high) places → AreLeastPlaces (IsDecidedAt h number event) places
+  least_decided places a = record { decided = decided places a.decided; least = λ other d. a.least other (given other d) }
 
   pub none_decided : AreNoneWithin gives low high → (places : Places) → IsDecidedAt h number event places → ⊥
   none_decided n places d = n places (given places d)

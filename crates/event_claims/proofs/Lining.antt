@@ -2,6 +2,7 @@
 use Rattle.std.proofs.Common.{◌≡◌, ℕ, ◌↔◌, Bool, true, false, List, Option, Some, None, slice_get, slice_index, refl, sym, ap, ◌∙◌, subst, true≢false}
 use Rattle.std.specs.Prelude.{IsTrue, is_some, not}
 use Rattle.base_types.specs.Choices.{IsChoice}
+use Rattle.base_types.specs.PlaceOrder.{AreLeastPlaces}
 use Rattle.base_types.specs.declared.claim.Reason.{Reason}
 use Rattle.base_types.specs.declared.placed.PlacedAnswer.{PlacedAnswer}
 use Rattle.base_types.specs.declared.placed.PlacedAnswer.TheVariants as placed
@@ -10,7 +11,7 @@ use Rattle.base_types.specs.declared.placed.PlacedLine.{PlacedLine}
 use Rattle.base_types.specs.declared.placed.Places.{Places}
 use Rattle.base_types.specs.declared.request.Decision.{Decision}
 use Rattle.history_model.proofs.CutLemmas.{cut_at}
-use Rattle.history_model.specs.Decisions.{IsDecidedAt, AreLeastPlaces}
+use Rattle.history_model.specs.Decisions.{IsDecidedAt}
 use Rattle.history_model.specs.Events.{Event}
 use Rattle.history_model.specs.Histories.{History, Removal, ranges}
 use Rattle.history_model.specs.Groups.{Making}
@@ -82,6 +83,6 @@ module _ (h : History) (number : ℕ) (event : Event) (line : ℕ) (answer : Pla
   pub impossible_line : (decided : Decision) → event.decision ≡ Some decided → ((places : Places) → IsDecidedAt h number event places → ⊥) → IsLineWith h number event line answer None
   impossible_line decided e n = λ could. let w = could decided e in n w.0 w.1
 
-  pub given_line : (given : PlacedDecision) → event.decision ≡ Some given.decision → AreLeastPlaces h number event given.places
+  pub given_line : (given : PlacedDecision) → event.decision ≡ Some given.decision → AreLeastPlaces (IsDecidedAt h number event) given.places
       → IsLineWith h number event line answer (Some (record { line = line; answer = answer; decision = Some given }))
   given_line given e l = (refl, refl, (λ decided q. (given.places, l.decided)), subst (λ d. IsPlacedDecision h number event d (Some given)) (sym e) (given.places, l, refl))

@@ -1,6 +1,5 @@
 -- The least four places at which a decision could be given.
 use Rattle.std.specs.Prelude.{◌≡◌, ◌≤◌, ℕ, Bool, true}
-use Rattle.base_types.specs.PlaceOrder.{IsUpTo}
 use Rattle.base_types.specs.declared.placed.Places.{Places}
 
 abbrev pub IsWithin : (low high place : ℕ) → Type 0
@@ -13,10 +12,6 @@ pub record IsGivenAt (decides : Places → Bool) (low high : ℕ) (places : Plac
   pub of_bindings : IsWithin low high places.bindings
   pub of_cluster_bindings : IsWithin low high places.cluster_bindings
   pub right : decides places ≡ true
-
-pub record AreLeastWithin (decides : Places → Bool) (low high : ℕ) (places : Places) : Type 0 where
-  pub given : IsGivenAt decides low high places
-  pub least : (other : Places) → IsGivenAt decides low high other → IsUpTo places other
 
 abbrev pub AreNoneWithin : (Places → Bool) → (low high : ℕ) → Type 0
 AreNoneWithin decides low high = (places : Places) → IsGivenAt decides low high places → ⊥

@@ -3,7 +3,8 @@ ghost use Rattle.event_claims.specs.Decided.{IsDecided};
 ghost use Rattle.event_claims.specs.Standing.{IsDecidable, HasDecisionCode};
 ghost use Rattle.event_claims.specs.Verdicts.{IsVerdict};
 ghost use Rattle.event_claims.specs.Views.{IsViewOf};
-ghost use Rattle.history_model.specs.Decisions.{AreLeastPlaces, IsDecidedAt};
+ghost use Rattle.base_types.specs.PlaceOrder.{AreLeastPlaces};
+ghost use Rattle.history_model.specs.Decisions.{IsDecidedAt};
 ghost use Rattle.history_model.specs.Events.{Event};
 ghost use Rattle.history_model.specs.Histories.{History, IsEvent};
 ghost use Rattle.base_types.specs.declared.placed.Places.{Places};
@@ -62,7 +63,7 @@ fn places_of<L: Listable, D: Decisions>(
 ) -> Option<Places>
     ensures some { IfSome result (λ places. (h : History) → IsViewOf L.listable D.decides view.now h
         → IsEvent h number (event_of event.now)
-        → AreLeastPlaces h number (event_of event.now) places) }
+        → AreLeastPlaces (IsDecidedAt h number (event_of event.now)) places) }
     ensures none { IfNone result ((h : History) → IsViewOf L.listable D.decides view.now h
         → IsEvent h number (event_of event.now)
         → (places : Places) → IsDecidedAt h number (event_of event.now) places → ⊥) }

@@ -1,4 +1,4 @@
-ghost use Rattle.std.specs.Prelude.{◌≡◌, ◌↔◌, ℕ, ◌-◌, Some, IfSome, IsTrue, option_map, slice_get};
+ghost use Rattle.std.specs.Prelude.{◌≡◌, ◌↔◌, ℕ, ◌-◌, Some, IfSome, IsTrue, slice_get};
 ghost use Rattle.event_claims.specs.Standing.{IsOfPolicy, HasPolicyCode, HasWordCode, HasFoundCode};
 ghost use Rattle.event_claims.specs.Verdicts.{IsVerdict};
 ghost use Rattle.event_claims.specs.Words.{IsSaid};
@@ -17,7 +17,7 @@ use crate::word::Word;
 use base_types::{ObjectKey, Reason, Revision, Text};
 use clouds::Clouds;
 use local_bounds::Known;
-use object_past::Removal;
+use object_past::{Removal, removal_at};
 use write_groups::{LogEvent, Shown, Window};
 
 /// The code of an event whose level or stage isn't the policy's.
@@ -70,12 +70,6 @@ fn meets_preconditions(clouds: &Clouds, event: &LogEvent, removal: &Removal) -> 
         range.low.saturating_sub(1),
         range.high,
     )
-}
-
-fn removal_at(removals: &[Removal], position: u32) -> Option<&Removal>
-    ensures { option_map (λ removal. removal.now) result ≡ slice_get removals.now position }
-{
-    removals.get(position as usize)
 }
 
 // The code of a removal whose conditions aren't met.

@@ -10,15 +10,16 @@ use write_groups::LogEvent;
 /// The decisions of a log's authoriser. They are judged by roles and bindings, which claims don't look into.
 pub trait Decisions {
     ghost use Rattle.std.specs.Prelude.{ℕ, Bool, IfSome, IfNone};
+    ghost use Rattle.base_types.specs.PlaceOrder.{AreLeastPlaces};
     ghost use Rattle.base_types.specs.declared.placed.Places.{Places};
-    ghost use Rattle.event_claims.specs.Given.{AreLeastWithin, AreNoneWithin};
+    ghost use Rattle.event_claims.specs.Given.{AreNoneWithin, IsGivenAt};
 
     ghost decides: { Self → ℕ → Places → Bool };
 
     /// The least four places from `low` to `high` at which the authoriser could give the judged decision of the event
     /// of this number.
     fn find(&self, event: u32, low: u64, high: u64) -> Option<Places>
-        ensures some { IfSome result (AreLeastWithin (decides self.now event) low high) }
+        ensures some { IfSome result (AreLeastPlaces (IsGivenAt (decides self.now event) low high)) }
         ensures none { IfNone result (AreNoneWithin (decides self.now event) low high) };
 }
 

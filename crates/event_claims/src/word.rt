@@ -2,13 +2,12 @@ ghost use Rattle.std.specs.Prelude.{◌≡◌, ◌==◌, Bool, find};
 ghost use Rattle.event_claims.specs.Words.{IsSaid};
 ghost use Rattle.history_model.specs.Events.{Event, Made};
 ghost use Rattle.history_model.specs.Histories.{History};
-ghost use Rattle.base_types.specs.Keys.{same_key};
 ghost use Rattle.history_model.specs.Words.{word, answer_word, removal_word, is_by};
 ghost use Rattle.object_past.specs.Modelled.{maker_of};
 ghost use Rattle.object_past.specs.Past.{HasPast};
 ghost use Rattle.write_groups.specs.Modelled.{event_of, item_of};
 
-use base_types::{ObjectKey, Revision};
+use base_types::{Revision, same_key};
 use object_past::{Maker, Past};
 use write_groups::{Item, LogEvent, Shown};
 
@@ -24,12 +23,6 @@ pub enum Word {
     /// It was answered with a revision of another key.
     Strays,
     Nothing,
-}
-
-fn is_key(key: &ObjectKey, other: &ObjectKey) -> bool
-    ensures { result ≡ same_key key.now other.now }
-{
-    *key == *other
 }
 
 // Whether the event of this number is the maker.
@@ -55,7 +48,7 @@ fn write_word(past: &Past, start: Revision, number: u32, item: &Item) -> Word
     let Some(version) = past.at(revision) else {
         return Word::At;
     };
-    if !is_key(&version.key, &item.key) {
+    if !same_key(&version.key, &item.key) {
         return Word::Strays;
     }
     if !is_maker(version.maker, number) {

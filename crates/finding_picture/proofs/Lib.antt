@@ -1,4 +1,3 @@
 pub mod Counting
-pub mod Covering
 pub mod Joining
 pub mod Timing

@@ -9,9 +9,10 @@ use Rattle.object_past.specs.declared.removal.Removal.{Removal}
 use Rattle.object_past.specs.declared.version.Version.{Version}
 use Rattle.rbac_timeline.specs.Kinds.{kind_of_key}
 use Rattle.version_store.specs.Known.{Known}
+use Rattle.write_groups.specs.Lines.{line_at}
 use Rattle.write_groups.specs.declared.event.LogEvent.{LogEvent}
 use Rattle.finding_picture.specs.Limits.{most_rows}
-use Rattle.finding_picture.specs.Objects.{line_at, maker_text}
+use Rattle.finding_picture.specs.Objects.{maker_text}
 use Rattle.finding_picture.specs.declared.caches.TheConstants.{BEFORE_CACHES, BEHIND_RANGE}
 use Rattle.finding_picture.specs.declared.finding.Finding.{Finding}
 

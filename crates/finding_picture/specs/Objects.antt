@@ -1,5 +1,5 @@
 -- What an answer about the event's object would have been, place by place: the object's versions and its removals.
-use Rattle.std.specs.Prelude.{ℕ, ◌==◌, List, [], ◌∷◌, ◌++◌, Option, Some, None, codes, filter, find, length, option_and_then, slice_get, take}
+use Rattle.std.specs.Prelude.{ℕ, ◌==◌, List, [], ◌∷◌, ◌++◌, Option, Some, None, codes, filter, find, length, option_and_then, take}
 use Rattle.std.specs.List.{flat_map}
 use Rattle.base_types.specs.Keys.{key_spelling, same_key}
 use Rattle.base_types.specs.declared.key.ObjectKey.{ObjectKey}
@@ -9,7 +9,8 @@ use Rattle.object_past.specs.declared.removal.Removal.{Removal}
 use Rattle.object_past.specs.declared.version.Maker.{Maker}
 use Rattle.object_past.specs.declared.version.Maker.TheVariants as maker
 use Rattle.object_past.specs.declared.version.Version.{Version}
-use Rattle.version_store.specs.Known.{Known}
+use Rattle.version_store.specs.Known.{Known, versions_of}
+use Rattle.write_groups.specs.Lines.{line_at}
 use Rattle.write_groups.specs.declared.event.LogEvent.{LogEvent}
 use Rattle.write_groups.specs.declared.event.Shown.{Shown}
 use Rattle.write_groups.specs.declared.event.Shown.TheVariants.{Made, Removed, Opaque, Saw, SawNone, SawSome, SawOther, Listed, Free, Aside}
@@ -37,14 +38,6 @@ logged_on log line = find (λ event. event.line == line) log
 abbrev pub key_on : List LogEvent → ℕ → Option ObjectKey
 key_on log line = option_and_then (λ event. answer_key event.answer) (logged_on log line)
 
-abbrev pub line_or_zero : Option LogEvent → ℕ
-line_or_zero None = 0
-line_or_zero (Some event) = event.line
-
--- the line of the event of this number
-abbrev pub line_at : List LogEvent → ℕ → ℕ
-line_at log position = line_or_zero (slice_get log position)
-
 -- who wrote a version
 unfoldable pub maker_text : List LogEvent → Maker → List ℕ
 maker_text log maker.Snapshot = shown (fixed (codes "the snapshot") ∷ [])
@@ -68,10 +61,7 @@ removal_row log removal = shown (
     ∷ fixed (codes "</code></td><td>line ") ∷ number (line_at log removal.range.event)
     ∷ fixed (codes "</td></tr>\n") ∷ [])
 
--- the key's versions, which come by revision
-abbrev pub versions_of : Known → ObjectKey → List Version
-versions_of known key = filter (λ v. same_key v.key key) known.versions
-
+-- the key's removals
 abbrev pub removals_of : Known → ObjectKey → List Removal
 removals_of known key = filter (λ removal. same_key removal.key key) known.removals
 

@@ -5,14 +5,14 @@ ghost use Rattle.finding_picture.specs.Caches.{has_come, may_have_gone};
 
 use crate::finding::Finding;
 use crate::limits::MOST_ROWS;
-use crate::objects::{line_at, push_maker};
+use crate::objects::push_maker;
 use base_types::{OutOfMemory, key_text};
 use markup::{Told, first_of, push_rest};
 use object_past::{Removal, Version};
 use rbac_timeline::kind_of_key;
 use std::alloc::Global;
 use version_store::Context;
-use write_groups::LogEvent;
+use write_groups::{LogEvent, line_at};
 
 /// What stands before the range of the caches' places.
 pub const BEFORE_CACHES: &str = "<h2>The authoriser's caches</h2>

@@ -1,8 +1,8 @@
 ghost use Rattle.std.specs.Prelude.{◌≡◌, ◌++◌, IfOk, OnOk, Some, map, option_map, string_bytes};
 ghost use Rattle.std.specs.List.{flat_map};
-ghost use Rattle.finding_picture.specs.Objects.{answer_key, key_on, line_at, logged_on, maker_text, object_rows};
+ghost use Rattle.finding_picture.specs.Objects.{answer_key, key_on, logged_on, maker_text, object_rows};
 ghost use Rattle.finding_picture.specs.Objects.{object_section, object_text, removal_row, removals_of, version_row};
-ghost use Rattle.finding_picture.specs.Objects.{versions_of};
+ghost use Rattle.version_store.specs.Known.{versions_of};
 
 use crate::lasting::since;
 use crate::limits::{MOST_ROWS, MOST_VERSIONS};
@@ -11,7 +11,7 @@ use markup::{Told, first_of, push_rest};
 use object_past::{Maker, Removal, Version};
 use std::alloc::Global;
 use version_store::Context;
-use write_groups::{LogEvent, Shown};
+use write_groups::{LogEvent, Shown, line_at};
 
 /// The section of an event whose answer isn't one about a single object.
 pub const NO_OBJECT: &str = "<h2>What an answer would have been</h2>
@@ -175,16 +175,6 @@ fn answer_key(answer: &Shown) -> Option<&ObjectKey>
         Shown::Listed { .. } => None,
         Shown::Free => None,
         Shown::Aside => None,
-    }
-}
-
-/// The line of the event of this number.
-pub fn line_at(log: &[LogEvent], position: u32) -> u64
-    ensures { result ≡ line_at log.now position }
-{
-    match log.get(position as usize) {
-        Some(event) => event.line,
-        None => 0,
     }
 }
 

@@ -2,6 +2,7 @@
 use Rattle.std.proofs.Common.{◌≡◌, ℕ, List, [], ◌∷◌, length, map, slice_get, Some, Contains, refl, sym, ap, ap₂, ◌∙◌, subst, arith}
 use Rattle.std.proofs.lemmas.Option.{slice_get_within}
 use Rattle.base_types.specs.Choices.{IsChoice}
+use Rattle.base_types.specs.PlaceOrder.{AreLeastPlaces}
 use Rattle.base_types.specs.declared.placed.PlacedAnswer.TheVariants as placed
 use Rattle.base_types.specs.declared.placed.PlacedLine.{PlacedLine}
 use Rattle.base_types.specs.declared.placed.Places.{Places}
@@ -11,7 +12,7 @@ use Rattle.history_model.proofs.Global.{IsRightAs, right_is_run, run_is_right}
 use Rattle.history_model.proofs.Members.{here, there}
 use Rattle.history_model.proofs.OutcomeLaw.{get_within}
 use Rattle.history_model.proofs.WordLemmas.{removal_word_is}
-use Rattle.history_model.specs.Decisions.{IsDecidedAt, AreLeastPlaces}
+use Rattle.history_model.specs.Decisions.{IsDecidedAt}
 use Rattle.history_model.specs.Events.{Event}
 use Rattle.history_model.specs.Histories.{History, Removal, IsEvent, ranges}
 use Rattle.history_model.specs.Incarnations.{IsRemoval}
@@ -86,7 +87,7 @@ module _ (h : History) (choice : List ℕ) (lines : List PlacedLine) (r : IsRead
           decision : (d : Decision) → event.decision ≡ Some d → IsDecidedAt h number event (line_places (slice_get lines number))
           decision d q = by (subst (λ z. IsPlacedDecision h number event z line.decision) q p.decision)
             where
-              by : (places : Places) × AreLeastPlaces h number event places × (line.decision ≡ Some (record { decision = d; places = places })) → IsDecidedAt h number event (line_places (slice_get lines number))
+              by : (places : Places) × AreLeastPlaces (IsDecidedAt h number event) places × (line.decision ≡ Some (record { decision = d; places = places })) → IsDecidedAt h number event (line_places (slice_get lines number))
               by (places, l, a) = subst (λ z. IsDecidedAt h number event z) (sym (ap line_places e ∙ ap decision_places a)) l.decided
 
   run_of_lines : AreRightUpTo h (length h.order) choice → IsRun h (placement_of h lines)

@@ -1,7 +1,6 @@
 -- An authoriser keeps roles, cluster roles, role bindings and cluster role bindings in four caches
 -- (Kubernetes "Using RBAC Authorization", API objects), and each may be behind by itself.
 use Rattle.std.specs.Prelude.{◌≡◌, ◌≤◌, ℕ, true}
-use Rattle.base_types.specs.PlaceOrder.{IsUpTo}
 use Rattle.base_types.specs.declared.placed.Places.{Places}
 use Rattle.history_model.specs.Events.{Event}
 use Rattle.history_model.specs.Histories.{History}
@@ -21,7 +20,3 @@ pub record AreCachePlaces (h : History) (event : Event) (places : Places) : Type
 pub record IsDecidedAt (h : History) (number : ℕ) (event : Event) (places : Places) : Type 0 where
   pub inside : AreCachePlaces h event places
   pub right : h.decides number places ≡ true
-
-pub record AreLeastPlaces (h : History) (number : ℕ) (event : Event) (places : Places) : Type 0 where
-  pub decided : IsDecidedAt h number event places
-  pub least : (other : Places) → IsDecidedAt h number event other → IsUpTo places other

@@ -1,12 +1,13 @@
 -- The lines of a placement: each event with its answer and its decision at their least places.
 use Rattle.std.specs.Prelude.{◌≡◌, ◌≤◌, ℕ, List, Option, Some, None, length, map, slice_get, Contains}
+use Rattle.base_types.specs.PlaceOrder.{AreLeastPlaces}
 use Rattle.base_types.specs.declared.placed.PlacedAnswer.{PlacedAnswer}
 use Rattle.base_types.specs.declared.placed.PlacedAnswer.TheVariants as placed
 use Rattle.base_types.specs.declared.placed.PlacedDecision.{PlacedDecision}
 use Rattle.base_types.specs.declared.placed.PlacedLine.{PlacedLine}
 use Rattle.base_types.specs.declared.placed.Places.{Places}
 use Rattle.base_types.specs.declared.request.Decision.{Decision}
-use Rattle.history_model.specs.Decisions.{AreLeastPlaces}
+use Rattle.history_model.specs.Decisions.{IsDecidedAt}
 use Rattle.history_model.specs.Events.{Event}
 use Rattle.history_model.specs.Histories.{History, Removal, IsEvent}
 use Rattle.history_model.specs.Right.{IsRight}
@@ -31,7 +32,7 @@ IsPlacedAnswer h choice number event Nothing answer = answer ≡ placed.Nowhere
 -- a decision is written exactly where it is judged
 abbrev pub IsPlacedDecision : History → ℕ → Event → Option Decision → Option PlacedDecision → Type 0
 IsPlacedDecision h number event None decision = decision ≡ None
-IsPlacedDecision h number event (Some decided) decision = (places : Places) × AreLeastPlaces h number event places × (decision ≡ Some (record { decision = decided; places = places }))
+IsPlacedDecision h number event (Some decided) decision = (places : Places) × AreLeastPlaces (IsDecidedAt h number event) places × (decision ≡ Some (record { decision = decided; places = places }))
 
 pub record IsPlacedLine (h : History) (choice : List ℕ) (number : ℕ) (event : Event) (line : PlacedLine) : Type 0 where
   pub of_event : line.line ≡ event.line

@@ -11,6 +11,7 @@ use Rattle.serde_json.specs.Written.{compact_text}
 use Rattle.setup_file.specs.declared.setup.Setup.{Setup}
 use Rattle.verdict_text.specs.Words.{ended}
 use Rattle.version_store.specs.Known.{Known}
+use Rattle.write_groups.specs.Lines.{line_at}
 use Rattle.write_groups.specs.declared.event.LogEvent.{LogEvent}
 
 -- the setup names the key's group and resource
@@ -44,14 +45,6 @@ json_or_nothing (Some tree) = json_text tree
 -- that of the tree of this number
 abbrev pub json_at : List Meaning → ℕ → List ℕ
 json_at trees number = json_or_nothing (slice_get trees number)
-
-abbrev pub line_or_zero : Option LogEvent → ℕ
-line_or_zero None = 0
-line_or_zero (Some event) = event.line
-
--- the line of the event of this number
-abbrev pub line_at : List LogEvent → ℕ → ℕ
-line_at log number = line_or_zero (slice_get log number)
 
 -- the line of the write that made a version, `snapshot` or `unknown`
 abbrev pub who_text : List LogEvent → Maker → List ℕ

@@ -1,16 +1,16 @@
 -- What `versions` prints: all versions of a key by revision, and behind the last one of each object that was removed the
 -- range of its removal.
-use Rattle.std.specs.Prelude.{◌≡◌, ◌==◌, ℕ, List, [], ◌∷◌, ◌++◌, Option, Some, None, codes, decimal, filter, find}
+use Rattle.std.specs.Prelude.{◌≡◌, ◌==◌, ℕ, List, [], ◌∷◌, ◌++◌, Option, Some, None, codes, decimal, find}
 use Rattle.std.specs.List.{flat_map}
 use Rattle.base_types.specs.Escapes.{escaped}
-use Rattle.base_types.specs.Keys.{same_key}
 use Rattle.base_types.specs.declared.key.ObjectKey.{ObjectKey}
 use Rattle.object_past.specs.declared.removal.Removal.{Removal}
 use Rattle.object_past.specs.declared.version.Version.{Version}
 use Rattle.verdict_text.specs.Words.{ended, spaced}
-use Rattle.version_store.specs.Known.{Known}
+use Rattle.version_store.specs.Known.{Known, versions_of}
+use Rattle.write_groups.specs.Lines.{line_at}
 use Rattle.write_groups.specs.declared.event.LogEvent.{LogEvent}
-use Rattle.history_query.specs.Telling.{IsTold, IsTracked, line_at, who_text}
+use Rattle.history_query.specs.Telling.{IsTold, IsTracked, who_text}
 
 -- `M UID WHO`
 abbrev pub version_text : List LogEvent → Version → List ℕ
@@ -28,10 +28,6 @@ removal_behind removals v = find (λ removal. removal.last == v.revision) remova
 
 abbrev pub lines_of : Known → Version → List ℕ
 lines_of known v = version_text known.log v ++ removal_text known.log (removal_behind known.removals v)
-
--- the key's versions, which come by revision
-abbrev pub versions_of : Known → ObjectKey → List Version
-versions_of known key = filter (λ v. same_key v.key key) known.versions
 
 abbrev pub versions_text : Known → ObjectKey → List ℕ
 versions_text known key = flat_map (lines_of known) (versions_of known key)

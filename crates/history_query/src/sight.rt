@@ -1,9 +1,9 @@
-ghost use Rattle.std.specs.Prelude.{◌≡◌, ◌<◌, ◌≤◌, ◌↔◌, All, IfNone, IfSome, IsSomeAnd, IsTrue, option_map, slice_get};
+ghost use Rattle.std.specs.Prelude.{◌≡◌, ◌<◌, ◌≤◌, ◌↔◌, All, IfNone, IfSome, IsSomeAnd, IsTrue, option_map};
 ghost use Rattle.history_query.specs.Sights.{IsSight};
 ghost use Rattle.history_query.specs.Versions.{removal_behind};
 
 use base_types::ObjectKey;
-use object_past::{Past, Removal, Version};
+use object_past::{Past, Removal, Version, removal_at};
 use version_store::Context;
 
 /// What can be told of an object at a place.
@@ -39,12 +39,6 @@ pub fn sight_of<'a>(context: &'a Context, key: &ObjectKey, place: u64) -> Sight<
             absent: true,
         },
     }
-}
-
-fn removal_at(removals: &[Removal], position: u32) -> Option<&Removal>
-    ensures { option_map (λ removal. removal.now) result ≡ slice_get removals.now position }
-{
-    removals.get(position as usize)
 }
 
 /// The removal of the object whose last version this is.

@@ -1,6 +1,6 @@
 ghost use Rattle.std.specs.Prelude.{◌≡◌, ◌<◌, ◌↔◌, ◌++◌, IsTrue, OnOk, slice_get, string_bytes};
-ghost use Rattle.history_query.specs.Telling.{IsBelowStart, IsTracked, IsUntold, line_at, user_or_none, user_text};
-ghost use Rattle.history_query.specs.Telling.{who_text};
+ghost use Rattle.history_query.specs.Telling.{IsBelowStart, IsTracked, IsUntold, user_or_none, user_text, who_text};
+ghost use Rattle.write_groups.specs.Lines.{line_at};
 
 use base_types::{ObjectKey, OutOfMemory, escape};
 use object_past::Maker;

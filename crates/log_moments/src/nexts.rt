@@ -3,8 +3,7 @@ ghost use Rattle.std.specs.BTreeMap.{Updates, get};
 ghost use Rattle.clouds.specs.Kept.{key_order};
 ghost use Rattle.log_moments.specs.Nexts.{AreNexts};
 
-use crate::standing::is_key;
-use base_types::{ObjectKey, OutOfMemory};
+use base_types::{ObjectKey, OutOfMemory, same_key};
 use object_past::Version;
 use std::alloc::Global;
 use std::collections::BTreeMap;
@@ -52,7 +51,7 @@ pub fn position_of(versions: &[Version], item: &Item) -> Option<usize>
     if version.revision.get() != revision {
         return None;
     }
-    if !is_key(&version.key, &item.key) {
+    if !same_key(&version.key, &item.key) {
         return None;
     }
     Some(upto - 1)

@@ -1,5 +1,4 @@
 ghost use Rattle.std.specs.Prelude.{◌≡◌, Bool};
-ghost use Rattle.base_types.specs.Keys.{same_key};
 ghost use Rattle.history_model.specs.Events.{Event, Made};
 ghost use Rattle.history_model.specs.Histories.{History};
 ghost use Rattle.history_model.specs.Words.{answer_word, is_by, word};
@@ -8,7 +7,7 @@ ghost use Rattle.object_past.specs.Modelled.{maker_of};
 ghost use Rattle.object_past.specs.Past.{HasPast};
 ghost use Rattle.write_groups.specs.Modelled.{event_of, item_of};
 
-use base_types::{ObjectKey, Revision};
+use base_types::{Revision, same_key};
 use object_past::{Maker, Past};
 use write_groups::{Item, Listing, LogEvent, Shown};
 
@@ -23,12 +22,6 @@ pub enum Standing<'a> {
     Lists(&'a Listing),
     /// Nothing does.
     Nowhere,
-}
-
-pub fn is_key(key: &ObjectKey, other: &ObjectKey) -> bool
-    ensures { result ≡ same_key key.now other.now }
-{
-    *key == *other
 }
 
 // Whether the event of this number is the maker.
@@ -56,7 +49,7 @@ fn write_standing<'a>(past: &Past, start: Revision, number: usize, item: &'a Ite
     let Some(version) = past.at(revision) else {
         return Standing::Shows(item);
     };
-    if !is_key(&version.key, &item.key) {
+    if !same_key(&version.key, &item.key) {
         return Standing::Nowhere;
     }
     if !is_maker(version.maker, number) {

@@ -15,6 +15,7 @@ use Rattle.std.proofs.lemmas.Map.Made.{AllPairs-from_IsDistinct}
 use Rattle.std.proofs.lemmas.Map.Views.{btree_map_get_iff}
 use Rattle.base_types.proofs.Quantifiers.{Any-contains}
 use Rattle.base_types.specs.declared.key.ObjectKey.{ObjectKey}
+use Rattle.base_types.proofs.Orderings.{nat_less, then_less, then_next}
 use Rattle.clouds.proofs.Adding.{key_order_total, same_key_from}
 use Rattle.clouds.specs.Kept.{key_order}
 use Rattle.history_model.proofs.JudgingLemmas.{numbers}
@@ -24,7 +25,6 @@ use Rattle.log_picture.specs.Tallied.{AreTallied, change_order, changed_as}
 use Rattle.log_picture.specs.declared.changed.Changed.{Changed}
 use Rattle.log_picture.specs.declared.tallies.Tally.{Tally}
 use Rattle.object_past.specs.declared.version.Version.{Version}
-use Rattle.write_groups.proofs.Judging.{nat_less, then_less, then_next}
 use Rattle.write_groups.proofs.Lists.{map_from, map_has, pairs_unmap}
 
 ranks : IsStrictWeakOrder (λ a b. is_lt (change_order a b))

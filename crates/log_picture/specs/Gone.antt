@@ -8,15 +8,8 @@ use Rattle.log_picture.specs.Limits.{removal_limit, rest_of, spread}
 use Rattle.log_picture.specs.declared.gone.TheConstants.{REMOVALS_HEAD, TABLE_END}
 use Rattle.markup.specs.Pieces.{fixed, number, told, shown}
 use Rattle.object_past.specs.declared.removal.Removal.{Removal}
+use Rattle.write_groups.specs.Lines.{line_at}
 use Rattle.write_groups.specs.declared.event.LogEvent.{LogEvent}
-
-abbrev pub line_or_zero : Option LogEvent → ℕ
-line_or_zero None = 0
-line_or_zero (Some event) = event.line
-
--- the line of the event of this number
-abbrev pub line_at : List LogEvent → ℕ → ℕ
-line_at log n = line_or_zero (slice_get log n)
 
 abbrev pub removed_at : PlacedAnswer → Option ℕ
 removed_at (Made revision) = None

@@ -1,5 +1,5 @@
 ghost use Rattle.std.specs.Prelude.{◌≡◌, ◌++◌, OnOk, flat_map, map, string_bytes};
-ghost use Rattle.log_picture.specs.Gone.{line_at, place_of, place_text, removal_row, removals_table, removals_text};
+ghost use Rattle.log_picture.specs.Gone.{place_of, place_text, removal_row, removals_table, removals_text};
 ghost use Rattle.log_picture.specs.Gone.{removed_at, removed_by, removed_text};
 
 use crate::limits::REMOVAL_LIMIT;
@@ -8,7 +8,7 @@ use base_types::{OutOfMemory, PlacedAnswer, PlacedLine, key_text};
 use markup::Told;
 use object_past::Removal;
 use std::alloc::Global;
-use write_groups::LogEvent;
+use write_groups::{LogEvent, line_at};
 
 /// What stands in front of the table's rows.
 pub const REMOVALS_HEAD: &str = r#"<h2>Removals</h2>
@@ -22,16 +22,6 @@ behind all revisions.</p>
 
 /// What stands behind a table's rows.
 pub const TABLE_END: &str = "</tbody>\n</table>\n";
-
-/// The line of the event of this number.
-pub fn line_at(log: &[LogEvent], number: u32) -> u64
-    ensures { result ≡ line_at log.now number }
-{
-    match log.get(number as usize) {
-        Some(event) => event.line,
-        None => 0,
-    }
-}
 
 fn removed_at(answer: PlacedAnswer) -> Option<u64>
     ensures { result ≡ removed_at answer }

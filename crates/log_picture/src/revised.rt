@@ -3,7 +3,6 @@ ghost use Rattle.log_picture.specs.Revised.{axis_text, bar_text, bar_width, gap_
 ghost use Rattle.log_picture.specs.Revised.{history_marks, history_text, is_written, left_out_text, range_text};
 ghost use Rattle.log_picture.specs.Revised.{rect_text, removal_mark, tick_text, version_mark, written_versions};
 
-use crate::gone::line_at;
 use crate::limits::{GAP_LIMIT, REMOVAL_LIMIT, VERSION_LIMIT};
 use crate::spreading::{append_rest, spread};
 use crate::tables::{append_gaps, append_versions};
@@ -11,7 +10,7 @@ use base_types::{OutOfMemory, Range, key_text};
 use markup::{Axis, Told};
 use object_past::{Maker, Removal, Version};
 use std::alloc::Global;
-use write_groups::LogEvent;
+use write_groups::{LogEvent, line_at};
 
 /// An unrecorded write.
 #[derive(Clone, Copy)]

@@ -3,7 +3,7 @@ ghost use Rattle.log_picture.specs.Lanes.{asked_cells, decision_words, event_row
 ghost use Rattle.log_picture.specs.Revised.{gap_row, gaps_table, maker_text, version_cells, version_row};
 ghost use Rattle.log_picture.specs.Revised.{versions_table};
 
-use crate::gone::{TABLE_END, line_at};
+use crate::gone::TABLE_END;
 use crate::kind::{kind_of, kind_words};
 use crate::lanes::Marked;
 use crate::limits::{GAP_LIMIT, VERSION_LIMIT};
@@ -14,7 +14,7 @@ use base_types::{Decision, OutOfMemory, key_text};
 use markup::{Told, push_moment};
 use object_past::{Maker, Version};
 use std::alloc::Global;
-use write_groups::LogEvent;
+use write_groups::{LogEvent, line_at};
 
 /// What stands in front of the rows of the versions.
 pub const VERSIONS_HEAD: &str = r#"<h3>Versions behind the start</h3>

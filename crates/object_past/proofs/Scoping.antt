@@ -43,10 +43,10 @@ scope_key group resource namespace = record { group = group; resource = resource
 scope_is : (group resource namespace : List ℕ) (key : ObjectKey) → scope_order group resource namespace key ≡ front_order namespace key (scope_key group resource namespace)
 scope_is group resource namespace key = ap (λ o. ordering_then (text_order key.group group) (ordering_then (text_order key.resource resource) o)) (same_order namespace key.namespace)
 
-then_less : (o p q : Ordering) → ordering_then o p ≡ Less → (p ≡ Less → is_gt q ≡ false) → is_gt (ordering_then o q) ≡ false
-then_less Less p q is rest = refl
-then_less Equal p q is rest = rest is
-then_less Greater p q is rest = absurd (cc is)
+then_not_greater : (o p q : Ordering) → ordering_then o p ≡ Less → (p ≡ Less → is_gt q ≡ false) → is_gt (ordering_then o q) ≡ false
+then_not_greater Less p q is rest = refl
+then_not_greater Equal p q is rest = rest is
+then_not_greater Greater p q is rest = absurd (cc is)
 
 coarser : (namespace a b name_a name_b : List ℕ) → ordering_then (text_order a b) (text_order name_a name_b) ≡ Less → is_gt (within_order namespace a b) ≡ false
 coarser [] a b name_a name_b is = refl
@@ -60,8 +60,8 @@ coarser (byte ∷ bytes) a b name_a name_b is = go (text_order a b) is
 -- a key in front of another isn't behind it in the scope's order
 not_behind : (namespace : List ℕ) (a b : ObjectKey) → key_order a b ≡ Less → is_gt (front_order namespace a b) ≡ false
 not_behind namespace a b less =
-    then_less (text_order a.group b.group) _ (ordering_then (text_order a.resource b.resource) (within_order namespace a.namespace b.namespace)) less
-    (λ by_resource. then_less (text_order a.resource b.resource) _ (within_order namespace a.namespace b.namespace) by_resource
+    then_not_greater (text_order a.group b.group) _ (ordering_then (text_order a.resource b.resource) (within_order namespace a.namespace b.namespace)) less
+    (λ by_resource. then_not_greater (text_order a.resource b.resource) _ (within_order namespace a.namespace b.namespace) by_resource
     (λ by_namespace. coarser namespace a.namespace b.namespace a.name b.name by_namespace))
 
 turned : (namespace : List ℕ) (a b : ObjectKey) (o p : Ordering) → front_order namespace a b ≡ o → ordering_reverse o ≡ p → front_order namespace b a ≡ p

@@ -13,5 +13,5 @@ mod version;
 
 pub use incarnation::Incarnation;
 pub use past::Past;
-pub use removal::{Removal, Removals};
+pub use removal::{Removal, Removals, removal_at};
 pub use version::{Maker, Version, Versions};

@@ -11,7 +11,7 @@ use Rattle.page_chains.specs.declared.page.Asked.{Asked}
 use Rattle.page_chains.specs.declared.page.Asked.TheVariants.{First, Next, Unclear}
 use Rattle.page_chains.specs.declared.page.Page.{Page}
 use Rattle.page_chains.specs.declared.page.PageKey.{PageKey}
-use Rattle.page_chains.specs.Chains.{key_with, same_key, is_asked_by, asks, comes_before, sooner, earliest}
+use Rattle.page_chains.specs.Chains.{key_with, same_page_key, is_asked_by, asks, comes_before, sooner, earliest}
 use Rattle.page_chains.specs.Finding.{Places, key_asked, asked_key, known, FindsFirst}
 use Rattle.page_chains.proofs.KeyLemmas.{same, same_means}
 
@@ -37,7 +37,7 @@ earliest_more p pages place page lt is =
 
 abbrev pub is_key : Option PageKey → PageKey → Bool
 is_key None q = false
-is_key (Some key) q = same_key key q
+is_key (Some key) q = same_page_key key q
 
 asks_by : (q : PageKey) (page : Page) (asked : Asked) → is_asked_by q page asked ≡ is_key (key_asked page asked) q
 asks_by q page First = refl
@@ -66,9 +66,9 @@ module _ (pages : List Page) (place : ℕ) (page : Page) (lt : place < length pa
   -- a page that isn't the first
   pub later : (places : Places) (key : PageKey) → Some key ≡ asked_key page → option_map_or (comes_before page) (known same pages places key) true ≡ false
       → FindsFirst same pages (take place pages) places → FindsFirst same pages (take (place + 1) pages) places
-  later places key asked loser before q = by_key (same_key key q) refl ∙ sym (after_key (Some key) (sym asked) q)
+  later places key asked loser before q = by_key (same_page_key key q) refl ∙ sym (after_key (Some key) (sym asked) q)
     where
-      by_key : (b : Bool) → same_key key q ≡ b → known same pages places q ≡ cond b (sooner (earliest (filter (asks q) (take place pages))) page) (earliest (filter (asks q) (take place pages)))
+      by_key : (b : Bool) → same_page_key key q ≡ b → known same pages places q ≡ cond b (sooner (earliest (filter (asks q) (take place pages))) page) (earliest (filter (asks q) (take place pages)))
       by_key true e =
           let found = subst (λ k. option_map_or (comes_before page) (known same pages places k) true ≡ false) (same_means key q e) loser in
           sym (loses (known same pages places q) page found) ∙ ap (λ o. sooner o page) (before q)
@@ -78,9 +78,9 @@ module _ (pages : List Page) (place : ℕ) (page : Page) (lt : place < length pa
   pub first : (places after : Places) (key : PageKey) → Some key ≡ asked_key page → option_map_or (comes_before page) (known same pages places key) true ≡ true
       → ((q : PageKey) → get same after q ≡ cond (same key q) (Some place) (get same places q))
       → FindsFirst same pages (take place pages) places → FindsFirst same pages (take (place + 1) pages) after
-  first places after key asked winner put before q = ap (option_and_then (slice_get pages)) (put q) ∙ by_key (same_key key q) refl ∙ sym (after_key (Some key) (sym asked) q)
+  first places after key asked winner put before q = ap (option_and_then (slice_get pages)) (put q) ∙ by_key (same_page_key key q) refl ∙ sym (after_key (Some key) (sym asked) q)
     where
-      by_key : (b : Bool) → same_key key q ≡ b
+      by_key : (b : Bool) → same_page_key key q ≡ b
           → option_and_then (slice_get pages) (cond b (Some place) (get same places q)) ≡ cond b (sooner (earliest (filter (asks q) (take place pages))) page) (earliest (filter (asks q) (take place pages)))
       by_key true e =
           let found = subst (λ k. option_map_or (comes_before page) (known same pages places k) true ≡ true) (same_means key q e) winner in

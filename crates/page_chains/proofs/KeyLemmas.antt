@@ -5,16 +5,16 @@ use Rattle.std.proofs.lemmas.Bool.{and_parts, eqb-true}
 use Rattle.std.proofs.lemmas.Slice.Eq.{bytes_eq-Decides}
 use Rattle.page_chains.specs.declared.page.PageKey.{PageKey}
 use Rattle.page_chains.specs.contracts.page.PageKeyPartialEq.TheImpl as by_parts
-use Rattle.page_chains.specs.Chains.{same_key}
+use Rattle.page_chains.specs.Chains.{same_page_key}
 
 -- the one that the code computes
 abbrev pub same : PageKey → PageKey → Bool
 same = (by_parts.ghosts).eq
 
-pub same_is : (a b : PageKey) → same a b ≡ same_key a b
+pub same_is : (a b : PageKey) → same a b ≡ same_page_key a b
 same_is a b = refl
 
-pub same_means : (a b : PageKey) → same_key a b ≡ true → a ≡ b
+pub same_means : (a b : PageKey) → same_page_key a b ≡ true → a ≡ b
 same_means a b e =
     let one = and_parts (bytes_eq a.group b.group) _ e in
     let two = and_parts (bytes_eq a.resource b.resource) _ one.1 in

@@ -15,14 +15,14 @@ use Rattle.page_chains.specs.Pages.{is_first, pages_of}
 abbrev pub key_with : Page → List ℕ → PageKey
 key_with page token = record { group = page.group; resource = page.resource; namespace = page.namespace; revision = page.revision; token = token }
 
-abbrev pub same_key : PageKey → PageKey → Bool
-same_key a b =
+abbrev pub same_page_key : PageKey → PageKey → Bool
+same_page_key a b =
     bytes_eq a.group b.group && (bytes_eq a.resource b.resource && (bytes_eq a.namespace b.namespace && ((a.revision == b.revision) && bytes_eq a.token b.token)))
 
 -- the page was asked for by this token, for a list of this resource at this revision
 abbrev pub is_asked_by : PageKey → Page → Asked → Bool
 is_asked_by key page First = false
-is_asked_by key page (Next token) = same_key (key_with page token) key
+is_asked_by key page (Next token) = same_page_key (key_with page token) key
 is_asked_by key page Unclear = false
 
 abbrev pub asks : PageKey → Page → Bool

@@ -2,7 +2,7 @@
 use Rattle.std.proofs.Common.{ℕ, ◌<◌, ◌≤◌, ⊎_elim, inl, inr, Option, Some, None, arith}
 use Rattle.std.specs.Option.{IfNone, IfSome}
 use Rattle.std.proofs.lemmas.Bool.{cases_lt}
-use Rattle.base_types.specs.PlaceOrder.{ComesFirst}
+use Rattle.base_types.specs.PlaceOrder.{AreLeastPlaces, ComesFirst}
 use Rattle.base_types.specs.declared.placed.Places.{Places}
 use Rattle.base_types.specs.declared.request.Decision.{Decision}
 use Rattle.base_types.specs.declared.request.Decision.TheVariants.{Allow, Forbid}
@@ -11,7 +11,7 @@ use Rattle.base_types.specs.declared.request.User.{User}
 use Rattle.rbac_timeline.specs.declared.way.Way.{Way}
 use Rattle.rbac_timeline.specs.declared.way.Way.TheVariants.{ClusterBindings, ClusterRoles, Roles}
 use Rattle.rbac_timeline.specs.Choices.{IsBypassed}
-use Rattle.rbac_timeline.specs.Decisions.{AreLeastPlaces, IsDecidedAt, IsPossible}
+use Rattle.rbac_timeline.specs.Decisions.{IsDecidedAt, IsPossible}
 use Rattle.rbac_timeline.specs.Known.{Known}
 use Rattle.rbac_timeline.specs.Searched.{AreFirstOf, IsFreeAt, MayGrantAt, all_at}
 use Rattle.rbac_timeline.specs.Sound.{AreSound}
@@ -89,7 +89,7 @@ module _ (known : Known) (sound : AreSound known.versions known.ends) (who : Use
   AreFirstOf-forbidden low high places first = AreFirstOf-same (IsFreeAt known who attrs) (λ p. IsPossible known p who attrs Forbid) low high places forbid_at free_at first
 
 pub IfSome-least : (known : Known) (low high : ℕ) (who : User) (attrs : RequestAttrs) (decision : Decision) (places : Option Places) → AreFirstOf (λ p. IsPossible known p who attrs decision) low high places
-    → IfSome places (AreLeastPlaces known low high who attrs decision)
+    → IfSome places (AreLeastPlaces (IsDecidedAt known low high who attrs decision))
 IfSome-least known low high who attrs decision None none = tt
 IfSome-least known low high who attrs decision (Some places) first = record {
   decided = record { within = first.within; possible = first.here };

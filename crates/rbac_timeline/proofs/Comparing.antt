@@ -4,7 +4,7 @@ use Rattle.std.proofs.lemmas.Bool.{and_parts, cases_Bool, cases_lt, cond-false, 
 use Rattle.std.proofs.lemmas.Bool.Decides.{Decides-eqb}
 use Rattle.base_types.specs.PlaceOrder.{ComesFirst, IsUpTo}
 use Rattle.base_types.specs.declared.placed.Places.{Places}
-use Rattle.rbac_timeline.specs.Searched.{AreFirstOf, AreLeastOf, earlier_of, is_upto, lesser_number}
+use Rattle.rbac_timeline.specs.Searched.{AreFirstOf, AreLeastOf, lesser_places, is_upto, lesser_number}
 
 pub first_by_test : (a b : ℕ) (rest : Bool) → lesser_number a b rest ≡ true → ComesFirst a b (rest ≡ true)
 first_by_test a b rest passed = ⊎_elim
@@ -78,19 +78,19 @@ module _ (P Q : Places → Type 0) (low high : ℕ) where
     least = λ other within holds. ⊎_elim (λ p. upto_trans b a other upto (first.least other within p)) (λ q. second.least other within q) holds;
   }
 
-  pub AreFirstOf-earlier : (a b : Option Places) → AreFirstOf P low high a → AreFirstOf Q low high b → AreFirstOf OneOf low high (earlier_of a b)
-  AreFirstOf-earlier None None no_p no_q = λ places within holds. ⊎_elim (no_p places within) (no_q places within) holds
-  AreFirstOf-earlier None (Some b) no_p second = record {
+  pub AreFirstOf-lesser_places : (a b : Option Places) → AreFirstOf P low high a → AreFirstOf Q low high b → AreFirstOf OneOf low high (lesser_places a b)
+  AreFirstOf-lesser_places None None no_p no_q = λ places within holds. ⊎_elim (no_p places within) (no_q places within) holds
+  AreFirstOf-lesser_places None (Some b) no_p second = record {
     within = second.within;
     here = inr second.here;
     least = λ other within holds. ⊎_elim (λ p. absurd (no_p other within p)) (λ q. second.least other within q) holds;
   }
-  AreFirstOf-earlier (Some a) None first no_q = record {
+  AreFirstOf-lesser_places (Some a) None first no_q = record {
     within = first.within;
     here = inl first.here;
     least = λ other within holds. ⊎_elim (λ p. first.least other within p) (λ q. absurd (no_q other within q)) holds;
   }
-  AreFirstOf-earlier (Some a) (Some b) first second = ⊎_elim
+  AreFirstOf-lesser_places (Some a) (Some b) first second = ⊎_elim
       (λ yes. subst (λ o. AreFirstOf OneOf low high o) (sym (cond-true (is_upto a b) (Some a) (Some b) yes)) (left_first a b first second (upto_from_test a b yes)))
       (λ no. subst (λ o. AreFirstOf OneOf low high o) (sym (cond-false (is_upto a b) (Some a) (Some b) no)) (right_first a b first second (upto_from_not a b no)))
       (cases_Bool (is_upto a b))

@@ -9,7 +9,7 @@ use Rattle.base_types.specs.declared.key.Cover.{Cover}
 use Rattle.base_types.specs.declared.key.CoverName.{CoverName}
 use Rattle.base_types.specs.declared.key.CoverName.TheVariants.{Exact, Prefix, Any as AnyName}
 use Rattle.base_types.specs.declared.key.ObjectKey.{ObjectKey}
-use Rattle.clouds.proofs.Adding.{same_key}
+use Rattle.base_types.proofs.KeyLemmas.{key_from_parts}
 use Rattle.clouds.proofs.Quantified.{Any-cons_cases}
 use Rattle.clouds.specs.Clouds.{IsClouded, IsHiddenBy}
 use Rattle.clouds.specs.Writes.{Writes}
@@ -55,7 +55,7 @@ decide_key a b = ⊎_elim
     (λ group. ⊎_elim
     (λ resource. ⊎_elim
     (λ namespace. ⊎_elim
-    (λ name. inl (same_key a b group resource namespace name))
+    (λ name. inl (key_from_parts a b group resource namespace name))
     (λ not. inr (λ e. not (ap (λ (k : ObjectKey). k.name) e)))
     (decide_text a.name b.name))
     (λ not. inr (λ e. not (ap (λ (k : ObjectKey). k.namespace) e)))

@@ -11,12 +11,12 @@ use Rattle.base_types.specs.declared.key.Cover.{Cover}
 use Rattle.base_types.specs.declared.key.CoverName.{CoverName}
 use Rattle.base_types.specs.declared.key.CoverName.TheVariants.{Any as AnyName, Exact, Prefix}
 use Rattle.base_types.specs.declared.key.ObjectKey.{ObjectKey}
+use Rattle.base_types.proofs.KeyLemmas.{key_from_parts}
 use Rattle.clouds.specs.FirstPlace.{HoldsNowhere, IsLeastPlace}
 use Rattle.clouds.specs.Items.{AddsAt, items_at}
 use Rattle.clouds.specs.Kept.{text_order}
 use Rattle.clouds.specs.Writes.{Writes}
 use Rattle.clouds.specs.declared.span.OpaqueSpan.{OpaqueSpan}
-use Rattle.clouds.proofs.Adding.{same_key}
 use Rattle.rbac_timeline.specs.declared.kind.Kind.TheVariants.{ClusterRoleBinding, RoleBinding}
 use Rattle.rbac_timeline.specs.declared.unsure.Unsure.{Unsure}
 use Rattle.rbac_timeline.specs.declared.version.RbacVersion.{RbacVersion}
@@ -109,7 +109,7 @@ name_of AnyName = []
 -- a cover names one key
 pub one_named : (cover : Cover) (a b : ObjectKey) → NamesExactly cover a → NamesExactly cover b → b ≡ a
 unfolding name_of
-one_named cover a b names_a names_b = same_key b a
+one_named cover a b names_a names_b = key_from_parts b a
     (names_b.group ∙ sym names_a.group)
     (names_b.resource ∙ sym names_a.resource)
     (same_namespace cover.namespace b.namespace a.namespace names_b.namespace names_a.namespace)

@@ -9,18 +9,18 @@ use Rattle.base_types.specs.declared.key.Cover.{Cover}
 use Rattle.base_types.specs.declared.key.CoverName.{CoverName}
 use Rattle.base_types.specs.declared.key.CoverName.TheVariants.{Any as AnyName, Exact, Prefix}
 use Rattle.base_types.specs.declared.key.ObjectKey.{ObjectKey}
-use Rattle.clouds.proofs.Adding.{same_key as one_key}
 use Rattle.clouds.specs.Clouds.{IsClouded, IsHiddenBy}
 use Rattle.clouds.specs.Writes.{Writes}
 use Rattle.clouds.specs.declared.span.KeyRevision.{KeyRevision}
 use Rattle.clouds.specs.declared.span.OpaqueSpan.{OpaqueSpan}
 use Rattle.base_types.specs.Keys.{same_key}
+use Rattle.base_types.proofs.KeyLemmas.{key_from_parts}
 use Rattle.rbac_timeline.specs.Hidden.{covers, is_clouded, is_hidden_by, is_unseen, takes_name, takes_namespace}
 use Rattle.rbac_timeline.proofs.Telling.{Decides-all, Decides-any, Decides-implies}
 
 pub same_key-Decides : (a b : ObjectKey) → Decides (same_key a b) (a ≡ b)
 same_key-Decides a b = Decides-like (same_key a b)
-    (λ parts. one_key a b parts.0 parts.1.0 parts.1.1.0 parts.1.1.1)
+    (λ parts. key_from_parts a b parts.0 parts.1.0 parts.1.1.0 parts.1.1.1)
     (λ is. (ap (λ (k : ObjectKey). k.group) is, (ap (λ (k : ObjectKey). k.resource) is, (ap (λ (k : ObjectKey). k.namespace) is, ap (λ (k : ObjectKey). k.name) is))))
     (Decides-and (bytes_eq a.group b.group) _ (bytes_eq-Decides a.group b.group)
     (Decides-and (bytes_eq a.resource b.resource) _ (bytes_eq-Decides a.resource b.resource)
@@ -37,7 +37,7 @@ pub takes_namespace-Decides : (namespace : Option (List ℕ)) (text : List ℕ) 
 takes_namespace-Decides None text = ((λ yes. tt), (λ any. refl))
 takes_namespace-Decides (Some given) text = bytes_eq-Decides text given
 
-covers-Decides : (cover : Cover) (key : ObjectKey) → Decides (covers cover key) (Covers cover key)
+pub covers-Decides : (cover : Cover) (key : ObjectKey) → Decides (covers cover key) (Covers cover key)
 covers-Decides cover key = Decides-like (covers cover key)
     (λ parts. record { group = parts.0; resource = parts.1.0; namespace = parts.1.1.0; name = parts.1.1.1 })
     (λ (parts : Covers cover key). (parts.group, (parts.resource, (parts.namespace, parts.name))))

@@ -7,7 +7,7 @@ use Rattle.std.specs.Option.{IfNone, IfSome}
 use Rattle.base_types.proofs.Quantifiers.{Any-head}
 use Rattle.clouds.proofs.FirstPlaces.{IsFirstPlace-either, IsFirstPlace-same}
 use Rattle.clouds.proofs.Quantified.{Any-append_cases, Any-append_left, Any-append_right, Any-cons_cases}
-use Rattle.clouds.specs.FirstPlace.{HoldsNowhere, IsFirstPlace, IsLeastPlace, earlier_of}
+use Rattle.clouds.specs.FirstPlace.{HoldsNowhere, IsFirstPlace, IsLeastPlace, lesser_place}
 use Rattle.rbac_timeline.specs.Pairs.{earlier_pair, pair_with}
 use Rattle.rbac_timeline.specs.Searched.{IsFirstPair, IsLeastPair, IsPairUpTo, lesser_number}
 use Rattle.rbac_timeline.proofs.Comparing.{at_most, back_by_test, below_from_not, first_by_test, first_trans, first_weaker}
@@ -54,9 +54,9 @@ IsFirstPlace-low P low high range holds = record { from_low = omega arith; upto_
 -- one item more among those that give places
 pub IsFirstPlace-more : {X : Type 0} (S : ℕ → Type 0) (F : X → ℕ → Type 0) (low high : ℕ) (xs : List X) (i : ℕ) (x : X) (best found : Option ℕ) → i < length xs → x ≡ get_or xs i x
     → IsFirstPlace (λ n. S n ⊎ Any (λ y. F y n) (take i xs)) low high best → IsFirstPlace (F x) low high found
-    → IsFirstPlace (λ n. S n ⊎ Any (λ y. F y n) (take (i + 1) xs)) low high (earlier_of best found)
+    → IsFirstPlace (λ n. S n ⊎ Any (λ y. F y n) (take (i + 1) xs)) low high (lesser_place best found)
 IsFirstPlace-more S F low high xs i x best found within is first new =
-    IsFirstPlace-same _ _ low high (earlier_of best found)
+    IsFirstPlace-same _ _ low high (lesser_place best found)
     (λ n either. ⊎_elim
     (λ before. ⊎_elim (λ start. inl start) (λ any. inr (any_more (λ y. F y n) xs i x within is (inl any))) before)
     (λ here. inr (any_more (λ y. F y n) xs i x within is (inr here)))

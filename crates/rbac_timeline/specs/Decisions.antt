@@ -1,7 +1,6 @@
 -- An authoriser keeps roles, cluster roles, role bindings and cluster role bindings in four caches, and each may be
 -- behind by itself.
 use Rattle.std.specs.Prelude.{◌≤◌, ℕ}
-use Rattle.base_types.specs.PlaceOrder.{IsUpTo}
 use Rattle.base_types.specs.declared.placed.Places.{Places}
 use Rattle.base_types.specs.declared.request.Decision.{Decision}
 use Rattle.base_types.specs.declared.request.Decision.TheVariants.{Allow, Forbid}
@@ -33,7 +32,3 @@ pub record AreWithin (low high : ℕ) (places : Places) : Type 0 where
 pub record IsDecidedAt (known : Known) (low high : ℕ) (who : User) (attrs : RequestAttrs) (decision : Decision) (places : Places) : Type 0 where
   pub within : AreWithin low high places
   pub possible : IsPossible known places who attrs decision
-
-pub record AreLeastPlaces (known : Known) (low high : ℕ) (who : User) (attrs : RequestAttrs) (decision : Decision) (places : Places) : Type 0 where
-  pub decided : IsDecidedAt known low high who attrs decision places
-  pub least : (other : Places) → IsDecidedAt known low high who attrs decision other → IsUpTo places other

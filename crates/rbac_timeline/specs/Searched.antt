@@ -92,10 +92,10 @@ abbrev pub is_upto : Places → Places → Bool
 is_upto a b = lesser_number a.roles b.roles (lesser_number a.cluster_roles b.cluster_roles (lesser_number a.bindings b.bindings (nat_le a.cluster_bindings b.cluster_bindings)))
 
 -- the lesser of two, where there are any
-abbrev pub earlier_of : Option Places → Option Places → Option Places
-earlier_of None b = b
-earlier_of (Some a) None = Some a
-earlier_of (Some a) (Some b) = if is_upto a b then Some a else Some b
+abbrev pub lesser_places : Option Places → Option Places → Option Places
+lesser_places None b = b
+lesser_places (Some a) None = Some a
+lesser_places (Some a) (Some b) = if is_upto a b then Some a else Some b
 
 -- two places among the others
 abbrev pub with_roles : Option (ℕ × ℕ) → Places → Option Places

@@ -7,7 +7,7 @@ ghost use Rattle.rbac_timeline.specs.Nameless.{AreLows, is_below, lesser_of, may
 
 use crate::kind::{Kind, is_kind, kind_of};
 use base_types::{Cover, CoverName, OutOfMemory, RequestAttrs, Text};
-use clouds::{OpaqueSpan, earlier};
+use clouds::{OpaqueSpan, lesser_place};
 use std::alloc::Global;
 use std::collections::BTreeMap;
 
@@ -133,7 +133,7 @@ impl Nameless {
                     return None;
                 }
                 let in_namespace = self.by_namespace.get(&attrs.namespace).copied();
-                earlier(self.anywhere, in_namespace)
+                lesser_place(self.anywhere, in_namespace)
             }
             _ => None,
         }

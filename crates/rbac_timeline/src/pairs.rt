@@ -13,7 +13,7 @@ use crate::search::Asked;
 use crate::timeline::names;
 use crate::way::Way;
 use base_types::{ObjectKey, Text};
-use clouds::earlier;
+use clouds::lesser_place;
 
 // The place, so that proofs know its range.
 fn in_range(place: u64) -> u64
@@ -44,9 +44,9 @@ impl<'a> Asked<'a> {
             self.now.low self.now.high result }
     {
         let clouded = self.timeline.first_clouded(role, self.low, self.high);
-        let mut first = earlier(self.role_at(role, self.low), clouded);
+        let mut first = lesser_place(self.role_at(role, self.low), clouded);
         for stored in self.timeline.versions_between(role, self.low, self.high) {
-            first = earlier(first, self.role_at(role, stored.revision));
+            first = lesser_place(first, self.role_at(role, stored.revision));
         }
         first
     }

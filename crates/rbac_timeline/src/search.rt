@@ -5,7 +5,7 @@ ghost use Rattle.rbac_timeline.specs.Extents.{MustGrantInWay};
 ghost use Rattle.rbac_timeline.specs.Lasting.{HoldsUntil, IsBlock, IsLast, LastsUntil};
 ghost use Rattle.rbac_timeline.specs.Searched.{AreFirstOf, AreLeastOf, FreeFrom, FreeWith, IsFreeAt, IsFreeCluster};
 ghost use Rattle.rbac_timeline.specs.Searched.{IsFreePlain, MayGrantAt, MayGrantBy, NoneFreeFrom, NoneFreeWith};
-ghost use Rattle.rbac_timeline.specs.Searched.{all_at, earlier_of, with_cluster_bindings, with_cluster_roles};
+ghost use Rattle.rbac_timeline.specs.Searched.{all_at, lesser_places, with_cluster_bindings, with_cluster_roles};
 ghost use Rattle.rbac_timeline.specs.Searched.{with_roles};
 
 use crate::lasting::{Block, Until};
@@ -24,8 +24,8 @@ pub struct Asked<'a> {
 }
 
 // The lesser of two, where there are any.
-fn earlier(a: Option<Places>, b: Option<Places>) -> Option<Places>
-    ensures { result ≡ earlier_of a b }
+fn lesser_places(a: Option<Places>, b: Option<Places>) -> Option<Places>
+    ensures { result ≡ lesser_places a b }
 {
     match (a, b) {
         (Some(a), Some(b)) => Some(if a <= b { a } else { b }),
@@ -97,7 +97,7 @@ impl<'a> Asked<'a> {
             self.first_pair(Way::ClusterBindings),
             lowest,
         );
-        earlier(by_roles, earlier(by_cluster_roles, by_cluster_bindings))
+        lesser_places(by_roles, lesser_places(by_cluster_roles, by_cluster_bindings))
     }
 
     // The least place of the cluster role bindings at which they don't grant for certain, or up to which place

@@ -159,7 +159,8 @@ impl Timeline {
     ghost use Rattle.base_types.specs.declared.request.User.{User};
     ghost use Rattle.rbac_timeline.specs.Kinds.{IsKeyOf, IsReached};
     ghost use Rattle.rbac_timeline.specs.Unsure.{last_place};
-    ghost use Rattle.rbac_timeline.specs.Decisions.{AreLeastPlaces, IsDecidedAt, IsPossible};
+    ghost use Rattle.base_types.specs.PlaceOrder.{AreLeastPlaces};
+    ghost use Rattle.rbac_timeline.specs.Decisions.{IsDecidedAt, IsPossible};
     ghost use Rattle.rbac_timeline.specs.Index.{AreBindingsOf};
     ghost use Rattle.rbac_timeline.specs.Sound.{AreSound};
     ghost use Rattle.rbac_timeline.specs.declared.version.RbacVersion.{RbacVersion};
@@ -705,7 +706,7 @@ impl Timeline {
         attrs: &RequestAttrs,
         wanted: Decision,
     ) -> Option<Places>
-        ensures some { IfSome result (AreLeastPlaces self.now low high who.now attrs.now wanted) }
+        ensures some { IfSome result (AreLeastPlaces (IsDecidedAt self.now low high who.now attrs.now wanted)) }
         ensures none { IfNone result ((places : Places)
             → ¬ (IsDecidedAt self.now low high who.now attrs.now wanted places)) }
     {

@@ -5,7 +5,7 @@ use Rattle.std.specs.List.Sorted.{IsPermutation, IsSortedByKey}
 use Rattle.std.specs.Ordering.{ordering_then, is_lt, bool_cmp, nat_cmp}
 use Rattle.std.specs.declared.cmp.Ordering.{Ordering}
 use Rattle.std.specs.declared.cmp.Ordering.TheVariants.{Less, Equal}
-use Rattle.std.proofs.lemmas.Bool.Decides.{Decides-and, Decides-eqb, Decides-like, nat_tests}
+use Rattle.std.proofs.lemmas.Bool.Decides.{Decides-and, Decides-eqb, Decides-like}
 use Rattle.std.proofs.lemmas.Cmp.{on_total, then_total}
 use Rattle.std.proofs.lemmas.List.Elements.{Contains-get_or}
 use Rattle.std.proofs.lemmas.List.Sorted.{Contains-permutation, IsPermutation-map, IsPermutation-sym, ranks_by, sorted_far}
@@ -13,6 +13,7 @@ use Rattle.std.proofs.lemmas.Map.Keys.{IsDistinct-IsPermutation}
 use Rattle.std.proofs.lemmas.Map.Made.{AllPairs-from_IsDistinct, IsDistinct-from_AllPairs}
 use Rattle.base_types.specs.Placements.{RisesByLine}
 use Rattle.base_types.specs.declared.placed.PlacedLine.{PlacedLine}
+use Rattle.base_types.proofs.Orderings.{nat_equal, nat_less, then_less, then_next}
 use Rattle.history_model.proofs.Members.{not_in_none, here, there, in_cons, all_at, all_from, pairs_head, pairs_tail}
 use Rattle.history_model.proofs.StepsOf.{steps_of}
 use Rattle.history_model.specs.Checking.{IsFitting}
@@ -21,17 +22,13 @@ use Rattle.history_model.specs.Machine.{Step, Put, Remove, Reply, step_place, st
 use Rattle.history_model.specs.Placed.{placement_of}
 use Rattle.history_model.specs.Readable.{IsReadable}
 use Rattle.history_model.specs.Runs.{Placement, IsStep, AreSteps}
-use Rattle.write_groups.proofs.Judging.{nat_less, then_less, then_next}
 use Rattle.write_groups.proofs.Lists.{map_from, map_has, pairs_map, pairs_unmap}
 use Rattle.serial_machine.proofs.Placing.{placed_steps, steps_apart, steps_sound, steps_full}
 use Rattle.serial_machine.specs.Ordered.{is_answer, turn_of, turn_cmp, row_step, IsInTurn, AreRowsOf, AreRows}
 use Rattle.serial_machine.specs.declared.rows.Row.{Row}
 use Rattle.serial_machine.specs.declared.rows.Turn.{Turn}
 
--- an order says how two numbers, or tests, lie
-nat_equal : (a b : ℕ) → a ≡ b → nat_cmp a b ≡ Equal
-nat_equal a b e = grind (arith, nat_tests)
-
+-- an order says how two tests lie
 rank_less : (a b : Step) → step_rank a < step_rank b → bool_cmp (is_answer a) (is_answer b) ≡ Less
 rank_less (Put v) (Put w) l = absurd (omega (arith, l))
 rank_less (Put v) (Remove d) l = absurd (omega (arith, l))

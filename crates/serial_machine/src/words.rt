@@ -1,5 +1,4 @@
-ghost use Rattle.std.specs.Prelude.{◌≡◌, ◌<◌, ◌==◌, Bool, find, length, option_map, slice_get};
-ghost use Rattle.base_types.specs.Keys.{same_key};
+ghost use Rattle.std.specs.Prelude.{◌≡◌, ◌<◌, ◌==◌, Bool, find, length, option_map};
 ghost use Rattle.history_model.specs.Events.{Event, Made};
 ghost use Rattle.history_model.specs.Histories.{History, IsEvent};
 ghost use Rattle.history_model.specs.Readable.{IsReadable};
@@ -10,8 +9,8 @@ ghost use Rattle.serial_machine.specs.Words.{IsSaid, making};
 ghost use Rattle.version_store.specs.Histories.{history_of};
 ghost use Rattle.write_groups.specs.Modelled.{event_of, item_of};
 
-use base_types::{ObjectKey, Range, Revision};
-use object_past::{Maker, Past, Removal, Version};
+use base_types::{Range, Revision, same_key};
+use object_past::{Maker, Past, Removal, Version, removal_at};
 use version_store::Context;
 use write_groups::{Item, LogEvent, Shown};
 
@@ -27,12 +26,6 @@ pub enum Word {
     /// It was answered with a revision of another key.
     Strays,
     Nothing,
-}
-
-fn is_same(key: &ObjectKey, other: &ObjectKey) -> bool
-    ensures { result ≡ same_key key.now other.now }
-{
-    *key == *other
 }
 
 // Whether the event of this number made the version.
@@ -51,7 +44,7 @@ fn version_word(version: &Version, number: u32, item: &Item) -> Word
     ensures { (event : Event) (created : Bool)
         → IsSaid (write_word (making number event (item_of item.now) created) (Some (version_of version.now))) result }
 {
-    if !is_same(&version.key, &item.key) {
+    if !same_key(&version.key, &item.key) {
         return Word::Strays;
     }
     if !is_made_by(version.maker, number) {
@@ -73,12 +66,6 @@ fn made_word(past: &Past, start: Revision, number: u32, item: &Item) -> Word
         Some(version) => version_word(version, number, item),
         None => Word::At,
     }
-}
-
-fn removal_at(removals: &[Removal], position: u32) -> Option<&Removal>
-    ensures { option_map (λ removal. removal.now) result ≡ slice_get removals.now position }
-{
-    removals.get(position as usize)
 }
 
 /// The removal by the event of this number.

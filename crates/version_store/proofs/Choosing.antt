@@ -4,7 +4,7 @@ use Rattle.std.specs.Option.{IfNone, IfSome}
 use Rattle.std.proofs.lemmas.Bool.{cases_lt}
 use Rattle.std.proofs.lemmas.Option.{same_Some}
 use Rattle.audit_event.specs.declared.event.Event.{Event}
-use Rattle.base_types.specs.PlaceOrder.{IsUpTo, ComesFirst}
+use Rattle.base_types.specs.PlaceOrder.{AreLeastPlaces, IsUpTo, ComesFirst}
 use Rattle.base_types.specs.declared.placed.Places.{Places}
 use Rattle.base_types.specs.declared.request.Decision.{Decision}
 use Rattle.base_types.specs.declared.request.Decision.TheVariants.{Allow, Forbid}
@@ -13,12 +13,12 @@ use Rattle.base_types.specs.declared.request.RequestAttrs.{RequestAttrs}
 use Rattle.base_types.specs.declared.request.User.{User}
 use Rattle.rbac_timeline.proofs.Possible.{is_possible-Decides}
 use Rattle.rbac_timeline.specs.Deciding.{is_possible}
-use Rattle.rbac_timeline.specs.Decisions.{AreWithin, AreLeastPlaces, IsDecidedAt, IsPossible}
+use Rattle.rbac_timeline.specs.Decisions.{AreWithin, IsDecidedAt, IsPossible}
 use Rattle.rbac_timeline.specs.Known.{Known}
 use Rattle.rbac_timeline.specs.Searched.{all_at}
 use Rattle.rbac_timeline.specs.Sound.{AreSound}
 use Rattle.write_groups.specs.declared.event.LogEvent.{LogEvent}
-use Rattle.version_store.specs.Given.{AreLeastGiven, AreNoneGiven, IsGivenWithin, judged_in, says}
+use Rattle.version_store.specs.Given.{AreNoneGiven, IsGivenWithin, judged_in, says}
 use Rattle.version_store.specs.Histories.{decides_by, decides_test}
 use Rattle.version_store.specs.Judged.{judged_user}
 
@@ -56,9 +56,9 @@ lowest_first low other r c b d =
     (rising_or_same low other.bindings b (low ≤ other.cluster_bindings) d))
 
 -- where each place would do, the least is the first
-pub all_given : (decides : Places → Bool) (low high : ℕ) → ((places : Places) → decides places ≡ true) → low ≤ high → AreLeastGiven decides low high (all_at low)
+pub all_given : (decides : Places → Bool) (low high : ℕ) → ((places : Places) → decides places ≡ true) → low ≤ high → AreLeastPlaces (IsGivenWithin decides low high) (all_at low)
 all_given decides low high all upto = record {
-  given = record {
+  decided = record {
     within = record {
       roles_from = omega arith;
       roles_upto = upto;
@@ -78,8 +78,8 @@ pub none_given : (decides : Places → Bool) (low high : ℕ) → high < low →
 none_given decides low high over = λ places given. let from : low ≤ places.roles = given.within.roles_from in let upto : places.roles ≤ high = given.within.roles_upto in omega arith
 
 pub judged_given : (events : List Event) (log : List LogEvent) (rbac : Known) (number low high : ℕ) (event : Event) (decision : Decision) → AreSound rbac.versions rbac.ends
-    → Some (event, decision) ≡ judged_in events log number → (places : Places) → AreLeastPlaces rbac low high (judged_user event) event.attrs decision places
-    → AreLeastGiven (decides_test events log rbac number) low high places
+    → Some (event, decision) ≡ judged_in events log number → (places : Places) → AreLeastPlaces (IsDecidedAt rbac low high (judged_user event) event.attrs decision) places
+    → AreLeastPlaces (IsGivenWithin (decides_test events log rbac number) low high) places
 judged_given events log rbac number low high event decision sound at places least = record {
   given = record {
     within = least.decided.within;

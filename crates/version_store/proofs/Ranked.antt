@@ -15,12 +15,13 @@ use Rattle.clouds.proofs.Adding.{key_order_total, same_key_from}
 use Rattle.clouds.specs.Kept.{key_order}
 use Rattle.history_model.proofs.Members.{here, there, in_cons, not_in_none, all_at, all_from, at_apart, pairs_head, pairs_tail, pairs_cons, in_at, at_in}
 use Rattle.base_types.specs.Meaning.{Meaning}
+use Rattle.base_types.proofs.Orderings.{nat_less, then_less, then_next}
 use Rattle.object_past.specs.declared.version.Version.{Version}
 use Rattle.rbac_timeline.specs.Kinds.{kind_of_key}
 use Rattle.rbac_timeline.specs.Sound.{IsBefore}
 use Rattle.rbac_timeline.specs.declared.kind.Kind.{Kind}
 use Rattle.rbac_timeline.specs.declared.version.RbacVersion.{RbacVersion}
-use Rattle.write_groups.proofs.Judging.{apart_moved, nat_less, then_less, then_next}
+use Rattle.write_groups.proofs.Judging.{apart_moved}
 use Rattle.write_groups.proofs.Lists.{made_from, made_has, made_pairs}
 use Rattle.version_store.specs.Roles.{AreRoles, is_role, rbac_version, roles_at, turn_order, turns_from, version_with}
 use Rattle.version_store.specs.declared.roles.Turn.{Turn}

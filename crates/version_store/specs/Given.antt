@@ -1,7 +1,6 @@
 -- At which places an authoriser's caches may have been when it gave a decision.
 use Rattle.std.specs.Prelude.{◌≡◌, ℕ, Bool, true, List, Option, Some, slice_get, option_and_then, option_map}
 use Rattle.audit_event.specs.declared.event.Event.{Event}
-use Rattle.base_types.specs.PlaceOrder.{IsUpTo}
 use Rattle.base_types.specs.declared.placed.Places.{Places}
 use Rattle.base_types.specs.declared.request.Decision.{Decision}
 use Rattle.base_types.specs.declared.request.Decision.TheVariants.{Allow, Forbid}
@@ -13,10 +12,6 @@ use Rattle.write_groups.specs.declared.event.LogEvent.{LogEvent}
 pub record IsGivenWithin (decides : Places → Bool) (low high : ℕ) (places : Places) : Type 0 where
   pub within : AreWithin low high places
   pub right : decides places ≡ true
-
-pub record AreLeastGiven (decides : Places → Bool) (low high : ℕ) (places : Places) : Type 0 where
-  pub given : IsGivenWithin decides low high places
-  pub least : (other : Places) → IsGivenWithin decides low high other → IsUpTo places other
 
 abbrev pub AreNoneGiven : (Places → Bool) → (low high : ℕ) → Type 0
 AreNoneGiven decides low high = (places : Places) → IsGivenWithin decides low high places → ⊥

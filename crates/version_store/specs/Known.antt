@@ -1,7 +1,9 @@
 -- What a context holds: the setup and the log, and what is found of them.
-use Rattle.std.specs.Prelude.{ℕ, List}
+use Rattle.std.specs.Prelude.{ℕ, List, filter}
 use Rattle.audit_event.specs.declared.event.Event.{Event}
+use Rattle.base_types.specs.Keys.{same_key}
 use Rattle.base_types.specs.Meaning.{Meaning}
+use Rattle.base_types.specs.declared.key.ObjectKey.{ObjectKey}
 use Rattle.object_past.specs.declared.removal.Removal.{Removal}
 use Rattle.object_past.specs.declared.version.Version.{Version}
 use Rattle.rbac_timeline.specs.Known as rbac
@@ -26,3 +28,7 @@ pub record Known : Type 0 where
   pub removals : List Removal
   -- the roles and bindings among the versions
   pub rbac : rbac.Known
+
+-- the key's versions, which come by revision
+abbrev pub versions_of : Known → ObjectKey → List Version
+versions_of known key = filter (λ v. same_key v.key key) known.versions

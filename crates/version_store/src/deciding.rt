@@ -1,6 +1,7 @@
 ghost use Rattle.std.specs.Prelude.{◌≡◌, ◌<◌, ◌≤◌, option_map, IfSome, IfNone};
 ghost use Rattle.rbac_timeline.specs.Searched.{all_at};
-ghost use Rattle.version_store.specs.Given.{AreLeastGiven, AreNoneGiven, judged_in, says};
+ghost use Rattle.base_types.specs.PlaceOrder.{AreLeastPlaces};
+ghost use Rattle.version_store.specs.Given.{AreNoneGiven, IsGivenWithin, judged_in, says};
 ghost use Rattle.version_store.specs.Histories.{history_of};
 
 use crate::context::Context;
@@ -66,7 +67,7 @@ impl Context {
     /// The least four places from `low` to `high` at which caches could have given the decision of the event of this
     /// number; where none is judged, the least of all.
     pub fn find_decision(&self, event: u32, low: u64, high: u64) -> Option<Places>
-        ensures some { IfSome result (AreLeastGiven ((history_of self.now).decides event) low high) }
+        ensures some { IfSome result (AreLeastPlaces (IsGivenWithin ((history_of self.now).decides event) low high)) }
         ensures none { IfNone result (AreNoneGiven ((history_of self.now).decides event) low high) }
     {
         match judged_in(self.events.as_slice(), self.log.events.as_slice(), event) {

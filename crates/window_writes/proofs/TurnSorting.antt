@@ -6,12 +6,12 @@ use Rattle.std.specs.List.Sorted.{IsSorted}
 use Rattle.std.specs.Ordering.{bool_cmp, ordering_then, is_lt, nat_cmp}
 use Rattle.std.specs.declared.cmp.Ordering.{Ordering}
 use Rattle.std.specs.declared.cmp.Ordering.TheVariants.{Less, Equal}
-use Rattle.std.proofs.lemmas.Bool.Decides.{nat_tests}
 use Rattle.std.proofs.lemmas.Cmp.{on_total, then_total}
 use Rattle.std.proofs.lemmas.List.Elements.{Contains-append_cases, Contains-append_left, Contains-append_right, Contains-get_or}
 use Rattle.std.proofs.lemmas.List.Sorted.{Contains-permutation, IsPermutation-sym, ranks_by, sorted_far}
 use Rattle.std.proofs.lemmas.Option.{same_Some, slice_get_within}
 use Rattle.base_types.specs.declared.key.ObjectKey.{ObjectKey}
+use Rattle.base_types.proofs.Orderings.{nat_equal, nat_less, then_less, then_next}
 use Rattle.history_model.proofs.JudgingLemmas.{numbers}
 use Rattle.history_model.proofs.Members.{all_from, at_apart, at_in, in_at}
 use Rattle.history_model.specs.Events.{Event}
@@ -27,7 +27,7 @@ use Rattle.object_past.specs.declared.removal.Removal.{Removal}
 use Rattle.object_past.specs.declared.version.Version.{Version}
 use Rattle.version_store.specs.Histories.{history_of}
 use Rattle.version_store.specs.Known.{Known}
-use Rattle.write_groups.proofs.Judging.{apart_moved, nat_less, then_less, then_next}
+use Rattle.write_groups.proofs.Judging.{apart_moved}
 use Rattle.write_groups.proofs.Lists.{made_from, made_has, made_pairs, map_from, map_has, pairs_unmap}
 use Rattle.window_writes.proofs.TurnShowing.{event_here, removal_known, showing_line, version_made}
 use Rattle.window_writes.specs.Lines.{AreWriteLines}
@@ -44,9 +44,6 @@ code_of_made turn e = ap (λ b. if b then turn.position + turn.position + 1 else
 
 code_of_removed : (turn : Turn) → turn.removes ≡ true → turn_code turn ≡ turn.position + turn.position + 1
 code_of_removed turn e = ap (λ b. if b then turn.position + turn.position + 1 else turn.position + turn.position) e
-
-nat_equal : (a b : ℕ) → a ≡ b → nat_cmp a b ≡ Equal
-nat_equal a b e = grind (arith, nat_tests)
 
 bool_less : (a b : Bool) → a ≡ false → b ≡ true → bool_cmp a b ≡ Less
 bool_less false false p q = absurd (true≢false (sym q))

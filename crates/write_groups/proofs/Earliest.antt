@@ -7,7 +7,7 @@ use Rattle.std.proofs.lemmas.Option.{same_Some}
 use Rattle.base_types.specs.declared.revision.Moment.{Moment}
 use Rattle.history_model.proofs.Members.{not_in_none, here, there, in_cons}
 use Rattle.write_groups.proofs.Comparing.{int_tells}
-use Rattle.write_groups.specs.Spanned.{earlier_of, least_by}
+use Rattle.write_groups.specs.Spanned.{earlier_moment, least_by}
 
 at_most : (x : ℤ) → x ≤ℤ x
 at_most x = omega (arith, ints)
@@ -18,12 +18,12 @@ not_after x y l = omega (arith, ints)
 upto_trans : (x y z : ℤ) → x ≤ℤ y → y ≤ℤ z → x ≤ℤ z
 upto_trans x y z l m = omega (arith, ints)
 
-earlier_none : (a b : Option Moment) → earlier_of a b ≡ None → (a ≡ None) × (b ≡ None)
+earlier_none : (a b : Option Moment) → earlier_moment a b ≡ None → (a ≡ None) × (b ≡ None)
 earlier_none None b e = (refl, e)
 earlier_none (Some a) None e = absurd (cc e)
 earlier_none (Some a) (Some b) e = absurd (cc e)
 
-earlier_pick : (a b : Option Moment) (m : Moment) → earlier_of a b ≡ Some m → (a ≡ Some m) ⊎ (b ≡ Some m)
+earlier_pick : (a b : Option Moment) (m : Moment) → earlier_moment a b ≡ Some m → (a ≡ Some m) ⊎ (b ≡ Some m)
 earlier_pick None b m e = inr e
 earlier_pick (Some a) None m e = inl e
 earlier_pick (Some a) (Some b) m e = go (int_lt b.0 a.0) refl
@@ -33,7 +33,7 @@ earlier_pick (Some a) (Some b) m e = go (int_lt b.0 a.0) refl
     go false t = inl (let h : Some a ≡ Some m = rw t at e in h)
 
 -- the earlier of two isn't after the first, nor after the second
-earlier_first : (a b : Option Moment) (m x : Moment) → earlier_of a b ≡ Some m → a ≡ Some x → m.0 ≤ℤ x.0
+earlier_first : (a b : Option Moment) (m x : Moment) → earlier_moment a b ≡ Some m → a ≡ Some x → m.0 ≤ℤ x.0
 earlier_first None b m x e f = absurd (cc f)
 earlier_first (Some a) None m x e f = subst (λ (z : Moment). m.0 ≤ℤ z.0) (same_Some m x (sym e ∙ f)) (at_most m.0)
 earlier_first (Some a) (Some b) m x e f = go (int_tells b.0 a.0)
@@ -45,7 +45,7 @@ earlier_first (Some a) (Some b) m x e f = go (int_tells b.0 a.0)
     go (inl t) = let h : Some b ≡ Some m = rw t.0 at e in subst (λ (z : Moment). z.0 ≤ℤ x.0) (same_Some b m h) (subst (λ (z : Moment). b.0 ≤ℤ z.0) same (not_after b.0 a.0 t.1))
     go (inr t) = let h : Some a ≡ Some m = rw t.0 at e in subst (λ (z : Moment). z.0 ≤ℤ x.0) (same_Some a m h) (subst (λ (z : Moment). a.0 ≤ℤ z.0) same (at_most a.0))
 
-earlier_second : (a b : Option Moment) (m x : Moment) → earlier_of a b ≡ Some m → b ≡ Some x → m.0 ≤ℤ x.0
+earlier_second : (a b : Option Moment) (m x : Moment) → earlier_moment a b ≡ Some m → b ≡ Some x → m.0 ≤ℤ x.0
 earlier_second None b m x e f = subst (λ (z : Moment). m.0 ≤ℤ z.0) (same_Some m x (sym e ∙ f)) (at_most m.0)
 earlier_second (Some a) None m x e f = absurd (cc f)
 earlier_second (Some a) (Some b) m x e f = go (int_tells b.0 a.0)
@@ -57,14 +57,14 @@ earlier_second (Some a) (Some b) m x e f = go (int_tells b.0 a.0)
     go (inl t) = let h : Some b ≡ Some m = rw t.0 at e in subst (λ (z : Moment). z.0 ≤ℤ x.0) (same_Some b m h) (subst (λ (z : Moment). b.0 ≤ℤ z.0) same (at_most b.0))
     go (inr t) = let h : Some a ≡ Some m = rw t.0 at e in subst (λ (z : Moment). z.0 ≤ℤ x.0) (same_Some a m h) (subst (λ (z : Moment). a.0 ≤ℤ z.0) same t.1)
 
-earlier_some : (a b : Option Moment) (x : Moment) → a ≡ Some x → (y : Moment) × (earlier_of a b ≡ Some y)
+earlier_some : (a b : Option Moment) (x : Moment) → a ≡ Some x → (y : Moment) × (earlier_moment a b ≡ Some y)
 earlier_some None b x f = absurd (cc f)
 earlier_some (Some a) None x f = (a, refl)
 earlier_some (Some a) (Some b) x f = ((if int_lt b.0 a.0 then b else a), refl)
 
 module _ (at : ℕ → Option Moment) where
   abbrev step : Option Moment → ℕ → Option Moment
-  step first number = earlier_of first (at number)
+  step first number = earlier_moment first (at number)
 
   -- the earliest of a moment and of those of the numbers
   pub record IsEarliest (first : Option Moment) (numbers : List ℕ) (m : Moment) : Type 0 where

@@ -6,7 +6,7 @@ use Rattle.std.specs.Option.{option_map}
 use Rattle.std.specs.Ordering.{ordering_then, is_lt, int_cmp, nat_cmp}
 use Rattle.std.specs.declared.cmp.Ordering.{Ordering}
 use Rattle.std.specs.declared.cmp.Ordering.TheVariants.{Less, Equal}
-use Rattle.std.proofs.lemmas.Bool.Decides.{Decides-eqb, nat_tests}
+use Rattle.std.proofs.lemmas.Bool.Decides.{Decides-eqb}
 use Rattle.std.proofs.lemmas.Cmp.{on_total, then_total}
 use Rattle.std.proofs.lemmas.List.{length-map}
 use Rattle.std.proofs.lemmas.List.Elements.{Contains-get_or}
@@ -14,6 +14,7 @@ use Rattle.std.proofs.lemmas.List.Sorted.{Contains-permutation, IsPermutation-ma
 use Rattle.std.proofs.lemmas.Map.Keys.{IsDistinct-IsPermutation}
 use Rattle.std.proofs.lemmas.Map.Made.{AllPairs-from_IsDistinct, IsDistinct-from_AllPairs}
 use Rattle.std.proofs.lemmas.Option.{same_Some, slice_get_within}
+use Rattle.base_types.proofs.Orderings.{nat_less, then_less, then_next}
 use Rattle.history_model.proofs.JudgingLemmas.{judged_cases}
 use Rattle.history_model.proofs.Members.{at_in, in_at, at_apart}
 use Rattle.history_model.specs.Events.{Event, is_checkpoint, is_checkpoint_reading}
@@ -45,15 +46,6 @@ turn_number number event = go (kind number event)
     go : ((is_checkpoint (event_of event) ≡ false) × (turn_of number event ≡ turn_in_log number event)) ⊎ ((is_checkpoint (event_of event) ≡ true) × (turn_of number event ≡ turn_behind number event)) → (turn_of number event).number ≡ number
     go (inl k) = ap (λ (t : Turn). t.number) k.1
     go (inr k) = ap (λ (t : Turn). t.number) k.1
-
-pub nat_less : (a b : ℕ) → a < b → nat_cmp a b ≡ Less
-nat_less a b l = grind (arith, nat_tests)
-
-pub then_less : (o p : Ordering) → o ≡ Less → is_lt (ordering_then o p) ≡ true
-then_less o p e = rw e refl
-
-pub then_next : (o p : Ordering) → o ≡ Equal → is_lt p ≡ true → is_lt (ordering_then o p) ≡ true
-then_next o p e l = rw e l
 
 less_in_log : (x y : ℤ) (a b n m : ℕ) → (x <ℤ y) ⊎ ((x ≡ y) × (a < b)) → is_lt (ordering_then (int_cmp x y) (ordering_then (nat_cmp a b) (nat_cmp n m))) ≡ true
 less_in_log x y a b n m (inl l) = then_less (int_cmp x y) (ordering_then (nat_cmp a b) (nat_cmp n m)) (sym (int_cmp_is x y Less l))

@@ -1,5 +1,6 @@
 pub mod Grouped
 pub mod Hiding
+pub mod Lines
 pub mod Members
 pub mod Met
 pub mod Modelled

@@ -10,10 +10,10 @@ use Rattle.write_groups.specs.declared.groups.Group.{Group}
 use Rattle.write_groups.specs.declared.hidden.Hiding.{Hiding}
 use Rattle.write_groups.specs.Hiding.{IsFirstSince}
 
-abbrev pub earlier_of : Option Moment → Option Moment → Option Moment
-earlier_of None b = b
-earlier_of (Some a) None = Some a
-earlier_of (Some a) (Some b) = Some (if int_lt b.0 a.0 then b else a)
+abbrev pub earlier_moment : Option Moment → Option Moment → Option Moment
+earlier_moment None b = b
+earlier_moment (Some a) None = Some a
+earlier_moment (Some a) (Some b) = Some (if int_lt b.0 a.0 then b else a)
 
 abbrev pub end_at : List LogEvent → ℕ → Option Moment
 end_at events number = option_map (λ event. event.hi) (slice_get events number)
@@ -23,7 +23,7 @@ start_at events number = option_map (λ event. event.lo) (slice_get events numbe
 
 -- the earliest of the moments that the numbers have
 abbrev pub least_by : (ℕ → Option Moment) → List ℕ → Option Moment
-least_by at numbers = fold (λ first number. earlier_of first (at number)) None numbers
+least_by at numbers = fold (λ first number. earlier_moment first (at number)) None numbers
 
 -- the first end of the events of these numbers, and their first start
 abbrev pub first_end : List LogEvent → List ℕ → Option Moment

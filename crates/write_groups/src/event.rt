@@ -1,4 +1,5 @@
 ghost use Rattle.std.specs.Prelude.{◌≡◌};
+ghost use Rattle.write_groups.specs.Lines.{line_at};
 ghost use Rattle.write_groups.specs.Met.{are_met};
 
 use base_types::{Cover, Decision, Listed, Moment, ObjectKey, Revision, Text};
@@ -135,3 +136,13 @@ impl Drop for LogEvent {
 
 /// Events by line, and the checkpoints behind them.
 pub type LogEvents = Listed<LogEvent>;
+
+/// The line of the event of this number.
+pub fn line_at(log: &[LogEvent], number: u32) -> u64
+    ensures { result ≡ line_at log.now number }
+{
+    match log.get(number as usize) {
+        Some(event) => event.line,
+        None => 0,
+    }
+}

@@ -5,7 +5,7 @@ ghost use Rattle.history_model.specs.Histories.{History};
 ghost use Rattle.history_model.specs.Judging.{IsOrder};
 ghost use Rattle.write_groups.specs.Members.{AreGroupsOf};
 ghost use Rattle.write_groups.specs.Modelled.{HasEvents, span_of};
-ghost use Rattle.write_groups.specs.Spanned.{earlier_of, or_earlier, end_at, start_at, first_end, first_start};
+ghost use Rattle.write_groups.specs.Spanned.{earlier_moment, or_earlier, end_at, start_at, first_end, first_start};
 ghost use Rattle.write_groups.specs.Spanned.{is_sure, made_surely, made_surely_at, IsBeginningOf, IsSpanIn};
 ghost use Rattle.write_groups.specs.Spanned.{AreSpansOf};
 
@@ -17,8 +17,8 @@ use std::alloc::Global;
 use time_windows::Span;
 
 // The earlier of two moments, where there are any.
-fn earlier(a: Option<Moment>, b: Option<Moment>) -> Option<Moment>
-    ensures { result ≡ earlier_of a b }
+fn earlier_moment(a: Option<Moment>, b: Option<Moment>) -> Option<Moment>
+    ensures { result ≡ earlier_moment a b }
 {
     match (a, b) {
         (Some(a), Some(b)) => Some(if b < a { b } else { a }),
@@ -45,7 +45,7 @@ fn first_end(events: &[LogEvent], numbers: &[u32]) -> Option<Moment>
 {
     let mut first = None;
     for number in numbers {
-        first = earlier(first, end_at(events, *number));
+        first = earlier_moment(first, end_at(events, *number));
     }
     first
 }
@@ -56,7 +56,7 @@ fn first_start(events: &[LogEvent], numbers: &[u32]) -> Option<Moment>
 {
     let mut first = None;
     for number in numbers {
-        first = earlier(first, start_at(events, *number));
+        first = earlier_moment(first, start_at(events, *number));
     }
     first
 }

@@ -1,6 +1,6 @@
 use Rattle.std.proofs.lemmas.Bool.Decides.{same_from_decides}
 use Rattle.rbac_timeline.specs.Hidden.{covers}
-use Rattle.finding_picture.proofs.Covering.{covers-Decides}
+use Rattle.rbac_timeline.proofs.Hiding.{covers-Decides}
 use Rattle.finding_picture.proofs.hiding.covers_key.Goals as goal
 
 pub returns : goal.returns

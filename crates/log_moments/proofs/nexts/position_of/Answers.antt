@@ -29,14 +29,14 @@ returns-then-get-revision-clause-none c = λ k d within key is.
     unnumbered (λ (v : Version). v.revision) versions c.get-revision.result _ _ order parts (omega arith) c.partition_point-upto.ensures.bound here
     (get_or versions k d) (Contains-get_or versions k d within) (is ∙ sym c.get-revision.ensures.value)
 
-pub returns-then-not-is_key-clause-none : goal.returns-then-not-is_key-clause-none
-returns-then-not-is_key-clause-none c = λ k d within key is.
+pub returns-then-not-same_key-clause-none : goal.returns-then-not-same_key-clause-none
+returns-then-not-same_key-clause-none c = λ k d within key is.
     let versions = c.args.versions.now in
     let v = c.index-versions-upto.result in
     let bound = c.partition_point-upto.ensures.bound in
     let revision : v.revision ≡ c.args.item.now.revision = sym c.get.ensures.value ∙ c.if-get-revision.false ∙ c.get-revision.ensures.value in
     let one = apart (λ (x : Version). x.revision) versions v (get_or versions k d) c.requires (c.partition_point-upto.result - 1, omega arith, sym c.index-versions-upto.is) (Contains-get_or versions k d within) (revision ∙ sym is) in
-    true≢false (sym (key_is v.key c.args.item.now.key (ap (λ (x : Version). x.key) one ∙ key)) ∙ sym c.is_key.ensures ∙ c.if-not-is_key.true)
+    true≢false (sym (key_is v.key c.args.item.now.key (ap (λ (x : Version). x.key) one ∙ key)) ∙ sym c.same_key.ensures ∙ c.if-not-same_key.true)
 
 pub returns-clause-some : goal.returns-clause-some
 returns-clause-some c =
@@ -44,6 +44,6 @@ returns-clause-some c =
     let bound = c.partition_point-upto.ensures.bound in (
       v,
       slice_get-get_or c.args.versions.now (c.partition_point-upto.result - 1) v (omega arith) ∙ ap Some (sym c.index-versions-upto.is),
-      (key_decides v.key c.args.item.now.key).0 (sym c.is_key.ensures ∙ c.if-not-is_key.false),
+      (key_decides v.key c.args.item.now.key).0 (sym c.same_key.ensures ∙ c.if-not-same_key.false),
       sym c.get.ensures.value ∙ c.if-get-revision.false ∙ c.get-revision.ensures.value,
     )

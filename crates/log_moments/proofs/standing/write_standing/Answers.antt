@@ -18,24 +18,24 @@ returns-in_default c = λ h event created s p.
     shows_at h event item created _
     (new_write c.args.past.now h p c.args.start s c.args.number event item created c.get-revision.result c.get-revision.ensures.value (omega (arith, c.if-revision-get.false, c.get.ensures.value)) None c.in_default.ensures)
 
-pub returns-then-not-is_key : goal.returns-then-not-is_key
-returns-then-not-is_key c = λ h event created s p.
+pub returns-then-not-same_key : goal.returns-then-not-same_key
+returns-then-not-same_key c = λ h event created s p.
     let item = item_of c.args.item.now in
     stray_has_none h event (Made item created) _
     (new_write c.args.past.now h p c.args.start s c.args.number event item created c.get-revision.result c.get-revision.ensures.value (omega (arith, c.if-revision-get.false, c.get.ensures.value)) (Some c.in-Some.version.now) c.in-Some.ensures
-    ∙ stray_is (making c.args.number event item created) (version_of c.in-Some.version.now) c.is_key.result c.is_key.ensures c.if-not-is_key.true)
+    ∙ stray_is (making c.args.number event item created) (version_of c.in-Some.version.now) c.same_key.result c.same_key.ensures c.if-not-same_key.true)
 
 pub returns-then-not-is_maker : goal.returns-then-not-is_maker
 returns-then-not-is_maker c = λ h event created s p.
     let item = item_of c.args.item.now in
     shows_at h event item created _
     (new_write c.args.past.now h p c.args.start s c.args.number event item created c.get-revision.result c.get-revision.ensures.value (omega (arith, c.if-revision-get.false, c.get.ensures.value)) (Some c.in-Some.version.now) c.in-Some.ensures
-    ∙ found_is (making c.args.number event item created) (version_of c.in-Some.version.now) c.is_key.result c.is_maker.result c.is_key.ensures c.if-not-is_key.false c.is_maker.ensures c.if-not-is_maker.true)
+    ∙ found_is (making c.args.number event item created) (version_of c.in-Some.version.now) c.same_key.result c.is_maker.result c.same_key.ensures c.if-not-same_key.false c.is_maker.ensures c.if-not-is_maker.true)
 
 pub returns : goal.returns
 returns c = λ h event created s p.
     let item = item_of c.args.item.now in
     writes_at h event (Made item created) _ (making c.args.number event item created) c.get-revision.result
     (new_write c.args.past.now h p c.args.start s c.args.number event item created c.get-revision.result c.get-revision.ensures.value (omega (arith, c.if-revision-get.false, c.get.ensures.value)) (Some c.in-Some.version.now) c.in-Some.ensures
-    ∙ made_is (making c.args.number event item created) (version_of c.in-Some.version.now) c.is_key.result c.is_maker.result c.is_key.ensures c.if-not-is_key.false c.is_maker.ensures c.if-not-is_maker.false)
+    ∙ made_is (making c.args.number event item created) (version_of c.in-Some.version.now) c.same_key.result c.is_maker.result c.same_key.ensures c.if-not-same_key.false c.is_maker.ensures c.if-not-is_maker.false)
     c.get-revision.ensures.value

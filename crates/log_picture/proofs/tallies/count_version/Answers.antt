@@ -1,6 +1,6 @@
 use Rattle.std.proofs.Common.{◌≡◌, Some, ap, subst, sym, rules, ◌∙◌}
 use Rattle.std.specs.BTreeMap.{Updates}
-use Rattle.clouds.proofs.Adding.{same_key}
+use Rattle.base_types.proofs.KeyLemmas.{key_from_parts}
 use Rattle.clouds.specs.Kept.{key_order}
 use Rattle.log_picture.proofs.Tallying.{counts_updates, grown}
 use Rattle.log_picture.proofs.tallies.count_version.Goals as goal
@@ -16,7 +16,7 @@ pub returns : goal.returns
 returns c =
     let none = sym c.in-None.ensures.value in
     let parts = c.in_ok-clone-in-None.ensures.cases in
-    let copy : c.in_ok-clone-in-None.field-0 ≡ c.args.version.now.key = same_key _ _ parts.0 parts.1.0 parts.1.1.0 parts.1.1.1 in
+    let copy : c.in_ok-clone-in-None.field-0 ≡ c.args.version.now.key = key_from_parts _ _ parts.0 parts.1.0 parts.1.1.0 parts.1.1.1 in
     let updates = rw c.get_mut.follows.holds-at-none at c.in_ok-_none-in-None.ensures.updates in
     let here : Updates key_order c.args.tallies.now c.insert.new.self c.args.version.now.key (Some c.one-first.result) =
     subst (λ k. Updates key_order c.args.tallies.now c.insert.new.self k (Some c.one-first.result)) copy updates in

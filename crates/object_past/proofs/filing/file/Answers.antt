@@ -1,7 +1,7 @@
 use Rattle.std.proofs.Common.{◌≡◌, Some, ap, rules, subst, sym}
 use Rattle.std.specs.BTreeMap.{Updates}
+use Rattle.base_types.proofs.KeyLemmas.{key_from_parts}
 use Rattle.clouds.specs.Kept.{key_order}
-use Rattle.clouds.proofs.Adding.{same_key}
 use Rattle.object_past.specs.Indexed.{IsGrown, found_at, found_in, nothing}
 use Rattle.object_past.proofs.Filed.{ChangesAt-updates}
 use Rattle.object_past.proofs.filing.file.Goals as goal
@@ -17,7 +17,7 @@ pub returns : goal.returns
 returns c =
     let none : found_at c.args.by_key.now c.args.version.now.key ≡ nothing = ap found_in (sym c.in-None.ensures.value) in
     let parts = c.in_ok-clone-in-None.ensures.cases in
-    let copy : c.in_ok-clone-in-None.field-0 ≡ c.args.version.now.key = same_key _ _ parts.0 parts.1.0 parts.1.1.0 parts.1.1.1 in
+    let copy : c.in_ok-clone-in-None.field-0 ≡ c.args.version.now.key = key_from_parts _ _ parts.0 parts.1.0 parts.1.1.0 parts.1.1.1 in
     let updates = rw c.get_mut.follows.holds-at-none at c.in_ok-_none-in-None.ensures.updates in
     let here : Updates key_order c.args.by_key.now c.insert.new.self c.args.version.now.key (Some c.add-in-None.new.self) =
     subst (λ k. Updates key_order c.args.by_key.now c.insert.new.self k (Some c.add-in-None.new.self)) copy updates in

@@ -1,6 +1,6 @@
 use Rattle.std.proofs.Common.{◌≡◌, ◌<◌, ◌+◌, ◌-◌, ◌++◌, ◌∷◌, [], Bool, false, Option, Some, None, option_and_then, option_map, length, slice_get, get_or, rules, refl, sym, ap, ◌∙◌, subst, arith}
 use Rattle.std.proofs.lemmas.Option.{slice_get-get_or}
-use Rattle.clouds.proofs.Adding.{same_key}
+use Rattle.base_types.proofs.KeyLemmas.{key_from_parts}
 use Rattle.object_past.specs.declared.removal.Removal.{Removal}
 use Rattle.object_versions.proofs.Finding.{AreFoundBehind, AreFoundFrom, all_found, found_behind}
 use Rattle.object_versions.specs.Ended.{IsFoundAfter}
@@ -10,7 +10,7 @@ pub loop-i-preserved-in_ok-push : goal.loop-i-preserved-in_ok-push
 loop-i-preserved-in_ok-push c =
     let i = c.loop-i.i - 1 in
     let parts = c.in_ok-clone.ensures.cases in
-    let key : c.in_ok-clone.field-0 ≡ c.index-versions-i.result.key = same_key _ _ parts.0 parts.1.0 parts.1.1.0 parts.1.1.1 in
+    let key : c.in_ok-clone.field-0 ≡ c.index-versions-i.result.key = key_from_parts _ _ parts.0 parts.1.0 parts.1.1.0 parts.1.1.1 in
     let within : i < length c.args.versions.now = search (rules, arith) in
     let at : slice_get c.args.versions.now i ≡ Some c.index-versions-i.result =
     slice_get-get_or c.args.versions.now i c.index-versions-i.result within ∙ ap Some (sym c.index-versions-i.is) in
@@ -26,7 +26,7 @@ pub loop-i-preserved : goal.loop-i-preserved
 loop-i-preserved c =
     let i = c.loop-i.i - 1 in
     let parts = c.in_ok-clone.ensures.cases in
-    let key : c.in_ok-clone.field-0 ≡ c.index-versions-i.result.key = same_key _ _ parts.0 parts.1.0 parts.1.1.0 parts.1.1.1 in
+    let key : c.in_ok-clone.field-0 ≡ c.index-versions-i.result.key = key_from_parts _ _ parts.0 parts.1.0 parts.1.1.0 parts.1.1.1 in
     let within : i < length c.args.versions.now = search (rules, arith) in
     let at : slice_get c.args.versions.now i ≡ Some c.index-versions-i.result =
     slice_get-get_or c.args.versions.now i c.index-versions-i.result within ∙ ap Some (sym c.index-versions-i.is) in

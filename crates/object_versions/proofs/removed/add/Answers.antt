@@ -1,6 +1,6 @@
 use Rattle.std.proofs.Common.{◌≡◌, List, ℕ, Some, None, rules, refl, sym, subst, ◌∙◌}
 use Rattle.std.specs.BTreeMap.{Updates, get}
-use Rattle.clouds.proofs.Adding.{same_key}
+use Rattle.base_types.proofs.KeyLemmas.{key_from_parts}
 use Rattle.clouds.specs.Kept.{key_order, text_order}
 use Rattle.object_versions.proofs.Filing.{filed_before, filed_in, filed_new}
 use Rattle.object_versions.proofs.removed.add.Goals as goal
@@ -19,7 +19,7 @@ returns-else-not-contains_key c =
 pub returns : goal.returns
 returns c =
     let parts = c.in_ok-clone-in-None-2.ensures.cases in
-    let copy : c.in_ok-clone-in-None-2.field-0 ≡ c.args.key.now = same_key _ _ parts.0 parts.1.0 parts.1.1.0 parts.1.1.1 in
+    let copy : c.in_ok-clone-in-None-2.field-0 ≡ c.args.key.now = key_from_parts _ _ parts.0 parts.1.0 parts.1.1.0 parts.1.1.1 in
     let updates = rw c.get_mut.follows.holds-at-none at c.in_ok-_none-in-None-2.ensures.updates in
     let here : Updates key_order c.args.removed.now c.insert-in-None-2.new.self c.args.key.now (Some c.insert-in-None.new.self) =
     subst (λ k. Updates key_order c.args.removed.now c.insert-in-None-2.new.self k (Some c.insert-in-None.new.self)) copy updates in

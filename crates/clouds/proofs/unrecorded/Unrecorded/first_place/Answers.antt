@@ -3,7 +3,7 @@ use Rattle.clouds.proofs.unrecorded.Unrecorded.first_place.Goals as goal
 
 pub loop-part-preserved : goal.loop-part-preserved
 loop-part-preserved c =
-    rw c.earlier-first.ensures (IsFirstPlace-more c.args.revisions.now c.args.key.now c.args.low c.args.high _ _ _ _ _ c.loop-part-test.true c.part-item.is c.loop-part.invariant c.first_place.ensures)
+    rw c.lesser_place-first.ensures (IsFirstPlace-more c.args.revisions.now c.args.key.now c.args.low c.args.high _ _ _ _ _ c.loop-part-test.true c.part-item.is c.loop-part.invariant c.first_place.ensures)
 
 pub returns : goal.returns
 returns c =

@@ -12,7 +12,7 @@ loop-count-preserved c =
     let Q : ℕ → ℕ → Type 0 = λ place count. Any (HidesKey c.args.revisions.now c.args.key.now place) (spans_by c.args.self.now c.args.scope c.args.key.now count) in
     let spans = rw c.front_of_name.ensures at c.spans_of_front-spans.ensures in
     let next = rw spans at c.first_place.ensures in
-    rw c.earlier-first.ensures (IsFirstPlace-next Q _ _ c.args.counts.now c.loop-count.count-index 0 _ _ c.loop-count-test.true c.loop-count.invariant next)
+    rw c.lesser_place-first.ensures (IsFirstPlace-next Q _ _ c.args.counts.now c.loop-count.count-index 0 _ _ c.loop-count-test.true c.loop-count.invariant next)
 
 pub returns : goal.returns
 returns c =

@@ -2,7 +2,7 @@ use Rattle.std.proofs.Common.{◌≡◌, ◌++◌, ◌∷◌, [], Some, true, le
 use Rattle.std.specs.Prelude.{◌↔◌, IsTrue}
 use Rattle.std.specs.BTreeMap as map
 use Rattle.std.specs.BTreeSet as set
-use Rattle.clouds.proofs.Adding.{same_key}
+use Rattle.base_types.proofs.KeyLemmas.{key_from_parts}
 use Rattle.clouds.specs.Kept.{key_order, text_order}
 use Rattle.object_versions.proofs.Keeping.{IsOwned, continued, begun, kept_more}
 use Rattle.object_versions.specs.Growing.{AreKept, IsContinued, IsFirst}
@@ -18,7 +18,7 @@ returns c =
     let owners = c.args.self.now.owners in
     let index = c.match-continued.self in
     let parts = c.in_ok-clone-2.ensures.cases in
-    let key : c.in_ok-clone-2.field-0 ≡ version.key = same_key _ _ parts.0 parts.1.0 parts.1.1.0 parts.1.1.1 in
+    let key : c.in_ok-clone-2.field-0 ≡ version.key = key_from_parts _ _ parts.0 parts.1.0 parts.1.1.0 parts.1.1.1 in
     let before : AreKept versions index.firsts.items index.last owners index.uids = elim c.match-continued.branch [
       | in-Some w ↦ subst (λ (i : Index). AreKept versions i.firsts.items i.last owners i.uids) (sym w.self-is) c.requires.kept
       | in-None+in_ok-is_first-in-None w ↦ subst (λ (i : Index). AreKept versions i.firsts.items i.last owners i.uids) (sym w.self-is) c.requires.kept

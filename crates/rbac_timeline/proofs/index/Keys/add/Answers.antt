@@ -1,5 +1,5 @@
 use Rattle.std.proofs.Common.{◌≡◌}
-use Rattle.clouds.proofs.Adding.{same_key}
+use Rattle.base_types.proofs.KeyLemmas.{key_from_parts}
 use Rattle.rbac_timeline.proofs.Rising.{AreRising-insert, HasOneMore-insert, HasOneMore-same, found_key}
 use Rattle.rbac_timeline.proofs.index.Keys.add.Goals as goal
 
@@ -14,11 +14,11 @@ invariant_of-self c =
     let bound = rw c.deref.ensures.value at c.in-Err.ensures.bound in
     let searched = rw c.deref.ensures.value at c.in-Err.ensures.position in
     let parts = c.in_ok-copy-in-Err.ensures.cases in
-    let copy : c.in_ok-copy-in-Err.copy ≡ c.args.key.now = same_key _ _ parts.0 parts.1.0 parts.1.1.0 parts.1.1.1 in
+    let copy : c.in_ok-copy-in-Err.copy ≡ c.args.key.now = key_from_parts _ _ parts.0 parts.1.0 parts.1.1.0 parts.1.1.1 in
     rw (c.in_ok-insert-in-Err.ensures.items, copy) (AreRising-insert c.self.inside.keys.items c.args.key.now c.in-Err.place bound c.self.invariant searched)
 
 pub returns : goal.returns
 returns c =
     let parts = c.in_ok-copy-in-Err.ensures.cases in
-    let copy : c.in_ok-copy-in-Err.copy ≡ c.args.key.now = same_key _ _ parts.0 parts.1.0 parts.1.1.0 parts.1.1.1 in
+    let copy : c.in_ok-copy-in-Err.copy ≡ c.args.key.now = key_from_parts _ _ parts.0 parts.1.0 parts.1.1.0 parts.1.1.1 in
     rw (c.in_ok-insert-in-Err.ensures.items, ← c.self.view_is, copy) (HasOneMore-insert c.self.inside.keys.items c.in-Err.place c.args.key.now)

@@ -12,7 +12,7 @@ pub loop-stored-init : goal.loop-stored-init
 loop-stored-init c =
     let s = c.args.self.now in
     let P = λ (n : ℕ). MayGrantByRole s.timeline.now c.args.role.now n s.attrs.now in
-    rw c.earlier-first.ensures (IsFirstPlace-start (λ (n : ℕ). ((n ≡ s.low) × P n) ⊎ IsClouded (writes_of s.timeline.now) c.args.role.now n) (λ (v : Stored) (n : ℕ). (n ≡ v.revision) × P n) s.low s.high c.versions_between-stored-items.result.now _
+    rw c.lesser_place-first.ensures (IsFirstPlace-start (λ (n : ℕ). ((n ≡ s.low) × P n) ⊎ IsClouded (writes_of s.timeline.now) c.args.role.now n) (λ (v : Stored) (n : ℕ). (n ≡ v.revision) × P n) s.low s.high c.versions_between-stored-items.result.now _
     (IsFirstPlace-either (λ (n : ℕ). (n ≡ s.low) × P n) (IsClouded (writes_of s.timeline.now) c.args.role.now) s.low s.high _ _ c.role_at.ensures c.first_clouded-clouded.ensures))
 
 pub role_at-requires-in-loop-stored : goal.role_at-requires-in-loop-stored
@@ -25,7 +25,7 @@ pub loop-stored-preserved : goal.loop-stored-preserved
 loop-stored-preserved c =
     let s = c.args.self.now in
     let P = λ (n : ℕ). MayGrantByRole s.timeline.now c.args.role.now n s.attrs.now in
-    rw c.earlier-first-in-loop-stored.ensures (IsFirstPlace-more (λ (n : ℕ). ((n ≡ s.low) × P n) ⊎ IsClouded (writes_of s.timeline.now) c.args.role.now n) (λ (v : Stored) (n : ℕ). (n ≡ v.revision) × P n) s.low s.high c.versions_between-stored-items.result.now _
+    rw c.lesser_place-first-in-loop-stored.ensures (IsFirstPlace-more (λ (n : ℕ). ((n ≡ s.low) × P n) ⊎ IsClouded (writes_of s.timeline.now) c.args.role.now n) (λ (v : Stored) (n : ℕ). (n ≡ v.revision) × P n) s.low s.high c.versions_between-stored-items.result.now _
     c.stored-item.result _ _ c.loop-stored-test.true c.stored-item.is c.loop-stored.invariant c.role_at-in-loop-stored.ensures)
 
 pub returns : goal.returns

@@ -1,6 +1,6 @@
 use Rattle.std.proofs.Common.{refl, ap, ◌∙◌}
 use Rattle.std.specs.Prelude.{option_map}
-use Rattle.clouds.proofs.Adding.{same_key}
+use Rattle.base_types.proofs.KeyLemmas.{key_from_parts}
 use Rattle.history_model.specs.Histories.{Version}
 use Rattle.history_model.specs.States.{latest}
 use Rattle.setup_file.specs.declared.setup.Setup.{Setup}
@@ -16,7 +16,7 @@ pub loop-key-preserved : goal.loop-key-preserved
 loop-key-preserved c =
     let parts = c.in_ok-clone.ensures.cases in
     begun_more (history_of c.args.context.now) c.keys-keys.result.now c.loop-key.key-index c.key-item.result c.in_ok-clone.field-0 c.revision_of-revision.result c.loop-key.objects c.insert.new.self
-    c.loop-key-test.true c.key-item.is (same_key _ _ parts.0 parts.1.0 parts.1.1.0 parts.1.1.1)
+    c.loop-key-test.true c.key-item.is (key_from_parts _ _ parts.0 parts.1.0 parts.1.1.0 parts.1.1.1)
     (c.revision_of-revision.ensures ∙ lent_revision c.latest.result ∙ ap (option_map (λ (v : Version). v.revision)) c.latest.ensures.latest
     ∙ ap (λ place. option_map (λ (v : Version). v.revision) (latest (history_of c.args.context.now).versions c.key-item.result place)) (c.get-start.ensures.value ∙ ap (λ (s : Setup). s.start) c.setup.ensures.setup))
     c.in_ok-_none.ensures.updates c.loop-key.invariant
