@@ -3,6 +3,7 @@ ghost use Rattle.answer_class.specs.Bodies.{is_merge_body, is_merge};
 
 use crate::bodies::value_of;
 use audit_event::Event;
+use base_types::RequestAttrs;
 use packed_tree::PackedRef;
 use setup_file::{Tracked, is_merge_patch};
 
