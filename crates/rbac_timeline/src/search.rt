@@ -97,7 +97,10 @@ impl<'a> Asked<'a> {
             self.first_pair(Way::ClusterBindings),
             lowest,
         );
-        lesser_places(by_roles, lesser_places(by_cluster_roles, by_cluster_bindings))
+        lesser_places(
+            by_roles,
+            lesser_places(by_cluster_roles, by_cluster_bindings),
+        )
     }
 
     // The least place of the cluster role bindings at which they don't grant for certain, or up to which place

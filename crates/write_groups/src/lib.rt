@@ -9,7 +9,9 @@ mod order;
 mod spans;
 mod window;
 
-pub use event::{Item, Items, Listing, LogEvent, LogEvents, Preconditions, Reading, Shown, line_at};
+pub use event::{
+    Item, Items, Listing, LogEvent, LogEvents, Preconditions, Reading, Shown, line_at,
+};
 pub use groups::{Group, Groups, Numbers, groups_of};
 pub use hidden::{Hidden, Hiding};
 pub use order::order_of;
