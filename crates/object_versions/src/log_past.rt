@@ -36,8 +36,6 @@ pub struct LogPast {
     pub clouds: Clouds,
     pub groups: Groups,
     pub versions: Versions,
-    /// Of each version, whether its incarnation is the first of its key with its uid.
-    pub firsts: Vec<bool>,
     /// Why each write of a group could not have made its revision, and why it could not have found it.
     pub judged: Vec<Judged>,
     pub removals: Removals,
@@ -167,7 +165,6 @@ impl Timed {
           clouds = clouds;
           groups = self.groups;
           versions = ended.written.versions;
-          firsts = ended.written.firsts;
           judged = ended.written.judged;
           removals = ended.removals;
         } }
@@ -180,7 +177,7 @@ impl Timed {
         let Ended { written, removals } = ended;
         let Written {
             versions,
-            firsts,
+            firsts: _,
             judged,
         } = written;
         LogPast {
@@ -189,7 +186,6 @@ impl Timed {
             clouds,
             groups,
             versions,
-            firsts,
             judged,
             removals,
         }

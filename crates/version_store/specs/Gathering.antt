@@ -1,6 +1,5 @@
 -- What is found of a setup and its log, before it is put together to a context.
-use Rattle.std.specs.Prelude.{Bool, List}
-use Rattle.std.specs.Global.{Vec}
+use Rattle.std.specs.Prelude.{List}
 use Rattle.audit_event.specs.declared.event.Event.{Event}
 use Rattle.base_types.specs.Meaning.{Meaning}
 use Rattle.object_versions.specs.declared.log_past.LogPast.{LogPast}
@@ -27,14 +26,13 @@ IsFound setup events trees log found = IsContext (record {
 }) log found.parts.windows found.parts.clouds found.told.faults.items found.told.keys.items found.told.uses
 
 -- the past of a log that these are parts of
-abbrev pub past_with : Vec Bool → Parts → LogPast
-past_with firsts parts = record {
+abbrev pub past_with : Parts → LogPast
+past_with parts = record {
   order = parts.order;
   windows = parts.windows;
   clouds = parts.clouds;
   groups = parts.groups;
   versions = parts.past.versions;
-  firsts = firsts;
   judged = parts.judged;
   removals = parts.past.removals;
 }

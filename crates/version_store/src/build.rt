@@ -103,7 +103,7 @@ struct Gathered {
 fn parts_of(alloc: Global, found: LogPast) -> Result<Parts, OutOfMemory>
     requires rising { AllPairs (λ a b. a.revision < b.revision) found.versions }
     requires ends { AreEnds found.versions found.removals }
-    ensures same { IfOk result (λ parts. found ≡ past_with found.firsts parts) }
+    ensures same { IfOk result (λ parts. found ≡ past_with parts) }
     ensures few { IfOk result (λ parts. length parts.past.versions < 2 ^ 32) }
 {
     let LogPast {
@@ -112,7 +112,6 @@ fn parts_of(alloc: Global, found: LogPast) -> Result<Parts, OutOfMemory>
         clouds,
         groups,
         versions,
-        firsts: _,
         judged,
         removals,
     } = found;

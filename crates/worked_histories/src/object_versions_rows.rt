@@ -117,10 +117,12 @@ fn check_versions(rt: &impl Abort, past: &LogPast) {
     }
 }
 
+// No removal is behind a version whose uid was there before another object's.
 fn check_firsts(rt: &impl Abort, past: &LogPast) {
-    assert_eq!(rt; past.firsts.len(), 6);
-    for (is_first, (_, _, number, _, first)) in past.firsts.iter().zip(&VERSIONS) {
-        assert_eq!(rt; *is_first, *first, "first of {number}");
+    for (_, _, number, _, first) in &VERSIONS {
+        for removal in past.removals.iter() {
+            assert!(rt; *first || removal.last.get() != *number, "removal behind {number}");
+        }
     }
 }
 

@@ -8,7 +8,6 @@ returns-clause-same c = λ i. record {
   clouds = c.args.found.clouds;
   groups = c.args.found.groups;
   versions = sym c.in_ok-past.ensures.versions i;
-  firsts = c.args.found.firsts;
   judged = c.args.found.judged;
   removals = sym c.in_ok-past.ensures.removals i;
 }
