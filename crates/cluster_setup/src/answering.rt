@@ -33,7 +33,8 @@ pub fn make_named<D: Desk>(
     files: &[String],
 ) -> Result<MadeText, WholeStop>
     requires { are_distinct (policy.now ∷ map string_bytes files.now) ≡ true }
-    ensures answered { (told : List ℕ → List ℕ) → TellsAll (policy.now ∷ map string_bytes files.now) (D.left desk.old) told
+    ensures answered { (told : List ℕ → List ℕ)
+        → TellsAll (policy.now ∷ map string_bytes files.now) (D.left desk.old) told
         → AnswersMade authorize time.now (told policy.now) (map string_bytes files.now)
         (map told (map string_bytes files.now)) result }
     ensures fault { IsErrOf result WholeStop.ReadFault → Rose (D.faults desk.old) (D.faults desk.new) }

@@ -2,7 +2,8 @@ ghost use Rattle.std.specs.Prelude.{◌≡◌, ◌≢◌, ◌∷◌, true, map, 
 ghost use Rattle.log_verdict.specs.Answers.{report_answer as verdict_answer, status_number as verdict_number};
 ghost use Rattle.cluster_setup.specs.Names.{are_distinct};
 ghost use Rattle.companion.specs.Command.{Explain, IsSpelled, Picture, Setup, Sift, command_asked};
-ghost use Rattle.companion.specs.Reported.{IsCutWithin, IsReported, TellsStop, made_answer, report_answer, status_number};
+ghost use Rattle.companion.specs.Reported.{IsCutWithin, IsReported, TellsStop};
+ghost use Rattle.companion.specs.Reported.{made_answer, report_answer, status_number};
 
 use crate::picturing::picture;
 use crate::report::{Body, Report, Status};
