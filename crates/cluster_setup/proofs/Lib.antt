@@ -1,8 +1,11 @@
 pub mod Added
+pub mod AnsweringFacts
 pub mod Causes
 pub mod Gathered
+pub mod GatheringFacts
 pub mod Left
 pub mod ListKinds
+pub mod NameFacts
 pub mod Named
 pub mod NoFloats
 pub mod NoMembers

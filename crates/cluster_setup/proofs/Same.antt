@@ -7,7 +7,7 @@ use Rattle.base_types.specs.Values.{of_data}
 use Rattle.setup_file.specs.declared.fault.SetupRule.{SetupRule}
 use Rattle.setup_file.specs.Reading.{IsTreeOf, ReadsAs, setup_of}
 use Rattle.base_types.proofs.Found.{same_some}
-use Rattle.cluster_setup.specs.Answers.{json_text, IsAccepted, Breaks}
+use Rattle.cluster_setup.specs.Answers.{json_line, IsAccepted, Breaks}
 
 same_data : (bytes : List ℕ) (d e : Data) → read bytes ≡ Some d → read bytes ≡ Some e → d ≡ e
 same_data bytes d e p q = same_some d e (sym p ∙ q)
@@ -22,5 +22,5 @@ pub broken_from : (bytes : List ℕ) (tree : Meaning) (rule : SetupRule) → IsT
 broken_from bytes tree rule own (inl found) = inl (ap setup_of (same_tree bytes tree found.0 own found.1) ∙ found.2)
 broken_from bytes tree rule own (inr none) = absurd (none.0 tree own)
 
-pub reads_as : (tree : Meaning) → (accepted : IsAccepted tree) → ReadsAs (json_text tree) (Ok accepted.setup)
+pub reads_as : (tree : Meaning) → (accepted : IsAccepted tree) → ReadsAs (json_line tree) (Ok accepted.setup)
 reads_as tree accepted = inl (tree, accepted.read, accepted.is)

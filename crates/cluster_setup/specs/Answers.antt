@@ -1,4 +1,4 @@
--- What is answered: the text of a setup, or the first refusal.
+-- What is answered: the text of a setup, which is a line, or the first refusal.
 use Rattle.std.specs.Prelude.{◌≡◌, ◌<◌, ◌≤◌, ⊤, ◌⊎◌, ℕ, ◌==◌, Bool, true, List, length, take, Some, None, Ok, Err, is_some, if◌then◌else◌}
 use Rattle.std.specs.Result.{result_ok}
 use Rattle.serde_json.specs.Written.{compact_text}
@@ -10,6 +10,7 @@ use Rattle.setup_file.specs.declared.fault.SetupRule.TheVariants.{S1}
 use Rattle.setup_file.specs.declared.setup.Setup.{Setup}
 use Rattle.timestamps.specs.Timestamps.{moment_of}
 use Rattle.setup_file.specs.Reading.{IsTreeOf, setup_of}
+use Rattle.verdict_text.specs.Words.{ended}
 use Rattle.cluster_setup.specs.declared.fault.FileFault.TheVariants.{Json, Rule as BreaksRule}
 use Rattle.cluster_setup.specs.declared.fault.SetupRefusal.{SetupRefusal}
 use Rattle.cluster_setup.specs.declared.fault.SetupRefusal.TheVariants.{Time, Policy, Empty, Rule, File, OutOfMemory}
@@ -17,24 +18,24 @@ use Rattle.cluster_setup.specs.Files.{start_word}
 use Rattle.cluster_setup.specs.Making.{setup_tree}
 use Rattle.cluster_setup.specs.Refusing.{AreTrees, IsFirstBroken, first_refused}
 
--- the compact JSON text of a tree
-abbrev pub json_text : Meaning → List ℕ
-json_text tree = compact_text (data_of tree)
+-- the compact JSON text of a tree, as a line
+abbrev pub json_line : Meaning → List ℕ
+json_line tree = ended (compact_text (data_of tree))
 
--- the tree is that of a setup, and is read again from its text
+-- the tree is that of a setup, and is read again from its line
 pub record IsAccepted (tree : Meaning) : Type 0 where
   pub setup : Setup
-  pub read : IsTreeOf (json_text tree) tree
+  pub read : IsTreeOf (json_line tree) tree
   pub is : setup_of tree ≡ Ok setup
 
--- the text of a tree that is accepted
+-- the line of a tree that is accepted
 pub record IsTextOf (tree : Meaning) (text : List ℕ) : Type 0 where
-  pub is : text ≡ json_text tree
+  pub is : text ≡ json_line tree
   pub accepted : IsAccepted tree
 
 -- the rule that the tree of a setup breaks; what is deeper than JSON that is read breaks the first
 abbrev pub Breaks : Meaning → SetupRule → Type 0
-Breaks tree rule = (setup_of tree ≡ Err rule) ⊎ ((IsTreeOf (json_text tree) tree → ⊥) × (rule ≡ S1))
+Breaks tree rule = (setup_of tree ≡ Err rule) ⊎ ((IsTreeOf (json_line tree) tree → ⊥) × (rule ≡ S1))
 
 -- the bytes are an audit policy as JSON
 abbrev pub IsPolicy : List ℕ → Meaning → Type 0

@@ -1,7 +1,10 @@
+pub mod Answering
 pub mod Answers
 pub mod Files
 pub mod Found
+pub mod Gathering
 pub mod Making
+pub mod Names
 pub mod Parts
 pub mod Refusing
 pub mod Table

@@ -4,10 +4,11 @@ ghost use Rattle.base_types.specs.Values.{InRange};
 ghost use Rattle.setup_file.specs.Reading.{IsTreeOf};
 ghost use Rattle.setup_file.specs.declared.fault.SetupRule.{SetupRule as AnyRule};
 ghost use Rattle.setup_file.specs.declared.fault.SetupFault.TheVariants.{Rule};
-ghost use Rattle.cluster_setup.specs.Answers.{json_text, IsAccepted, IsTextOf, Breaks};
+ghost use Rattle.cluster_setup.specs.Answers.{json_line, IsAccepted, IsTextOf, Breaks};
 ghost use Rattle.cluster_setup.specs.Making.{setup_tree};
 
 use crate::assembling::{Given, setup_tree};
+use crate::telling::line_of;
 use base_types::OutOfMemory;
 use base_types::json::{Tree, TreeFault, equal, from_value, to_value};
 use hash_seed::Seed;
@@ -43,19 +44,19 @@ fn is_tree_of(alloc: Global, bytes: &[u8], tree: &Tree) -> Result<bool, OutOfMem
     }
 }
 
-// The compact JSON text of a tree.
+// The compact JSON text of a tree, as a line.
 #[tactic(auto, using(crate::proofs::NoFloats::has_no_float))]
 fn print(alloc: Global, tree: &Tree) -> Result<String, OutOfMemory>
     requires { InRange tree.now }
-    ensures { IfOk result (λ text. string_bytes text ≡ json_text tree.now) }
+    ensures { IfOk result (λ text. string_bytes text ≡ json_line tree.now) }
 {
-    Ok(to_value(alloc, tree)?.to_string(alloc)?)
+    line_of(to_value(alloc, tree)?.to_string(alloc)?)
 }
 
-// The text of a setup's tree, or the rule that it breaks.
+// The line of a setup's tree, or the rule that it breaks. It is read again as it stands, with its newline.
 fn accept(alloc: Global, tree: &Tree) -> Result<String, SetupFault>
     requires { InRange tree.now }
-    ensures text { IfOk result (λ text. string_bytes text ≡ json_text tree.now) }
+    ensures text { IfOk result (λ text. string_bytes text ≡ json_line tree.now) }
     ensures accepted { IfOk result (λ text. IsAccepted tree.now) }
     ensures broken { (rule : AnyRule) → result ≡ Err (Rule rule) → Breaks tree.now rule }
 {
@@ -72,7 +73,7 @@ fn accept(alloc: Global, tree: &Tree) -> Result<String, SetupFault>
     }
 }
 
-/// The text of the setup with the objects of some files, or the rule that it breaks.
+/// The line of the setup with the objects of some files, or the rule that it breaks.
 pub fn accept_shown(alloc: Global, given: Given<'_>, shown: &[Tree]) -> Result<String, SetupFault>
     requires policy { InRange given.policy.now }
     requires trees { All InRange given.trees.now }

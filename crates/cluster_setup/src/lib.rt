@@ -1,6 +1,7 @@
 //! A setup made of what an API server tells: which resources it has, and which objects there are at one revision.
 #![tactic(auto)]
 
+mod answering;
 mod assembling;
 mod blaming;
 mod building;
@@ -8,8 +9,10 @@ mod entries;
 mod fault;
 mod files;
 mod finding;
+mod gathering;
 mod judging;
 mod making;
+mod names;
 mod objects;
 mod refusing;
 mod shapes;
@@ -17,6 +20,8 @@ mod table;
 mod telling;
 mod words;
 
+pub use answering::{MadeText, make_named};
 pub use fault::{FileFault, SetupRefusal};
 pub use making::make_setup;
+pub use names::{are_distinct, is_among};
 pub use telling::refusal_words;

@@ -215,7 +215,8 @@ fn governed(
     }
 }
 
-/// Makes the text of a setup that begins at the revision of the lists given and at this time, a timestamp.
+/// Makes the text of a setup that begins at the revision of the lists given and at this time, a timestamp. It is one
+/// line, and ends with its newline.
 /// `policy` is the API server's audit policy as JSON. Each file is an `APIResourceList` or a whole list of objects, as
 /// `kubectl get --raw` gives them; the setup tracks the resources of the lists, whose objects are its snapshot in the
 /// order of files and items. With `authorize` recorded decisions are judged.

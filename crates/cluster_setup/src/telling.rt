@@ -1,5 +1,6 @@
 ghost use Rattle.std.specs.Prelude.{◌≡◌, ◌≢◌, ◌++◌, IfOk, IsOk, codes, map, string_bytes};
 ghost use Rattle.cluster_setup.specs.Telling.{rule_word, code_word, name_at, refusal_words};
+ghost use Rattle.verdict_text.specs.Words.{ended};
 
 use crate::fault::{FileFault, SetupRefusal};
 use base_types::OutOfMemory;
@@ -78,4 +79,13 @@ pub fn refusal_words(
         SetupRefusal::File { number, code } => file_words(alloc, name_at(names, number), code),
         SetupRefusal::OutOfMemory => Err(OutOfMemory),
     }
+}
+
+/// A text as a line.
+pub fn line_of(text: String) -> Result<String, OutOfMemory>
+    ensures { IfOk result (λ line. string_bytes line ≡ ended (string_bytes text)) }
+{
+    let mut line = text;
+    line.push('\n')?;
+    Ok(line)
 }

@@ -1,58 +1,123 @@
 -- What a command comes to, of what was found for it.
-use Rattle.std.proofs.Common.{◌≡◌, ◌≢◌, ℕ, zero, ◌∷◌, Bool, Contains, map, List, Option, Some, Result, Ok, Err, IfOk, IsErrOf, inl, inr, refl, sym, subst, arith}
+use Rattle.std.proofs.Common.{◌≡◌, ◌≢◌, ℕ, zero, ◌∷◌, Bool, Contains, map, List, Option, Some, Result, Ok, Err, IfOk, IsErrOf, codes, inl, inr, refl, sym, ◌∙◌, ap, subst, arith}
+use Rattle.cluster_setup.specs.Answering.{AnswersMade}
+use Rattle.cluster_setup.specs.Gathering.{TellsAll}
+use Rattle.cluster_setup.specs.declared.answering.MadeText.{MadeText}
+use Rattle.cluster_setup.specs.declared.answering.MadeText.TheVariants as made
 use Rattle.context_intake.specs.declared.stop.Stop.{Stop}
 use Rattle.context_intake.specs.declared.stop.Stop.TheVariants.{OutOfMemory, ReadFault}
 use Rattle.edge_io.specs.Faults.{Rose}
-use Rattle.log_verdict.specs.Answers.{report_answer as verdict_answer}
+use Rattle.edge_io.specs.declared.whole.WholeStop.{WholeStop}
+use Rattle.edge_io.specs.declared.whole.WholeStop.TheVariants as whole
+use Rattle.log_sift.specs.Named.{AnswersSift, shown_text}
+use Rattle.log_sift.specs.declared.named.SiftText.{SiftText}
+use Rattle.log_verdict.specs.Answers.{answer, report_answer as verdict_answer}
 use Rattle.log_verdict.specs.declared.report.Report.{Report as Verdict}
+use Rattle.verdict_text.specs.Words.{ended}
 use Rattle.companion.specs.Picturing.{IsPictured}
-use Rattle.companion.specs.Command.{Picture, Setup, Sift, Tells}
-use Rattle.companion.specs.Making.{IsSetupAnswer, TellsAll}
+use Rattle.companion.specs.Command.{Asked, Picture, Reads, Setup, Sift, Tells}
+use Rattle.companion.specs.Making.{IsSetupAnswer}
 use Rattle.companion.specs.Program.{IsAnswerTo}
-use Rattle.companion.specs.Reported.{IsCutWithin, IsReported, report_answer}
+use Rattle.companion.specs.Reported.{IsCutWithin, IsReported, TellsStop, made_answer, report_answer}
 use Rattle.companion.specs.Sifted.{IsSiftAnswer}
 use Rattle.companion.specs.declared.report.Report.{Report}
-
-module _ (old now : List ℕ → Option (List ℕ)) (untouched : Type 0) (faults_before faults_now : ℕ) (left : Bool) (log : List ℕ) where
-  sift_answered : (found : Result Report Stop) → IfOk found (λ report. (bytes : List ℕ) → old log ≡ Some bytes → IsSiftAnswer left bytes (report_answer report))
-      → IfOk found (λ report. (files : List ℕ → List ℕ) → Tells (Sift left log) old files → IsAnswerTo (Some (Sift left log)) files (report_answer report))
-  sift_answered (Ok report) right = λ files tells. right (files log) (tells log refl)
-  sift_answered (Err stop) right = tt
-
-  pub sift_reported : (found : Result Report Stop) → IfOk found (λ report. (bytes : List ℕ) → old log ≡ Some bytes → IsSiftAnswer left bytes (report_answer report))
-      → IfOk found (λ report. IsCutWithin report.body) → (IsErrOf found ReadFault → Rose faults_before faults_now) → ((other : List ℕ) → other ≢ log → now other ≡ old other)
-      → IsReported (Sift left log) old now untouched faults_before faults_now found
-  sift_reported found right within fault others = record {
-    answered = sift_answered found right;
-    within = within;
-    fault = fault;
-    left = λ none. absurd (none log refl);
-    others = others;
-  }
-
-module _ (old now : List ℕ → Option (List ℕ)) (untouched : Type 0) (faults_before faults_now : ℕ) (authorize : Bool) (time policy : List ℕ) (names : List (List ℕ)) where
-  setup_answered : (found : Result Report Stop)
-      → IfOk found (λ report. (told : List ℕ → List ℕ) → TellsAll (policy ∷ names) old told → IsSetupAnswer authorize time (told policy) names (map told names) (report_answer report))
-      → IfOk found (λ report. (files : List ℕ → List ℕ) → Tells (Setup authorize time policy names) old files → IsAnswerTo (Some (Setup authorize time policy names)) files (report_answer report))
-  setup_answered (Ok report) right = λ files tells. right files tells
-  setup_answered (Err stop) right = tt
-
-  pub setup_reported : (found : Result Report Stop)
-      → IfOk found (λ report. (told : List ℕ → List ℕ) → TellsAll (policy ∷ names) old told → IsSetupAnswer authorize time (told policy) names (map told names) (report_answer report))
-      → IfOk found (λ report. IsCutWithin report.body) → (IsErrOf found ReadFault → Rose faults_before faults_now)
-      → ((other : List ℕ) → (Contains (policy ∷ names) other → ⊥) → now other ≡ old other)
-      → IsReported (Setup authorize time policy names) old now untouched faults_before faults_now found
-  setup_reported found right within fault others = record {
-    answered = setup_answered found right;
-    within = within;
-    fault = fault;
-    left = λ none. absurd (none policy (zero, omega arith, refl));
-    others = others;
-  }
 
 -- want of memory is no fault
 never_fault : (found : Result Report Stop) → found ≡ Err OutOfMemory → IsErrOf found ReadFault → ⊥
 never_fault found is faulty = let apart : found ≡ Err ReadFault = faulty in cc
+
+never_both : (report : Report) → ◌≡◌ {A = Result Report Stop} (Ok report) (Err ReadFault) → ⊥
+never_both report no = cc
+
+never_memory : (report : Report) → ◌≡◌ {A = Result Report Stop} (Ok report) (Err OutOfMemory) → ⊥
+never_memory report no = cc
+
+-- a name that wasn't read to its end
+module _ (old now : List ℕ → Option (List ℕ)) (untouched : Type 0) (faults_before faults_now : ℕ) (asked : Asked) (limit : List ℕ) where
+  stop_shown : (stop : WholeStop) (shown : Result Report Stop) → TellsStop stop limit shown
+      → (stop ≡ whole.TooLong → (files : List ℕ → List ℕ) → Tells asked old files → IsAnswerTo (Some asked) files (answer 7 limit))
+      → (stop ≡ whole.ReadFault → Rose faults_before faults_now) → (((name : List ℕ) → Reads asked name → ⊥) → untouched)
+      → ((name : List ℕ) → (Reads asked name → ⊥) → now name ≡ old name) → IsReported asked old now untouched faults_before faults_now shown
+  stop_shown whole.TooLong (Ok report) tells long fault left others = record {
+    answered = λ files told. subst (IsAnswerTo (Some asked) files) (sym tells.0) (long refl files told);
+    within = tells.1;
+    fault = λ no. absurd (never_both report no);
+    left = left;
+    others = others;
+  }
+  stop_shown whole.TooLong (Err other) tells long fault left others = absurd tells
+  stop_shown whole.ReadFault (Ok report) tells long fault left others = absurd (never_both report tells)
+  stop_shown whole.ReadFault (Err other) tells long fault left others = record {
+    answered = tt;
+    within = tt;
+    fault = λ _. fault refl;
+    left = left;
+    others = others;
+  }
+  stop_shown whole.OutOfMemory (Ok report) tells long fault left others = absurd (never_memory report tells)
+  stop_shown whole.OutOfMemory (Err other) tells long fault left others = record {
+    answered = tt;
+    within = tt;
+    fault = λ no. absurd (never_fault (Err other) tells no);
+    left = left;
+    others = others;
+  }
+
+-- what a log comes to, line by line
+module _ (old now : List ℕ → Option (List ℕ)) (untouched : Type 0) (faults_before faults_now : ℕ) (left : Bool) (log : List ℕ) where
+  sift_answer : (bytes : List ℕ) (text : SiftText) → AnswersSift left bytes (Ok text) → IsSiftAnswer left bytes (answer 0 (shown_text text))
+  sift_answer bytes text is = inr (is.0, (is.1.0, is.1.1.0, is.1.1.1.0, ap (answer 0) is.1.1.1.1))
+
+  pub sift_reported : (text : SiftText) (report : Report) → report_answer report ≡ answer 0 (shown_text text) → IsCutWithin report.body
+      → ((bytes : List ℕ) → old log ≡ Some bytes → AnswersSift left bytes (Ok text)) → ((other : List ℕ) → other ≢ log → now other ≡ old other)
+      → IsReported (Sift left log) old now untouched faults_before faults_now (Ok report)
+  sift_reported text report same within right others = record {
+    answered = λ files tells. subst (IsSiftAnswer left (files log)) (sym same) (sift_answer (files log) text (right (files log) (tells log refl)));
+    within = within;
+    fault = λ no. absurd (never_both report no);
+    left = λ none. absurd (none log refl);
+    others = others;
+  }
+
+  pub sift_stopped : (stop : WholeStop) (shown : Result Report Stop) → TellsStop stop (ended (codes "limit input")) shown
+      → ((bytes : List ℕ) → old log ≡ Some bytes → AnswersSift left bytes (Err stop)) → (stop ≡ whole.ReadFault → Rose faults_before faults_now)
+      → ((other : List ℕ) → other ≢ log → now other ≡ old other) → IsReported (Sift left log) old now untouched faults_before faults_now shown
+  sift_stopped stop shown tells right fault others =
+      stop_shown old now untouched faults_before faults_now (Sift left log) (ended (codes "limit input")) stop shown tells
+      (λ is files told. inl (subst (λ (s : WholeStop). AnswersSift left (files log) (Err s)) is (right (files log) (told log refl)), refl))
+      fault (λ none. absurd (none log refl)) others
+
+-- the setup of a policy and files
+module _ (old now : List ℕ → Option (List ℕ)) (untouched : Type 0) (faults_before faults_now : ℕ) (authorize : Bool) (time policy : List ℕ) (names : List (List ℕ)) where
+  setup_answer : (of_policy : List ℕ) (of_files : List (List ℕ)) (found : MadeText) → AnswersMade authorize time of_policy names of_files (Ok found)
+      → IsSetupAnswer authorize time of_policy names of_files (made_answer found)
+  setup_answer of_policy of_files (made.Setup line) is = inr (is.0, inl (line, is.1.0, is.1.1, refl))
+  setup_answer of_policy of_files (made.Refused line) is = inr (is.0, inr (is.1.0, is.1.1.0, ap (answer 3) is.1.1.1))
+
+  untold : ((name : List ℕ) → Contains (policy ∷ names) name → ⊥) → untouched
+  untold none = absurd (none policy (zero, omega arith, refl))
+
+  pub setup_reported : (found : MadeText) (report : Report) → report_answer report ≡ made_answer found → IsCutWithin report.body
+      → ((told : List ℕ → List ℕ) → TellsAll (policy ∷ names) old told → AnswersMade authorize time (told policy) names (map told names) (Ok found))
+      → ((other : List ℕ) → (Contains (policy ∷ names) other → ⊥) → now other ≡ old other)
+      → IsReported (Setup authorize time policy names) old now untouched faults_before faults_now (Ok report)
+  setup_reported found report same within right others = record {
+    answered = λ files tells.
+        subst (IsSetupAnswer authorize time (files policy) names (map files names)) (sym same) (setup_answer (files policy) (map files names) found (right files tells));
+    within = within;
+    fault = λ no. absurd (never_both report no);
+    left = untold;
+    others = others;
+  }
+
+  pub setup_stopped : (stop : WholeStop) (shown : Result Report Stop) → TellsStop stop (ended (codes "limit file")) shown
+      → ((told : List ℕ → List ℕ) → TellsAll (policy ∷ names) old told → AnswersMade authorize time (told policy) names (map told names) (Err stop))
+      → (stop ≡ whole.ReadFault → Rose faults_before faults_now) → ((other : List ℕ) → (Contains (policy ∷ names) other → ⊥) → now other ≡ old other)
+      → IsReported (Setup authorize time policy names) old now untouched faults_before faults_now shown
+  setup_stopped stop shown tells right fault others =
+      stop_shown old now untouched faults_before faults_now (Setup authorize time policy names) (ended (codes "limit file")) stop shown tells
+      (λ is files told. inl (subst (λ (s : WholeStop). AnswersMade authorize time (files policy) names (map files names) (Err s)) is (right files told), refl))
+      fault untold others
 
 -- the page of a verdict, or why there is none
 module _ (old now : List ℕ → Option (List ℕ)) (untouched : Type 0) (faults_before faults_now : ℕ) (setup log : List ℕ) where

@@ -1,6 +1,6 @@
 -- What the words of the command line ask for.
-use Rattle.std.specs.Prelude.{◌≡◌, ◌≢◌, ◌<◌, ◌⊎◌, ℕ, Bool, true, false, List, [], ◌∷◌, length, Contains, Option, Some, None, bytes_eq, codes, map, string_bytes, if◌then◌else◌}
-use Rattle.std.specs.List.{list_any}
+use Rattle.std.specs.Prelude.{◌≡◌, ◌≢◌, ◌<◌, ◌⊎◌, ℕ, Bool, true, false, List, [], ◌∷◌, length, Contains, Option, Some, None, codes, map, string_bytes}
+use Rattle.cluster_setup.specs.Names.{are_distinct}
 use Rattle.code_guide.specs.Guides.{text_of}
 use Rattle.companion.specs.declared.words.Command.{Command}
 use Rattle.companion.specs.declared.words.Command.TheVariants as word
@@ -24,11 +24,6 @@ sift_words false log = codes "sift" ∷ log ∷ []
 abbrev pub setup_words : Bool → List (List ℕ) → List (List ℕ)
 setup_words true words = codes "setup" ∷ codes "--authorize" ∷ words
 setup_words false words = codes "setup" ∷ words
-
--- no two names are equal
-abbrev pub are_distinct : List (List ℕ) → Bool
-are_distinct [] = true
-are_distinct (name ∷ names) = if list_any (bytes_eq name) names then false else are_distinct names
 
 -- a time, and the names of a policy and of some files
 pub record AreInputs (time policy : List ℕ) (files : List (List ℕ)) : Type 0 where

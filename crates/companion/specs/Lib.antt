@@ -1,5 +1,4 @@
 pub mod Command
-pub mod Gathering
 pub mod Making
 pub mod Picturing
 pub mod Program

@@ -1,28 +1,20 @@
 -- What a time, a policy and files come to as a setup, of their bytes alone.
-use Rattle.std.specs.Prelude.{◌≡◌, ◌<◌, ◌⊎◌, ℕ, Bool, List, [], ◌∷◌, length, Contains, Option, Some, codes}
+use Rattle.std.specs.Prelude.{◌≡◌, ◌⊎◌, ℕ, Bool, List, ◌∷◌, codes}
 use Rattle.cluster_setup.specs.Answers.{IsMade, Refuses}
+use Rattle.cluster_setup.specs.Gathering.{SomeLong}
 use Rattle.cluster_setup.specs.Telling.{refusal_words}
 use Rattle.cluster_setup.specs.Told.{Tells}
 use Rattle.cluster_setup.specs.declared.fault.SetupRefusal.{SetupRefusal}
 use Rattle.log_verdict.specs.Answers.{Answer, answer}
 use Rattle.verdict_text.specs.Words.{ended}
 
--- a policy, and each file, has at most so many bytes
-abbrev pub most_file : ℕ
-most_file = 268435456
-
--- one of these has more
-abbrev pub SomeLong : List (List ℕ) → Type 0
-SomeLong [] = ⊥
-SomeLong (bytes ∷ others) = (most_file < length bytes) ⊎ SomeLong others
-
 abbrev pub refused_answer : List (List ℕ) → SetupRefusal → Answer
 refused_answer names refusal = answer 3 (ended (refusal_words names refusal))
 
--- the setup, which its readers take as one of these bytes and of nothing else; or why none is made of files with these names
+-- the setup, a line which its readers take as it stands as one of these bytes and of nothing else; or why none is made of files with these names
 abbrev pub IsMadeAnswer : Bool → (time policy : List ℕ) → (names files : List (List ℕ)) → Answer → Type 0
 IsMadeAnswer authorize time policy names files answered =
-    ((text : List ℕ) × IsMade time policy files authorize text × Tells time policy files authorize text × (answered ≡ answer 0 (ended text)))
+    ((line : List ℕ) × IsMade time policy files authorize line × Tells time policy files authorize line × (answered ≡ answer 0 line))
     ⊎ ((refusal : SetupRefusal) × Refuses time policy files authorize refusal × (answered ≡ refused_answer names refusal))
 
 -- the limit comes first
@@ -30,7 +22,3 @@ abbrev pub IsSetupAnswer : Bool → (time policy : List ℕ) → (names files : 
 IsSetupAnswer authorize time policy names files answered =
     (SomeLong (policy ∷ files) × (answered ≡ answer 7 (ended (codes "limit file"))))
     ⊎ ((SomeLong (policy ∷ files) → ⊥) × IsMadeAnswer authorize time policy names files answered)
-
--- of each of these names the bytes are told
-abbrev pub TellsAll : List (List ℕ) → (List ℕ → Option (List ℕ)) → (List ℕ → List ℕ) → Type 0
-TellsAll names left files = (name : List ℕ) → Contains names name → left name ≡ Some (files name)

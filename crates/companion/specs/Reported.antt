@@ -1,17 +1,21 @@
 -- What a command comes to before it is written: its report, and what was done to the desk.
-use Rattle.std.specs.Prelude.{◌≡◌, ⊤, ℕ, List, All, Option, Some, Result, Ok, Err, IfOk, IsErrOf, codes}
+use Rattle.std.specs.Prelude.{◌≡◌, ⊤, ℕ, List, Option, Some, Result, Ok, Err, IfOk, IsErrOf, codes}
 use Rattle.std.specs.Io.KnownBytes.{Keeps}
 use Rattle.context_intake.specs.declared.stop.Stop.{Stop}
 use Rattle.context_intake.specs.declared.stop.Stop.TheVariants.{OutOfMemory, ReadFault}
 use Rattle.edge_io.specs.Endings.{Ends}
 use Rattle.edge_io.specs.Faults.{Rose}
-use Rattle.log_sift.specs.Sifted.{IsWithin, stretches_text}
+use Rattle.edge_io.specs.declared.whole.WholeStop.{WholeStop}
+use Rattle.edge_io.specs.declared.whole.WholeStop.TheVariants as whole
+use Rattle.cluster_setup.specs.declared.answering.MadeText.{MadeText}
+use Rattle.cluster_setup.specs.declared.answering.MadeText.TheVariants as made
+use Rattle.log_sift.specs.Named as sift
 use Rattle.log_verdict.specs.Answers.{Answer, answer}
 use Rattle.verdict_text.specs.Words.{ended}
 use Rattle.companion.specs.Command.{Asked, Reads, Tells}
 use Rattle.companion.specs.Program.{IsAnswerTo}
 use Rattle.companion.specs.declared.report.Body.{Body}
-use Rattle.companion.specs.declared.report.Body.TheVariants.{Fixed, Made, Cut}
+use Rattle.companion.specs.declared.report.Body.TheVariants.{Fixed, Made, Sifted}
 use Rattle.companion.specs.declared.report.Report.{Report}
 use Rattle.companion.specs.declared.report.Status.{Status}
 use Rattle.companion.specs.declared.report.Status.TheVariants.{Done, Unexplained, SetupRefused, LogRefused, LimitPassed}
@@ -26,16 +30,32 @@ status_number LimitPassed = 7
 abbrev pub body_text : Body → List ℕ
 body_text (Fixed text) = text.now
 body_text (Made text) = text
-body_text (Cut log stays) = stretches_text log stays
+body_text (Sifted text) = sift.shown_text text
 
--- the stretches lie in the log
+-- the stretches of a log lie in it
 abbrev pub IsCutWithin : Body → Type 0
 IsCutWithin (Fixed text) = ⊤
 IsCutWithin (Made text) = ⊤
-IsCutWithin (Cut log stays) = All (IsWithin log) stays
+IsCutWithin (Sifted text) = sift.IsCutWithin text
 
 abbrev pub report_answer : Report → Answer
 report_answer report = answer (status_number report.status) (body_text report.body)
+
+-- the line of a setup, or why there is none, with its status
+abbrev pub made_answer : MadeText → Answer
+made_answer (made.Setup line) = answer 0 line
+made_answer (made.Refused line) = answer 3 line
+
+-- a report of this limit
+abbrev pub IsLimitReport : List ℕ → Result Report Stop → Type 0
+IsLimitReport limit (Ok report) = (report_answer report ≡ answer 7 limit) × IsCutWithin report.body
+IsLimitReport limit (Err stop) = ⊥
+
+-- why a name wasn't read to its end, as a report with the text of the limit, or as why there is none
+abbrev pub TellsStop : WholeStop → List ℕ → Result Report Stop → Type 0
+TellsStop whole.TooLong limit found = IsLimitReport limit found
+TellsStop whole.ReadFault limit found = found ≡ Err ReadFault
+TellsStop whole.OutOfMemory limit found = found ≡ Err OutOfMemory
 
 -- the report is that of the command; the faults are those of the desk
 pub record IsReported (asked : Asked) (old now : List ℕ → Option (List ℕ)) (untouched : Type 0) (faults_before faults_now : ℕ) (found : Result Report Stop) : Type 0 where

@@ -1,20 +1,11 @@
 -- What a log comes to line by line, of its bytes alone.
-use Rattle.std.specs.Prelude.{◌≡◌, ◌<◌, ◌≤◌, ◌⊎◌, ℕ, Bool, true, false, List, length, codes}
-use Rattle.log_sift.specs.Sifted.{IsSifting, stretches_text}
-use Rattle.log_sift.specs.Telling.{left_text}
+use Rattle.std.specs.Prelude.{◌≡◌, ◌<◌, ◌≤◌, ◌⊎◌, ℕ, Bool, List, length, codes}
+use Rattle.log_sift.specs.Named.{most_log, sifted_text}
+use Rattle.log_sift.specs.Sifted.{IsSifting}
 use Rattle.log_sift.specs.declared.answer.Fate.{Fate}
 use Rattle.log_sift.specs.declared.answer.Sifting.{Sifting}
 use Rattle.log_verdict.specs.Answers.{Answer, answer}
 use Rattle.verdict_text.specs.Words.{ended}
-
--- a log has at most so many bytes
-abbrev pub most_log : ℕ
-most_log = 1099511627776
-
--- the lines that stay, or what is said of the others
-abbrev pub sifted_text : Bool → List ℕ → Sifting → List ℕ
-sifted_text true log sifting = left_text sifting
-sifted_text false log sifting = stretches_text log sifting.stays
 
 -- what the bytes of a log come to: the limit comes first
 abbrev pub IsSiftAnswer : Bool → List ℕ → Answer → Type 0

@@ -1,27 +1,12 @@
-ghost use Rattle.std.specs.Prelude.{◌≡◌, ◌≤◌, All, OnOk, OnErr};
+ghost use Rattle.std.specs.Prelude.{◌≤◌, OnOk, OnErr};
 ghost use Rattle.std.specs.Io.KnownBytes.{Appends};
 ghost use Rattle.edge_io.specs.Endings.{AppendsPart, Ends};
 ghost use Rattle.edge_io.specs.Faults.{HasCause};
-ghost use Rattle.log_sift.specs.Sifted.{IsWithin, stretches_text};
 ghost use Rattle.companion.specs.Reported.{IsCutWithin, body_text};
 
 use crate::report::Body;
 use edge_io::{Sink, SinkFailed, write_whole};
-use log_sift::Stretch;
-
-// Writes stretches of a log one behind another.
-fn write_stretches<K: Sink>(out: &mut K, log: &[u8], stays: &[Stretch]) -> Result<(), SinkFailed>
-    requires { All (IsWithin log.now) stays.now }
-    ensures whole { OnOk result (Appends (K.written out.old) (K.written out.new) (stretches_text log.now stays.now)) }
-    ensures part { OnErr result (AppendsPart (K.written out.old) (K.written out.new)
-        (stretches_text log.now stays.now)) }
-    ensures cause { HasCause (K.faults out.old) (K.faults out.new) result }
-{
-    for stretch in stays {
-        write_whole(out, &log[stretch.start..stretch.end])?;
-    }
-    Ok(())
-}
+use log_sift::write_sifted;
 
 fn write_body<K: Sink>(out: &mut K, body: &Body) -> Result<(), SinkFailed>
     requires { IsCutWithin body.now }
@@ -32,7 +17,7 @@ fn write_body<K: Sink>(out: &mut K, body: &Body) -> Result<(), SinkFailed>
     match body {
         Body::Fixed(text) => write_whole(out, text.as_bytes()),
         Body::Made(text) => write_whole(out, text.as_slice()),
-        Body::Cut { log, stays } => write_stretches(out, log.as_slice(), stays.as_slice()),
+        Body::Sifted(text) => write_sifted(out, text),
     }
 }
 

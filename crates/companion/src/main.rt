@@ -2,14 +2,10 @@
 #![tactic(auto)]
 
 mod ending;
-mod gathering;
-mod making;
 mod picturing;
-mod reading;
 mod report;
 mod reporting;
 mod running;
-mod sifting;
 mod words;
 
 use edge_io::{FileDesk, StdSink};

@@ -2,7 +2,7 @@ ghost use Rattle.std.specs.Prelude.{◌≡◌};
 ghost use Rattle.companion.specs.Reported.{status_number};
 
 use base_types::Bytes;
-use log_sift::Stretches;
+use log_sift::SiftText;
 
 /// How a command was answered.
 #[derive(Clone, Copy)]
@@ -41,8 +41,8 @@ pub enum Body {
     Fixed(&'static str),
     /// One that was made.
     Made(Bytes),
-    /// The stretches of a log that stay, one behind another.
-    Cut { log: Bytes, stays: Stretches },
+    /// What a log comes to, line by line.
+    Sifted(SiftText),
 }
 
 /// A status and the text that goes with it.

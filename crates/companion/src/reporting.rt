@@ -1,16 +1,18 @@
 ghost use Rattle.std.specs.Prelude.{◌≡◌, ◌≢◌, ◌∷◌, true, map, string_bytes};
 ghost use Rattle.log_verdict.specs.Answers.{report_answer as verdict_answer, status_number as verdict_number};
-ghost use Rattle.companion.specs.Command.{Explain, IsSpelled, Picture, Setup, Sift, are_distinct, command_asked};
-ghost use Rattle.companion.specs.Reported.{IsCutWithin, IsReported, report_answer, status_number};
+ghost use Rattle.cluster_setup.specs.Names.{are_distinct};
+ghost use Rattle.companion.specs.Command.{Explain, IsSpelled, Picture, Setup, Sift, command_asked};
+ghost use Rattle.companion.specs.Reported.{IsCutWithin, IsReported, TellsStop};
+ghost use Rattle.companion.specs.Reported.{made_answer, report_answer, status_number};
 
-use crate::making::make_named;
 use crate::picturing::picture;
 use crate::report::{Body, Report, Status};
-use crate::sifting::sift_named;
 use crate::words::Command;
+use cluster_setup::{MadeText, make_named};
 use context_intake::Stop;
-use edge_io::Desk;
+use edge_io::{Desk, WholeStop};
 use judge_pool::Gate;
+use log_sift::sift_named;
 use log_verdict::Gates;
 use std::alloc::Global;
 use std::marker::Sync;
@@ -57,7 +59,13 @@ fn sifted<D: Desk>(alloc: Global, desk: &mut D, log: &str, left: bool) -> Result
     ensures { IsReported (Sift left log.now) (D.left desk.old) (D.left desk.new) (desk.new ≡ desk.old)
         (D.faults desk.old) (D.faults desk.new) result }
 {
-    sift_named(alloc, desk, log, left)
+    match sift_named(alloc, desk, log, left) {
+        Ok(text) => Ok(Report {
+            status: Status::Done,
+            body: Body::Sifted(text),
+        }),
+        Err(stop) => stop_report(stop, "limit input\n"),
+    }
 }
 
 // The setup of a policy and files, each by its name.
@@ -73,7 +81,40 @@ fn made<D: Desk>(
     ensures { IsReported (Setup authorize time.now policy.now (map string_bytes files.now)) (D.left desk.old)
         (D.left desk.new) (desk.new ≡ desk.old) (D.faults desk.old) (D.faults desk.new) result }
 {
-    make_named(alloc, desk, authorize, time, policy, files)
+    match make_named(alloc, desk, authorize, time, policy, files) {
+        Ok(found) => Ok(made_report(found)),
+        Err(stop) => stop_report(stop, "limit file\n"),
+    }
+}
+
+fn made_report(found: MadeText) -> Report
+    ensures answer { report_answer result ≡ made_answer found }
+    ensures within { IsCutWithin result.body }
+{
+    match found {
+        MadeText::Setup(line) => Report {
+            status: Status::Done,
+            body: Body::Made(line),
+        },
+        MadeText::Refused(line) => Report {
+            status: Status::SetupRefused,
+            body: Body::Made(line),
+        },
+    }
+}
+
+// Why a name wasn't read to its end; where it is too long, with the text of that limit.
+fn stop_report(stop: WholeStop, limit: &'static str) -> Result<Report, Stop>
+    ensures { TellsStop stop limit.now result }
+{
+    match stop {
+        WholeStop::TooLong => Ok(Report {
+            status: Status::LimitPassed,
+            body: Body::Fixed(limit),
+        }),
+        WholeStop::ReadFault => Err(Stop::ReadFault),
+        WholeStop::OutOfMemory => Err(Stop::OutOfMemory),
+    }
 }
 
 // The page of the verdict on a log.

@@ -14,18 +14,15 @@ use crate::refusal::{Limit, Refusal};
 use crate::stop::Stop;
 use crate::told::Told;
 use audit_event::Events;
-use edge_io::Desk;
+use edge_io::{Desk, piece_buffer};
 use hash_seed::Seed;
 use judge_pool::Gate;
 use log_intake::{LogStop, SetupRead, SetupStop, read_log, read_setup_named};
 use setup_file::Setup;
-use std::alloc::{AllocError, Global};
+use std::alloc::Global;
 use std::marker::Sync;
 use std::thread::Threads;
 use version_store::{BuildFault, Context};
-
-/// What a read offers room for, in bytes.
-const PIECE: usize = 65_536;
 
 /// Reads a setup and then a log from a desk, each by its name, and finds what they tell. Several threads decode the
 /// lines of a batch, of which each one's index enters the gate, and classify the events.
@@ -64,12 +61,6 @@ pub fn read_context<R: Threads + Sync, D: Desk, H: Gate>(
         Ok(events) => told_by(rt, alloc, setup, events, seed),
         Err(stop) => refused_log(stop),
     }
-}
-
-fn piece_buffer(alloc: Global) -> Result<Vec<u8>, AllocError>
-    ensures { IfOk result (λ buffer. length buffer.items ≡ 65536) }
-{
-    vec![in alloc; 0u8; PIECE]
 }
 
 fn refused_setup(stop: SetupStop) -> Result<Told, Stop>

@@ -6,8 +6,10 @@ pub mod HomeFacts
 pub mod KeepingFacts
 pub mod LongFacts
 pub mod LoopFacts
+pub mod NamedFacts
 pub mod OneFacts
 pub mod SameFacts
 pub mod StayFacts
 pub mod TakenFacts
 pub mod WholeFacts
+pub mod WritingFacts

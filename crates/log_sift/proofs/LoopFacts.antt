@@ -14,7 +14,7 @@ use Rattle.log_sift.specs.declared.answer.Fate.TheVariants.{Blank, Stays, Left}
 use Rattle.log_sift.specs.declared.answer.LeftLine.{LeftLine}
 use Rattle.log_sift.specs.declared.answer.Stretch.{Stretch}
 use Rattle.log_sift.specs.declared.answer.Sifting.{Sifting}
-use Rattle.log_sift.specs.declared.recalling.Identity.{Identity}
+use Rattle.log_sift.specs.declared.recalling.HomeKey.{HomeKey}
 use Rattle.log_sift.specs.declared.recalling.Home.{Home}
 use Rattle.log_sift.specs.Cutting.{BeginsWith, texts_of}
 use Rattle.log_sift.specs.Recalling.{AreHomes, SiftsAt}
@@ -30,7 +30,7 @@ pub record GoesOn (log : List ℕ) (sifting : Sifting) (number from start : ℕ)
   pub kept : count_stays all ≡ sifting.kept + count_stays fates
 
 -- the lines before an index were sifted, and from another on all of them stay
-pub record HasSifted (log : List ℕ) (entries : List (Identity × Home)) (sifting : Sifting) (number from start : ℕ) : Type 0 where
+pub record HasSifted (log : List ℕ) (entries : List (HomeKey × Home)) (sifting : Sifting) (number from start : ℕ) : Type 0 where
   pub first : from ≤ start
   pub last : start ≤ length log
   pub few : number ≤ start
@@ -132,7 +132,7 @@ goes_on_before log line sifting number from start next fate fates after first se
 }
 
 -- a line more is sifted
-pub has_sifted : (log line : List ℕ) (entries after : List (Identity × Home)) (sifting : Sifting) (number from start next : ℕ) (fate : Fate) → HasSifted log entries sifting number from start
+pub has_sifted : (log line : List ℕ) (entries after : List (HomeKey × Home)) (sifting : Sifting) (number from start next : ℕ) (fate : Fate) → HasSifted log entries sifting number from start
     → start < next → next ≤ length log → BeginsWith (drop start log) line (slice_range log start next) (drop next log) → SiftsAt log entries after line fate
     → HasSifted log after (noted sifting from start (number + 1) fate) (number + 1) (stays_from from next fate) next
 has_sifted log line entries after sifting number from start next fate has further last begins sifts =
@@ -153,7 +153,7 @@ has_sifted log line entries after sifting number from start next fate has furthe
     }
 
 -- all lines are sifted
-pub all_sifted : (log : List ℕ) (entries : List (Identity × Home)) (sifting told : Sifting) (number from start : ℕ) → HasSifted log entries sifting number from start → length log ≤ start
+pub all_sifted : (log : List ℕ) (entries : List (HomeKey × Home)) (sifting told : Sifting) (number from start : ℕ) → HasSifted log entries sifting number from start → length log ≤ start
     → told ≡ record sifting { stays = with_stretch sifting.stays from start } → (fates : List Fate) × IsSifting log fates told
 all_sifted log entries sifting told number from start has past is =
     let over : drop start log ≡ [] = drop_all start log past in

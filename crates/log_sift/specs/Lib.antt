@@ -1,4 +1,5 @@
 pub mod Cutting
+pub mod Named
 pub mod NothingLeft
 pub mod OneSifting
 pub mod Recalling

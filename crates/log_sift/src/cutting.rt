@@ -1,9 +1,9 @@
 ghost use Rattle.std.specs.Prelude.{◌≡◌, ◌≤◌, ◌<◌, ◌-◌, length, take, drop, IfSome, IfNone, slice_index, slice_range};
-ghost use Rattle.line_reader.specs.Lines.{is_blank, is_dropped, is_space, newline};
+ghost use Rattle.line_reader.specs.Lines.{newline};
 ghost use Rattle.line_reader.specs.Search.{HasNoNewline};
 ghost use Rattle.log_sift.specs.Cutting.{BeginsWith};
 
-use line_reader::{LONGEST_LINE, NEWLINE};
+use line_reader::NEWLINE;
 
 /// Where a line of a log ends, and where the next one begins, as indexes from 0.
 #[derive(Clone, Copy)]
@@ -40,23 +40,4 @@ pub fn cut_line(log: &[u8], start: usize) -> Cut
             next: log.len(),
         },
     }
-}
-
-fn is_space_byte(byte: u8) -> bool
-    ensures { result ≡ is_space byte }
-{
-    byte == b' ' || byte == b'\t' || byte == b'\r'
-}
-
-fn is_blank_line(line: &[u8]) -> bool
-    ensures { result ≡ is_blank line.now }
-{
-    line.iter().all(|byte| is_space_byte(*byte))
-}
-
-/// Whether a line is blank and not too long.
-pub fn is_dropped_line(line: &[u8]) -> bool
-    ensures { result ≡ is_dropped line.now }
-{
-    line.len() <= LONGEST_LINE && is_blank_line(line)
 }

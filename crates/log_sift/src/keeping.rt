@@ -5,12 +5,11 @@ ghost use Rattle.log_sift.specs.Recalling.{AreHomed, AreItemsAt, IsAt, Moves, Si
 ghost use Rattle.log_sift.specs.Sift.{KeepsDecoded, KeepsEvent, KeepsLine};
 
 use crate::answer::{Fate, LeftCause};
-use crate::cutting::is_dropped_line;
-use crate::recalling::{Home, Homes, Identity, compare_at, decode_at, home_of};
+use crate::recalling::{Home, HomeKey, Homes, compare_at, decode_at, home_of};
 use audit_event::{Event, Events};
 use base_types::OutOfMemory;
 use batch_decode::Decoded;
-use line_reader::LONGEST_LINE;
+use line_reader::{LONGEST_LINE, is_dropped_line};
 use std::alloc::Global;
 
 // Keeps where an event stands, unless it repeats a kept one; tells why it isn't kept where it differs from that.
@@ -26,7 +25,7 @@ fn keep_event(
     ensures { IfOk result (Moves log.now homes.old.entries homes.new.entries (λ kept. KeepsEvent kept event)) }
 {
     let audit_id = event.audit_id.clone()?;
-    let identity = Identity {
+    let identity = HomeKey {
         audit_id,
         stage: event.stage,
     };

@@ -14,9 +14,9 @@ use indexmap::IndexMap;
 use line_reader::Line;
 use std::alloc::Global;
 
-/// One stage of one request.
+/// What the home of an event is kept under: one stage of one request.
 #[derive(Drop, PartialEq, Eq, Hash)]
-pub struct Identity {
+pub struct HomeKey {
     pub audit_id: Text,
     pub stage: Stage,
 }
@@ -33,11 +33,11 @@ pub struct Home {
 }
 
 /// Where the kept events stand, in the order in which they were kept.
-pub type Homes = IndexMap<Identity, Home, Seeded>;
+pub type Homes = IndexMap<HomeKey, Home, Seeded>;
 
 /// Where the event of an identity stands.
-pub fn home_of(homes: &Homes, identity: &Identity) -> Option<Home>
-    ensures { result ≡ get (⟦<Identity as PartialEq>⟧.eq) homes.now identity.now }
+pub fn home_of(homes: &Homes, identity: &HomeKey) -> Option<Home>
+    ensures { result ≡ get (⟦<HomeKey as PartialEq>⟧.eq) homes.now identity.now }
 {
     homes.get(identity).copied()
 }

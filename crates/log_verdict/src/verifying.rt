@@ -12,18 +12,15 @@ ghost use Rattle.log_verdict.specs.Verifying.{most_placement};
 use crate::verified::Verified;
 use base_types::OutOfMemory;
 use context_intake::{Refusal, Stop, Told, read_context};
-use edge_io::{Desk, WholeStop, read_whole};
+use edge_io::{Desk, WholeStop, piece_buffer, read_whole};
 use judge_pool::Gate;
 use serial_machine::{Checked, verify as check_again};
-use std::alloc::{AllocError, Global};
+use std::alloc::Global;
 use std::marker::Sync;
 use std::mem::ManuallyDrop;
 use std::thread::Threads;
 use verdict_text::{PlacementFault, read_placement};
 use version_store::Context;
-
-/// What a read offers room for, in bytes.
-const PIECE: usize = 65_536;
 
 /// The text of a placement may have so many bytes.
 const MOST_PLACEMENT: usize = 1_073_741_824;
@@ -123,12 +120,6 @@ fn check_named<D: Desk>(
         Err(WholeStop::ReadFault) => Err(Stop::ReadFault),
         Err(WholeStop::OutOfMemory) => Err(Stop::OutOfMemory),
     }
-}
-
-fn piece_buffer(alloc: Global) -> Result<Vec<u8>, AllocError>
-    ensures { IfOk result (λ buffer. length buffer.items ≡ 65536) }
-{
-    vec![in alloc; 0u8; PIECE]
 }
 
 // What a text comes to that isn't too long.

@@ -1,7 +1,7 @@
 use crate::running::run;
 use crate::tests::desk_files::files;
 use base_types::{Bytes, Text};
-use cluster_setup::{SetupRefusal, make_setup, refusal_words};
+use cluster_setup::{SetupRefusal, make_setup};
 use edge_io::{InputFile, InputFiles, MemoryDesk, MemorySink};
 use judge_pool::FreeGate;
 use std::marker::Sync;
@@ -51,6 +51,10 @@ setup 2024-05-01T10:00:00Z policy rbac beta|3 file beta version
 setup 2024-05-01T10:00:00Z policy core maps again|3 file maps twice
 setup 2024-05-01T10:00:00Z policy core maps pods again|3 file maps twice
 setup 2024-05-01T10:00:00Z policy core maps later|3 file later revision
+setup 2024-05-01T10:00:00Z policy document no-revision|3 file no-revision revision
+setup 2024-05-01T10:00:00Z policy document empty-revision|3 file empty-revision revision
+setup 2024-05-01T10:00:00Z policy document zero-revision|3 file zero-revision revision
+setup 2024-05-01T10:00:00Z policy document kubectl-list|3 file kubectl-list unknown
 setup 2024-05-01T10:00:00Z policy core maps bare|3 file bare S12
 setup 2024-05-01T10:00:00Z policy core maps no-uid|3 file no-uid S12
 setup 2024-05-01T10:00:00Z policy core maps same-uid|3 file same-uid S13
@@ -185,13 +189,6 @@ fn is_right<R: Threads + Sync + Abort + AllocGlobal>(rt: &R, case: &str) -> bool
     }
 }
 
-#[test]
-fn words_are_answered(rt: HostRuntime) {
-    for case in cases().split('\n') {
-        assert!(&rt; is_right(&rt, case));
-    }
-}
-
 fn is_read_fault<R: Threads + Sync + Abort + AllocGlobal>(rt: &R) -> bool {
     let words = "setup 2024-05-01T10:00:00Z policy core maps";
     answer_of(rt, words, 5, 0).as_str() == "5 read fault\n"
@@ -200,11 +197,6 @@ fn is_read_fault<R: Threads + Sync + Abort + AllocGlobal>(rt: &R) -> bool {
 // What was written before the fault is left.
 fn is_write_fault<R: Threads + Sync + Abort + AllocGlobal>(rt: &R) -> bool {
     answer_of(rt, "sift --left log", 0, 3).as_str() == "6 2 M1\n5 M12\nkep"
-}
-
-#[test]
-fn faults_of_desk_and_sink_are_told(rt: HostRuntime) {
-    assert!(&rt; is_read_fault(&rt) && is_write_fault(&rt));
 }
 
 // The answer to a setup of many files, and of one more with this name.
@@ -218,10 +210,10 @@ fn answer_to_many<R: Threads + Sync + Abort + AllocGlobal>(rt: &R, last: &str) -
     answer_from(rt, &words, desk_of(rt, MANY, 0), 0)
 }
 
-#[test]
-fn many_files_are_read_if_their_names_differ(rt: HostRuntime) {
-    assert!(&rt; answer_to_many(&rt, "core").as_str() == "3 empty\n");
-    assert!(&rt; answer_to_many(&rt, "0").as_str() == "2 usage\n");
+// Many files are read, if their names differ.
+fn are_many_read<R: Threads + Sync + Abort + AllocGlobal>(rt: &R) -> bool {
+    answer_to_many(rt, "core").as_str() == "3 empty\n"
+        && answer_to_many(rt, "0").as_str() == "2 usage\n"
 }
 
 // No file is given, as no words can ask for.
@@ -237,48 +229,12 @@ fn is_empty(rt: &impl AllocGlobal) -> bool {
     matches!(&made, Err(SetupRefusal::Empty))
 }
 
+// One test for all: each is proved with all that it calls.
 #[test]
-fn no_setup_is_made_of_no_files(rt: HostRuntime) {
-    assert!(&rt; is_empty(&rt));
-}
-
-fn add_bytes(rt: &(impl Abort + AllocGlobal), all: &mut Vec<Bytes>, text: &str) {
-    let bytes = Bytes::from_vec(text_of(rt, text).into_bytes());
-    all.push(bytes).expect(rt, "memory");
-}
-
-// The refusal of a document that has the core's pods, and of a list behind it, or the setup of both.
-fn listed_words(rt: &(impl Abort + AllocGlobal), list: &str) -> String {
-    let policy = r#"{"apiVersion":"audit.k8s.io/v1","kind":"Policy","rules":[]}"#;
-    let document =
-        r#"{"kind":"APIResourceList","groupVersion":"v1","resources":[{"name":"pods","kind":"Pod"}]}"#;
-    let mut all = Vec::new(rt.alloc());
-    add_bytes(rt, &mut all, document);
-    add_bytes(rt, &mut all, list);
-    let time = "2024-05-01T10:00:00Z";
-    match make_setup(rt.alloc(), time, policy.as_bytes(), &all, false) {
-        Ok(text) => text,
-        Err(refusal) => {
-            let names = words_of(rt, "document list");
-            refusal_words(rt.alloc(), &names, refusal).expect(rt, "memory")
-        }
+fn words_are_answered(rt: HostRuntime) {
+    for case in cases().split('\n') {
+        assert!(&rt; is_right(&rt, case));
     }
-}
-
-#[test]
-fn a_list_has_a_revision(rt: HostRuntime) {
-    for list in [
-        r#"{"kind":"PodList","apiVersion":"v1","metadata":{},"items":[]}"#,
-        r#"{"kind":"PodList","apiVersion":"v1","metadata":{"resourceVersion":""},"items":[]}"#,
-        r#"{"kind":"PodList","apiVersion":"v1","metadata":{"resourceVersion":"0"},"items":[]}"#,
-    ] {
-        assert!(&rt; listed_words(&rt, list).as_str() == "file list revision");
-    }
-}
-
-// As `kubectl get pods -o json` prints it.
-#[test]
-fn a_list_names_its_kind(rt: HostRuntime) {
-    let list = r#"{"kind":"List","apiVersion":"v1","metadata":{"resourceVersion":""},"items":[]}"#;
-    assert!(&rt; listed_words(&rt, list).as_str() == "file list unknown");
+    assert!(&rt; is_read_fault(&rt) && is_write_fault(&rt));
+    assert!(&rt; are_many_read(&rt) && is_empty(&rt));
 }

@@ -1,7 +1,7 @@
 //! The files of the desk from which the companion's calls are answered, and texts that are wanted.
 
 // Each begins with a line of `=` and its name. The log has an event, a line that isn't one, a blank line, the event
-// again, and one of its audit ID that differs from it.
+// again, and one of its audit ID that differs from it. `kubectl-list` is as `kubectl get pods -o json` prints it.
 const FILES: &str = r#"=log
 {"kind":"Event","apiVersion":"audit.k8s.io/v1","level":"Metadata","auditID":"a1","stage":"ResponseComplete","requestURI":"/readyz","verb":"get","user":{"username":"u"},"requestReceivedTimestamp":"2024-05-01T10:00:01Z","stageTimestamp":"2024-05-01T10:00:02Z"}
 {
@@ -86,6 +86,16 @@ x
 {"kind":"Pod","apiVersion":"v1"}
 =no-items
 {"kind":"PodList"}
+=document
+{"kind":"APIResourceList","groupVersion":"v1","resources":[{"name":"pods","kind":"Pod"}]}
+=no-revision
+{"kind":"PodList","apiVersion":"v1","metadata":{},"items":[]}
+=empty-revision
+{"kind":"PodList","apiVersion":"v1","metadata":{"resourceVersion":""},"items":[]}
+=zero-revision
+{"kind":"PodList","apiVersion":"v1","metadata":{"resourceVersion":"0"},"items":[]}
+=kubectl-list
+{"kind":"List","apiVersion":"v1","metadata":{"resourceVersion":""},"items":[]}
 =fraction
 {"kind":"PodList","metadata":{"resourceVersion":"10"},"items":[1.5]}
 =made-nodes

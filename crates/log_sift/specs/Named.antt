@@ -1,0 +1,39 @@
+-- What a log comes to line by line, of its bytes alone.
+use Rattle.std.specs.Prelude.{◌≡◌, ⊤, ◌<◌, ◌≤◌, ℕ, Bool, true, false, List, All, Result, Ok, Err, length}
+use Rattle.edge_io.specs.declared.whole.WholeStop.{WholeStop}
+use Rattle.edge_io.specs.declared.whole.WholeStop.TheVariants.{TooLong, ReadFault, OutOfMemory}
+use Rattle.log_sift.specs.Sifted.{IsSifting, IsWithin, stretches_text}
+use Rattle.log_sift.specs.Telling.{left_text}
+use Rattle.log_sift.specs.declared.answer.Fate.{Fate}
+use Rattle.log_sift.specs.declared.answer.Sifting.{Sifting}
+use Rattle.log_sift.specs.declared.named.SiftText.{SiftText}
+use Rattle.log_sift.specs.declared.named.SiftText.TheVariants.{Told, Cut}
+
+-- a log has at most so many bytes
+abbrev pub most_log : ℕ
+most_log = 1099511627776
+
+-- the lines that stay, or what is said of the others
+abbrev pub sifted_text : Bool → List ℕ → Sifting → List ℕ
+sifted_text true log sifting = left_text sifting
+sifted_text false log sifting = stretches_text log sifting.stays
+
+abbrev pub shown_text : SiftText → List ℕ
+shown_text (Told text) = text
+shown_text (Cut log stays) = stretches_text log stays
+
+-- the stretches lie in the log
+abbrev pub IsCutWithin : SiftText → Type 0
+IsCutWithin (Told text) = ⊤
+IsCutWithin (Cut log stays) = All (IsWithin log) stays
+
+-- what the lines of a log come to
+abbrev pub IsSiftText : Bool → List ℕ → List ℕ → Type 0
+IsSiftText left log text = (fates : List Fate) × (sifting : Sifting) × IsSifting log fates sifting × (text ≡ sifted_text left log sifting)
+
+-- the same, or the log is too long
+abbrev pub AnswersSift : Bool → List ℕ → Result SiftText WholeStop → Type 0
+AnswersSift left log (Ok found) = (length log ≤ most_log) × IsSiftText left log (shown_text found)
+AnswersSift left log (Err TooLong) = most_log < length log
+AnswersSift left log (Err ReadFault) = ⊤
+AnswersSift left log (Err OutOfMemory) = ⊤
