@@ -1,4 +1,3 @@
 pub mod ReportedFacts
 pub mod RunFacts
-pub mod SetupWords
 pub mod PicturingFacts

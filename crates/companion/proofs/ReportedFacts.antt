@@ -15,7 +15,7 @@ use Rattle.log_verdict.specs.Answers.{answer, report_answer as verdict_answer}
 use Rattle.log_verdict.specs.declared.report.Report.{Report as Verdict}
 use Rattle.verdict_text.specs.Words.{ended}
 use Rattle.companion.specs.Picturing.{IsPictured}
-use Rattle.companion.specs.Command.{Asked, Picture, Reads, Setup, Sift, Tells}
+use Rattle.companion_words.specs.Command.{Asked, Picture, Reads, Setup, Sift, Tells}
 use Rattle.companion.specs.Making.{IsSetupAnswer}
 use Rattle.companion.specs.Program.{IsAnswerTo}
 use Rattle.companion.specs.Reported.{IsCutWithin, IsReported, TellsStop, made_answer, report_answer}

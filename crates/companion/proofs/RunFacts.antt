@@ -7,7 +7,7 @@ use Rattle.edge_io.specs.Endings.{Ends}
 use Rattle.edge_io.specs.Faults.{Rose}
 use Rattle.log_verdict.specs.Answers.{Answer}
 use Rattle.log_verdict.specs.Endings.{IsAnswered}
-use Rattle.companion.specs.Command.{Asked, IsAsked, ReadsWords, Spells, Tells, TellsWords}
+use Rattle.companion_words.specs.Command.{Asked, IsAsked, ReadsWords, Spells, Tells, TellsWords}
 use Rattle.companion.specs.Program.{IsAnswer, IsAnswerTo, usage_answer}
 use Rattle.companion.specs.Reported.{Concludes, IsReported, report_answer, status_number}
 use Rattle.companion.specs.declared.report.Report.{Report}

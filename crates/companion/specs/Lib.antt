@@ -1,4 +1,3 @@
-pub mod Command
 pub mod Making
 pub mod Picturing
 pub mod Program

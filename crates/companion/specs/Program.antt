@@ -3,7 +3,7 @@ use Rattle.std.specs.Prelude.{◌≡◌, ℕ, List, Option, Some, None, codes, m
 use Rattle.log_verdict.specs.Answers.{Answer, answer}
 use Rattle.companion.specs.Picturing.{IsPictured}
 use Rattle.verdict_text.specs.Words.{ended}
-use Rattle.companion.specs.Command.{Asked, Explain, IsAsked, Picture, Setup, Sift}
+use Rattle.companion_words.specs.Command.{Asked, Explain, IsAsked, Picture, Setup, Sift}
 use Rattle.companion.specs.Making.{IsSetupAnswer}
 use Rattle.companion.specs.Sifted.{IsSiftAnswer}
 

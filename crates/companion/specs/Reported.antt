@@ -12,7 +12,7 @@ use Rattle.cluster_setup.specs.declared.answering.MadeText.TheVariants as made
 use Rattle.log_sift.specs.Named as sift
 use Rattle.log_verdict.specs.Answers.{Answer, answer}
 use Rattle.verdict_text.specs.Words.{ended}
-use Rattle.companion.specs.Command.{Asked, Reads, Tells}
+use Rattle.companion_words.specs.Command.{Asked, Reads, Tells}
 use Rattle.companion.specs.Program.{IsAnswerTo}
 use Rattle.companion.specs.declared.report.Body.{Body}
 use Rattle.companion.specs.declared.report.Body.TheVariants.{Fixed, Made, Sifted}

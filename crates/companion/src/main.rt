@@ -6,7 +6,6 @@ mod picturing;
 mod report;
 mod reporting;
 mod running;
-mod words;
 
 use edge_io::{FileDesk, StdSink};
 use judge_pool::FreeGate;

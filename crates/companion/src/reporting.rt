@@ -1,13 +1,13 @@
 ghost use Rattle.std.specs.Prelude.{◌≡◌, ◌≢◌, ◌∷◌, true, map, string_bytes};
 ghost use Rattle.log_verdict.specs.Answers.{report_answer as verdict_answer, status_number as verdict_number};
 ghost use Rattle.cluster_setup.specs.Names.{are_distinct};
-ghost use Rattle.companion.specs.Command.{Explain, IsSpelled, Picture, Setup, Sift, command_asked};
+ghost use Rattle.companion_words.specs.Command.{Explain, IsSpelled, Picture, Setup, Sift, command_asked};
 ghost use Rattle.companion.specs.Reported.{IsCutWithin, IsReported, TellsStop};
 ghost use Rattle.companion.specs.Reported.{made_answer, report_answer, status_number};
 
 use crate::picturing::picture;
 use crate::report::{Body, Report, Status};
-use crate::words::Command;
+use companion_words::Command;
 use cluster_setup::{MadeText, make_named};
 use context_intake::Stop;
 use edge_io::{Desk, WholeStop};

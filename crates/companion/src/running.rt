@@ -1,7 +1,7 @@
 ghost use Rattle.std.specs.Prelude.{◌≡◌, ℕ, List, None, IfOk, map, string_bytes};
 ghost use Rattle.std.specs.Io.KnownBytes.{Keeps};
 ghost use Rattle.edge_io.specs.Faults.{Rose};
-ghost use Rattle.companion.specs.Command.{IsAsked, ReadsWords, TellsWords};
+ghost use Rattle.companion_words.specs.Command.{IsAsked, ReadsWords, TellsWords};
 ghost use Rattle.edge_io.specs.Endings.{Ends};
 ghost use Rattle.log_verdict.specs.Endings.{IsAnswered};
 ghost use Rattle.companion.specs.Program.{IsAnswer, usage_answer};
@@ -10,7 +10,7 @@ ghost use Rattle.companion.specs.Reported.{Concludes, IsCutWithin};
 use crate::ending::end_with_body;
 use crate::report::Report;
 use crate::reporting::report_of;
-use crate::words::read_words;
+use companion_words::read_words;
 use context_intake::Stop;
 use edge_io::{Desk, Sink, end_with};
 use judge_pool::Gate;

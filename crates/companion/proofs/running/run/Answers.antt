@@ -1,5 +1,5 @@
 use Rattle.std.proofs.Common.{◌≡◌, None, map, string_bytes, Global, inl, refl}
-use Rattle.companion.specs.Command.{command_asked}
+use Rattle.companion_words.specs.Command.{command_asked}
 use Rattle.companion.specs.Program.{usage_answer}
 use Rattle.companion.proofs.RunFacts.{HasRun, run_answer, run_desk_left, run_memory, run_others_left, run_read_fault, run_usage, run_usage_only, run_write_fault}
 use Rattle.companion.proofs.running.run.Given.{Over}

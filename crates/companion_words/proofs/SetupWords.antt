@@ -1,7 +1,7 @@
 -- The words of a setup are those of no other command.
 use Rattle.std.proofs.Common.{◌≡◌, ◌≢◌, ℕ, Bool, true, false, List, [], ◌∷◌, length, Option, Some, None, codes, refl, sym, ◌∙◌, ap, arith}
-use Rattle.companion.specs.Command.{AreInputs, Asked, Explain, IsRead, IsSetupRead, Picture, Setup, Sift, Spells, sift_words}
-use Rattle.companion.specs.declared.words.Command.{Command}
+use Rattle.companion_words.specs.Command.{AreInputs, Asked, Explain, IsRead, IsSetupRead, Picture, Setup, Sift, Spells, sift_words}
+use Rattle.companion_words.specs.declared.words.Command.{Command}
 
 head_of : List (List ℕ) → List ℕ
 head_of [] = []

@@ -1,5 +1,5 @@
 ghost use Rattle.std.specs.Prelude.{◌≡◌, ◌∷◌, [], map, string_bytes, codes};
-ghost use Rattle.companion.specs.Command.{IsRead, IsSetupRead};
+ghost use Rattle.companion_words.specs.Command.{IsRead, IsSetupRead};
 
 use cluster_setup::{are_distinct, is_among};
 use code_guide::explain;

@@ -2,8 +2,8 @@
 use Rattle.std.specs.Prelude.{◌≡◌, ◌≢◌, ◌<◌, ◌⊎◌, ℕ, Bool, true, false, List, [], ◌∷◌, length, Contains, Option, Some, None, codes, map, string_bytes}
 use Rattle.cluster_setup.specs.Names.{are_distinct}
 use Rattle.code_guide.specs.Guides.{text_of}
-use Rattle.companion.specs.declared.words.Command.{Command}
-use Rattle.companion.specs.declared.words.Command.TheVariants as word
+use Rattle.companion_words.specs.declared.words.Command.{Command}
+use Rattle.companion_words.specs.declared.words.Command.TheVariants as word
 
 pub data Asked : Type 0 where
   -- explain a code, which has this text
