@@ -112,7 +112,9 @@ pub fn is_odd(value: Option<&Text>) -> bool
     ensures { result ≡ is_odd (option_map (λ text. text.now) value.entry) }
 {
     match value {
-        Some(text) => { !text.is_empty() && text.as_str() != "0" && revision_of(text.as_str()).is_none() }
+        Some(text) => {
+            !text.is_empty() && text.as_str() != "0" && revision_of(text.as_str()).is_none()
+        }
         None => false,
     }
 }

@@ -7,8 +7,8 @@ ghost use Rattle.companion.specs.Reported.{made_answer, report_answer, status_nu
 
 use crate::picturing::picture;
 use crate::report::{Body, Report, Status};
-use companion_words::Command;
 use cluster_setup::{MadeText, make_named};
+use companion_words::Command;
 use context_intake::Stop;
 use edge_io::{Desk, WholeStop};
 use judge_pool::Gate;

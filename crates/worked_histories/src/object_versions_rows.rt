@@ -121,7 +121,10 @@ fn check_versions(rt: &impl Abort, past: &LogPast) {
 fn check_firsts(rt: &impl Abort, past: &LogPast) {
     for (_, _, number, _, first) in &VERSIONS {
         for removal in past.removals.iter() {
-            assert!(rt; *first || removal.last.get() != *number, "removal behind {number}");
+            assert!(rt;
+                *first || removal.last.get() != *number,
+                "removal behind {number}"
+            );
         }
     }
 }
