@@ -27,10 +27,10 @@ never_fault : (found : Result Report Stop) → found ≡ Err OutOfMemory → IsE
 never_fault found is faulty = let apart : found ≡ Err ReadFault = faulty in cc
 
 never_both : (report : Report) → ◌≡◌ {A = Result Report Stop} (Ok report) (Err ReadFault) → ⊥
-never_both report no = cc
+never_both report same = cc
 
 never_memory : (report : Report) → ◌≡◌ {A = Result Report Stop} (Ok report) (Err OutOfMemory) → ⊥
-never_memory report no = cc
+never_memory report same = cc
 
 -- a name that wasn't read to its end
 module _ (old now : List ℕ → Option (List ℕ)) (untouched : Type 0) (faults_before faults_now : ℕ) (asked : Asked) (limit : List ℕ) where
@@ -66,7 +66,7 @@ module _ (old now : List ℕ → Option (List ℕ)) (untouched : Type 0) (faults
 -- what a log comes to, line by line
 module _ (old now : List ℕ → Option (List ℕ)) (untouched : Type 0) (faults_before faults_now : ℕ) (left : Bool) (log : List ℕ) where
   sift_answer : (bytes : List ℕ) (text : SiftText) → AnswersSift left bytes (Ok text) → IsSiftAnswer left bytes (answer 0 (shown_text text))
-  sift_answer bytes text is = inr (is.0, (is.1.0, is.1.1.0, is.1.1.1.0, ap (answer 0) is.1.1.1.1))
+  sift_answer bytes text is = inr (is.0, (is.1.0, is.1.1, is.1.2, ap (answer 0) is.1.3))
 
   pub sift_reported : (text : SiftText) (report : Report) → report_answer report ≡ answer 0 (shown_text text) → IsCutWithin report.body
       → ((bytes : List ℕ) → old log ≡ Some bytes → AnswersSift left bytes (Ok text)) → ((other : List ℕ) → other ≢ log → now other ≡ old other)
@@ -92,7 +92,7 @@ module _ (old now : List ℕ → Option (List ℕ)) (untouched : Type 0) (faults
   setup_answer : (of_policy : List ℕ) (of_files : List (List ℕ)) (found : MadeText) → AnswersMade authorize time of_policy names of_files (Ok found)
       → IsSetupAnswer authorize time of_policy names of_files (made_answer found)
   setup_answer of_policy of_files (made.Setup line) is = inr (is.0, inl (line, is.1.0, is.1.1, refl))
-  setup_answer of_policy of_files (made.Refused line) is = inr (is.0, inr (is.1.0, is.1.1.0, ap (answer 3) is.1.1.1))
+  setup_answer of_policy of_files (made.Refused line) is = inr (is.0, inr (is.1.0, is.1.1, ap (answer 3) is.1.2))
 
   untold : ((name : List ℕ) → Contains (policy ∷ names) name → ⊥) → untouched
   untold none = absurd (none policy (zero, omega arith, refl))
