@@ -81,7 +81,7 @@ pub judged_given : (events : List Event) (log : List LogEvent) (rbac : Known) (n
     → Some (event, decision) ≡ judged_in events log number → (places : Places) → AreLeastPlaces (IsDecidedAt rbac low high (judged_user event) event.attrs decision) places
     → AreLeastPlaces (IsGivenWithin (decides_test events log rbac number) low high) places
 judged_given events log rbac number low high event decision sound at places least = record {
-  given = record {
+  decided = record {
     within = least.decided.within;
     right = judged_decides events log rbac number event decision at places ∙ (is_possible-Decides rbac sound places (judged_user event) event.attrs decision).1 least.decided.possible;
   };
