@@ -1,4 +1,4 @@
-ghost use Rattle.std.specs.Prelude.{◌≡◌, ◌∷◌, [], map, string_bytes, codes};
+ghost use Rattle.std.specs.Prelude.{◌≡◌, ◌∷◌, [], true, map, string_bytes, codes};
 ghost use Rattle.companion_words.specs.Command.{IsRead, IsSetupRead};
 
 use cluster_setup::{are_distinct, is_among};
