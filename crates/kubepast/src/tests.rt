@@ -616,7 +616,7 @@ fn a_large_made_case(rt: HostRuntime) -> Result<(), Fail> {
 
 const EVENTS: u32 = 8_192;
 
-const TURNS: u32 = 10_000_000;
+const TURNS: u32 = 2_000_000_000;
 
 /// Holds whoever comes first until a second one comes, and gives up after `TURNS` looks.
 #[derive(Drop)]

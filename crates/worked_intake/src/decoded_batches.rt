@@ -10,7 +10,7 @@ use std::test::Fail;
 
 const LINES: u32 = 8_192;
 
-const TURNS: u32 = 10_000_000;
+const TURNS: u32 = 2_000_000_000;
 
 /// Holds the first line until the last one is entered, and gives up after `TURNS` looks.
 #[derive(Drop)]

@@ -6,7 +6,7 @@ use std::test::Fail;
 
 const EVENTS: u32 = 8_192;
 
-const TURNS: u32 = 10_000_000;
+const TURNS: u32 = 2_000_000_000;
 
 /// Claims that ask nothing.
 #[derive(Drop)]
