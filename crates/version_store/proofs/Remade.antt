@@ -8,7 +8,7 @@ use Rattle.history_model.specs.Histories.{History}
 use Rattle.history_model.specs.Making.{IsUsedUid}
 use Rattle.object_past.specs.Modelled.{version_of}
 use Rattle.object_past.specs.declared.version.Version.{Version}
-use Rattle.object_versions.proofs.Numbered.{making_from}
+use Rattle.object_versions.proofs.Numbered.{making_from, making_is}
 use Rattle.object_versions.specs.Written.{making_at}
 use Rattle.write_groups.proofs.Lists.{map_from, map_has}
 use Rattle.write_groups.specs.Modelled.{HasEvents}
@@ -35,3 +35,7 @@ making_same h log all number m found is same at = same_Some found m (at ∙ subs
 
 pub making_none : (h : History) (log : List LogEvent) → HasEvents log h → (number : ℕ) (m : Making) → IsMaking h m → m.number ≡ number → None ≡ making_at log number → ⊥
 making_none h log all number m is same at = cc (at ∙ subst (λ n. making_at log n ≡ Some m) same (making_from h log m all is))
+
+-- the write of the number is one of the history
+pub making_there : (h : History) (log : List LogEvent) → HasEvents log h → (number : ℕ) (found : Making) → Some found ≡ making_at log number → IsMaking h found × (found.number ≡ number)
+making_there h log all number found at = making_is h log number found all (sym at)

@@ -1,4 +1,4 @@
-ghost use Rattle.std.specs.Prelude.{◌≡◌, IfOk, option_map};
+ghost use Rattle.std.specs.Prelude.{◌≡◌, IfOk, None, option_map};
 ghost use Rattle.history_model.specs.Groups as model;
 ghost use Rattle.history_model.specs.Groups.{IsMaking};
 ghost use Rattle.history_model.specs.Making.{IsLeastFault};
@@ -22,8 +22,10 @@ impl Context {
         event: u32,
         before: Option<&Version>,
     ) -> Result<Option<Reason>, OutOfMemory>
-        ensures { IfOk result (λ fault. (m : model.Making) → IsMaking (history_of self.now) m → m.number ≡ event
+        ensures write { IfOk result (λ fault. (m : model.Making) → IsMaking (history_of self.now) m → m.number ≡ event
             → IsLeastFault (history_of self.now) m (option_map (λ v. version_of v.now) before.entry) fault) }
+        ensures other { IfOk result (λ fault. ((m : model.Making) → IsMaking (history_of self.now) m
+            → m.number ≡ event → ⊥) → fault ≡ None) }
     {
         let log = self.log.events.as_slice();
         let Some(making) = making_at(log, event) else {

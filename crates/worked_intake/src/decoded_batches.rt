@@ -1,39 +1,14 @@
 ghost use Rattle.std.specs.Prelude.{◌≡◌, IfOk, vec_len};
 
+use crate::gates::{Meeting, Roll};
 use base_types::Bytes;
 use batch_decode::decode_all;
-use judge_pool::{FreeGate, Gate};
+use judge_pool::FreeGate;
 use line_reader::Line;
 use std::alloc::{AllocError, Global};
-use std::sync::atomic::{AtomicBool, Ordering};
 use std::test::Fail;
 
 const LINES: u32 = 8_192;
-
-const TURNS: u32 = 2_000_000_000;
-
-/// Holds the first line until the last one is entered, and gives up after `TURNS` looks.
-#[derive(Drop)]
-struct Meeting {
-    entered: AtomicBool,
-    met: AtomicBool,
-}
-
-impl Gate for Meeting {
-    fn enter(&self, event: u32) {
-        if event == LINES - 1 {
-            self.entered.store(true, Ordering::SeqCst);
-        }
-        if event == 0 {
-            for _ in 0..TURNS {
-                if self.entered.load(Ordering::SeqCst) {
-                    self.met.store(true, Ordering::SeqCst);
-                    return;
-                }
-            }
-        }
-    }
-}
 
 // So many lines, each an empty EventList of no API.
 fn lines_of(alloc: Global, count: u32) -> Result<Vec<Line>, AllocError>
@@ -52,14 +27,23 @@ fn lines_of(alloc: Global, count: u32) -> Result<Vec<Line>, AllocError>
 
 #[test]
 fn two_lines_are_decoded_at_once(rt: HostRuntime) -> Result<(), Fail> {
-    let gate = Meeting {
-        entered: AtomicBool::new(false),
-        met: AtomicBool::new(false),
-    };
+    let gate = Meeting::of(LINES);
     let lines = lines_of(rt.alloc(), LINES)?;
     let decoded = decode_all(&rt, rt.alloc(), lines.as_slice(), &gate)?;
     assert_eq!(rt; decoded.len(), 8_192);
-    assert!(rt; gate.met.load(Ordering::SeqCst));
+    assert!(rt; gate.has_met());
+    Ok(())
+}
+
+#[test]
+fn each_line_enters_the_gate_once(rt: HostRuntime) -> Result<(), Fail> {
+    for count in [0, 1, LINES] {
+        let gate = Roll::of(rt.alloc(), count)?;
+        let lines = lines_of(rt.alloc(), count)?;
+        let decoded = decode_all(&rt, rt.alloc(), lines.as_slice(), &gate)?;
+        assert_eq!(rt; decoded.len(), count as usize);
+        assert!(rt; gate.is_once_each(), "of {count}");
+    }
     Ok(())
 }
 

@@ -1,12 +1,10 @@
+use crate::gates::{Meeting, Roll};
 use base_types::{Bounds, Claim, OutOfMemory, Reason};
-use judge_pool::{ClaimSource, FreeGate, Gate, claims_all};
+use judge_pool::{ClaimSource, FreeGate, claims_all};
 use std::alloc::Global;
-use std::sync::atomic::{AtomicBool, Ordering};
 use std::test::Fail;
 
 const EVENTS: u32 = 8_192;
-
-const TURNS: u32 = 2_000_000_000;
 
 /// Claims that ask nothing.
 #[derive(Drop)]
@@ -38,39 +36,24 @@ impl ClaimSource for Plain {
     }
 }
 
-/// Holds the first event until the last one is entered, and gives up after `TURNS` looks.
-#[derive(Drop)]
-struct Meeting {
-    entered: AtomicBool,
-    met: AtomicBool,
-}
-
-impl Gate for Meeting {
-    fn enter(&self, event: u32) {
-        if event == EVENTS - 1 {
-            self.entered.store(true, Ordering::SeqCst);
-        }
-        if event == 0 {
-            for _ in 0..TURNS {
-                if self.entered.load(Ordering::SeqCst) {
-                    self.met.store(true, Ordering::SeqCst);
-                    return;
-                }
-            }
-        }
-    }
-}
-
 #[test]
 fn two_events_are_judged_at_once(rt: HostRuntime) -> Result<(), Fail> {
     let source = Plain { count: EVENTS };
-    let gate = Meeting {
-        entered: AtomicBool::new(false),
-        met: AtomicBool::new(false),
-    };
+    let gate = Meeting::of(EVENTS);
     let claims = claims_all(&rt, rt.alloc(), &source, &gate)?;
     assert_eq!(rt; claims.len(), 8_192);
-    assert!(rt; gate.met.load(Ordering::SeqCst));
+    assert!(rt; gate.has_met());
+    Ok(())
+}
+
+#[test]
+fn each_event_enters_the_gate_once(rt: HostRuntime) -> Result<(), Fail> {
+    for count in [0, 1, EVENTS] {
+        let gate = Roll::of(rt.alloc(), count)?;
+        let claims = claims_all(&rt, rt.alloc(), &Plain { count }, &gate)?;
+        assert_eq!(rt; claims.len(), count as usize);
+        assert!(rt; gate.is_once_each(), "of {count}");
+    }
     Ok(())
 }
 

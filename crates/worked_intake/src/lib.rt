@@ -6,6 +6,8 @@ mod batch_decode_rows;
 #[cfg(test)]
 mod decoded_batches;
 #[cfg(test)]
+mod gates;
+#[cfg(test)]
 mod judged_claims;
 #[cfg(test)]
 mod log_intake_rows;

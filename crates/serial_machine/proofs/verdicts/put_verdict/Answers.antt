@@ -11,7 +11,7 @@ pub returns-in-Event : goal.returns-in-Event
 returns-in-Event c = IfOk-weaker c.making_fault.result _ _
     (λ found least. put_judged (history_of c.args.scene.context.now) (scene_objects c.args.scene) (version_of c.args.version.now) c.in-Event.number found c.log-log.ensures.readable c.requires (ap maker_of c.in-Event.is)
     (λ making known same. subst (λ o. IsLeastFault (history_of c.args.scene.context.now) making o found) c.object-before.ensures (least making known same)))
-    c.making_fault.ensures
+    c.making_fault.ensures.write
 
 pub returns-in-Snapshot : goal.returns-in-Snapshot
 returns-in-Snapshot c = put_unjudged (history_of c.args.scene.context.now) (scene_objects c.args.scene) (version_of c.args.version.now) (λ number e. let is = ap maker_of c.in-Snapshot.is in cc (is, e))
