@@ -10,8 +10,11 @@ mod covers;
 mod labels;
 mod lists;
 mod patches;
+mod reading;
+mod refusing;
 mod request;
 mod times;
+mod writing;
 
 pub use answer::{Answer, Item, Items};
 pub use bodies::metadata_at;

@@ -10,7 +10,7 @@ use crate::first::{earlier_pair, pair_with};
 use crate::history::Content;
 use crate::kind::{is_kind, kind_of_key, reaches};
 use crate::search::Asked;
-use crate::timeline::names;
+use crate::timeline::granting::names;
 use crate::way::Way;
 use base_types::{ObjectKey, Text};
 use clouds::lesser_place;

@@ -1,6 +1,6 @@
 use Rattle.std.proofs.Common.{sym, ◌∙◌}
 use Rattle.rbac_rules.proofs.Texts.{has_text-Decides}
-use Rattle.rbac_timeline.proofs.timeline.is_among.Goals as goal
+use Rattle.rbac_timeline.proofs.timeline.finding.is_among.Goals as goal
 
 pub returns : goal.returns
 returns c =

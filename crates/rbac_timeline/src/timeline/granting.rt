@@ -1,0 +1,298 @@
+ghost use Rattle.std.specs.Prelude.{◌≡◌, ◌↔◌, IsTrue, IfSome, IfNone, Any, MatchOption};
+ghost use Rattle.std.specs.Prelude.{false, ⊤, ◌<◌};
+ghost use Rattle.rbac_timeline.specs.Kept.{MayGrantByRules, MustGrantByRules};
+ghost use Rattle.rbac_rules.specs.Matching.{Matches};
+ghost use Rattle.rbac_timeline.specs.Known.{writes_of};
+
+use crate::extent::Extent;
+use crate::history::{Content, Gap, Stored};
+use crate::kind::{is_kind, kind_of_key, reaches};
+use crate::timeline::Timeline;
+use crate::way::Link;
+use base_types::{ObjectKey, RequestAttrs, Text, User};
+use rbac_rules::{Binding, Subject, grants, subject_matches};
+
+// Whether an object may be there at a place, and whether it is for certain, by the removal of its last version.
+fn presence(gap: Option<Gap>, place: u64) -> Extent
+    ensures may { IsTrue result.may ↔ MatchOption gap ⊤ (λ gap. place < gap.high) }
+    ensures must { IsTrue result.must ↔ MatchOption gap ⊤ (λ gap. place < gap.low) }
+{
+    match gap {
+        Some(gap) => Extent {
+            may: place < gap.high,
+            must: place < gap.low,
+        },
+        None => Extent::certain(true),
+    }
+}
+
+fn rules_extent(content: &Content, attrs: &RequestAttrs) -> Extent
+    ensures may { IsTrue result.may ↔ MayGrantByRules attrs.now content.now }
+    ensures must { IsTrue result.must ↔ MustGrantByRules attrs.now content.now }
+{
+    match content {
+        Content::Rules(rules) => Extent::certain(grants(rules.as_slice(), attrs)),
+        Content::Bound(_, _) => Extent::UNSURE,
+        Content::Unreadable => Extent::UNSURE,
+    }
+}
+
+fn any_subject(subjects: &[Subject], who: &User) -> bool
+    ensures { IsTrue result ↔ Any (λ subject. Matches subject who.now) subjects.now }
+{
+    subjects.iter().any(|subject| subject_matches(subject, who))
+}
+
+pub(crate) fn names(binding: &Binding, who: &User) -> bool
+    ensures { IsTrue result ↔ Any (λ subject. Matches subject who.now) binding.now.subjects }
+{
+    any_subject(binding.subjects.as_slice(), who)
+}
+
+impl Timeline {
+    ghost use Rattle.std.specs.Prelude.{ℕ};
+    ghost use Rattle.base_types.specs.declared.key.ObjectKey.{ObjectKey};
+    ghost use Rattle.clouds.specs.Clouds.{IsClouded};
+    ghost use Rattle.rbac_timeline.specs.declared.way.Way.{Way};
+    ghost use Rattle.base_types.specs.declared.request.RequestAttrs.{RequestAttrs};
+    ghost use Rattle.base_types.specs.declared.request.User.{User};
+    ghost use Rattle.rbac_timeline.specs.declared.version.RbacVersion.{RbacVersion};
+    ghost use Rattle.rbac_timeline.specs.Choices.{IsKnownKey};
+    ghost use Rattle.rbac_timeline.specs.Extents.{IsCertain, IsNotGone, MayGrantByKey, MayGrantByRole};
+    ghost use Rattle.rbac_timeline.specs.Extents.{MayGrantInWay, MayGrantNameless, MustGrantByKey, MustGrantByRole};
+    ghost use Rattle.rbac_timeline.specs.Extents.{MustGrantInWay};
+    ghost use Rattle.rbac_timeline.specs.Kept.{IsKnownUnsure, MayGrantByContent, MayGrantByListed};
+    ghost use Rattle.rbac_timeline.specs.Kept.{MayGrantOf, MustGrantByContent, MustGrantByListed, MustGrantOf};
+    ghost use Rattle.rbac_timeline.specs.Kept.{NamesGroup, NamesWho};
+
+    fn presence(&self, key: &ObjectKey, stored: &Stored, place: u64) -> Extent
+        ensures may { (v : RbacVersion) → v.key ≡ key.now → v.revision ≡ stored.now.revision
+            → (IsTrue result.may ↔ IsNotGone self.now place v) }
+        ensures must { (v : RbacVersion) → v.key ≡ key.now → v.revision ≡ stored.now.revision
+            → (IsTrue result.must ↔ IsCertain self.now place v) }
+    {
+        let _known = &self.clouds;
+        presence(self.removal(key, stored.revision), place)
+    }
+
+    pub(crate) fn role_extent(&self, key: &ObjectKey, place: u64, attrs: &RequestAttrs) -> Extent
+        ensures may { IsTrue result.may ↔ MayGrantByRole self.now key.now place attrs.now }
+        ensures must { IsTrue result.must ↔ MustGrantByRole self.now key.now place attrs.now }
+    {
+        if self.clouds.clouded(key, place) {
+            return Extent::UNSURE;
+        }
+        match self.latest(key, place) {
+            Some(stored) => self
+                .presence(key, stored, place)
+                .and(rules_extent(&stored.content, attrs)),
+            None => Extent::NOTHING,
+        }
+    }
+
+    fn content_extent(
+        &self,
+        content: &Content,
+        link: Link,
+        who: &User,
+        attrs: &RequestAttrs,
+    ) -> Extent
+        ensures may { IsTrue result.may ↔ MayGrantByContent self.now link.way link.role_place who.now
+            attrs.now content.now }
+        ensures must { IsTrue result.must ↔ MustGrantByContent self.now link.way link.role_place who.now
+            attrs.now content.now }
+    {
+        match content {
+            Content::Rules(_) => Extent::UNSURE,
+            Content::Bound(binding, role) => {
+                if !is_kind(kind_of_key(role), link.way.roles()) {
+                    return Extent::NOTHING;
+                }
+                if !names(binding, who) {
+                    return Extent::NOTHING;
+                }
+                self.role_extent(role, link.role_place, attrs)
+            }
+            Content::Unreadable => Extent::UNSURE,
+        }
+    }
+
+    pub(crate) fn key_extent(
+        &self,
+        key: &ObjectKey,
+        link: Link,
+        who: &User,
+        attrs: &RequestAttrs,
+    ) -> Extent
+        ensures may { IsTrue result.may ↔ MayGrantByListed self.now link.way link.role_place
+            link.binding_place who.now attrs.now key.now }
+        ensures must { IsTrue result.must ↔ MustGrantByListed self.now link.way link.role_place
+            link.binding_place who.now attrs.now key.now }
+    {
+        if !is_kind(kind_of_key(key), link.way.bindings()) {
+            return Extent::NOTHING;
+        }
+        if !reaches(key, attrs) {
+            return Extent::NOTHING;
+        }
+        if self.clouds.clouded(key, link.binding_place) {
+            return Extent::UNSURE;
+        }
+        match self.latest(key, link.binding_place) {
+            Some(stored) => self
+                .presence(key, stored, link.binding_place)
+                .and(self.content_extent(&stored.content, link, who, attrs)),
+            None => Extent::NOTHING,
+        }
+    }
+
+    fn keys_extent(
+        &self,
+        keys: &[ObjectKey],
+        link: Link,
+        who: &User,
+        attrs: &RequestAttrs,
+    ) -> Extent
+        ensures may { IsTrue result.may ↔ Any (MayGrantByListed self.now link.way link.role_place
+            link.binding_place who.now attrs.now) keys.now }
+        ensures must { IsTrue result.must ↔ Any (MustGrantByListed self.now link.way link.role_place
+            link.binding_place who.now attrs.now) keys.now }
+    {
+        let mut extent = Extent::NOTHING;
+        for key in keys {
+            extent = extent.or(self.key_extent(key, link, who, attrs));
+        }
+        extent
+    }
+
+    // What the bindings grant that name a group.
+    fn group_extent(&self, group: &Text, link: Link, who: &User, attrs: &RequestAttrs) -> Extent
+        ensures may { IsTrue result.may ↔ MayGrantOf self.now (NamesGroup self.now.versions group.now)
+            link.way link.role_place link.binding_place who.now attrs.now }
+        ensures must { IsTrue result.must ↔ MustGrantOf self.now (NamesGroup self.now.versions group.now)
+            link.way link.role_place link.binding_place who.now attrs.now }
+    {
+        self.keys_extent(self.index.by_group(group), link, who, attrs)
+    }
+
+    // What the bindings grant that name a group of these.
+    fn groups_extent(&self, groups: &[Text], link: Link, who: &User, attrs: &RequestAttrs) -> Extent
+        ensures may { IsTrue result.may ↔ Any (λ group. MayGrantOf self.now
+            (NamesGroup self.now.versions group) link.way link.role_place link.binding_place who.now
+            attrs.now) groups.now }
+        ensures must { IsTrue result.must ↔ Any (λ group. MustGrantOf self.now
+            (NamesGroup self.now.versions group) link.way link.role_place link.binding_place who.now
+            attrs.now) groups.now }
+    {
+        let mut extent = Extent::NOTHING;
+        for group in groups {
+            extent = extent.or(self.group_extent(group, link, who, attrs));
+        }
+        extent
+    }
+
+    // What the bindings grant that name the user, the account that it is, or one of its groups.
+    fn named_extent(&self, link: Link, who: &User, attrs: &RequestAttrs) -> Extent
+        ensures may { IsTrue result.may ↔ MayGrantOf self.now (NamesWho self.now.versions who.now) link.way
+            link.role_place link.binding_place who.now attrs.now }
+        ensures must { IsTrue result.must ↔ MustGrantOf self.now (NamesWho self.now.versions who.now) link.way
+            link.role_place link.binding_place who.now attrs.now }
+    {
+        let user = self.keys_extent(self.index.by_user(&who.name), link, who, attrs);
+        let account = self.keys_extent(self.index.by_account_user(&who.name), link, who, attrs);
+        let groups = self.groups_extent(who.groups.as_slice(), link, who, attrs);
+        user.or(account).or(groups)
+    }
+
+    // Whether one of these bindings may grant the request.
+    fn some_may(&self, keys: &[ObjectKey], link: Link, who: &User, attrs: &RequestAttrs) -> bool
+        ensures { IsTrue result ↔ Any (MayGrantByListed self.now link.way link.role_place link.binding_place
+            who.now attrs.now) keys.now }
+    {
+        for key in keys {
+            if self.key_extent(key, link, who, attrs).may {
+                return true;
+            }
+        }
+        false
+    }
+
+    // Whether a binding may grant the request that may be clouded or unreadable somewhere; others may be
+    // among them.
+    fn may_by_unsure(&self, link: Link, who: &User, attrs: &RequestAttrs) -> bool
+        ensures sound { IsTrue result → MayGrantOf self.now (IsKnownKey self.now) link.way link.role_place
+            link.binding_place who.now attrs.now }
+        ensures full { MayGrantOf self.now (IsKnownUnsure self.now link.binding_place) link.way
+            link.role_place link.binding_place who.now attrs.now → IsTrue result }
+    {
+        let _place = link.bindings_at();
+        let keys = self.unsure.keys(link.way.bindings(), attrs);
+        self.some_may(keys, link, who, attrs)
+    }
+
+    // Whether a binding whose name isn't known may grant the request.
+    fn may_by_nameless(&self, link: Link, attrs: &RequestAttrs) -> bool
+        ensures { IsTrue result ↔ MayGrantNameless self.now link.way link.binding_place attrs.now }
+    {
+        self.nameless
+            .may_grant(link.way.bindings(), link.binding_place, attrs)
+    }
+
+    // Whether some binding may grant the request in this way.
+    pub(crate) fn may(&self, link: Link, who: &User, attrs: &RequestAttrs) -> bool
+        ensures { IsTrue result ↔ MayGrantInWay self.now link.way link.role_place link.binding_place who.now attrs.now }
+    {
+        if self.named_extent(link, who, attrs).may {
+            return true;
+        }
+        if self.may_by_nameless(link, attrs) {
+            return true;
+        }
+        self.may_by_unsure(link, who, attrs)
+    }
+
+    // Whether some binding grants the request for certain in this way. One that does is sure, so it names
+    // the user.
+    pub(crate) fn must(&self, link: Link, who: &User, attrs: &RequestAttrs) -> bool
+        ensures { IsTrue result ↔ MustGrantInWay self.now link.way link.role_place link.binding_place who.now
+            attrs.now }
+    {
+        let _known = &self.clouds;
+        self.named_extent(link, who, attrs).must
+    }
+
+    // What the binding holds, where it may be there.
+    pub(crate) fn held(&self, key: &ObjectKey, place: u64) -> Option<&Content>
+        requires { IsClouded (writes_of self.now) key.now place → ⊥ }
+        ensures some { IfSome result (λ content. (way : Way) (role_place : ℕ) (who : User)
+            (attrs : RequestAttrs) → MayGrantByKey self.now way role_place place who attrs key.now
+            ↔ MayGrantByContent self.now way role_place who attrs content.now) }
+        ensures none { IfNone result ((way : Way) (role_place : ℕ) (who : User) (attrs : RequestAttrs)
+            → MayGrantByKey self.now way role_place place who attrs key.now → ⊥) }
+    {
+        let _known = &self.clouds;
+        match self.latest(key, place) {
+            Some(stored) => {
+                if !self.presence(key, stored, place).may {
+                    return None;
+                }
+                Some(&stored.content)
+            }
+            None => None,
+        }
+    }
+
+    // The role that the binding names. Where that one grants for certain, so does the binding, if it does at all.
+    pub(crate) fn role_bound(&self, key: &ObjectKey, place: u64) -> Option<&ObjectKey>
+        ensures { IfSome result (λ role. (way : Way) (who : User) (attrs : RequestAttrs) (r n : ℕ)
+            → (MustGrantByRole self.now role.now r attrs → MustGrantByRole self.now role.now n attrs)
+            → MustGrantByKey self.now way r place who attrs key.now
+            → MustGrantByKey self.now way n place who attrs key.now) }
+    {
+        let _known = &self.clouds;
+        match self.latest(key, place) {
+            Some(stored) => stored.content.role(),
+            None => None,
+        }
+    }
+}
