@@ -1,15 +1,14 @@
 -- Of which resources there are lists, and with which file first something is wrong.
-use Rattle.std.proofs.Common.{◌≡◌, ℕ, ◌+◌, ◌<◌, List, [], ◌∷◌, length, drop, get_or, take, Bool, true, false, cond, not, ◌&&◌, ◌||◌, Option, Some, None, bytes_eq, codes, if◌then◌else◌, refl, sym, ◌∙◌, ap, subst, arith}
-use Rattle.std.specs.Prelude.{is_none, is_some, option_map, slice_get}
+use Rattle.std.proofs.Common.{◌≡◌, ℕ, ◌+◌, ◌<◌, List, [], ◌∷◌, length, drop, get_or, Bool, true, false, cond, not, ◌&&◌, ◌||◌, Option, Some, None, bytes_eq, codes, if◌then◌else◌, refl, sym, ◌∙◌, ap, subst, arith}
+use Rattle.std.specs.Prelude.{is_none, is_some, option_map}
 use Rattle.std.specs.BTreeSet.{BTreeSet, Updates, contains_by}
 use Rattle.std.specs.List.{list_any}
 use Rattle.std.specs.Ordering.{is_eq}
 use Rattle.std.proofs.lemmas.List.{at_drop_more, drop_all, drop_more}
 use Rattle.std.proofs.lemmas.Option.{slice_get-get_or}
 use Rattle.base_types.specs.Meaning.{Meaning}
-use Rattle.base_types.proofs.Found.{same_some}
 use Rattle.cluster_setup.specs.declared.fault.FileFault.{FileFault}
-use Rattle.cluster_setup.specs.declared.fault.FileFault.TheVariants.{Kind, Pages, Twice, Revision}
+use Rattle.cluster_setup.specs.declared.fault.FileFault.TheVariants.{Pages, Twice, Revision}
 use Rattle.cluster_setup.specs.declared.fault.SetupRefusal.{SetupRefusal}
 use Rattle.cluster_setup.specs.declared.finding.Found.{Found}
 use Rattle.cluster_setup.specs.Files.{group_of, is_listing, word}
@@ -138,18 +137,28 @@ in_front trees at tree within is =
 -- something is wrong with the file in front of those that were looked at
 pub wrong_here : (trees : List Meaning) (at : ℕ) (tree : Meaning) → at < length trees → tree ≡ get_or trees at tree
     → is_some (file_fault trees (drop (at + 1) trees) tree) ≡ true → IsFirstWrong trees at (Some at)
-wrong_here trees at tree within is wrong =
-    (within, (tree, slice_get-get_or trees at tree within ∙ ap (λ t. Some t) (sym is),
-    in_front trees at tree within is ∙ wrong_or trees (drop (at + 1) trees) (file_fault trees (drop (at + 1) trees) tree) (first_refused trees (drop (at + 1) trees)) wrong))
+wrong_here trees at tree within is wrong = (
+  within,
+  (
+    tree,
+    slice_get-get_or trees at tree within ∙ ap (λ t. Some t) (sym is),
+    in_front trees at tree within is ∙ wrong_or trees (drop (at + 1) trees) (file_fault trees (drop (at + 1) trees) tree) (first_refused trees (drop (at + 1) trees)) wrong,
+  ),
+)
 
 -- nothing is wrong with it
 pub wrong_later : (trees : List Meaning) (at : ℕ) (tree : Meaning) (place : Option ℕ) → at < length trees → tree ≡ get_or trees at tree
     → is_some (file_fault trees (drop (at + 1) trees) tree) ≡ false → IsFirstWrong trees (at + 1) place → IsFirstWrong trees at place
 wrong_later trees at tree None within is right first =
     in_front trees at tree within is ∙ right_or trees (drop (at + 1) trees) (file_fault trees (drop (at + 1) trees) tree) (first_refused trees (drop (at + 1) trees)) right ∙ first
-wrong_later trees at tree (Some place) within is right first =
-    (first.0, (first.1.0, first.1.1,
-    in_front trees at tree within is ∙ right_or trees (drop (at + 1) trees) (file_fault trees (drop (at + 1) trees) tree) (first_refused trees (drop (at + 1) trees)) right ∙ first.1.2))
+wrong_later trees at tree (Some place) within is right first = (
+  first.0,
+  (
+    first.1.0,
+    first.1.1,
+    in_front trees at tree within is ∙ right_or trees (drop (at + 1) trees) (file_fault trees (drop (at + 1) trees) tree) (first_refused trees (drop (at + 1) trees)) right ∙ first.1.2,
+  ),
+)
 
 -- a file at a place, in front of those behind it
 pub listed_more : (set : BTreeSet Names) (trees : List Meaning) (at : ℕ) (tree : Meaning) → at < length trees → tree ≡ get_or trees at tree

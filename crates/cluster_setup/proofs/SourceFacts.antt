@@ -1,6 +1,5 @@
 -- Which document has a resource, entry by entry and file by file.
 use Rattle.std.proofs.Common.{◌≡◌, ◌≢◌, ℕ, List, [], ◌∷◌, ◌++◌, Bool, true, false, cond, ◌&&◌, Option, Some, None, bytes_eq, codes, if◌then◌else◌, refl, sym, ◌∙◌, ap}
-use Rattle.std.specs.Borrow.{Bor}
 use Rattle.std.specs.Prelude.{is_some, option_map}
 use Rattle.std.specs.BTreeMap.{BTreeMap, Updates, get_by}
 use Rattle.std.specs.Cmp.{tied_then}
@@ -30,9 +29,10 @@ same_names first second names =
 -- the kind of a list is told by the kind of its objects
 same_kind : (kind own list_kind : List ℕ) → list_kind ≡ kind ++ codes "List" → bytes_eq own kind ≡ bytes_eq list_kind (own ++ codes "List")
 same_kind kind own list_kind is =
-    same_from_decides (bytes_eq own kind) (bytes_eq list_kind (own ++ codes "List"))
-    (λ same. is ∙ ap (λ k. k ++ codes "List") (sym ((bytes_eq-Decides own kind).0 same)),
-    λ same. (bytes_eq-Decides own kind).1 (append_cancel_right own kind (codes "List") (sym same ∙ is)))
+    same_from_decides (bytes_eq own kind) (bytes_eq list_kind (own ++ codes "List")) (
+      λ same. is ∙ ap (λ k. k ++ codes "List") (sym ((bytes_eq-Decides own kind).0 same)),
+      λ same. (bytes_eq-Decides own kind).1 (append_cancel_right own kind (codes "List") (sym same ∙ is)),
+    )
     (bytes_eq-Decides list_kind (own ++ codes "List"))
 
 map_choice : {A B : Type 0} (f : A → B) (first : Bool) (x y : Option A) → option_map f (cond first x y) ≡ cond first (option_map f x) (option_map f y)
@@ -132,11 +132,11 @@ unsourced false version found is = refl
 pub no_source : (trees : List Meaning) (list : Meaning) → ((front : List ℕ) → word (codes "kind") list ≢ front ++ codes "List") → source_found trees list ≡ None
 no_source trees list none =
     let no_entry : (entry : Meaning) → is_entry_for list entry ≡ false =
-        λ entry. both_false (is_whole_name (word (codes "name") entry)) (is_list_of (word (codes "kind") entry) (word (codes "kind") list))
-        (false_from_ne_true _ (λ same. none (word (codes "kind") entry) ((bytes_eq-Decides (word (codes "kind") list) (word (codes "kind") entry ++ codes "List")).0 same))) in
+    λ entry. both_false (is_whole_name (word (codes "name") entry)) (is_list_of (word (codes "kind") entry) (word (codes "kind") list))
+    (false_from_ne_true _ (λ same. none (word (codes "kind") entry) ((bytes_eq-Decides (word (codes "kind") list) (word (codes "kind") entry ++ codes "List")).0 same))) in
     ap (λ source. source >>= found_in list) (none_passes (is_source list) trees (λ document.
-        unsourced (is_discovery document) (bytes_eq (word (codes "groupVersion") document) (word (codes "apiVersion") list)) (entry_in list document)
-        (none_passes (is_entry_for list) (listed (codes "resources") document) no_entry)))
+    unsourced (is_discovery document) (bytes_eq (word (codes "groupVersion") document) (word (codes "apiVersion") list)) (entry_in list document)
+    (none_passes (is_entry_for list) (listed (codes "resources") document) no_entry)))
 
 some_cases : (discovery version : Bool) (document : Meaning) (found : Option Meaning) (others : Option Meaning) (In : Meaning → Option (Meaning × Meaning))
     → In document ≡ option_map (λ entry. (document, entry)) found → is_some (others >>= In) ≡ is_some others

@@ -1,6 +1,6 @@
 use Rattle.std.proofs.Common.{sym, ap, ◌∙◌}
 use Rattle.cluster_setup.specs.Files.{group_of}
-use Rattle.cluster_setup.proofs.ListedFacts.{again_told, none_again, none_more, one_listed}
+use Rattle.cluster_setup.proofs.ListedFacts.{again_told, one_listed}
 use Rattle.cluster_setup.proofs.refusing.add_listed.Goals as goal
 
 pub returns-clause-again : goal.returns-clause-again

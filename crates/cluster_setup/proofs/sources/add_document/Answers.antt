@@ -1,6 +1,5 @@
-use Rattle.std.proofs.Common.{◌≡◌, List, drop, rules, arith, sym, ap, subst, ◌∙◌}
-use Rattle.base_types.specs.Meaning.{Meaning}
-use Rattle.cluster_setup.specs.Indexed.{AreEntries, AreSources}
+use Rattle.std.proofs.Common.{◌≡◌, drop, rules, arith, sym, subst, ◌∙◌}
+use Rattle.cluster_setup.specs.Indexed.{AreEntries}
 use Rattle.cluster_setup.proofs.SourceFacts.{document_put}
 use Rattle.cluster_setup.proofs.sources.add_document.Goals as goal
 
