@@ -71,7 +71,7 @@ fn add_document<'a>(entries: &mut Entries<'a>, document: &'a Tree) -> Result<(),
 }
 
 impl<'a> Sources<'a> {
-    /// From the last to the first, so that the first of a version and kind stays.
+    /// These files with their map. They are put in from the last to the first, so that the first of a version and kind stays.
     pub fn new(alloc: Global, trees: &'a [Tree]) -> Result<Sources<'a>, OutOfMemory>
         ensures { IfOk result (λ sources. sources ≡ trees.now) }
     {
