@@ -3,8 +3,8 @@ pub mod AnsweringFacts
 pub mod Causes
 pub mod Gathered
 pub mod GatheringFacts
-pub mod Left
 pub mod ListKinds
+pub mod ListedFacts
 pub mod NameFacts
 pub mod Named
 pub mod NoFloats
@@ -12,5 +12,6 @@ pub mod NoMembers
 pub mod Ranges
 pub mod Ruled
 pub mod Same
+pub mod SourceFacts
 pub mod ToldFacts
 pub mod Zips

@@ -3,6 +3,7 @@ pub mod Answers
 pub mod Files
 pub mod Found
 pub mod Gathering
+pub mod Indexed
 pub mod Making
 pub mod Names
 pub mod Parts

@@ -7,6 +7,7 @@ ghost use Rattle.cluster_setup.specs.Parts.{with_content, with_start};
 use crate::building::{flag, object, put, said, whole};
 use crate::entries::entries_in;
 use crate::objects::objects_in;
+use crate::sources::Sources;
 use base_types::OutOfMemory;
 use base_types::json::{MemberList, Tree, copy};
 use std::alloc::Global;
@@ -55,25 +56,30 @@ fn add_start(alloc: Global, fields: &mut MemberList, given: Given<'_>) -> Result
 }
 
 // Says what is recorded, what is tracked, and what was there.
-fn add_content(
+fn add_content<'a>(
     alloc: Global,
     fields: &mut MemberList,
-    given: Given<'_>,
-    shown: &[Tree],
+    given: Given<'a>,
+    shown: &'a [Tree],
 ) -> Result<(), OutOfMemory>
     ensures { OnOk result (fields_of fields.new ≡ with_content given.entry.policy.now
         (flat_map (entries_of given.entry.trees.now) given.entry.trees.now)
         (flat_map (objects_of given.entry.trees.now) shown.now) (fields_of fields.old)) }
 {
     put(alloc, fields, "policy", copy(alloc, given.policy)?)?;
-    let entries = entries_in(alloc, given.trees)?;
+    let sources = Sources::new(alloc, given.trees)?;
+    let entries = entries_in(alloc, &sources, given.trees)?;
     put(alloc, fields, "resources", entries)?;
-    let objects = objects_in(alloc, given.trees, shown)?;
+    let objects = objects_in(alloc, &sources, shown)?;
     put(alloc, fields, "snapshot", objects)
 }
 
 /// The setup of all files' resources, with the objects of some of them.
-pub fn setup_tree(alloc: Global, given: Given<'_>, shown: &[Tree]) -> Result<Tree, OutOfMemory>
+pub fn setup_tree<'a>(
+    alloc: Global,
+    given: Given<'a>,
+    shown: &'a [Tree],
+) -> Result<Tree, OutOfMemory>
     ensures { IfOk result (λ tree. tree ≡ setup_tree given.entry.revision.now given.entry.time.now
         given.entry.policy.now given.entry.trees.now shown.now given.entry.authorize) }
 {

@@ -9,8 +9,9 @@ ghost use Rattle.cluster_setup.specs.Parts.{names_of, with_all_idle, with_rules}
 ghost use Rattle.cluster_setup.specs.Table.{patch_of};
 
 use crate::building::{flag, items, object, put, said, say};
-use crate::finding::{Found, found_for};
+use crate::finding::Found;
 use crate::shapes::{shape_list, shapes_of, status_shapes_of};
+use crate::sources::Sources;
 use crate::table::{Form, form_of, patch_of};
 use crate::words::{group_of, listed, version_of, word};
 use base_types::json::{MemberList, Tree};
@@ -187,15 +188,15 @@ fn form_for(found: Found<'_>) -> Form
 }
 
 // Puts the entry of a file that is a list behind others.
-fn add_entry(
+fn add_entry<'a>(
     alloc: Global,
     entries: &mut Vec<Tree>,
-    trees: &[Tree],
-    list: &Tree,
+    sources: &Sources<'a>,
+    list: &'a Tree,
 ) -> Result<(), OutOfMemory>
-    ensures { OnOk result (entries.new.items ≡ entries.old.items ++ entries_of trees.now list.now) }
+    ensures { OnOk result (entries.new.items ≡ entries.old.items ++ entries_of sources.now list.now) }
 {
-    let Some(found) = found_for(trees, list) else {
+    let Some(found) = sources.found_for(list) else {
         return Ok(());
     };
     let entry = entry_of(alloc, found, word(list, "kind"), form_for(found))?;
@@ -203,13 +204,17 @@ fn add_entry(
     Ok(())
 }
 
-/// The entries of all files that are lists.
-pub fn entries_in(alloc: Global, trees: &[Tree]) -> Result<Tree, OutOfMemory>
-    ensures { IfOk result (λ entries. entries ≡ items (kids_of (flat_map (entries_of trees.now) trees.now))) }
+/// The entries of these files that are lists, of resources that all files tell.
+pub fn entries_in<'a>(
+    alloc: Global,
+    sources: &Sources<'a>,
+    trees: &'a [Tree],
+) -> Result<Tree, OutOfMemory>
+    ensures { IfOk result (λ entries. entries ≡ items (kids_of (flat_map (entries_of sources.now) trees.now))) }
 {
     let mut entries = Vec::new(alloc);
     for list in trees {
-        add_entry(alloc, &mut entries, trees, list)?;
+        add_entry(alloc, &mut entries, sources, list)?;
     }
     Ok(items(entries))
 }

@@ -1,7 +1,6 @@
 ghost use Rattle.std.specs.Prelude.{◌≡◌, option_map};
 ghost use Rattle.cluster_setup.specs.Found.{is_list_of, is_entry_for, entry_in, has_entry, is_source, source_of};
-ghost use Rattle.cluster_setup.specs.Found.{is_of_group, is_elsewhere, is_same_resource, is_listed_again, found_in};
-ghost use Rattle.cluster_setup.specs.Found.{found_for};
+ghost use Rattle.cluster_setup.specs.Found.{is_of_group, is_elsewhere, is_same_resource, is_listed_again};
 
 use crate::files::{is_discovery, is_listing};
 use crate::words::{group_of, is_whole_name, listed, word};
@@ -86,21 +85,4 @@ pub fn is_listed_again(later: &[Tree], list: &Tree) -> bool
     ensures { result ≡ is_listed_again later.now list.now }
 {
     later.iter().any(|other| is_same_resource(list, other))
-}
-
-fn found_in<'a>(list: &Tree, document: &'a Tree) -> Option<Found<'a>>
-    ensures { option_map (λ found. (found.document.now, found.entry.now)) result ≡ found_in list.now document.now }
-{
-    let entry = entry_in(list, document)?;
-    Some(Found { document, entry })
-}
-
-/// The document and its entry of the resource whose list a file is.
-pub fn found_for<'a>(trees: &'a [Tree], list: &Tree) -> Option<Found<'a>>
-    ensures { option_map (λ found. (found.document.now, found.entry.now)) result ≡ found_for trees.now list.now }
-{
-    if !is_listing(list) {
-        return None;
-    }
-    found_in(list, source_of(trees, list)?)
 }

@@ -74,7 +74,11 @@ fn accept(alloc: Global, tree: &Tree) -> Result<String, SetupFault>
 }
 
 /// The line of the setup with the objects of some files, or the rule that it breaks.
-pub fn accept_shown(alloc: Global, given: Given<'_>, shown: &[Tree]) -> Result<String, SetupFault>
+pub fn accept_shown<'a>(
+    alloc: Global,
+    given: Given<'a>,
+    shown: &'a [Tree],
+) -> Result<String, SetupFault>
     requires policy { InRange given.policy.now }
     requires trees { All InRange given.trees.now }
     requires shown { All InRange shown.now }

@@ -16,6 +16,7 @@ mod names;
 mod objects;
 mod refusing;
 mod shapes;
+mod sources;
 mod table;
 mod telling;
 mod words;

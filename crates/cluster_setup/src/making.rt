@@ -170,9 +170,12 @@ fn setup_of(
     ensures made { IfOk result (λ text. IsSetupText time.now policy.now trees.now authorize (string_bytes text)) }
     ensures cause { IfErr result (OrMemory (IsRefused time.now policy.now trees.now authorize)) }
 {
-    match first_refused(trees, trees) {
-        Some(refusal) => Err(refusal),
-        None => begun(alloc, time, policy, trees, authorize),
+    match first_refused(alloc, trees) {
+        Ok(found) => match found {
+            Some(refusal) => Err(refusal),
+            None => begun(alloc, time, policy, trees, authorize),
+        },
+        Err(_) => Err(SetupRefusal::OutOfMemory),
     }
 }
 

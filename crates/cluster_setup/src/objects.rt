@@ -4,7 +4,7 @@ ghost use Rattle.base_types.specs.Meaning.{items, kids_of};
 ghost use Rattle.cluster_setup.specs.Making.{put_in, filled, whole_item, object_entry, objects_of};
 
 use crate::building::{items, object, put, said, say};
-use crate::finding::found_for;
+use crate::sources::Sources;
 use crate::words::{group_of, listed, word};
 use base_types::OutOfMemory;
 use base_types::json::{Node, Tree, copy};
@@ -82,15 +82,15 @@ fn add_items(
 }
 
 // Puts the objects of a file that is a list behind others.
-fn add_objects(
+fn add_objects<'a>(
     alloc: Global,
     objects: &mut Vec<Tree>,
-    trees: &[Tree],
-    list: &Tree,
+    sources: &Sources<'a>,
+    list: &'a Tree,
 ) -> Result<(), OutOfMemory>
-    ensures { OnOk result (objects.new.items ≡ objects.old.items ++ objects_of trees.now list.now) }
+    ensures { OnOk result (objects.new.items ≡ objects.old.items ++ objects_of sources.now list.now) }
 {
-    let Some(found) = found_for(trees, list) else {
+    let Some(found) = sources.found_for(list) else {
         return Ok(());
     };
     let version = word(found.document, "groupVersion");
@@ -108,12 +108,16 @@ fn add_objects(
 }
 
 /// The objects of these files that are lists, of resources that all files tell.
-pub fn objects_in(alloc: Global, trees: &[Tree], shown: &[Tree]) -> Result<Tree, OutOfMemory>
-    ensures { IfOk result (λ objects. objects ≡ items (kids_of (flat_map (objects_of trees.now) shown.now))) }
+pub fn objects_in<'a>(
+    alloc: Global,
+    sources: &Sources<'a>,
+    shown: &'a [Tree],
+) -> Result<Tree, OutOfMemory>
+    ensures { IfOk result (λ objects. objects ≡ items (kids_of (flat_map (objects_of sources.now) shown.now))) }
 {
     let mut objects = Vec::new(alloc);
     for list in shown {
-        add_objects(alloc, &mut objects, trees, list)?;
+        add_objects(alloc, &mut objects, sources, list)?;
     }
     Ok(items(objects))
 }

@@ -1,8 +1,9 @@
 ghost use Rattle.std.specs.Prelude.{◌≡◌, ◌≤◌, None, length, IfOk, IfSome};
 
 use crate::edge::{Desk, DeskFailed, Sink, SinkFailed};
-use base_types::{OutOfMemory, Text};
+use base_types::OutOfMemory;
 use std::alloc::Global;
+use std::collections::BTreeMap;
 use std::io::{Input, Print, Read, Write};
 use std::rt::Files;
 use std::{fs, io};
@@ -18,17 +19,11 @@ enum Source<F, I> {
     Input(I),
 }
 
-#[derive(Drop)]
-struct NamedSource<F, I> {
-    name: Text,
-    source: Source<F, I>,
-}
-
 /// Files by their paths, and the standard input. It tells no content.
 #[derive(Drop)]
 pub struct FileDesk<'a, R: Files + Input> {
     rt: &'a R,
-    sources: Vec<NamedSource<R::File, R::Reader>>,
+    sources: BTreeMap<String, Source<R::File, R::Reader>>,
     faults: u64,
 }
 
@@ -37,12 +32,9 @@ impl<'a, R: Files + Input> FileDesk<'a, R> {
     pub fn new(alloc: Global, rt: &'a R, names: &[String]) -> Result<FileDesk<'a, R>, OutOfMemory>
         ensures { IfOk result (λ desk. desk.faults ≡ 0) }
     {
-        let mut sources = Vec::new(alloc);
+        let mut sources = BTreeMap::new(alloc);
         for name in names {
-            sources.push(NamedSource {
-                name: Text::from_str(alloc, name)?,
-                source: Source::Closed,
-            })?;
+            sources.insert(name.clone()?, Source::Closed)?;
         }
         Ok(FileDesk {
             rt,
@@ -61,15 +53,16 @@ fn open_source<R: Files + Input>(rt: &R, name: &str) -> io::Result<Source<R::Fil
 
 fn read_source<R: Files + Input>(
     rt: &R,
-    named: &mut NamedSource<R::File, R::Reader>,
+    source: &mut Source<R::File, R::Reader>,
+    name: &str,
     into: &mut [u8],
 ) -> io::Result<usize>
     ensures { IfOk result (λ n. n ≤ length into.new) }
 {
-    if let Source::Closed = named.source {
-        named.source = open_source(rt, named.name.as_str())?;
+    if let Source::Closed = source {
+        *source = open_source(rt, name)?;
     }
-    match &mut named.source {
+    match source {
         Source::Closed => Ok(0),
         Source::File(file) => file.read(into),
         Source::Input(input) => input.read(into),
@@ -78,18 +71,14 @@ fn read_source<R: Files + Input>(
 
 fn read_named<R: Files + Input>(
     rt: &R,
-    sources: &mut Vec<NamedSource<R::File, R::Reader>>,
+    sources: &mut BTreeMap<String, Source<R::File, R::Reader>>,
     name: &str,
     into: &mut [u8],
 ) -> Option<usize>
     ensures { IfSome result (λ n. n ≤ length into.new) }
 {
-    for at in 0..sources.len() {
-        if sources[at].name.as_str() == name {
-            return read_source(rt, &mut sources[at], into).ok();
-        }
-    }
-    None
+    let source = sources.get_mut(name)?;
+    read_source(rt, source, name, into).ok()
 }
 
 impl<'a, R: Files + Input> Desk for FileDesk<'a, R> {

@@ -4,4 +4,4 @@ use Rattle.cluster_setup.specs.Making.{entries_of}
 use Rattle.cluster_setup.proofs.entries.entries_in.Given as goal
 
 abbrev pub invariant-loop-list : goal.invariant-loop-list
-invariant-loop-list l = l.entries.items ≡ flat_map (entries_of l.trees) (take l.list-index l.trees)
+invariant-loop-list l = l.entries.items ≡ flat_map (entries_of l.sources) (take l.list-index l.trees)

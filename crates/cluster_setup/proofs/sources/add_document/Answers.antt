@@ -1,0 +1,11 @@
+use Rattle.std.proofs.Common.{◌≡◌, drop, rules, arith, sym, subst, ◌∙◌}
+use Rattle.cluster_setup.specs.Indexed.{AreEntries}
+use Rattle.cluster_setup.proofs.SourceFacts.{document_put}
+use Rattle.cluster_setup.proofs.sources.add_document.Goals as goal
+
+pub returns : goal.returns
+returns c = λ behind held.
+    let none : c.loop-at.at ≡ 0 = search (rules, arith) in
+    let all = subst (λ n. AreEntries c.loop-at.entries c.args.document.now (drop n c.listed-told.result.now) behind) none (c.loop-at.invariant behind held) in
+    document_put c.loop-at.entries c.args.document.now behind (sym c.is_discovery.ensures ∙ c.if-not-is_discovery.false)
+    (subst (λ told. AreEntries c.loop-at.entries c.args.document.now told behind) c.listed-told.ensures all)
