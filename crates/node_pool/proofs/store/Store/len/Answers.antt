@@ -5,7 +5,7 @@ use Rattle.node_pool.proofs.store.Store.len.Goals as goal
 pub returns-clause-len : goal.returns-clause-len
 returns-clause-len c =
     let s = c.self.inside in
-    c.len.ensures.len ∙ seen-length s.limit s.names.items s.levels.items c.args.self.now c.self.view_is
+    c.len.ensures ∙ s.levels.ok.0 ∙ seen-length s.limit s.names.items s.levels.items c.args.self.now c.self.view_is
 
 pub returns-clause-room : goal.returns-clause-room
 returns-clause-room c =
