@@ -1,4 +1,4 @@
-ghost use Rattle.std.specs.Prelude.{◌≡◌, ◌≤◌, List, length, slice_get, option_map, option_copied, IfSome};
+ghost use Rattle.std.specs.Prelude.{◌≡◌, ◌≤◌, length, slice_get, option_map, option_copied, IfSome};
 ghost use Rattle.node_pool.specs.Kept.{seen, AreKept};
 ghost use Rattle.node_pool.specs.Pooled.{AreDistinct};
 ghost use Rattle.node_pool.specs.Within.{IsWithin, name_at, tree_of};
