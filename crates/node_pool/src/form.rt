@@ -14,7 +14,7 @@ pub enum Form {
     Members(Vec<(usize, u32)>),
 }
 
-/// A level as the pool's set holds it. Contracts see it as a `Flat`, so that capacities play no part.
+/// A level as a store holds it. Contracts see it as a `Flat`, so that capacities play no part.
 #[derive(Drop)]
 pub struct Level {
     pub form: Form,

@@ -8,14 +8,14 @@ ghost use Rattle.node_pool.specs.Within.{tree_at, field_at, tree_of, IsWithin, I
 
 use crate::fault::PoolFault;
 use crate::form::{Form, Level};
-use crate::store::Store;
+use crate::growing::GrowingStore;
 use base_types::json::{MemberList, Node, Tree, Trees};
 use std::alloc::Global;
 
 /// Puts a tree and what is within it into the store, as far as each is new, and answers the tree's number. After a
 /// refusal a part of it may stand there.
 #[cycle(add)]
-pub fn add(alloc: Global, store: &mut Store, tree: &Tree) -> Result<u32, PoolFault>
+pub fn add(alloc: Global, store: &mut GrowingStore, tree: &Tree) -> Result<u32, PoolFault>
     ensures grows { Grows store.old store.new }
     ensures added { OnOk result (store.new.trees ≡ interned store.old.trees tree.now) }
     ensures number { IfOk result (λ n. slice_get store.new.trees n ≡ Some tree.now) }
@@ -28,7 +28,7 @@ pub fn add(alloc: Global, store: &mut Store, tree: &Tree) -> Result<u32, PoolFau
 
 // The level of a tree, once what is inside the tree has its numbers.
 #[cycle(add)]
-fn level_of(alloc: Global, store: &mut Store, tree: &Tree) -> Result<Level, PoolFault>
+fn level_of(alloc: Global, store: &mut GrowingStore, tree: &Tree) -> Result<Level, PoolFault>
     ensures grows { Grows store.old store.new }
     ensures added { OnOk result (store.new.trees ≡ fold with_tree store.old.trees (inside tree.now)) }
     ensures within { IfOk result (λ level. IsWithin store.new.names (length store.new.trees) level) }
@@ -58,7 +58,7 @@ fn level_of(alloc: Global, store: &mut Store, tree: &Tree) -> Result<Level, Pool
 
 // The numbers of the items.
 #[cycle(add)]
-fn add_items(alloc: Global, store: &mut Store, list: &Trees) -> Result<Vec<u32>, PoolFault>
+fn add_items(alloc: Global, store: &mut GrowingStore, list: &Trees) -> Result<Vec<u32>, PoolFault>
     ensures grows { Grows store.old store.new }
     ensures added { OnOk result (store.new.trees ≡ fold with_tree store.old.trees (inside_kids (kids_of list.now))) }
     ensures within { IfOk result (λ v. AllByRecursion (λ k. k < length store.new.trees) v.items) }
@@ -77,7 +77,7 @@ fn add_items(alloc: Global, store: &mut Store, list: &Trees) -> Result<Vec<u32>,
 #[cycle(add)]
 fn add_members(
     alloc: Global,
-    store: &mut Store,
+    store: &mut GrowingStore,
     list: &MemberList,
 ) -> Result<Vec<(usize, u32)>, PoolFault>
     ensures grows { Grows store.old store.new }

@@ -5,6 +5,8 @@
 mod comparing;
 mod fault;
 mod form;
+mod growing;
+mod interner;
 mod interning;
 mod pointing;
 mod pool;
@@ -12,4 +14,5 @@ mod rebuilding;
 mod store;
 
 pub use fault::PoolFault;
+pub use interner::Interner;
 pub use pool::{NodeId, Pool};

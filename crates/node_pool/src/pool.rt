@@ -1,19 +1,15 @@
-ghost use Rattle.std.specs.Prelude.{◌≡◌, ◌<◌, ◌≤◌, ◌↔◌, [], Some, Err, length, slice_get, option_and_then, OnOk};
-ghost use Rattle.std.specs.Prelude.{OnErr, IfOk, IfSome, IsTrue};
+ghost use Rattle.std.specs.Prelude.{◌≡◌, ◌<◌, ◌≤◌, ◌↔◌, Some, length, slice_get, option_and_then, IfOk, IfSome};
+ghost use Rattle.std.specs.Prelude.{IsTrue};
 ghost use Rattle.base_types.specs.Parts.{member_of};
 ghost use Rattle.base_types.specs.Pointers.{pointed as pointed_tree};
 ghost use Rattle.node_pool.specs.Pooled.{AreDistinct};
-ghost use Rattle.node_pool.specs.Subtrees.{interned};
 
 use crate::comparing::equals;
-use crate::fault::PoolFault;
-use crate::interning::add;
 use crate::pointing::{member_of, pointed};
 use crate::rebuilding::rebuild;
 use crate::store::Store;
 use base_types::OutOfMemory;
 use base_types::json::{Pointer, Tree};
-use hash_seed::Seed;
 use std::alloc::Global;
 use std::marker::Model;
 
@@ -40,15 +36,12 @@ impl Model for Pool {
 }
 
 impl Pool {
-    /// A pool without trees that may hold `limit` of them. The hashes of what it holds begin with the seed.
-    pub fn new(alloc: Global, limit: u32, seed: Seed) -> Result<Pool, OutOfMemory>
-        ensures limit { IfOk result (λ pool. pool.limit ≡ limit) }
-        ensures trees { IfOk result (λ pool. pool.trees ≡ []) }
+    // The pool of the trees that a store holds.
+    pub(crate) fn of(alloc: Global, store: Store) -> Pool
+        ensures limit { result.limit ≡ store.limit }
+        ensures trees { result.trees ≡ store.trees }
     {
-        Ok(Pool {
-            alloc,
-            store: Store::new(alloc, limit, seed),
-        })
+        Pool { alloc, store }
     }
 
     /// How many trees the pool holds. Every number is below it.
@@ -58,27 +51,6 @@ impl Pool {
         ensures room { length self.now.trees ≤ self.now.limit }
     {
         self.store.len()
-    }
-
-    /// The number of a tree. The tree and each value within it that the pool lacks are put behind the others; after a
-    /// refusal the pool is as before.
-    pub fn intern(&mut self, tree: &Tree) -> Result<NodeId, PoolFault>
-        ensures added { OnOk result (self.new.trees ≡ interned self.old.trees tree.now) }
-        ensures number { IfOk result (λ node. slice_get self.new.trees node.0 ≡ Some tree.now) }
-        ensures fits { OnOk result (length (interned self.old.trees tree.now) ≤ self.old.limit) }
-        ensures full { result ≡ Err PoolFault.Full → self.old.limit < length (interned self.old.trees tree.now) }
-        ensures refused { OnErr result (self.new ≡ self.old) }
-        ensures limit { self.new.limit ≡ self.old.limit }
-    {
-        let alloc = self.alloc;
-        let before = self.store.len();
-        match add(alloc, &mut self.store, tree) {
-            Ok(number) => Ok(NodeId(number)),
-            Err(fault) => {
-                self.store.cut(before);
-                Err(fault)
-            }
-        }
     }
 
     /// A copy of the tree of a number.

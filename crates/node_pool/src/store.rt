@@ -1,26 +1,18 @@
-ghost use Rattle.std.specs.Prelude.{◌≡◌, ◌<◌, ◌≤◌, [], List, ℕ, Some, Err, length, take, slice_get, option_map};
-ghost use Rattle.std.specs.Prelude.{option_copied, OnOk, OnErr, IfOk, IfSome};
-ghost use Rattle.indexmap.specs.IndexSet.{insert_key};
-ghost use Rattle.node_pool.specs.Flat.{flat_eq};
-ghost use Rattle.node_pool.specs.Kept.{Grows};
+ghost use Rattle.std.specs.Prelude.{◌≡◌, ◌≤◌, length, slice_get, option_map, option_copied, IfSome};
+ghost use Rattle.node_pool.specs.Kept.{seen, AreKept};
 ghost use Rattle.node_pool.specs.Pooled.{AreDistinct};
-ghost use Rattle.node_pool.specs.Subtrees.{Begins, with_tree};
 ghost use Rattle.node_pool.specs.Within.{IsWithin, name_at, tree_of};
 
-use crate::fault::PoolFault;
 use crate::form::Level;
-use base_types::{OutOfMemory, Text};
-use hash_seed::{Seed, Seeded};
-use indexmap::IndexSet;
-use std::alloc::Global;
+use base_types::Text;
 use std::marker::Model;
 
 /// The levels of the trees and the names of their members, each once. A number is a position.
 #[derive(Drop)]
 pub struct Store {
     limit: u32,
-    names: IndexSet<Text, Seeded>,
-    levels: IndexSet<Level, Seeded>,
+    names: Vec<Text>,
+    levels: Vec<Level>,
 }
 
 impl Model for Store {
@@ -30,21 +22,21 @@ impl Model for Store {
 
     ghost coded = { coded_kept };
 
-    ghost view = { λ s. seen s.limit s.names.keys s.levels.keys };
+    ghost view = { λ s. seen s.limit s.names.items s.levels.items };
 
-    ghost invariant = { λ s. AreKept s.limit s.names.keys s.levels.keys };
+    ghost invariant = { λ s. AreKept s.limit s.names.items s.levels.items };
 }
 
 impl Store {
-    pub fn new(alloc: Global, limit: u32, seed: Seed) -> Store
-        ensures limit { result.limit ≡ limit }
-        ensures names { result.names ≡ [] }
-        ensures trees { result.trees ≡ [] }
+    /// The store of these names and levels.
+    pub fn of(limit: u32, names: Vec<Text>, levels: Vec<Level>) -> Store
+        requires { AreKept limit names.items levels.items }
+        ensures { result ≡ seen limit names.items levels.items }
     {
         Store {
             limit,
-            names: IndexSet::with_hasher(alloc, Seeded::new(seed)),
-            levels: IndexSet::with_hasher(alloc, Seeded::new(seed)),
+            names,
+            levels,
         }
     }
 
@@ -63,85 +55,23 @@ impl Store {
             self.now.trees number }
         ensures before { IfSome result (λ l. IsWithin self.now.names number l.now) }
     {
-        self.levels.get_index(number as usize)
+        level_at(&self.levels, number)
     }
 
     /// The name of a number, and the empty text where there is none.
     pub fn name(&self, number: usize) -> &str
         ensures { result.now ≡ name_at self.now.names number }
     {
-        match self.names.get_index(number) {
+        match self.names.get(number) {
             Some(name) => name.as_str(),
             None => "",
         }
     }
-
-    /// The number of a name, which is a new one where the name is new.
-    pub fn number_of(&mut self, name: &Text) -> Result<usize, OutOfMemory>
-        ensures grows { Grows self.old self.new }
-        ensures trees { self.new.trees ≡ self.old.trees }
-        ensures number { IfOk result (λ n. slice_get self.new.names n ≡ Some name.now) }
-    {
-        numbered(&mut self.names, name)
-    }
-
-    /// The number of a level's tree, which is a new one where the tree is new.
-    pub fn place(&mut self, level: Level) -> Result<u32, PoolFault>
-        requires within { IsWithin self.old.names (length self.old.trees) level }
-        ensures limit { self.new.limit ≡ self.old.limit }
-        ensures names { self.new.names ≡ self.old.names }
-        ensures placed { OnOk result (self.new.trees ≡ with_tree self.old.trees
-            (tree_of self.old.names self.old.trees level)) }
-        ensures number { IfOk result (λ n. slice_get self.new.trees n ≡ Some
-            (tree_of self.old.names self.old.trees level)) }
-        ensures fits { OnOk result (length (with_tree self.old.trees (tree_of self.old.names self.old.trees
-            level)) ≤ self.old.limit) }
-        ensures full { result ≡ Err PoolFault.Full → self.old.limit < length (with_tree self.old.trees
-            (tree_of self.old.names self.old.trees level)) }
-        ensures refused { OnErr result (self.new.trees ≡ self.old.trees) }
-    {
-        inserted(&mut self.levels, self.limit, level)
-    }
-
-    /// Takes out the trees whose numbers aren't below this one.
-    pub fn cut(&mut self, len: u32)
-        ensures limit { self.new.limit ≡ self.old.limit }
-        ensures trees { self.new.trees ≡ take len self.old.trees }
-    {
-        self.levels.truncate(len as usize);
-    }
 }
 
-// The position of a name, which is put behind the others where it is new.
-fn numbered(names: &mut IndexSet<Text, Seeded>, name: &Text) -> Result<usize, OutOfMemory>
-    ensures begins { Begins names.old.keys names.new.keys }
-    ensures distinct { AreDistinct names.old.keys → AreDistinct names.new.keys }
-    ensures number { IfOk result (λ n. slice_get names.new.keys n ≡ Some name.now) }
+// The level at a position.
+fn level_at(levels: &Vec<Level>, number: u32) -> Option<&Level>
+    ensures { option_copied result ≡ slice_get levels.now.items number }
 {
-    if let Some(number) = names.get_index_of(name) {
-        return Ok(number);
-    }
-    let (number, _) = names.insert_full(name.clone()?)?;
-    Ok(number)
-}
-
-// The position of a level, which is put behind the others where it is new and there is room.
-fn inserted(
-    levels: &mut IndexSet<Level, Seeded>,
-    limit: u32,
-    level: Level,
-) -> Result<u32, PoolFault>
-    requires room { length levels.old.keys ≤ limit }
-    ensures keys { OnOk result (levels.new.keys ≡ insert_key flat_eq levels.old.keys level) }
-    ensures number { IfOk result (λ n. slice_get levels.new.keys n ≡ Some level) }
-    ensures fits { OnOk result (length (insert_key flat_eq levels.old.keys level) ≤ limit) }
-    ensures full { result ≡ Err PoolFault.Full → limit < length (insert_key flat_eq levels.old.keys level) }
-    ensures refused { OnErr result (levels.new.keys ≡ levels.old.keys) }
-{
-    let (index, _) = levels.insert_full(level)?;
-    if levels.len() > limit as usize {
-        levels.truncate(limit as usize);
-        return Err(PoolFault::Full);
-    }
-    Ok(index as u32)
+    levels.get(number as usize)
 }

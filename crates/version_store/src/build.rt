@@ -30,7 +30,7 @@ use audit_event::Events;
 use base_types::{ObjectKey, OutOfMemory, Reason};
 use clouds::Clouds;
 use hash_seed::Seed;
-use node_pool::Pool;
+use node_pool::{Interner, Pool};
 use object_past::{Past, Removals, Versions};
 use object_versions::{Judged, LogPast, past_of};
 use rbac_timeline::Timeline;
@@ -230,8 +230,9 @@ fn gather<R: Threads + Sync>(
     ensures full { result ≡ Err BuildFault.PoolFull → limit < length (pooled setup.now events.now) }
     ensures fits { IfOk result (λ gathered. length (pooled setup.now events.now) ≤ limit) }
 {
-    let mut pool = Pool::new(alloc, limit, seed)?;
-    let log = log_of(rt, alloc, &mut pool, setup, events)?;
+    let mut interner = Interner::new(alloc, limit, seed)?;
+    let log = log_of(rt, alloc, &mut interner, setup, events)?;
+    let pool = interner.into_pool()?;
     let found = found_of(alloc, setup, events, &pool, &log)?;
     Ok(Gathered { pool, log, found })
 }

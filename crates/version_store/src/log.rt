@@ -20,7 +20,7 @@ use checkpoint::checkpoints_of;
 use event::{LoggedEvents, events_of};
 pub use fault::BuildFault;
 pub(crate) use judged::judged_user;
-use node_pool::Pool;
+use node_pool::Interner;
 pub use selecting::Selectors;
 use setup_file::Setup;
 use shown::items_of;
@@ -53,7 +53,7 @@ fn joined(events: LogEvents, checkpoints: LogEvents) -> Result<LogEvents, OutOfM
 pub fn log_of<R: Threads + Sync>(
     rt: &R,
     alloc: Global,
-    pool: &mut Pool,
+    pool: &mut Interner,
     setup: &Setup,
     events: &Events,
 ) -> Result<Log, BuildFault>

@@ -6,7 +6,7 @@ ghost use Rattle.audit_event.specs.Events.{IsSound};
 
 use audit_event::{Event, Events, read_item};
 use hash_seed::Seed;
-use node_pool::Pool;
+use node_pool::Interner;
 use serde_json::Value;
 use setup_file::read_setup;
 use std::alloc::Global;
@@ -164,10 +164,10 @@ fn tell<R: Threads + Sync>(
         return Ok(nothing());
     }
     let events = log_with(alloc, request, users, stage, times)?;
-    let mut pool = Pool::new(alloc, 100, Seed::of(b""))?;
-    let log = log_of(rt, alloc, &mut pool, &setup, &events)?;
+    let mut interner = Interner::new(alloc, 100, Seed::of(b""))?;
+    let log = log_of(rt, alloc, &mut interner, &setup, &events)?;
     Ok(match log.events.as_slice().first() {
-        Some(event) => told_of(event, pool.len()),
+        Some(event) => told_of(event, interner.len()),
         None => nothing(),
     })
 }

@@ -3,14 +3,14 @@ ghost use Rattle.std.specs.Prelude.{◌<◌, IfSome, length};
 use crate::reading::{is_tree, read};
 use base_types::json::read_pointer;
 use hash_seed::Seed;
-use node_pool::{NodeId, Pool, PoolFault};
+use node_pool::{Interner, NodeId, Pool, PoolFault};
 use std::marker::{Send, Sync};
 use std::process::Abort;
 
 // A value that may be sent to threads and shared by them.
 fn shared<T: Send + Sync>(_value: &T) {}
 
-// Texts that are put into a pool with room for two trees, the number that each gets, and the pool's length then.
+// Texts that are put in where there is room for two trees, the number that each gets, and how many trees there are then.
 static NUMBERS: [(&str, Option<u32>, u32); 5] = [
     (r#""x""#, Some(0), 1),
     (r#"["x"]"#, Some(1), 2),
@@ -19,28 +19,16 @@ static NUMBERS: [(&str, Option<u32>, u32); 5] = [
     (r#"["x", []]"#, None, 2),
 ];
 
-// The number of a tree, or none where the pool is full.
-fn number(rt: &(impl Abort + AllocGlobal), pool: &mut Pool, text: &str) -> Option<u32> {
+// The number of a tree, or none where there is no room.
+fn number(rt: &(impl Abort + AllocGlobal), interner: &mut Interner, text: &str) -> Option<u32> {
     let tree = read(rt, text);
-    let interned = pool.intern(&tree);
+    let interned = interner.intern(&tree);
     drop(tree);
     match interned {
         Ok(node) => Some(node.0),
         Err(PoolFault::Full) => None,
         Err(fault) => panic!(rt; "{fault}"),
     }
-}
-
-#[test]
-fn a_tree_has_one_number(rt: HostRuntime) {
-    let mut pool = Pool::new(rt.alloc(), 2, Seed::of(b"")).expect(&rt, "memory");
-    shared(&pool);
-    for (text, wanted, len) in &NUMBERS {
-        let found = number(&rt, &mut pool, text);
-        assert_eq!(rt; found, *wanted, "of {text}");
-        assert_eq!(rt; pool.len(), *len, "after {text}");
-    }
-    drop(pool);
 }
 
 const OBJECT: &str = r#"{"metadata": {"name": "a", "finalizers": ["x/y"]}, "data": {"k": "x"}}"#;
@@ -90,6 +78,36 @@ fn is_there(
     }
 }
 
+// Whether a number of the pool has this tree.
+fn is_numbered(rt: &(impl Abort + AllocGlobal), pool: &Pool, number: u32, text: &str) -> bool {
+    number < pool.len() && equals(rt, pool, NodeId(number), text)
+}
+
+// Each tree that was put in has its number in the pool.
+fn check_numbers(rt: &(impl Abort + AllocGlobal), pool: &Pool) {
+    shared(pool);
+    assert_eq!(rt; pool.len(), 2);
+    for (text, number, _) in &NUMBERS {
+        if let Some(number) = number {
+            assert!(rt; is_numbered(rt, pool, *number, text), "of {text}");
+        }
+    }
+}
+
+#[test]
+fn a_tree_has_one_number(rt: HostRuntime) {
+    let mut interner = Interner::new(rt.alloc(), 2, Seed::of(b"")).expect(&rt, "memory");
+    shared(&interner);
+    for (text, wanted, len) in &NUMBERS {
+        let found = number(&rt, &mut interner, text);
+        assert_eq!(rt; found, *wanted, "of {text}");
+        assert_eq!(rt; interner.len(), *len, "after {text}");
+    }
+    let pool = interner.into_pool().expect(&rt, "memory");
+    check_numbers(&rt, &pool);
+    drop(pool);
+}
+
 fn comes_back(rt: &(impl Abort + AllocGlobal), pool: &Pool, node: NodeId, text: &str) -> bool
     requires { node.0 < length pool.now.trees }
 {
@@ -112,9 +130,10 @@ fn check_parts(rt: &(impl Abort + AllocGlobal), pool: &Pool, node: NodeId)
 #[test]
 fn parts_are_found(rt: HostRuntime) {
     let object = read(&rt, OBJECT);
-    let mut pool = Pool::new(rt.alloc(), 100, Seed::of(b"")).expect(&rt, "memory");
-    let node = pool.intern(&object).expect(&rt, "room");
+    let mut interner = Interner::new(rt.alloc(), 100, Seed::of(b"")).expect(&rt, "memory");
+    let node = interner.intern(&object).expect(&rt, "room");
     drop(object);
+    let pool = interner.into_pool().expect(&rt, "memory");
     assert_eq!(rt; pool.len(), 7);
     check_parts(&rt, &pool, node);
     drop(pool);

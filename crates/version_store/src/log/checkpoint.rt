@@ -6,7 +6,7 @@ ghost use Rattle.version_store.specs.Shown.{IsListingOf};
 use crate::log::fault::BuildFault;
 use crate::log::shown::items_of;
 use base_types::Moment;
-use node_pool::Pool;
+use node_pool::Interner;
 use setup_file::Checkpoint;
 use std::alloc::Global;
 use write_groups::{Listing, LogEvent, LogEvents, Preconditions, Reading, Shown};
@@ -17,7 +17,7 @@ const LAST_LINE: u64 = 1 << 40;
 // A checkpoint is a whole list of its scope.
 fn listing_of(
     alloc: Global,
-    pool: &mut Pool,
+    pool: &mut Interner,
     checkpoint: &Checkpoint,
 ) -> Result<Listing, BuildFault>
     ensures listing { IfOk result (IsListingOf pool.new.trees checkpoint.now.group checkpoint.now.resource
@@ -41,7 +41,7 @@ fn listing_of(
 // The checkpoint of this number, from 1, in the terms of the model of history, once its trees are in the pool.
 fn logged_checkpoint(
     alloc: Global,
-    pool: &mut Pool,
+    pool: &mut Interner,
     number: u64,
     checkpoint: &Checkpoint,
 ) -> Result<LogEvent, BuildFault>
@@ -73,7 +73,7 @@ fn logged_checkpoint(
 /// The checkpoints in the terms of the model of history, once their trees are in the pool.
 pub fn checkpoints_of(
     alloc: Global,
-    pool: &mut Pool,
+    pool: &mut Interner,
     checkpoints: &[Checkpoint],
 ) -> Result<LogEvents, BuildFault>
     requires { length checkpoints.now < 2 ^ 32 }

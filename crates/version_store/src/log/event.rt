@@ -12,7 +12,7 @@ use crate::log::shown::{Told, tell};
 use audit_event::Event;
 use base_types::OutOfMemory;
 use label_select::Selector;
-use node_pool::Pool;
+use node_pool::Interner;
 use setup_file::Setup;
 use std::alloc::Global;
 use std::marker::Sync;
@@ -32,7 +32,7 @@ struct Logged {
 // A classified event in the terms of the model of history, once the trees that its answer shows are in the pool.
 fn logged_event(
     alloc: Global,
-    pool: &mut Pool,
+    pool: &mut Interner,
     classified: Classified,
 ) -> Result<Logged, BuildFault>
     ensures logged { IfOk result (λ logged. IsLoggedAs pool.new.trees classified logged.event) }
@@ -92,7 +92,7 @@ fn add(all: &mut LoggedEvents, number: u32, logged: Logged) -> Result<(), OutOfM
 // Puts the trees of classified events into the pool, one event after another, and adds the events to the log.
 fn add_all(
     alloc: Global,
-    pool: &mut Pool,
+    pool: &mut Interner,
     all: &mut LoggedEvents,
     classified: Vec<Classified>,
 ) -> Result<(), BuildFault>
@@ -118,7 +118,7 @@ fn add_all(
 pub fn events_of<R: Threads + Sync>(
     rt: &R,
     alloc: Global,
-    pool: &mut Pool,
+    pool: &mut Interner,
     setup: &Setup,
     events: &[Event],
 ) -> Result<LoggedEvents, BuildFault>

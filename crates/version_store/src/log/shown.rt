@@ -9,13 +9,13 @@ use answer_class::Answer;
 use base_types::json::Tree;
 use base_types::{ObjectKey, Revision, Text};
 use label_select::Selector;
-use node_pool::Pool;
+use node_pool::Interner;
 use setup_file::{Snapshot, SnapshotObject};
 use std::alloc::Global;
 use write_groups::{Item, Items, Listing, Shown};
 
 fn item_of(
-    pool: &mut Pool,
+    pool: &mut Interner,
     key: ObjectKey,
     revision: Revision,
     uid: Text,
@@ -36,7 +36,7 @@ fn item_of(
 }
 
 // The item of an object that stays where it is.
-fn copied_item(pool: &mut Pool, object: &SnapshotObject) -> Result<Item, BuildFault>
+fn copied_item(pool: &mut Interner, object: &SnapshotObject) -> Result<Item, BuildFault>
     ensures item { IfOk result (IsItemOf pool.new.trees object.now) }
     ensures added { OnOk result (pool.new.trees ≡ interned pool.old.trees object.now.tree) }
     ensures full { result ≡ Err BuildFault.PoolFull → pool.old.limit < length
@@ -51,7 +51,7 @@ fn copied_item(pool: &mut Pool, object: &SnapshotObject) -> Result<Item, BuildFa
 /// The items of objects, whose trees are put into the pool one after another.
 pub fn items_of(
     alloc: Global,
-    pool: &mut Pool,
+    pool: &mut Interner,
     objects: &[SnapshotObject],
 ) -> Result<Items, BuildFault>
     ensures items { IfOk result (AreItemsOf pool.new.trees objects.now) }
@@ -67,7 +67,7 @@ pub fn items_of(
     Ok(items)
 }
 
-fn moved_item(pool: &mut Pool, object: SnapshotObject) -> Result<Item, BuildFault>
+fn moved_item(pool: &mut Interner, object: SnapshotObject) -> Result<Item, BuildFault>
     ensures item { IfOk result (IsItemOf pool.new.trees object) }
     ensures added { OnOk result (pool.new.trees ≡ interned pool.old.trees object.tree) }
     ensures full { result ≡ Err BuildFault.PoolFull → pool.old.limit < length (interned pool.old.trees object.tree) }
@@ -83,7 +83,7 @@ fn moved_item(pool: &mut Pool, object: SnapshotObject) -> Result<Item, BuildFaul
 }
 
 // The items of objects that are given away, so that nothing of them is copied.
-fn moved_items(alloc: Global, pool: &mut Pool, objects: Snapshot) -> Result<Items, BuildFault>
+fn moved_items(alloc: Global, pool: &mut Interner, objects: Snapshot) -> Result<Items, BuildFault>
     ensures items { IfOk result (AreItemsOf pool.new.trees objects) }
     ensures added { OnOk result (pool.new.trees ≡ with_trees pool.old.trees (object_trees objects)) }
     ensures full { result ≡ Err BuildFault.PoolFull → pool.old.limit < length (with_trees pool.old.trees
@@ -115,7 +115,7 @@ fn unselected(shown: Shown) -> Told
 }
 
 /// What an answer shows, once the trees of its objects are in the pool.
-pub fn tell(alloc: Global, pool: &mut Pool, answer: Answer) -> Result<Told, BuildFault>
+pub fn tell(alloc: Global, pool: &mut Interner, answer: Answer) -> Result<Told, BuildFault>
     ensures shown { IfOk result (λ told. IsShownAs pool.new.trees answer told.shown) }
     ensures selector { IfOk result (λ told. told.selector ≡ selector_in answer) }
     ensures added { OnOk result (pool.new.trees ≡ with_trees pool.old.trees (answer_trees answer)) }

@@ -1,6 +1,6 @@
 use Rattle.node_pool.proofs.Adding.{kept-names}
 use Rattle.node_pool.proofs.Stores.{grows-names, same-trees}
-use Rattle.node_pool.proofs.store.Store.number_of.Goals as goal
+use Rattle.node_pool.proofs.growing.GrowingStore.number_of.Goals as goal
 
 pub invariant_of-self : goal.invariant_of-self
 invariant_of-self c =

@@ -1,5 +1,5 @@
 use Rattle.node_pool.proofs.Stores.{stored}
-use Rattle.node_pool.proofs.store.inserted.Goals as goal
+use Rattle.node_pool.proofs.growing.inserted.Goals as goal
 
 pub returns-clause-number : goal.returns-clause-number
 returns-clause-number c =

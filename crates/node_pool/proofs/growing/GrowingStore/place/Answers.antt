@@ -1,5 +1,5 @@
 use Rattle.node_pool.proofs.Stores.{within-seen, kept-place, place-seen}
-use Rattle.node_pool.proofs.store.Store.place.Goals as goal
+use Rattle.node_pool.proofs.growing.GrowingStore.place.Goals as goal
 
 pub invariant_of-self : goal.invariant_of-self
 invariant_of-self c =

@@ -3,7 +3,7 @@ use Rattle.node_pool.specs.Kept.{AreKept}
 use Rattle.node_pool.specs.Within.{trees_from}
 use Rattle.node_pool.proofs.Adding.{kept-take}
 use Rattle.node_pool.proofs.Stores.{seen-take}
-use Rattle.node_pool.proofs.store.Store.cut.Goals as goal
+use Rattle.node_pool.proofs.growing.GrowingStore.cut.Goals as goal
 
 pub invariant_of-self : goal.invariant_of-self
 invariant_of-self c =

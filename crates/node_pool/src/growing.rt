@@ -1,0 +1,153 @@
+ghost use Rattle.std.specs.Prelude.{◌≡◌, ◌<◌, ◌≤◌, [], Some, Err, length, take, slice_get, OnOk, OnErr, IfOk};
+ghost use Rattle.indexmap.specs.IndexSet.{insert_key};
+ghost use Rattle.node_pool.specs.Flat.{flat_eq};
+ghost use Rattle.node_pool.specs.Kept.{Grows};
+ghost use Rattle.node_pool.specs.Pooled.{AreDistinct};
+ghost use Rattle.node_pool.specs.Subtrees.{Begins, with_tree};
+ghost use Rattle.node_pool.specs.Within.{IsWithin, tree_of};
+
+use crate::fault::PoolFault;
+use crate::form::Level;
+use crate::store::Store;
+use base_types::{OutOfMemory, Text};
+use hash_seed::{Seed, Seeded};
+use indexmap::IndexSet;
+use std::alloc::Global;
+use std::hash::Hash;
+use std::marker::Model;
+
+/// A store while it grows: beside its levels and names stand the hash tables by which each is found.
+#[derive(Drop)]
+pub struct GrowingStore {
+    limit: u32,
+    names: IndexSet<Text, Seeded>,
+    levels: IndexSet<Level, Seeded>,
+}
+
+impl Model for GrowingStore {
+    ghost use Rattle.node_pool.specs.Kept.{Kept, coded_kept, seen, AreKept};
+
+    ghost Value = { Kept };
+
+    ghost coded = { coded_kept };
+
+    ghost view = { λ s. seen s.limit s.names.keys s.levels.keys };
+
+    ghost invariant = { λ s. AreKept s.limit s.names.keys s.levels.keys };
+}
+
+impl GrowingStore {
+    pub fn new(alloc: Global, limit: u32, seed: Seed) -> GrowingStore
+        ensures limit { result.limit ≡ limit }
+        ensures names { result.names ≡ [] }
+        ensures trees { result.trees ≡ [] }
+    {
+        GrowingStore {
+            limit,
+            names: IndexSet::with_hasher(alloc, Seeded::new(seed)),
+            levels: IndexSet::with_hasher(alloc, Seeded::new(seed)),
+        }
+    }
+
+    /// How many trees there are.
+    pub fn len(&self) -> u32
+        ensures len { result ≡ length self.now.trees }
+        ensures distinct { AreDistinct self.now.trees }
+        ensures room { length self.now.trees ≤ self.now.limit }
+    {
+        self.levels.len() as u32
+    }
+
+    /// The number of a name, which is a new one where the name is new.
+    pub fn number_of(&mut self, name: &Text) -> Result<usize, OutOfMemory>
+        ensures grows { Grows self.old self.new }
+        ensures trees { self.new.trees ≡ self.old.trees }
+        ensures number { IfOk result (λ n. slice_get self.new.names n ≡ Some name.now) }
+    {
+        numbered(&mut self.names, name)
+    }
+
+    /// The number of a level's tree, which is a new one where the tree is new.
+    pub fn place(&mut self, level: Level) -> Result<u32, PoolFault>
+        requires within { IsWithin self.old.names (length self.old.trees) level }
+        ensures limit { self.new.limit ≡ self.old.limit }
+        ensures names { self.new.names ≡ self.old.names }
+        ensures placed { OnOk result (self.new.trees ≡ with_tree self.old.trees
+            (tree_of self.old.names self.old.trees level)) }
+        ensures number { IfOk result (λ n. slice_get self.new.trees n ≡ Some
+            (tree_of self.old.names self.old.trees level)) }
+        ensures fits { OnOk result (length (with_tree self.old.trees (tree_of self.old.names self.old.trees
+            level)) ≤ self.old.limit) }
+        ensures full { result ≡ Err PoolFault.Full → self.old.limit < length (with_tree self.old.trees
+            (tree_of self.old.names self.old.trees level)) }
+        ensures refused { OnErr result (self.new.trees ≡ self.old.trees) }
+    {
+        inserted(&mut self.levels, self.limit, level)
+    }
+
+    /// Takes out the trees whose numbers aren't below this one.
+    pub fn cut(&mut self, len: u32)
+        ensures limit { self.new.limit ≡ self.old.limit }
+        ensures trees { self.new.trees ≡ take len self.old.trees }
+    {
+        self.levels.truncate(len as usize);
+    }
+
+    /// The store once it grows no more, without the hash tables.
+    pub fn into_store(self, alloc: Global) -> Result<Store, OutOfMemory>
+        ensures { IfOk result (λ store. store ≡ self) }
+    {
+        let GrowingStore {
+            limit,
+            names,
+            levels,
+        } = self;
+        let names = listed(alloc, names)?;
+        let levels = listed(alloc, levels)?;
+        Ok(Store::of(limit, names, levels))
+    }
+}
+
+// What stands in a set, in its order; the hash table goes.
+fn listed<T: Eq + Hash + Drop>(
+    alloc: Global,
+    set: IndexSet<T, Seeded>,
+) -> Result<Vec<T>, OutOfMemory>
+    ensures { IfOk result (λ all. all.items ≡ set.keys) }
+{
+    Ok(set.into_iter().collect(alloc)?)
+}
+
+// The position of a name, which is put behind the others where it is new.
+fn numbered(names: &mut IndexSet<Text, Seeded>, name: &Text) -> Result<usize, OutOfMemory>
+    ensures begins { Begins names.old.keys names.new.keys }
+    ensures distinct { AreDistinct names.old.keys → AreDistinct names.new.keys }
+    ensures number { IfOk result (λ n. slice_get names.new.keys n ≡ Some name.now) }
+{
+    if let Some(number) = names.get_index_of(name) {
+        return Ok(number);
+    }
+    let (number, _) = names.insert_full(name.clone()?)?;
+    Ok(number)
+}
+
+// The position of a level, which is put behind the others where it is new and there is room.
+fn inserted(
+    levels: &mut IndexSet<Level, Seeded>,
+    limit: u32,
+    level: Level,
+) -> Result<u32, PoolFault>
+    requires room { length levels.old.keys ≤ limit }
+    ensures keys { OnOk result (levels.new.keys ≡ insert_key flat_eq levels.old.keys level) }
+    ensures number { IfOk result (λ n. slice_get levels.new.keys n ≡ Some level) }
+    ensures fits { OnOk result (length (insert_key flat_eq levels.old.keys level) ≤ limit) }
+    ensures full { result ≡ Err PoolFault.Full → limit < length (insert_key flat_eq levels.old.keys level) }
+    ensures refused { OnErr result (levels.new.keys ≡ levels.old.keys) }
+{
+    let (index, _) = levels.insert_full(level)?;
+    if levels.len() > limit as usize {
+        levels.truncate(limit as usize);
+        return Err(PoolFault::Full);
+    }
+    Ok(index as u32)
+}

@@ -1,0 +1,83 @@
+ghost use Rattle.std.specs.Prelude.{◌≡◌, ◌<◌, ◌≤◌, [], Some, Err, length, slice_get, OnOk, OnErr, IfOk};
+ghost use Rattle.node_pool.specs.Pooled.{AreDistinct};
+ghost use Rattle.node_pool.specs.Subtrees.{interned};
+
+use crate::fault::PoolFault;
+use crate::growing::GrowingStore;
+use crate::interning::add;
+use crate::pool::{NodeId, Pool};
+use base_types::OutOfMemory;
+use base_types::json::Tree;
+use hash_seed::Seed;
+use std::alloc::Global;
+use std::marker::Model;
+
+/// A pool while trees are put into it. Hash tables find what is there already; `into_pool` lets them go. Contracts see
+/// it as they see the pool that it becomes.
+#[derive(Drop)]
+pub struct Interner {
+    alloc: Global,
+    store: GrowingStore,
+}
+
+impl Model for Interner {
+    ghost use Rattle.node_pool.specs.Pooled.{Pooled, coded_pooled};
+
+    ghost Value = { Pooled };
+
+    ghost coded = { coded_pooled };
+
+    ghost view = { λ p. record { limit = p.store.limit; trees = p.store.trees } };
+}
+
+impl Interner {
+    /// A pool without trees that may hold `limit` of them. The hashes of what it holds begin with the seed.
+    pub fn new(alloc: Global, limit: u32, seed: Seed) -> Result<Interner, OutOfMemory>
+        ensures limit { IfOk result (λ pool. pool.limit ≡ limit) }
+        ensures trees { IfOk result (λ pool. pool.trees ≡ []) }
+    {
+        Ok(Interner {
+            alloc,
+            store: GrowingStore::new(alloc, limit, seed),
+        })
+    }
+
+    /// How many trees the pool holds. Every number is below it.
+    pub fn len(&self) -> u32
+        ensures len { result ≡ length self.now.trees }
+        ensures distinct { AreDistinct self.now.trees }
+        ensures room { length self.now.trees ≤ self.now.limit }
+    {
+        self.store.len()
+    }
+
+    /// The number of a tree. The tree and each value within it that the pool lacks are put behind the others; after a
+    /// refusal the pool is as before.
+    pub fn intern(&mut self, tree: &Tree) -> Result<NodeId, PoolFault>
+        ensures added { OnOk result (self.new.trees ≡ interned self.old.trees tree.now) }
+        ensures number { IfOk result (λ node. slice_get self.new.trees node.0 ≡ Some tree.now) }
+        ensures fits { OnOk result (length (interned self.old.trees tree.now) ≤ self.old.limit) }
+        ensures full { result ≡ Err PoolFault.Full → self.old.limit < length (interned self.old.trees tree.now) }
+        ensures refused { OnErr result (self.new ≡ self.old) }
+        ensures limit { self.new.limit ≡ self.old.limit }
+    {
+        let alloc = self.alloc;
+        let before = self.store.len();
+        match add(alloc, &mut self.store, tree) {
+            Ok(number) => Ok(NodeId(number)),
+            Err(fault) => {
+                self.store.cut(before);
+                Err(fault)
+            }
+        }
+    }
+
+    /// The pool of the same trees under the same numbers, once the last tree is in it.
+    pub fn into_pool(self) -> Result<Pool, OutOfMemory>
+        ensures same { IfOk result (λ pool. pool ≡ self) }
+    {
+        let Interner { alloc, store } = self;
+        let store = store.into_store(alloc)?;
+        Ok(Pool::of(alloc, store))
+    }
+}
