@@ -1,20 +1,22 @@
 -- One walk over keys in order finds which of them are among others in order.
-use Rattle.std.proofs.Common.{◌≡◌, ◌≢◌, ℕ, ◌+◌, ◌<◌, ◌≤◌, ◌⊎◌, ⊎_elim, inl, inr, Bool, true, false, cond, not, Bor, List, [], ◌∷◌, ◌++◌, length, get_or, take, refl, sym, ap, ◌∙◌, subst, true≢false, arith}
+use Rattle.std.proofs.Common.{◌≡◌, ◌≢◌, ℕ, ◌+◌, ◌<◌, ◌≤◌, ◌⊎◌, ⊎_elim, inl, inr, Bool, true, false, cond, not, Bor, List, [], ◌∷◌, ◌++◌, length, get_or, take, Contains, refl, sym, ap, ◌∙◌, subst, true≢false, arith, Any, ◌↔◌}
 use Rattle.std.specs.List.{filter}
 use Rattle.std.specs.Ordering.{is_lt, ordering_reverse}
 use Rattle.std.specs.declared.cmp.Ordering.{Ordering}
 use Rattle.std.specs.declared.cmp.Ordering.TheVariants.{Equal, Greater, Less}
 use Rattle.std.proofs.lemmas.Bool.{cases_lt}
 use Rattle.std.proofs.lemmas.Cmp.{tied_itself}
-use Rattle.std.proofs.lemmas.List.{append-nil, get_or-map, get_or_default, length-map}
+use Rattle.std.proofs.lemmas.List.{append-nil, get_or-map, get_or_default, length-map, take_all}
 use Rattle.std.proofs.lemmas.List.Elements.{filter_more}
-use Rattle.std.proofs.lemmas.List.Folds.{list_any_at, list_any_none}
+use Rattle.std.proofs.lemmas.List.Folds.{Any-from_list_any, list_any_at, list_any_none}
+use Rattle.std.proofs.lemmas.List.Kept.{AllPairs-filter}
 use Rattle.base_types.specs.declared.key.ObjectKey.{ObjectKey}
 use Rattle.base_types.specs.Keys.{same_key}
 use Rattle.clouds.proofs.Adding.{key_order_total, same_key_from}
 use Rattle.clouds.specs.Kept.{key_order}
-use Rattle.history_model.proofs.KeyLemmas.{key_differs, key_tells}
+use Rattle.history_model.proofs.KeyLemmas.{key_decides, key_differs, key_is, key_tells}
 use Rattle.history_model.proofs.Members.{all_from}
+use Rattle.history_model.proofs.Steps.{in_filter, filter_in}
 use Rattle.object_past.specs.Among.{keys_at, is_one_of, without, AreBelow, IsPlaceOf}
 use Rattle.object_past.specs.Scopes.{AreInOrder}
 
@@ -140,3 +142,37 @@ module _ (keys shown : List ObjectKey) (i place next : ℕ) (others : List Objec
       below = below_next;
       kept = dropped_more (λ z. not (is_one_of shown z)) keys i key others inside at (ap not among) walked.kept;
     }
+
+-- what a test whether a key is one of others tells
+one_is : (keys : List ObjectKey) (key : ObjectKey) → is_one_of keys key ≡ true → Contains keys key
+one_is keys key e = go (Any-from_list_any (same_key key) keys e)
+  where
+    go : Any (λ other. same_key key other ≡ true) keys → Contains keys key
+    go (k, other, within, at, same) = subst (Contains keys) (sym ((key_decides key other).0 same)) (k, within, at)
+
+is_one : (keys : List ObjectKey) (key : ObjectKey) → Contains keys key → is_one_of keys key ≡ true
+is_one keys key (k, within, at) = list_any_at (same_key key) keys k key within (ap (same_key key) at ∙ key_is key key refl)
+
+not_one : (keys : List ObjectKey) (key : ObjectKey) → (Contains keys key → ⊥) → is_one_of keys key ≡ false
+not_one keys key none = go (is_one_of keys key) refl
+  where
+    go : (t : Bool) → is_one_of keys key ≡ t → is_one_of keys key ≡ false
+    go true e = absurd (none (one_is keys key e))
+    go false e = e
+
+module _ (keys shown : List ObjectKey) (i place : ℕ) (others : List ObjectKey) (walked : IsWalked keys shown i place others) (end : length keys ≤ i) where
+  all_walked : others ≡ without keys shown
+  all_walked = walked.kept ∙ ap (λ l. without l shown) (take_all i keys end)
+
+  pub walked_order : AreInOrder keys → AreInOrder others
+  walked_order order = subst AreInOrder (sym all_walked) (AllPairs-filter (λ a b. key_order a b ≡ Less) (λ key. not (is_one_of shown key)) keys order)
+
+  pub walked_exact : (key : ObjectKey) → Contains others key ↔ (Contains keys key × (Contains shown key → ⊥))
+  walked_exact key = ((λ among. forth (subst (λ l. Contains l key) all_walked among)), (λ apart. subst (λ l. Contains l key) (sym all_walked) (back apart)))
+    where
+      forth : Contains (without keys shown) key → Contains keys key × (Contains shown key → ⊥)
+      forth among = let held = in_filter (λ z. not (is_one_of shown z)) keys key among in
+          (held.0, λ there. true≢false (sym held.1 ∙ ap not (is_one shown key there)))
+
+      back : Contains keys key × (Contains shown key → ⊥) → Contains (without keys shown) key
+      back (among, none) = filter_in (λ z. not (is_one_of shown z)) keys key among (ap not (not_one shown key none))

@@ -1,8 +1,8 @@
-ghost use Rattle.std.specs.Prelude.{◌≡◌, ◌≢◌, ◌≤◌, ◌↔◌, length, IfNone, IfOk, IfSome, IsTrue, AllPairs};
-ghost use Rattle.std.specs.List.Sorted.{IsPermutation};
+ghost use Rattle.std.specs.Prelude.{◌≡◌, ◌≢◌, ◌≤◌, ◌↔◌, length, IfNone, IfOk, IfSome, IsTrue, AllPairs, Contains};
 ghost use Rattle.std.specs.Ordering.{is_lt};
+ghost use Rattle.base_types.specs.declared.key.ObjectKey.{ObjectKey as Key};
 ghost use Rattle.clouds.specs.Kept.{key_order};
-ghost use Rattle.object_past.specs.Among.{keys_at, is_one_of, without, AreBelow, IsPlaceOf};
+ghost use Rattle.object_past.specs.Among.{keys_at, is_one_of, AreBelow, IsPlaceOf};
 ghost use Rattle.object_past.specs.Scopes.{AreInOrder};
 
 use base_types::{ObjectKey, OutOfMemory, same_key};
@@ -25,7 +25,8 @@ fn are_rising(keys: &[&ObjectKey]) -> bool
 /// The keys in order; None where two of them are equal.
 pub fn keys_in_order(mut keys: Vec<&ObjectKey>) -> Option<Vec<&ObjectKey>>
     ensures order { IfSome result (λ sorted. AreInOrder (keys_at sorted.items)) }
-    ensures same { IfSome result (λ sorted. IsPermutation (keys_at keys.entry.items) (keys_at sorted.items)) }
+    ensures exact { IfSome result (λ sorted. (key : Key) → Contains (keys_at sorted.items) key
+        ↔ Contains (keys_at keys.entry.items) key) }
     ensures distinct { IfSome result (λ sorted. AllPairs (λ a b. a ≢ b) (keys_at keys.entry.items)) }
     ensures none { IfNone result (AllPairs (λ a b. a ≢ b) (keys_at keys.entry.items) → ⊥) }
 {
@@ -70,7 +71,9 @@ pub fn keys_without<'a>(
 ) -> Result<Vec<&'a ObjectKey>, OutOfMemory>
     requires keys { AreInOrder keys.now }
     requires shown { AreInOrder (keys_at shown.now) }
-    ensures { IfOk result (λ others. keys_at others.items ≡ without keys.now (keys_at shown.now)) }
+    ensures order { IfOk result (λ others. AreInOrder (keys_at others.items)) }
+    ensures exact { IfOk result (λ others. (key : Key) → Contains (keys_at others.items) key
+        ↔ (Contains keys.now key × (Contains (keys_at shown.now) key → ⊥))) }
 {
     let mut others = Vec::new(alloc);
     let mut place = 0;

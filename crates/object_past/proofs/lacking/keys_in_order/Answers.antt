@@ -1,5 +1,5 @@
 use Rattle.std.proofs.Common.{Bor, sym, ◌∙◌, true≢false}
-use Rattle.std.proofs.lemmas.List.Sorted.{IsPermutation-map, IsPermutation-sym}
+use Rattle.std.proofs.lemmas.List.Sorted.{Contains-permutation, IsPermutation-map, IsPermutation-sym}
 use Rattle.base_types.specs.declared.key.ObjectKey.{ObjectKey}
 use Rattle.object_past.proofs.Repeated.{apart_moved, order_apart, sorted_order}
 use Rattle.object_past.specs.Among.{keys_at}
@@ -12,8 +12,14 @@ returns-then-not-are_rising-clause-none c = λ apart.
     let rising = (rw c.deref.ensures.value at c.are_rising.ensures).1 (sorted_order sorted c.sort_unstable.ensures.sorted (apart_moved (keys_at c.args.keys.items) (keys_at sorted) same apart)) in
     true≢false (sym rising ∙ c.if-not-are_rising.true)
 
-pub returns-clause-same : goal.returns-clause-same
-returns-clause-same c = IsPermutation-map (λ (key : Bor ObjectKey). key.now) c.args.keys.items c.sort_unstable.new.self.items c.sort_unstable.ensures.permutation
+pub returns-clause-exact : goal.returns-clause-exact
+returns-clause-exact c =
+    let sorted = c.sort_unstable.new.self.items in
+    let same = IsPermutation-map (λ (key : Bor ObjectKey). key.now) c.args.keys.items sorted c.sort_unstable.ensures.permutation in
+    λ key. (
+      Contains-permutation (keys_at sorted) (keys_at c.args.keys.items) key (IsPermutation-sym (keys_at c.args.keys.items) (keys_at sorted) same),
+      Contains-permutation (keys_at c.args.keys.items) (keys_at sorted) key same,
+    )
 
 pub returns-clause-distinct : goal.returns-clause-distinct
 returns-clause-distinct c =

@@ -1,7 +1,7 @@
 use Rattle.std.proofs.Common.{Bor, ◌+◌, sym, ap, subst, ◌∙◌}
 use Rattle.std.proofs.lemmas.List.{map-append}
 use Rattle.base_types.specs.declared.key.ObjectKey.{ObjectKey}
-use Rattle.object_past.proofs.Walking.{IsWalked, walked_by, walked_over}
+use Rattle.object_past.proofs.Walking.{IsWalked, walked_by, walked_exact, walked_order, walked_over}
 use Rattle.object_past.specs.Among.{keys_at}
 use Rattle.object_past.proofs.lacking.keys_without.Goals as goal
 use Rattle.object_past.proofs.lacking.keys_without.Goals.{then-not-stands_at+in_ok-push, else-not-stands_at}
@@ -15,3 +15,9 @@ loop-key-preserved c = elim c.if-not-stands_at.branch [
       (walked_over c.args.keys.now (keys_at c.args.shown.now) c.loop-key.key-index c.loop-key.place c.place_of-place.result (keys_at c.loop-key.others.items) c.key-item.result
       c.requires.keys c.loop-key-test.true c.key-item.is c.loop-key.invariant c.place_of-place.ensures (sym c.stands_at.ensures ∙ w.if-not-stands_at.false))
 ]
+
+pub returns-clause-order : goal.returns-clause-order
+returns-clause-order c = walked_order c.args.keys.now (keys_at c.args.shown.now) c.loop-key.key-index c.loop-key.place (keys_at c.loop-key.others.items) c.loop-key.invariant c.loop-key-test.false c.requires.keys
+
+pub returns-clause-exact : goal.returns-clause-exact
+returns-clause-exact c = walked_exact c.args.keys.now (keys_at c.args.shown.now) c.loop-key.key-index c.loop-key.place (keys_at c.loop-key.others.items) c.loop-key.invariant c.loop-key-test.false
