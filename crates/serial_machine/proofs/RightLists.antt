@@ -1,5 +1,5 @@
 -- When a list is right on what a scene shows.
-use Rattle.std.proofs.Common.{◌≡◌, ◌≢◌, ℕ, ◌⊎◌, ◌↔◌, ◌==◌, Bool, true, false, Bor, List, map, find, Option, Some, None, IsSome, All, AllPairs, Contains, inl, inr, refl, sym, ap, ◌∙◌, subst, true≢false}
+use Rattle.std.proofs.Common.{◌≡◌, ◌≢◌, ℕ, ◌==◌, true, Bor, List, map, find, Option, Some, None, IsSome, All, AllPairs, Contains, inr, refl, sym, ap, ◌∙◌, subst}
 use Rattle.std.specs.Prelude.{option_and_then}
 use Rattle.std.specs.BTreeMap.{get}
 use Rattle.base_types.specs.Keys.{same_key}
@@ -10,7 +10,6 @@ use Rattle.history_model.proofs.Latest.{latest_is}
 use Rattle.history_model.proofs.Members.{all_at, all_from}
 use Rattle.history_model.proofs.Steps.{in_filter}
 use Rattle.history_model.proofs.WordLemmas.{found_in, not_found}
-use Rattle.history_model.specs.Clouds.{IsClouded}
 use Rattle.history_model.specs.Events as model
 use Rattle.history_model.specs.Histories as histories
 use Rattle.history_model.specs.Histories.{History}
@@ -24,7 +23,7 @@ use Rattle.write_groups.proofs.Lists.{map_from, map_has, pairs_map, pairs_unmap}
 use Rattle.write_groups.specs.Modelled.{item_of, listing_of}
 use Rattle.write_groups.specs.declared.event.Item.{Item}
 use Rattle.write_groups.specs.declared.event.Listing.{Listing}
-use Rattle.serial_machine.specs.Held.{HasRooms, held, is_unmade, unmade, or_else, objects_in, objects_of, objects_upto}
+use Rattle.serial_machine.specs.Held.{HasRooms, held, is_unmade, unmade, or_else, objects_upto}
 use Rattle.serial_machine.specs.Listed.{AreUnshown}
 use Rattle.serial_machine.specs.declared.machine.Machine.{Machine}
 
