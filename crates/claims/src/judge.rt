@@ -47,6 +47,5 @@ pub fn view_of<'a>(judge: &'a Judge<'a>) -> View<'a, Judge<'a>, Judge<'a>>
         past: context.past(),
         lists: judge,
         decisions: judge,
-        seed: context.seed(),
     }
 }

@@ -40,7 +40,6 @@ pub fn asking_in<L: Listable, D: Decisions>(
     let known = Known {
         past: view.past,
         clouds: view.clouds,
-        seed: view.seed,
     };
     asking_of(
         alloc,

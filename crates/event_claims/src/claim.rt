@@ -44,7 +44,6 @@ pub fn fixed_fault<L: Listable, D: Decisions>(
     let known = Known {
         past: view.past,
         clouds: view.clouds,
-        seed: view.seed,
     };
     let by_word = word_fault(known, case.event, word, case.fault);
     lesser(policy_fault(case.event), by_word)

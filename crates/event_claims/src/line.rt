@@ -61,7 +61,6 @@ fn least_place<L: Listable, D: Decisions>(
     let known = Known {
         past: view.past,
         clouds: view.clouds,
-        seed: view.seed,
     };
     match place_of(
         alloc,

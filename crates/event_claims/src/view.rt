@@ -2,7 +2,6 @@ ghost use Rattle.std.specs.Prelude.{◌≡◌};
 
 use base_types::{Places, Revision};
 use clouds::Clouds;
-use hash_seed::Seed;
 use object_past::Past;
 use time_windows::Windows;
 use write_groups::LogEvent;
@@ -37,7 +36,5 @@ pub struct View<'a, L, D> {
     pub past: &'a Past,
     pub lists: &'a L,
     pub decisions: &'a D,
-    /// What the hashes of keys begin with.
-    pub seed: Seed,
     ghost same_start: { start ≡ windows.now.start },
 }

@@ -12,11 +12,10 @@ pub mod Gathered
 pub mod Strict
 pub mod Together
 pub mod Askings
-pub mod Among
-pub mod Filtered
 pub mod Lacking
 pub mod ListRight
 pub mod AskedLists
 pub mod Holding
 pub mod Places
 pub mod Shown
+pub mod Keyed

@@ -1,6 +1,6 @@
 -- What tests tell.
-use Rattle.std.proofs.Common.{◌≡◌, ◌≢◌, ℕ, Bool, true, false, not, Option, Some, None, is_some, option_map, IsSomeAnd, IfSome, IfNone, ◌⊎◌, inl, inr, refl, sym, ap, subst, ◌∙◌, ◌==◌, true≢false}
-use Rattle.std.specs.Bool.{MatchBool}
+use Rattle.std.proofs.Common.{◌≡◌, ◌≢◌, ℕ, Bool, true, false, not, Option, Some, None, is_some, option_map, IsSomeAnd, IfSome, IfNone, ◌⊎◌, inl, inr, refl, sym, ap, ◌∙◌, ◌==◌, true≢false}
+use Rattle.std.specs.Prelude.{Result, Ok, Err, IfOk}
 use Rattle.std.proofs.lemmas.Bool.Decides.{eqb_tells}
 
 pub apart_by : (x y : ℕ) → true ≡ not (x == y) → x ≢ y
@@ -37,9 +37,6 @@ pub not_true : (b : Bool) → not b ≡ true → b ≡ false
 not_true true e = absurd (true≢false (sym e))
 not_true false e = refl
 
-pub not_false : (b : Bool) → not b ≡ false → b ≡ true
-not_false true e = refl
-not_false false e = absurd (true≢false e)
-
-pub put_key : (P Q : Type 0) (added : Bool) → MatchBool added P Q → added ≡ true → P
-put_key P Q added m t = let F : Bool → Type 0 = λ v. MatchBool v P Q in subst F t m
+pub ok_both : {X Y : Type 0} (P Q : X → Type 0) (r : Result X Y) → IfOk r P → IfOk r Q → IfOk r (λ x. P x × Q x)
+ok_both P Q (Ok x) p q = (p, q)
+ok_both P Q (Err e) p q = tt

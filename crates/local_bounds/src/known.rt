@@ -1,16 +1,13 @@
 use base_types::OutOfMemory;
 use clouds::Clouds;
-use hash_seed::Seed;
 use node_pool::NodeId;
 use object_past::Past;
 
-/// What is known beside the events: the past of the objects, and what unrecorded writes hide; and what the hashes of
-/// keys begin with.
+/// What is known beside the events: the past of the objects, and what unrecorded writes hide.
 #[derive(Clone, Copy)]
 pub struct Known<'a> {
     pub past: &'a Past,
     pub clouds: &'a Clouds,
-    pub seed: Seed,
 }
 
 /// The selectors of lists. They are judged by the events' queries, which the bounds of an answer don't look into.

@@ -8,15 +8,16 @@ ghost use Rattle.local_bounds.specs.Demands.{AreAsked};
 ghost use Rattle.local_bounds.specs.Keys.{AreKeysOf};
 ghost use Rattle.local_bounds.specs.Known.{IsPastOf, IsKnownBy, HasSelectors};
 ghost use Rattle.local_bounds.specs.Lacked.{AreLacked};
+ghost use Rattle.object_past.specs.Among.{keys_at};
 ghost use Rattle.write_groups.specs.Modelled.{item_of, listing_of};
 
 use crate::asking::{Asking, KeyAsking};
 use crate::demand::{lacked_asking, shown_asking};
 use crate::gathering::together;
-use crate::keys::{Keys, distinct_keys, other_keys};
+use crate::keys::distinct_keys;
 use crate::known::{Known, Listable};
 use base_types::{ObjectKey, OutOfMemory};
-use object_past::Past;
+use object_past::{Past, keys_without};
 use std::alloc::Global;
 use write_groups::{Item, Listing, Window};
 
@@ -62,22 +63,22 @@ fn lacked_askings<L: Listable>(
     Ok(askings)
 }
 
-// The keys that a whole list lacks, of those that ever had an object.
+// The keys that a whole list lacks, of those that ever had an object; the shown ones are those of its items, in order.
 fn lacked_keys<'a>(
     alloc: Global,
     past: &'a Past,
     listing: &Listing,
-    shown: &Keys<'_>,
+    shown: &[&ObjectKey],
 ) -> Result<Vec<&'a ObjectKey>, OutOfMemory>
     requires { AreKeysOf listing.now.items shown.now }
     ensures { IfOk result (λ keys. (h : History) → IsPastOf past.now h → AreLacked h (listing_of listing.now)
-        (map (λ key. key.now) keys.items)) }
+        (keys_at keys.items)) }
 {
     if !listing.whole {
         return Ok(Vec::new(alloc));
     }
     let scope = past.scope(&listing.group, &listing.resource, &listing.namespace);
-    other_keys(alloc, scope, listing.items.as_slice(), shown)
+    keys_without(alloc, scope, shown)
 }
 
 /// What a list asks.
@@ -98,7 +99,7 @@ pub fn list_asking<L: Listable>(
     if place < window.low || window.high < place {
         return Ok(Asking::Never);
     }
-    let Some(shown) = distinct_keys(alloc, listing.items.as_slice(), known.seed)? else {
+    let Some(shown) = distinct_keys(alloc, listing.items.as_slice())? else {
         return Ok(Asking::Never);
     };
     let lacked = lacked_keys(alloc, known.past, listing, &shown)?;

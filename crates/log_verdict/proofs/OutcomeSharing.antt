@@ -129,10 +129,7 @@ fields_shared = declared_sync inside.the_type (
                       search (sendable, owned.crosses) depth 60 fits 20000,
                       (
                         search (sendable, owned.crosses) depth 60 fits 20000,
-                        (
-                          search (sendable, owned.crosses, mapped.crosses) depth 60 fits 20000,
-                          (search (sendable, owned.crosses) depth 60 fits 20000, tt),
-                        ),
+                        (search (sendable, owned.crosses, mapped.crosses) depth 60 fits 20000, tt),
                       ),
                     ),
                   ),

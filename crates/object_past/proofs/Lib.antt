@@ -8,3 +8,5 @@ pub mod Kept
 pub mod Scoping
 pub mod Absent
 pub mod Uids
+pub mod Walking
+pub mod Repeated

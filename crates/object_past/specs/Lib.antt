@@ -1,3 +1,4 @@
+pub mod Among
 pub mod Endings
 pub mod Faulted
 pub mod Incarnated

@@ -6,12 +6,14 @@ mod entry;
 mod filing;
 mod found;
 mod incarnation;
+mod lacking;
 mod past;
 mod removal;
 mod scope;
 mod version;
 
 pub use incarnation::Incarnation;
+pub use lacking::{keys_in_order, keys_without};
 pub use past::Past;
 pub use removal::{Removal, Removals, removal_at};
 pub use version::{Maker, Version, Versions};

@@ -1,8 +1,7 @@
 -- When a list is right on what a scene shows.
-use Rattle.std.proofs.Common.{◌≡◌, ◌≢◌, ℕ, ◌⊎◌, ◌↔◌, ◌==◌, Bool, true, false, Bor, List, map, find, Option, Some, None, IsSome, All, AllPairs, Contains, inl, inr, refl, sym, ap, ◌∙◌, subst, true≢false}
+use Rattle.std.proofs.Common.{◌≡◌, ◌≢◌, ℕ, ◌==◌, true, Bor, List, map, find, Option, Some, None, IsSome, All, AllPairs, Contains, inr, refl, sym, ap, ◌∙◌, subst}
 use Rattle.std.specs.Prelude.{option_and_then}
 use Rattle.std.specs.BTreeMap.{get}
-use Rattle.std.specs.List.{list_any}
 use Rattle.base_types.specs.Keys.{same_key}
 use Rattle.base_types.specs.declared.key.ObjectKey.{ObjectKey}
 use Rattle.clouds.specs.Kept.{key_order}
@@ -11,7 +10,6 @@ use Rattle.history_model.proofs.Latest.{latest_is}
 use Rattle.history_model.proofs.Members.{all_at, all_from}
 use Rattle.history_model.proofs.Steps.{in_filter}
 use Rattle.history_model.proofs.WordLemmas.{found_in, not_found}
-use Rattle.history_model.specs.Clouds.{IsClouded}
 use Rattle.history_model.specs.Events as model
 use Rattle.history_model.specs.Histories as histories
 use Rattle.history_model.specs.Histories.{History}
@@ -19,15 +17,14 @@ use Rattle.history_model.specs.Right.{InScope, IsAmong, IsLacked, IsListed, IsLi
 use Rattle.history_model.specs.States.{Map, latest, IsLatest}
 use Rattle.object_past.specs.Indexed.{HasVersion}
 use Rattle.object_past.specs.Modelled.{version_of}
-use Rattle.object_past.specs.Scopes.{IsInScope}
+use Rattle.object_past.specs.Past.{Recorded}
 use Rattle.object_past.specs.declared.version.Version.{Version}
 use Rattle.write_groups.proofs.Lists.{map_from, map_has, pairs_map, pairs_unmap}
 use Rattle.write_groups.specs.Modelled.{item_of, listing_of}
 use Rattle.write_groups.specs.declared.event.Item.{Item}
 use Rattle.write_groups.specs.declared.event.Listing.{Listing}
-use Rattle.serial_machine.proofs.Showing.{IsKeyOfSome, among_not, not_among}
-use Rattle.serial_machine.specs.Held.{HasRooms, held, is_unmade, unmade, or_else, objects_in, objects_of, objects_upto}
-use Rattle.serial_machine.specs.Listed.{shows_key}
+use Rattle.serial_machine.specs.Held.{HasRooms, held, is_unmade, unmade, or_else, objects_upto}
+use Rattle.serial_machine.specs.Listed.{AreUnshown}
 use Rattle.serial_machine.specs.declared.machine.Machine.{Machine}
 
 -- no object is there of a key that never has one
@@ -43,16 +40,6 @@ none_there h machine upto key rooms none = go (latest (unmade h machine.place up
       where
         at : (v : histories.Version) × Contains h.versions v × (v.key ≡ key) → ⊥
         at (v, c, k) = none v c k
-
--- an item of the list, in the terms of the model
-some_item : (items : List Item) (key : ObjectKey) → IsAmong (map item_of items) key → IsKeyOfSome items key
-some_item items key (item, c, e) = go (map_from item_of items item c)
-  where
-    go : (i : Item) × Contains items i × (item_of i ≡ item) → IsKeyOfSome items key
-    go (i, d, s) = (i, d, sym e ∙ ap (λ (z : model.Item). z.key) (sym s))
-
-item_some : (items : List Item) (key : ObjectKey) → IsKeyOfSome items key → IsAmong (map item_of items) key
-item_some items key (i, c, e) = (item_of i, map_has item_of items i c, sym e)
 
 module _ (h : History) (number place : ℕ) (objects : Map) (listing : Listing) where
   abbrev AreAllListed : Type 0
@@ -78,36 +65,36 @@ module _ (h : History) (number place : ℕ) (objects : Map) (listing : Listing) 
       shown : (item : model.Item) → (i : Item) × Contains listing.items i × (item_of i ≡ item) → IsListed h number place item (objects item.key)
       shown item (i, c, e) = subst (λ (z : model.Item). IsListed h number place z (objects z.key)) e (all_at (λ (item : Item). IsListed h number place (item_of item) (objects item.key)) listing.items i listed c)
 
-  module _ (versions : List Version) (past : h.versions ≡ map version_of versions) (scope : List ObjectKey)
-      (exact : (key : ObjectKey) → Contains scope key ↔ (HasVersion versions key × IsInScope listing.group listing.resource listing.namespace key))
-      (none : (key : ObjectKey) → ((v : histories.Version) → Contains h.versions v → v.key ≡ key → ⊥) → objects key ≡ None)
-      (shown : List (Bor ObjectKey)) (are : (key : ObjectKey) → list_any (λ other. same_key key other.now) shown ≡ shows_key listing.items key) where
-    abbrev AreScopeLacked : Type 0
-    AreScopeLacked = All (λ (key : ObjectKey). list_any (λ (other : Bor ObjectKey). same_key key other.now) shown ≡ false → IsLacked h number place key (objects key)) scope
+  module _ (past : Recorded) (recorded : h.versions ≡ map version_of past.versions) (none : (key : ObjectKey) → ((v : histories.Version) → Contains h.versions v → v.key ≡ key → ⊥) → objects key ≡ None)
+      (others : List (Bor ObjectKey)) (are : AreUnshown past listing others) where
+    abbrev AreOthersLacked : Type 0
+    AreOthersLacked = All (λ (key : Bor ObjectKey). IsLacked h number place key.now (objects key.now)) others
 
-    unshown : (key : ObjectKey) → (IsAmong (map item_of listing.items) key → ⊥) → list_any (λ (other : Bor ObjectKey). same_key key other.now) shown ≡ false
-    unshown key n = are key ∙ not_among listing.items key (λ s. n (item_some listing.items key s))
+    pub others_of : AreAllLacked → AreOthersLacked
+    others_of lacked = all_from (λ (key : Bor ObjectKey). IsLacked h number place key.now (objects key.now)) others (λ key c.
+        let held = (are key.now).0 (map_has (λ (k : Bor ObjectKey). k.now) others key c) in
+        let inside = held.1 in
+        lacked key.now (record { of_group = inside.of_group; of_resource = inside.of_resource; of_namespace = inside.of_namespace }) held.2)
 
-    of_unshown : (key : ObjectKey) → list_any (λ (other : Bor ObjectKey). same_key key other.now) shown ≡ false → IsAmong (map item_of listing.items) key → ⊥
-    of_unshown key e s = among_not listing.items key (sym (are key) ∙ e) (some_item listing.items key s)
-
-    pub scope_of : AreAllLacked → AreScopeLacked
-    scope_of lacked = all_from (λ (key : ObjectKey). list_any (λ (other : Bor ObjectKey). same_key key other.now) shown ≡ false → IsLacked h number place key (objects key)) scope
-        (λ key c e. let inside = ((exact key).0 c).1 in lacked key (record { of_group = inside.of_group; of_resource = inside.of_resource; of_namespace = inside.of_namespace }) (of_unshown key e))
-
-    pub lacked_of : AreScopeLacked → AreAllLacked
+    pub lacked_of : AreOthersLacked → AreAllLacked
     lacked_of all key inside n = go (find (λ (v : histories.Version). same_key v.key key) h.versions) refl
       where
-        has : (v : histories.Version) → Contains h.versions v → v.key ≡ key → HasVersion versions key
-        has v c e = by (map_from version_of versions v (subst (λ vs. Contains vs v) past c))
+        has : (v : histories.Version) → Contains h.versions v → v.key ≡ key → HasVersion past.versions key
+        has v c e = by (map_from version_of past.versions v (subst (λ vs. Contains vs v) recorded c))
           where
-            by : (w : Version) × Contains versions w × (version_of w ≡ v) → HasVersion versions key
+            by : (w : Version) × Contains past.versions w × (version_of w ≡ v) → HasVersion past.versions key
             by (w, (k, l, at), s) = (k, w, l, at, ap (λ (z : histories.Version). z.key) s ∙ e)
+
+        other : (k : Bor ObjectKey) × Contains others k × (k.now ≡ key) → IsLacked h number place key (objects key)
+        other (k, c, e) = subst (λ z. IsLacked h number place z (objects z)) e (all_at (λ (key : Bor ObjectKey). IsLacked h number place key.now (objects key.now)) others k all c)
 
         go : (o : Option histories.Version) → find (λ (v : histories.Version). same_key v.key key) h.versions ≡ o → IsLacked h number place key (objects key)
         go None e = inr (subst (λ o. IsUnlistable h number o) (sym (none key (λ v c k. not_found (λ (v : histories.Version). same_key v.key key) h.versions e v c (key_is v.key key k)))) tt)
-        go (Some v) e = all_at (λ (key : ObjectKey). list_any (λ (other : Bor ObjectKey). same_key key other.now) shown ≡ false → IsLacked h number place key (objects key)) scope key all
-            ((exact key).1 (has v found.0 ((key_decides v.key key).0 found.1), record { of_group = inside.of_group; of_resource = inside.of_resource; of_namespace = inside.of_namespace })) (unshown key n)
+        go (Some v) e = other (map_from (λ (k : Bor ObjectKey). k.now) others key ((are key).1 (
+          has v found.0 ((key_decides v.key key).0 found.1),
+          record { of_group = inside.of_group; of_resource = inside.of_resource; of_namespace = inside.of_namespace },
+          n,
+        )))
           where
             found : Contains h.versions v × (same_key v.key key ≡ true)
             found = found_in (λ (v : histories.Version). same_key v.key key) h.versions v e

@@ -1,105 +1,51 @@
--- The keys that items show, one item after another.
-use Rattle.std.proofs.Common.{◌≡◌, ◌≢◌, ℕ, ◌+◌, ◌<◌, ◌≤◌, ◌⊎◌, Bool, true, false, not, ◌||◌, Bor, List, [], ◌∷◌, ◌++◌, length, get_or, take, AllPairs, Contains, inl, inr, refl, sym, ap, ◌∙◌, subst, true≢false, arith}
-use Rattle.std.specs.Bool.{MatchBool}
-use Rattle.std.specs.List.{list_any}
-use Rattle.std.specs.List.Sorted.{IsPermutation}
-use Rattle.std.proofs.lemmas.List.{take_more, take_all, get_or-take, get_or_default, length-take}
-use Rattle.std.proofs.lemmas.List.Elements.{Contains-get_or}
-use Rattle.std.proofs.lemmas.List.Folds.{list_any_more}
-use Rattle.std.proofs.lemmas.List.Quantifiers.{all_pairs_push}
-use Rattle.std.proofs.lemmas.List.Sorted.{list_any-IsPermutation}
-use Rattle.std.proofs.Math.Bool.{or_comm}
+-- The keys that a list shows, and those that it doesn't.
+use Rattle.std.proofs.Common.{◌≡◌, ◌≢◌, ◌↔◌, Bor, List, map, Option, Some, None, IfSome, IfNone, AllPairs, Contains, sym, ap, ◌∙◌, subst}
+use Rattle.std.specs.Prelude.{Result, Ok, Err, IfOk}
 use Rattle.base_types.specs.declared.key.ObjectKey.{ObjectKey}
-use Rattle.history_model.proofs.KeyLemmas.{key_tells}
-use Rattle.history_model.proofs.Members.{not_in_none, here, there, in_cons}
-use Rattle.base_types.specs.Keys.{same_key}
+use Rattle.history_model.specs.Events as model
+use Rattle.history_model.specs.Right.{IsAmong}
+use Rattle.object_past.specs.Among.{keys_at}
+use Rattle.object_past.specs.Indexed.{HasVersion}
+use Rattle.object_past.specs.Past.{Recorded}
+use Rattle.object_past.specs.Scopes.{AreInOrder, IsInScope}
+use Rattle.write_groups.proofs.Lists.{map_from, map_has, pairs_map, pairs_unmap}
+use Rattle.write_groups.specs.Modelled.{item_of}
 use Rattle.write_groups.specs.declared.event.Item.{Item}
-use Rattle.serial_machine.specs.Listed.{shows_key}
+use Rattle.write_groups.specs.declared.event.Listing.{Listing}
+use Rattle.serial_machine.specs.Listed.{AreShown, AreUnshown}
 
--- what the test of keys tells
-abbrev pub IsKeyOfSome : List Item → ObjectKey → Type 0
-IsKeyOfSome items key = (item : Item) × Contains items item × (key ≡ item.key)
+module _ {X : Type 0} (sorted : X → List (Bor ObjectKey)) (items : List Item) (keys : List (Bor ObjectKey)) (same : keys_at keys ≡ map (λ item. item.key) items) where
+  pub keys_some : (found : Option X) → IfSome found (λ x. AreInOrder (keys_at (sorted x))) → IfSome found (λ x. (key : ObjectKey) → Contains (keys_at (sorted x)) key ↔ Contains (keys_at keys) key)
+      → IfSome found (λ x. AllPairs (λ a b. a ≢ b) (keys_at keys)) → IfSome found (λ x. AllPairs (λ a b. a.key ≢ b.key) items × AreShown items (sorted x))
+  keys_some None order exact distinct = tt
+  keys_some (Some x) order exact distinct = (
+    pairs_unmap (λ (item : Item). item.key) (λ a b. a ≢ b) items (subst (AllPairs (λ a b. a ≢ b)) same distinct),
+    record { order = order; exact = λ key. subst (λ l. Contains (keys_at (sorted x)) key ↔ Contains l key) same (exact key) },
+  )
 
-pub among_tells : (items : List Item) (key : ObjectKey)
-    → ((shows_key items key ≡ true) × IsKeyOfSome items key) ⊎ ((shows_key items key ≡ false) × (IsKeyOfSome items key → ⊥))
-among_tells [] key = inr (refl, λ (item, c, e). not_in_none c)
-among_tells (x ∷ xs) key = go (among_tells xs key) (key_tells key x.key)
+  pub keys_none : (found : Option X) → IfNone found (AllPairs (λ a b. a ≢ b) (keys_at keys) → ⊥) → IfNone found (AllPairs (λ a b. a.key ≢ b.key) items → ⊥)
+  keys_none None none = λ apart. none (subst (AllPairs (λ a b. a ≢ b)) (sym same) (pairs_map (λ (item : Item). item.key) (λ a b. a ≢ b) items apart))
+  keys_none (Some x) none = tt
+
+-- an item of the list has the key, in the terms of the model
+some_item : (items : List Item) (key : ObjectKey) → IsAmong (map item_of items) key → Contains (map (λ item. item.key) items) key
+some_item items key (item, c, e) = go (map_from item_of items item c)
   where
-    go : ((shows_key xs key ≡ true) × IsKeyOfSome xs key) ⊎ ((shows_key xs key ≡ false) × (IsKeyOfSome xs key → ⊥))
-        → ((same_key key x.key ≡ true) × (key ≡ x.key)) ⊎ ((same_key key x.key ≡ false) × (key ≢ x.key))
-        → ((shows_key (x ∷ xs) key ≡ true) × IsKeyOfSome (x ∷ xs) key) ⊎ ((shows_key (x ∷ xs) key ≡ false) × (IsKeyOfSome (x ∷ xs) key → ⊥))
-    go rest (inl t) = inl (rw t.0 refl, (x, here x xs, t.1))
-    go (inl r) (inr t) = inl (rw t.0 r.0, (r.1.0, there x r.1.0 xs r.1.1, r.1.2))
-    go (inr r) (inr t) = inr (rw t.0 r.0, λ (item, c, e). by item e (in_cons x xs item c))
-      where
-        by : (item : Item) → key ≡ item.key → (x ≡ item) ⊎ Contains xs item → ⊥
-        by item e (inl s) = t.1 (e ∙ ap (λ (z : Item). z.key) (sym s))
-        by item e (inr c) = r.1 (item, c, e)
+    go : (i : Item) × Contains items i × (item_of i ≡ item) → Contains (map (λ item. item.key) items) key
+    go (i, d, s) = subst (Contains (map (λ item. item.key) items)) (ap (λ (z : model.Item). z.key) s ∙ e) (map_has (λ item. item.key) items i d)
 
-pub among_is : (items : List Item) (key : ObjectKey) → shows_key items key ≡ true → IsKeyOfSome items key
-among_is items key e = go (among_tells items key)
+item_some : (items : List Item) (key : ObjectKey) → Contains (map (λ item. item.key) items) key → IsAmong (map item_of items) key
+item_some items key c = go (map_from (λ item. item.key) items key c)
   where
-    go : ((shows_key items key ≡ true) × IsKeyOfSome items key) ⊎ ((shows_key items key ≡ false) × (IsKeyOfSome items key → ⊥)) → IsKeyOfSome items key
-    go (inl t) = t.1
-    go (inr t) = absurd (true≢false (sym e ∙ t.0))
+    go : (i : Item) × Contains items i × (i.key ≡ key) → IsAmong (map item_of items) key
+    go (i, d, e) = (item_of i, map_has item_of items i d, e)
 
-pub among_not : (items : List Item) (key : ObjectKey) → shows_key items key ≡ false → IsKeyOfSome items key → ⊥
-among_not items key e = go (among_tells items key)
-  where
-    go : ((shows_key items key ≡ true) × IsKeyOfSome items key) ⊎ ((shows_key items key ≡ false) × (IsKeyOfSome items key → ⊥)) → IsKeyOfSome items key → ⊥
-    go (inl t) = absurd (true≢false (sym t.0 ∙ e))
-    go (inr t) = t.1
-
-pub not_among : (items : List Item) (key : ObjectKey) → (IsKeyOfSome items key → ⊥) → shows_key items key ≡ false
-not_among items key n = go (among_tells items key)
-  where
-    go : ((shows_key items key ≡ true) × IsKeyOfSome items key) ⊎ ((shows_key items key ≡ false) × (IsKeyOfSome items key → ⊥)) → shows_key items key ≡ false
-    go (inl t) = absurd (n t.1)
-    go (inr t) = t.0
-
-module _ (items : List Item) (i : ℕ) (item : Item) (within : i < length items) (is : item ≡ get_or items i item) where
-  -- a key that comes again
-  pub repeated : shows_key (take i items) item.key ≡ true → AllPairs (λ a b. a.key ≢ b.key) items → ⊥
-  repeated e apart = go (among_is (take i items) item.key e)
-    where
-      go : IsKeyOfSome (take i items) item.key → ⊥
-      go (other, (k, l, at), same) = apart k i item (below k l) within (ap (λ (z : Item). z.key) (found k l at) ∙ sym same ∙ ap (λ (z : Item). z.key) is)
-        where
-          below : (k : ℕ) → k < length (take i items) → k < i
-          below k l = omega (arith, length-take i items, l)
-
-          found : (k : ℕ) → k < length (take i items) → get_or (take i items) k other ≡ other → get_or items k item ≡ other
-          found k l at = get_or_default items k item other (omega (arith, below k l, within)) ∙ sym (get_or-take i items k other (below k l)) ∙ at
-
-  -- a key that is new
-  pub still_apart : shows_key (take i items) item.key ≡ false → AllPairs (λ a b. a.key ≢ b.key) (take i items) → AllPairs (λ a b. a.key ≢ b.key) (take (i + 1) items)
-  still_apart e apart = subst (AllPairs (λ a b. a.key ≢ b.key)) (sym (take_more items i item within ∙ ap (λ z. take i items ++ z ∷ []) (sym is)))
-      (all_pairs_push (λ a b. a.key ≢ b.key) (take i items) item apart (λ k d l same. among_not (take i items) item.key e (get_or (take i items) k d, Contains-get_or (take i items) k d l, sym same)))
-
-  pub keys_more : (old new : List (Bor ObjectKey)) (key : Bor ObjectKey) → key.now ≡ item.key → IsPermutation (key ∷ old) new
-      → ((k : ObjectKey) → list_any (λ shown. same_key k shown.now) old ≡ shows_key (take i items) k)
-      → (k : ObjectKey) → list_any (λ shown. same_key k shown.now) new ≡ shows_key (take (i + 1) items) k
-  keys_more old new key e perm before k =
-      sym (list_any-IsPermutation (λ (shown : Bor ObjectKey). same_key k shown.now) (key ∷ old) new perm)
-      ∙ ap (λ b. same_key k key.now || b) (before k)
-      ∙ or_comm (same_key k key.now) (shows_key (take i items) k)
-      ∙ ap (λ z. shows_key (take i items) k || same_key k z) (e ∙ ap (λ (z : Item). z.key) is)
-      ∙ sym (list_any_more (λ (other : Item). same_key k other.key) items i item within)
-
-pub keys_all : (items : List Item) (i : ℕ) (keys : List (Bor ObjectKey)) → length items ≤ i → ((k : ObjectKey) → list_any (λ shown. same_key k shown.now) keys ≡ shows_key (take i items) k)
-    → (k : ObjectKey) → list_any (λ shown. same_key k shown.now) keys ≡ shows_key items k
-keys_all items i keys over all k = all k ∙ ap (λ l. shows_key l k) (take_all i items over)
-
-pub apart_all : (items : List Item) (i : ℕ) → length items ≤ i → AllPairs (λ a b. a.key ≢ b.key) (take i items) → AllPairs (λ a b. a.key ≢ b.key) items
-apart_all items i over apart = subst (AllPairs (λ a b. a.key ≢ b.key)) (take_all i items over) apart
-
-pub put_key : (P Q : Type 0) (added : Bool) → MatchBool added P Q → added ≡ true → P
-put_key P Q added m t = let F : Bool → Type 0 = λ v. MatchBool v P Q in subst F t m
-
-pub not_true : (b : Bool) → not b ≡ true → b ≡ false
-not_true true e = absurd (true≢false (sym e))
-not_true false e = refl
-
-pub not_false : (b : Bool) → not b ≡ false → b ≡ true
-not_false true e = refl
-not_false false e = absurd (true≢false e)
+module _ (past : Recorded) (listing : Listing) (scope : List ObjectKey) (shown : List (Bor ObjectKey)) (are : AreShown listing.items shown)
+    (exact : (key : ObjectKey) → Contains scope key ↔ (HasVersion past.versions key × IsInScope listing.group listing.resource listing.namespace key)) where
+  pub unshown : {X Y : Type 0} (read : X → List (Bor ObjectKey)) (found : Result X Y) → IfOk found (λ x. (key : ObjectKey) → Contains (keys_at (read x)) key ↔ (Contains scope key × (Contains (keys_at shown) key → ⊥)))
+      → IfOk found (λ x. AreUnshown past listing (read x))
+  unshown read (Err e) apart = tt
+  unshown read (Ok x) apart = λ key. (
+    (λ c. let held = (apart key).0 c in let inside = (exact key).0 held.0 in (inside.0, inside.1, λ s. held.1 ((are.exact key).1 (some_item listing.items key s)))),
+    (λ held. (apart key).1 ((exact key).1 (held.0, held.1), λ there. held.2 (item_some listing.items key ((are.exact key).0 there)))),
+  )

@@ -1,16 +1,22 @@
--- The keys of a list's items.
-use Rattle.std.specs.Prelude.{◌≡◌, Bool, List}
+-- The keys of a list's items, and those that it doesn't show.
+use Rattle.std.specs.Prelude.{◌↔◌, List, map, Contains}
 use Rattle.std.specs.Borrow.{Bor}
-use Rattle.std.specs.HashSet.{HashSet}
-use Rattle.std.specs.List.{list_any}
-use Rattle.base_types.specs.Keys.{same_key}
 use Rattle.base_types.specs.declared.key.ObjectKey.{ObjectKey}
+use Rattle.history_model.specs.Right.{IsAmong}
+use Rattle.object_past.specs.Among.{keys_at}
+use Rattle.object_past.specs.Indexed.{HasVersion}
+use Rattle.object_past.specs.Past.{Recorded}
+use Rattle.object_past.specs.Scopes.{AreInOrder, IsInScope}
+use Rattle.write_groups.specs.Modelled.{item_of}
 use Rattle.write_groups.specs.declared.event.Item.{Item}
+use Rattle.write_groups.specs.declared.event.Listing.{Listing}
 
--- an item has this key
-abbrev pub shows_key : List Item → ObjectKey → Bool
-shows_key items key = list_any (λ item. same_key key item.key) items
+-- the keys of the items, in order
+pub record AreShown (items : List Item) (shown : List (Bor ObjectKey)) : Type 0 where
+  pub order : AreInOrder (keys_at shown)
+  pub exact : (key : ObjectKey) → Contains (keys_at shown) key ↔ Contains (map (λ item. item.key) items) key
 
--- the set has the keys of the items
-abbrev pub AreShown : {S : Type 0} → List Item → HashSet (Bor ObjectKey) S → Type 0
-AreShown items shown = (key : ObjectKey) → list_any (λ other. same_key key other.now) shown.keys ≡ shows_key items key
+-- the keys that have a version, that the list is about, and that it doesn't show
+abbrev pub AreUnshown : Recorded → Listing → List (Bor ObjectKey) → Type 0
+AreUnshown past listing keys = (key : ObjectKey) → Contains (keys_at keys) key
+    ↔ (HasVersion past.versions key × IsInScope listing.group listing.resource listing.namespace key × (IsAmong (map item_of listing.items) key → ⊥))

@@ -14,6 +14,7 @@ mod places;
 mod replies;
 mod rows;
 mod scene;
+mod shown;
 mod standing;
 mod step;
 mod steps;

@@ -1,52 +1,16 @@
-ghost use Rattle.std.specs.Prelude.{◌≡◌, ◌≢◌, ◌↔◌, ℕ, false, true, IfOk, IfSome, IfNone, IsTrue, All, AllPairs};
-ghost use Rattle.std.specs.Prelude.{Contains, option_map};
-ghost use Rattle.std.specs.List.{list_any};
-ghost use Rattle.base_types.specs.Keys.{same_key};
-ghost use Rattle.base_types.specs.declared.key.ObjectKey.{ObjectKey as Key};
-ghost use Rattle.history_model.specs.Right.{InScope, IsAmong, IsLacked, IsListed, IsListRight, IsUnlistable};
-ghost use Rattle.object_past.specs.Modelled.{version_of};
+ghost use Rattle.std.specs.Prelude.{◌↔◌, IfOk, IsTrue, All};
+ghost use Rattle.history_model.specs.Right.{IsLacked, IsListed, IsListRight};
 ghost use Rattle.serial_machine.specs.Held.{HasRooms};
-ghost use Rattle.serial_machine.specs.Listed.{AreShown, shows_key};
 ghost use Rattle.serial_machine.specs.Stepping.{scene_objects};
 ghost use Rattle.version_store.specs.Histories.{history_of};
 ghost use Rattle.write_groups.specs.Modelled.{item_of, listing_of};
 
 use crate::replies::is_shown;
 use crate::scene::Scene;
+use crate::shown::{shown_keys, unshown_keys};
 use base_types::{ObjectKey, OutOfMemory};
-use hash_seed::{Seed, Seeded};
 use std::alloc::Global;
-use std::collections::HashSet;
 use write_groups::{Item, Listing};
-
-/// Keys of a list's items.
-type Shown<'a> = HashSet<&'a ObjectKey, Seeded>;
-
-// The keys of the items; None where two items have one key.
-fn shown_keys<'a>(
-    alloc: Global,
-    items: &'a [Item],
-    seed: Seed,
-) -> Result<Option<Shown<'a>>, OutOfMemory>
-    ensures some { IfOk result (λ found. IfSome found (λ shown. AllPairs (λ a b. a.key ≢ b.key) items.now
-        × AreShown items.now shown)) }
-    ensures none { IfOk result (λ found. IfNone found (AllPairs (λ a b. a.key ≢ b.key) items.now → ⊥)) }
-{
-    let mut shown = HashSet::with_hasher(alloc, Seeded::new(seed));
-    for item in items {
-        if !shown.insert(&item.key)? {
-            return Ok(None);
-        }
-    }
-    Ok(Some(shown))
-}
-
-// Whether an item has the key.
-fn has_key(shown: &Shown<'_>, key: &ObjectKey) -> bool
-    ensures { result ≡ list_any (λ other. same_key key.now other.now) shown.now.keys }
-{
-    (&*shown).contains(&key)
-}
 
 // Whether the list of this number rightly shows the item.
 fn is_listed(scene: Scene<'_>, number: u32, place: u64, item: &Item) -> Result<bool, OutOfMemory>
@@ -99,38 +63,18 @@ fn are_listed(
     Ok(true)
 }
 
-// Whether the key is shown, or rightly lacked.
-fn is_right_about(
-    scene: Scene<'_>,
-    number: u32,
-    place: u64,
-    key: &ObjectKey,
-    shown: &Shown<'_>,
-) -> Result<bool, OutOfMemory>
-    ensures { IfOk result (λ right. IsTrue right ↔ (list_any (λ other. same_key key.now other.now)
-        shown.now.keys ≡ false
-        → IsLacked (history_of scene.entry.context.now) number place key.now (scene_objects scene.entry key.now))) }
-{
-    if has_key(shown, key) {
-        return Ok(true);
-    }
-    is_lacked(scene, number, place, key)
-}
-
-// Whether the list rightly lacks each of the keys that it doesn't show.
+// Whether the list rightly lacks each of the keys.
 fn are_lacked(
     scene: Scene<'_>,
     number: u32,
     place: u64,
-    keys: &[ObjectKey],
-    shown: &Shown<'_>,
+    keys: &[&ObjectKey],
 ) -> Result<bool, OutOfMemory>
     ensures { IfOk result (λ right. IsTrue right
-        ↔ All (λ key. list_any (λ other. same_key key other.now) shown.now.keys ≡ false
-        → IsLacked (history_of scene.entry.context.now) number place key (scene_objects scene.entry key)) keys.now) }
+        ↔ All (λ key. IsLacked (history_of scene.entry.context.now) number place key.now (scene_objects scene.entry key.now)) keys.now) }
 {
     for key in keys {
-        if !is_right_about(scene, number, place, key, shown)? {
+        if !is_lacked(scene, number, place, *key)? {
             return Ok(false);
         }
     }
@@ -152,7 +96,7 @@ pub fn is_list_right(
     if place != listing.revision.get() {
         return Ok(false);
     }
-    let Some(shown) = shown_keys(alloc, listing.items.as_slice(), scene.context.seed())? else {
+    let Some(shown) = shown_keys(alloc, listing.items.as_slice())? else {
         return Ok(false);
     };
     if !are_listed(scene, number, place, listing.items.as_slice())? {
@@ -161,7 +105,6 @@ pub fn is_list_right(
     if !listing.whole {
         return Ok(true);
     }
-    let past = scene.context.past();
-    let scope = past.scope(&listing.group, &listing.resource, &listing.namespace);
-    are_lacked(scene, number, place, scope, &shown)
+    let lacked = unshown_keys(alloc, scene.context.past(), listing, &shown)?;
+    are_lacked(scene, number, place, &lacked)
 }

@@ -238,7 +238,7 @@ fn gather<R: Threads + Sync>(
 }
 
 // A context of its parts.
-fn joined(setup: Setup, events: Events, gathered: Gathered, seed: Seed) -> Context
+fn joined(setup: Setup, events: Events, gathered: Gathered) -> Context
     requires { IsFound setup events gathered.pool.trees gathered.log gathered.found }
     ensures setup { result.setup ≡ setup }
     ensures events { result.events ≡ events }
@@ -274,7 +274,6 @@ fn joined(setup: Setup, events: Events, gathered: Gathered, seed: Seed) -> Conte
         faults,
         keys,
         uses,
-        seed,
     }
 }
 
@@ -321,6 +320,6 @@ impl Context {
         ensures fits { IfOk result (λ context. length (pooled setup events) ≤ limit) }
     {
         let gathered = gather(rt, alloc, &setup, &events, limit, seed)?;
-        Ok(joined(setup, events, gathered, seed))
+        Ok(joined(setup, events, gathered))
     }
 }

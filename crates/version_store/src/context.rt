@@ -11,7 +11,6 @@ use crate::uses::Uses;
 use audit_event::{Event, Events};
 use base_types::{ObjectKey, Range, Reason, Shared};
 use clouds::Clouds;
-use hash_seed::Seed;
 use node_pool::Pool;
 use object_past::{Past, Version};
 use rbac_timeline::Timeline;
@@ -37,8 +36,6 @@ pub struct Context {
     pub(crate) keys: Vec<ObjectKey>,
     // Where each uid comes first, for those who try other objects before a write.
     pub(crate) uses: Uses,
-    // What the hashes of keys begin with.
-    pub(crate) seed: Seed,
 }
 
 // Written out, so that a function that lets a context go has one call and not the steps of each field; so are those
@@ -59,7 +56,6 @@ impl Drop for Context {
             faults: _,
             keys: _,
             uses: _,
-            seed: _,
         } = self;
         drop(setup);
         drop(pool);
@@ -143,11 +139,6 @@ impl Context {
         ensures sound { IsSound self.now.setup }
     {
         &self.setup
-    }
-
-    /// What the hashes of keys begin with.
-    pub fn seed(&self) -> Seed {
-        self.seed
     }
 
     /// The events of the log by line.

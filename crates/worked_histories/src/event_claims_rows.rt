@@ -6,7 +6,6 @@ use base_types::{
 };
 use clouds::Clouds;
 use event_claims::{Decisions, View, claim_of, placed_line};
-use hash_seed::Seed;
 use local_bounds::Listable;
 use node_pool::NodeId;
 use object_past::{Past, Removals, Versions};
@@ -216,7 +215,6 @@ fn judged(rt: &(impl Abort + AllocGlobal), told: Told) -> (Option<Reason>, Optio
         past: &world.past,
         lists: &Unselected,
         decisions: &Unmoved,
-        seed: Seed::of(b""),
     };
     let judged = judged_in(rt, &view, finding_fault(told));
     drop(world);

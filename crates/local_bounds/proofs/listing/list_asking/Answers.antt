@@ -17,6 +17,6 @@ returns g c =
     let some = rw c.in-Some.is at c.in_ok-shown.ensures.some in
     let distinct = rw c.as_slice.ensures at some.0 in
     IfOk-weaker c.together.result _ _ (λ asking t h k s. list_asked h k.of_past.readable c.args.number c.get-place.result c.args.window.low c.args.window.high c.args.listing.now c.in_ok-lacked.lacked.items
-    c.get-place.ensures.value distinct (c.in_ok-lacked.ensures h k.of_past) c.in_ok-askings.askings.items c.in_ok-others.others.items c.deref-2.result.now asking
-    (rw c.as_slice-2.ensures at c.in_ok-askings.ensures h k s) (rw c.deref.ensures.value at c.in_ok-others.ensures h k s) (c.deref-2.ensures.value ∙ c.in_ok-append.ensures.items)
+    c.get-place.ensures.value distinct (c.in_ok-lacked.ensures h k.of_past) c.in_ok-askings.askings.items c.in_ok-others.others.items c.deref-3.result.now asking
+    (rw c.as_slice-2.ensures at c.in_ok-askings.ensures h k s) (rw c.deref-2.ensures.value at c.in_ok-others.ensures h k s) (c.deref-3.ensures.value ∙ c.in_ok-append.ensures.items)
     c.if-place-window.false c.if-window-place.false t) c.together.ensures

@@ -1,11 +1,10 @@
-use Rattle.std.proofs.Common.{◌≡◌, ◌≢◌, AllPairs, All, refl, sym, subst, ◌∙◌}
+use Rattle.std.proofs.Common.{◌≢◌, AllPairs, map, refl, sym, ap, subst, ◌∙◌}
 use Rattle.std.proofs.lemmas.Result.{IfOk-weaker}
-use Rattle.history_model.specs.Right.{IsListed}
+use Rattle.object_past.specs.Modelled.{version_of}
 use Rattle.version_store.specs.Histories.{history_of}
-use Rattle.write_groups.specs.Modelled.{item_of}
 use Rattle.write_groups.specs.declared.event.Item.{Item}
 use Rattle.serial_machine.specs.Stepping.{scene_objects}
-use Rattle.serial_machine.proofs.RightLists.{none_there, listed_of, distinct_of, right_of, scope_of, lacked_of}
+use Rattle.serial_machine.proofs.RightLists.{none_there, listed_of, distinct_of, right_of, others_of, lacked_of}
 use Rattle.serial_machine.proofs.Telling.{not_so, told_by, untold}
 use Rattle.serial_machine.proofs.listing.is_list_right.Goals as goal
 
@@ -39,14 +38,14 @@ returns c =
     let told = rw c.as_slice-2.ensures at c.in_ok-are_listed.ensures in
     let some = rw c.in-Some.is at c.in_ok-shown.ensures.some in
     let distinct = rw c.as_slice.ensures at some.0 in
-    let shown = rw c.as_slice.ensures at some.1 in
-    let exact = rw c.past-past.ensures.versions at c.scope-scope.ensures.exact in
+    let recorded = sym (ap (map version_of) c.past.ensures.versions) in
+    let others = rw c.deref-2.ensures.value at c.are_lacked.ensures in
     IfOk-weaker c.are_lacked.result _ _ (λ right all. told_by right all
     (λ lacked. right_of (history_of c.args.scene.context.now) c.args.number c.args.place (scene_objects c.args.scene) c.args.listing.now (c.if-place-get.false ∙ c.get.ensures.value) distinct
     (told.0 c.if-not-branch.false)
-    (λ whole. lacked_of (history_of c.args.scene.context.now) c.args.number c.args.place (scene_objects c.args.scene) c.args.listing.now c.args.scene.context.now.versions refl
-    c.scope-scope.result.now exact
-    (λ key n. none_there (history_of c.args.scene.context.now) c.args.scene.machine.now c.args.scene.upto key c.requires n) _ shown lacked))
-    (λ list. scope_of (history_of c.args.scene.context.now) c.args.number c.args.place (scene_objects c.args.scene) c.args.listing.now c.args.scene.context.now.versions refl
-    c.scope-scope.result.now exact
-    (λ key n. none_there (history_of c.args.scene.context.now) c.args.scene.machine.now c.args.scene.upto key c.requires n) _ shown (list.lacks c.if-not-listing.false))) c.are_lacked.ensures
+    (λ whole. lacked_of (history_of c.args.scene.context.now) c.args.number c.args.place (scene_objects c.args.scene) c.args.listing.now c.past.result.now recorded
+    (λ key n. none_there (history_of c.args.scene.context.now) c.args.scene.machine.now c.args.scene.upto key c.requires n)
+    c.in_ok-lacked.lacked.items c.in_ok-lacked.ensures lacked))
+    (λ list. others_of (history_of c.args.scene.context.now) c.args.number c.args.place (scene_objects c.args.scene) c.args.listing.now c.past.result.now recorded
+    (λ key n. none_there (history_of c.args.scene.context.now) c.args.scene.machine.now c.args.scene.upto key c.requires n)
+    c.in_ok-lacked.lacked.items c.in_ok-lacked.ensures (list.lacks c.if-not-listing.false))) others

@@ -4,8 +4,6 @@ use Rattle.std.proofs.lemmas.Result.{IfOk-weaker}
 use Rattle.history_model.specs.Right.{IsShown}
 use Rattle.version_store.specs.Histories.{history_of}
 use Rattle.write_groups.specs.Modelled.{item_of}
-use Rattle.serial_machine.specs.Stepping.{scene_objects}
-use Rattle.serial_machine.proofs.Showing.{not_true, not_false}
 use Rattle.serial_machine.proofs.Telling.{first_holds, neither, second_told, both_told, untold}
 use Rattle.serial_machine.proofs.listing.is_listed.Goals as goal
 
