@@ -15,8 +15,9 @@ use Rattle.std.proofs.lemmas.List.Sorted.{Contains-permutation, IsPermutation-sy
 use Rattle.std.proofs.lemmas.Map.Lookups.{exact_bytes}
 use Rattle.base_types.specs.declared.key.ObjectKey.{ObjectKey}
 use Rattle.base_types.proofs.KeyLemmas.{key_from_parts}
-use Rattle.clouds.specs.Items.{Adds, AddsAt, items_at, items_of}
+use Rattle.clouds.specs.Items.{AddsAt, items_at, items_of}
 use Rattle.clouds.specs.Kept.{key_order, text_order}
+use Rattle.clouds.specs.Recorded.{Adds}
 
 -- a list has one item more
 pub record Grows {X : Type 0} (old new : List X) (item : X) : Type 0 where
@@ -81,7 +82,9 @@ module _ {K V X : Type 0} (order : K → K → Ordering) (laws : IsTotalOrder or
 
 pub AddsAt-updates : {K X : Type 0} (order : K → K → Ordering) (laws : IsTotalOrder order) (old new : BTreeMap K (List X)) (key : K) (items : List X) (item : X)
     → Updates order old new key (Some items) → Grows (items_at order old key) items item → AddsAt order old new key item
-AddsAt-updates order laws old new key items item updates grows = Adds-updates order laws items_of old new key items updates item grows
+AddsAt-updates order laws old new key items item updates grows =
+    let adds = Adds-updates order laws items_of old new key items updates item grows in
+    record { kept = adds.kept; added = adds.added; only = adds.only }
 
 -- keys are ordered, and equal keys are one
 pub key_order_total : IsTotalOrder key_order

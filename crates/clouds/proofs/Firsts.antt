@@ -1,5 +1,6 @@
 -- The first clouded places behind a key's revisions, and what is found by them.
-use Rattle.std.proofs.Common.{◌≡◌, ℕ, zero, suc, ◌+◌, ◌<◌, ◌≤◌, ◌⊎◌, ⊎_elim, inl, inr, true, Option, Some, None, List, [], ◌∷◌, ◌++◌, length, min, refl, sym, ◌∙◌, subst, arith}
+use Rattle.std.proofs.Common.{◌≡◌, ℕ, zero, suc, ◌+◌, ◌<◌, ◌≤◌, ◌⊎◌, ⊎_elim, inl, inr, true, Option, Some, None, List, [], ◌∷◌, ◌++◌, length, min, sym, subst, arith}
+use Rattle.std.specs.BTreeMap.{BTreeMap}
 use Rattle.std.specs.Bool.{◌==◌}
 use Rattle.std.specs.List.{Any, Contains}
 use Rattle.std.specs.List.Sorted.{IsPermutation}
@@ -9,17 +10,18 @@ use Rattle.std.proofs.lemmas.List.Elements.{Contains-push_cases}
 use Rattle.std.proofs.lemmas.List.Sorted.{Contains-permutation, IsPermutation-sym}
 use Rattle.base_types.proofs.Quantifiers.{Any-weaker}
 use Rattle.base_types.specs.declared.key.ObjectKey.{ObjectKey}
+use Rattle.clouds.specs.declared.recorded.Recorded.{Recorded}
 use Rattle.clouds.specs.declared.span.KeyRevision.{KeyRevision}
 use Rattle.clouds.specs.declared.span.OpaqueSpan.{OpaqueSpan}
+use Rattle.clouds.specs.declared.wide.Wide.{Wide}
 use Rattle.clouds.specs.Clouds.{IsClouded, IsHiddenBy}
-use Rattle.clouds.specs.Filed.{AreRecorded}
+use Rattle.clouds.specs.Filed.{AreFiled, AreKept, AreRecorded}
 use Rattle.clouds.specs.FirstClouded.{AreFirstClouded, IsFirstUntilNext, SomeFirst}
-use Rattle.clouds.specs.FirstPlace.{IsFirstPlace, IsLeastPlace}
+use Rattle.clouds.specs.FirstPlace.{IsFirstPlace}
 use Rattle.clouds.specs.Hiding.{AreRevisionsOf, HidesKey, ReachesKey, revision_of}
-use Rattle.clouds.specs.Items.{Adds}
 use Rattle.clouds.specs.Kept.{key_order}
-use Rattle.clouds.specs.Latest.{IsLastBeforeNext, IsLatest, SomeBetween, last_place}
-use Rattle.clouds.specs.Recorded.{AddsFirst, AreSame}
+use Rattle.clouds.specs.Latest.{IsLastBeforeNext, IsLatest, last_place}
+use Rattle.clouds.specs.Recorded.{Adds, AddsFirst, AreSame, firsts_at, revisions_at}
 use Rattle.clouds.specs.Writes.{Writes}
 use Rattle.clouds.proofs.Adding.{same_key_from}
 use Rattle.clouds.proofs.Keeping.{clouded_from_hidden, hidden_from_clouded}
@@ -222,3 +224,11 @@ AreRecorded-same old new given same all = record {
 
 pub AreFirstClouded-is : (writes : Writes) (key : ObjectKey) (firsts same : List ℕ) → firsts ≡ same → AreFirstClouded writes key firsts → AreFirstClouded writes key same
 AreFirstClouded-is writes key firsts same is all = subst (λ l. AreFirstClouded writes key l) is all
+
+pub AreKept-made : (spans shown_spans : List OpaqueSpan) (given shown_given : List KeyRevision) (named : BTreeMap ObjectKey (List OpaqueSpan)) (wide : Wide) (recorded : BTreeMap ObjectKey Recorded)
+    → shown_spans ≡ spans → shown_given ≡ given → AreFiled named wide spans → AreRecorded (revisions_at recorded) given
+    → ((key : ObjectKey) → AreFirstClouded (record { spans = spans; revisions = given }) key (firsts_at recorded key))
+    → AreKept (record { spans = shown_spans; revisions = shown_given }) named wide recorded
+AreKept-made spans shown_spans given shown_given named wide recorded same_spans same_given filed all firsts =
+    let kept : AreKept (record { spans = spans; revisions = given }) named wide recorded = record { filed = filed; recorded_all = all; firsts = firsts } in
+    rw (same_spans, same_given) kept

@@ -18,10 +18,11 @@ use Rattle.clouds.specs.declared.wide.Wide.{Wide}
 use Rattle.clouds.specs.Clouds.{IsHiddenBy}
 use Rattle.clouds.specs.FirstPlace.{HoldsNowhere, IsFirstPlace, IsLeastPlace, lesser_place}
 use Rattle.clouds.specs.Hiding.{AreRevisionsOf, HidesKey, ReachesKey, revision_of}
-use Rattle.clouds.specs.Items.{Adds, AddsAt, items_at}
+use Rattle.clouds.specs.Items.{AddsAt, items_at}
 use Rattle.clouds.specs.Filed.{AreFiled, AreRecorded}
 use Rattle.clouds.specs.Kept.{key_order}
 use Rattle.clouds.specs.Latest.{IsLatest}
+use Rattle.clouds.specs.Recorded.{Adds}
 use Rattle.clouds.specs.Wide.{AddsWide, AnyWide}
 use Rattle.clouds.proofs.Adding.{same_key_from}
 use Rattle.clouds.proofs.FirstPlaces.{Either, IsFirstPlace-either, IsFirstPlace-same}

@@ -6,7 +6,7 @@ use Rattle.std.proofs.lemmas.Bool.{cases_lt, leb-false, leb-true, ltb-false, ltb
 use Rattle.std.proofs.lemmas.List.{get_or_append_left, get_or_default, get_or_push, length-append}
 use Rattle.std.proofs.lemmas.List.Elements.{Contains-get_or}
 use Rattle.std.proofs.lemmas.List.Sorted.{IsNonDecreasingBy-insert, IsNonDecreasingBy-push}
-use Rattle.base_types.proofs.Quantifiers.{Any-at, Any-weaker}
+use Rattle.base_types.proofs.Quantifiers.{Any-at}
 use Rattle.clouds.specs.declared.mark.Mark.{Mark}
 use Rattle.clouds.specs.FirstPlace.{HoldsNowhere, IsLeastPlace}
 use Rattle.clouds.specs.Latest.{IsLastBeforeNext, IsLatest, last_place}

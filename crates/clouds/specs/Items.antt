@@ -13,10 +13,7 @@ abbrev pub items_at : {K X : Type 0} → (K → K → Ordering) → BTreeMap K (
 items_at order m key = items_of (get order m key)
 
 -- one item more, under this key
-pub record Adds {K X : Type 0} (order : K → K → Ordering) (old new : K → List X) (key : K) (item : X) : Type 0 where
-  pub kept : (k : K) (x : X) → Contains (old k) x → Contains (new k) x
-  pub added : Contains (new key) item
-  pub only : (k : K) (x : X) → Contains (new k) x → Contains (old k) x ⊎ ((is_eq (order key k) ≡ true) × (x ≡ item))
-
-abbrev pub AddsAt : {K X : Type 0} → (K → K → Ordering) → BTreeMap K (List X) → BTreeMap K (List X) → K → X → Type 0
-AddsAt order old new key item = Adds order (items_at order old) (items_at order new) key item
+pub record AddsAt {K X : Type 0} (order : K → K → Ordering) (old new : BTreeMap K (List X)) (key : K) (item : X) : Type 0 where
+  pub kept : (k : K) (x : X) → Contains (items_at order old k) x → Contains (items_at order new k) x
+  pub added : Contains (items_at order new key) item
+  pub only : (k : K) (x : X) → Contains (items_at order new k) x → Contains (items_at order old k) x ⊎ ((is_eq (order key k) ≡ true) × (x ≡ item))

@@ -1,7 +1,9 @@
 -- What is kept of each key's recorded writes, while it is gathered.
-use Rattle.std.specs.Prelude.{◌≡◌, ◌≤◌, ℕ, ◌⊎◌, Option, List, Any, Contains}
+use Rattle.std.specs.Prelude.{◌≡◌, ◌≤◌, ℕ, ◌⊎◌, true, Option, List, Any, Contains}
 use Rattle.std.specs.BTreeMap.{BTreeMap, get}
 use Rattle.std.specs.Option.{option_map}
+use Rattle.std.specs.Ordering.{is_eq}
+use Rattle.std.specs.declared.cmp.Ordering.{Ordering}
 use Rattle.base_types.specs.declared.key.ObjectKey.{ObjectKey}
 use Rattle.clouds.specs.declared.recorded.Recorded.{Recorded}
 use Rattle.clouds.specs.declared.span.OpaqueSpan.{OpaqueSpan}
@@ -23,6 +25,12 @@ revisions_at recorded key = revisions_in (get key_order recorded key)
 
 abbrev pub firsts_at : BTreeMap ObjectKey Recorded → ObjectKey → List ℕ
 firsts_at recorded key = firsts_in (get key_order recorded key)
+
+-- one item more, under this key
+pub record Adds {K X : Type 0} (order : K → K → Ordering) (old new : K → List X) (key : K) (item : X) : Type 0 where
+  pub kept : (k : K) (x : X) → Contains (old k) x → Contains (new k) x
+  pub added : Contains (new key) item
+  pub only : (k : K) (x : X) → Contains (new k) x → Contains (old k) x ⊎ ((is_eq (order key k) ≡ true) × (x ≡ item))
 
 -- each key has the same as before
 abbrev pub AreSame : (ObjectKey → List ℕ) → (ObjectKey → List ℕ) → Type 0

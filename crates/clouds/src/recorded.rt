@@ -4,9 +4,8 @@ ghost use Rattle.base_types.specs.declared.key.ObjectKey.{ObjectKey};
 ghost use Rattle.clouds.specs.declared.span.OpaqueSpan.{OpaqueSpan};
 ghost use Rattle.clouds.specs.Filed.{AreFiled, AreRecorded};
 ghost use Rattle.clouds.specs.FirstClouded.{AreFirstClouded};
-ghost use Rattle.clouds.specs.Items.{Adds};
 ghost use Rattle.clouds.specs.Kept.{key_order};
-ghost use Rattle.clouds.specs.Recorded.{AddsFirst, AreSame, firsts_at, revisions_at};
+ghost use Rattle.clouds.specs.Recorded.{Adds, AddsFirst, AreSame, firsts_at, revisions_at};
 
 use crate::filing::Filed;
 use crate::places::Places;

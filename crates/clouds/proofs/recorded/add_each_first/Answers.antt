@@ -1,7 +1,7 @@
 use Rattle.std.proofs.Common.{map, refl, subst, sym, ◌∙◌}
 use Rattle.std.specs.List.{Contains}
 use Rattle.std.proofs.lemmas.List.{take_all}
-use Rattle.clouds.specs.Recorded.{firsts_at, revisions_at}
+use Rattle.clouds.specs.Recorded.{firsts_at}
 use Rattle.clouds.proofs.Firsts.{AreFirstClouded-all, FirstsSoFar, FirstsSoFar-more, FirstsSoFar-start}
 use Rattle.clouds.proofs.Keeping.{AreRevisionsOf-at, among_mapped, taken_more}
 use Rattle.clouds.proofs.recorded.add_each_first.Goals as goal

@@ -1,7 +1,7 @@
 use Rattle.std.proofs.Common.{◌≡◌, ap, rules, subst, sym}
 use Rattle.clouds.specs.declared.recorded.Recorded.{Recorded}
 use Rattle.clouds.specs.Kept.{key_order}
-use Rattle.clouds.specs.Recorded.{AddsFirst, firsts_at, firsts_in, revisions_at, revisions_in}
+use Rattle.clouds.specs.Recorded.{firsts_at, firsts_in, revisions_at, revisions_in}
 use Rattle.clouds.proofs.Adding.{Adds-updates, Grows, Grows-permuted, key_order_total, same-updates}
 use Rattle.clouds.proofs.Firsts.{AddsFirst-none, AddsFirst-some}
 use Rattle.clouds.proofs.recorded.add_first.Goals as goal

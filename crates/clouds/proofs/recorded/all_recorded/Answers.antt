@@ -1,5 +1,4 @@
-use Rattle.std.proofs.Common.{map, subst, sym, ◌∙◌}
-use Rattle.clouds.specs.Filed.{AreRecorded}
+use Rattle.std.proofs.Common.{sym, ◌∙◌}
 use Rattle.clouds.proofs.Firsts.{AreFirstClouded-none, AreFirstClouded-permuted, AreRecorded-same}
 use Rattle.clouds.proofs.Keeping.{AreRecorded-permuted}
 use Rattle.clouds.proofs.recorded.all_recorded.Goals as goal

@@ -15,7 +15,7 @@ returns-in-Some c =
       added = (says c.args.length).1 (inr refl);
       only = λ x among. (says x).0 among;
     } in
-    AddsAt-updates scope_order scope_order_total c.args.lengths.now (c.get_mut.follows.lender c.add.new.self) c.args.scope c.add.new.self c.args.length (writes.3 (search rules))
+    AddsAt-updates scope_order scope_order_total _ _ _ c.add.new.self c.args.length (writes.3 (search rules))
     (subst (λ l. Grows l c.add.new.self c.args.length) (sym held) grows)
 
 pub returns : goal.returns
@@ -23,5 +23,5 @@ returns c =
     let none : items_at scope_order c.args.lengths.now c.args.scope ≡ [] = ap items_of (sym c.in-None.ensures.value) in
     let updates = rw c.get_mut.follows.holds-at-none at c.in_ok-_none-in-None.ensures.updates in
     let grows : Grows [] c.in_ok-of-in-None.field-0 c.args.length = subst (λ l. Grows [] l c.args.length) (sym c.in_ok-of-in-None.ensures) (Grows-push [] c.args.length) in
-    AddsAt-updates scope_order scope_order_total c.args.lengths.now c.insert.new.self c.args.scope c.in_ok-of-in-None.field-0 c.args.length updates
+    AddsAt-updates scope_order scope_order_total _ _ _ c.in_ok-of-in-None.field-0 c.args.length updates
     (subst (λ l. Grows l c.in_ok-of-in-None.field-0 c.args.length) (sym none) grows)
