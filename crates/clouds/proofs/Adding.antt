@@ -1,5 +1,5 @@
 -- Maps of lists, to which one item after another is added.
-use Rattle.std.proofs.Common.{◌≡◌, ℕ, zero, suc, ◌<◌, ◌⊎◌, ⊎_elim, inl, inr, true, false, Some, List, [], ◌∷◌, ◌++◌, length, get_or, refl, sym, ◌∙◌, subst, ap, arith}
+use Rattle.std.proofs.Common.{◌≡◌, ℕ, zero, suc, ◌<◌, ◌⊎◌, ⊎_elim, inl, inr, true, false, Option, Some, List, [], ◌∷◌, ◌++◌, length, get_or, refl, sym, ◌∙◌, subst, ap, arith}
 use Rattle.std.specs.BTreeMap.{BTreeMap, Updates, get}
 use Rattle.std.specs.Cmp.{IsTotalOrder}
 use Rattle.std.specs.HashMap.Eq.{lookup_congr}
@@ -17,6 +17,7 @@ use Rattle.base_types.specs.declared.key.ObjectKey.{ObjectKey}
 use Rattle.base_types.proofs.KeyLemmas.{key_from_parts}
 use Rattle.clouds.specs.Items.{AddsAt, items_at, items_of}
 use Rattle.clouds.specs.Kept.{key_order, text_order}
+use Rattle.clouds.specs.Recorded.{Adds}
 
 -- a list has one item more
 pub record Grows {X : Type 0} (old new : List X) (item : X) : Type 0 where
@@ -45,31 +46,45 @@ Grows-permuted xs ys x same = record {
   only = λ y among. ⊎_elim (λ is. inr (sym is)) inl (Contains-cons_cases x y xs (Contains-permutation ys (x ∷ xs) y (IsPermutation-sym (x ∷ xs) ys same) among));
 }
 
+-- lists that are read from the entries of a map whose one entry changes
+module _ {K V X : Type 0} (order : K → K → Ordering) (laws : IsTotalOrder order) (read : Option V → List X) (old new : BTreeMap K V) (key : K) (value : V)
+    (updates : Updates order old new key (Some value)) where
+  here : (k : K) → is_eq (order key k) ≡ true → read (get order new k) ≡ read (Some value)
+  here k tied = ap read (updates.0 k ∙ cond-true (is_eq (order key k)) (Some value) (get order old k) tied)
+
+  there : (k : K) → is_eq (order key k) ≡ false → read (get order new k) ≡ read (get order old k)
+  there k apart = ap read (updates.0 k ∙ cond-false (is_eq (order key k)) (Some value) (get order old k) apart)
+
+  alike : (k : K) → is_eq (order key k) ≡ true → read (get order old key) ≡ read (get order old k)
+  alike k tied = ap read (lookup_congr (eq_by_cmp order) (eq_by_cmp_equiv laws).congr old.entries key k tied)
+
+  pub Adds-updates : (item : X) → Grows (read (get order old key)) (read (Some value)) item → Adds order (λ k. read (get order old k)) (λ k. read (get order new k)) key item
+  Adds-updates item grows = record {
+    kept = λ k x among. ⊎_elim
+        (λ tied. subst (λ l. Contains l x) (sym (here k tied)) (grows.kept x (subst (λ l. Contains l x) (sym (alike k tied)) among)))
+        (λ apart. subst (λ l. Contains l x) (sym (there k apart)) among)
+        (cases_Bool (is_eq (order key k)));
+    added = subst (λ l. Contains l item) (sym (ap read updates.1)) grows.added;
+    only = λ k x among. ⊎_elim
+        (λ tied. ⊎_elim
+        (λ before. inl (subst (λ l. Contains l x) (alike k tied) before))
+        (λ is. inr (tied, is))
+        (grows.only x (subst (λ l. Contains l x) (here k tied) among)))
+        (λ apart. inl (subst (λ l. Contains l x) (there k apart) among))
+        (cases_Bool (is_eq (order key k)));
+  }
+
+  pub same-updates : read (Some value) ≡ read (get order old key) → (k : K) → read (get order new k) ≡ read (get order old k)
+  same-updates same k = ⊎_elim
+      (λ tied. here k tied ∙ same ∙ alike k tied)
+      (λ apart. there k apart)
+      (cases_Bool (is_eq (order key k)))
+
 pub AddsAt-updates : {K X : Type 0} (order : K → K → Ordering) (laws : IsTotalOrder order) (old new : BTreeMap K (List X)) (key : K) (items : List X) (item : X)
     → Updates order old new key (Some items) → Grows (items_at order old key) items item → AddsAt order old new key item
-AddsAt-updates {K} {X} order laws old new key items item updates grows = record {
-  kept = λ k x among. ⊎_elim
-      (λ tied. subst (λ l. Contains l x) (sym (here k tied)) (grows.kept x (subst (λ l. Contains l x) (sym (alike k tied)) among)))
-      (λ apart. subst (λ l. Contains l x) (sym (there k apart)) among)
-      (cases_Bool (is_eq (order key k)));
-  added = subst (λ l. Contains l item) (sym (ap items_of updates.1)) grows.added;
-  only = λ k x among. ⊎_elim
-      (λ tied. ⊎_elim
-      (λ before. inl (subst (λ l. Contains l x) (alike k tied) before))
-      (λ is. inr (tied, is))
-      (grows.only x (subst (λ l. Contains l x) (here k tied) among)))
-      (λ apart. inl (subst (λ l. Contains l x) (there k apart) among))
-      (cases_Bool (is_eq (order key k)));
-}
-  where
-    here : (k : K) → is_eq (order key k) ≡ true → items_at order new k ≡ items
-    here k tied = ap items_of (updates.0 k ∙ cond-true (is_eq (order key k)) (Some items) (get order old k) tied)
-
-    there : (k : K) → is_eq (order key k) ≡ false → items_at order new k ≡ items_at order old k
-    there k apart = ap items_of (updates.0 k ∙ cond-false (is_eq (order key k)) (Some items) (get order old k) apart)
-
-    alike : (k : K) → is_eq (order key k) ≡ true → items_at order old key ≡ items_at order old k
-    alike k tied = ap items_of (lookup_congr (eq_by_cmp order) (eq_by_cmp_equiv laws).congr old.entries key k tied)
+AddsAt-updates order laws old new key items item updates grows =
+    let adds = Adds-updates order laws items_of old new key items updates item grows in
+    record { kept = adds.kept; added = adds.added; only = adds.only }
 
 -- keys are ordered, and equal keys are one
 pub key_order_total : IsTotalOrder key_order

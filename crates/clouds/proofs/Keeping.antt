@@ -7,7 +7,7 @@ use Rattle.std.specs.Option.{IfNone, IfSome, MatchOption}
 use Rattle.std.proofs.lemmas.List.{map-append, take_more}
 use Rattle.std.proofs.lemmas.List.Elements.{Contains-append_left, Contains-push, Contains-push_cases}
 use Rattle.std.proofs.lemmas.List.Sorted.{Contains-permutation, IsPermutation-sym}
-use Rattle.base_types.proofs.Quantifiers.{Any-contains, Any-weaker}
+use Rattle.base_types.proofs.Quantifiers.{Any-contains, Any-map, Any-weaker}
 use Rattle.base_types.specs.Covers.{Covers, NamesExactly, TakesName}
 use Rattle.base_types.specs.declared.key.Cover.{Cover}
 use Rattle.base_types.specs.declared.key.ObjectKey.{ObjectKey}
@@ -22,6 +22,7 @@ use Rattle.clouds.specs.Items.{AddsAt, items_at}
 use Rattle.clouds.specs.Filed.{AreFiled, AreRecorded}
 use Rattle.clouds.specs.Kept.{key_order}
 use Rattle.clouds.specs.Latest.{IsLatest}
+use Rattle.clouds.specs.Recorded.{Adds}
 use Rattle.clouds.specs.Wide.{AddsWide, AnyWide}
 use Rattle.clouds.proofs.Adding.{same_key_from}
 use Rattle.clouds.proofs.FirstPlaces.{Either, IsFirstPlace-either, IsFirstPlace-same}
@@ -31,6 +32,12 @@ use Rattle.clouds.proofs.Searching.{latest_from_unseen, unseen_from_latest}
 -- the first elements, and one more
 pub taken_more : {A B : Type 0} (f : A → B) (xs : List A) (i : ℕ) (x : A) → i < length xs → x ≡ get_or xs i x → map f (take (i + 1) xs) ≡ map f (take i xs) ++ f x ∷ []
 taken_more f xs i x within is = ap (λ l. map f l) (take_more xs i x within) ∙ map-append f (take i xs) (get_or xs i x ∷ []) ∙ ap (λ y. map f (take i xs) ++ f y ∷ []) (sym is)
+
+-- an element among those of the mapped list
+pub among_mapped : {A B : Type 0} (f : A → B) (xs : List A) (i : ℕ) (x : A) → i < length xs → x ≡ get_or xs i x → Contains (map f xs) (f x)
+among_mapped f xs i x within is =
+    let any = Any-map f (λ y. y ≡ f x) xs (i, x, within, sym is, refl) in
+    subst (λ y. Contains (map f xs) y) any.4 (any.0, any.2, any.3)
 
 -- a cover that names a key covers no other
 Covers-exact : (cover : Cover) (key other : ObjectKey) → NamesExactly cover key → Covers cover other → other ≡ key
@@ -82,7 +89,7 @@ same_revision : (r : KeyRevision) (key : ObjectKey) (revision : ℕ) → r.key �
 same_revision r key revision of_key is =
     subst (λ k. r ≡ revision_of k revision) of_key (subst (λ n. r ≡ revision_of r.key n) (sym is) refl)
 
-pub AreRecorded-more : (recorded after : BTreeMap ObjectKey (List ℕ)) (given : List KeyRevision) (r : KeyRevision) → AddsAt key_order recorded after r.key r.revision
+pub AreRecorded-more : (recorded after : ObjectKey → List ℕ) (given : List KeyRevision) (r : KeyRevision) → Adds key_order recorded after r.key r.revision
     → AreRecorded recorded given → AreRecorded after (given ++ r ∷ [])
 AreRecorded-more recorded after given r adds all = record {
   among = λ k n among. ⊎_elim
@@ -91,18 +98,18 @@ AreRecorded-more recorded after given r adds all = record {
       (adds.only k n among);
   found = λ w among. ⊎_elim
       (λ old. adds.kept w.key w.revision (all.found w old))
-      (λ is. subst (λ (x : KeyRevision). Contains (items_at key_order after x.key) x.revision) is adds.added)
+      (λ is. subst (λ (x : KeyRevision). Contains (after x.key) x.revision) is adds.added)
       (Contains-push_cases given r w among);
 }
 
-pub AreRecorded-permuted : (recorded : BTreeMap ObjectKey (List ℕ)) (given order : List KeyRevision) → IsPermutation given order → AreRecorded recorded order → AreRecorded recorded given
+pub AreRecorded-permuted : (recorded : ObjectKey → List ℕ) (given order : List KeyRevision) → IsPermutation given order → AreRecorded recorded order → AreRecorded recorded given
 AreRecorded-permuted recorded given order same all = record {
   among = λ k n among. Contains-permutation order given (revision_of k n) (IsPermutation-sym given order same) (all.among k n among);
   found = λ r among. all.found r (Contains-permutation given order r same among);
 }
 
-pub AreRevisionsOf-at : (recorded : BTreeMap ObjectKey (List ℕ)) (given : List KeyRevision) (key : ObjectKey) (revisions : List ℕ) → AreRecorded recorded given
-    → items_at key_order recorded key ≡ revisions → AreRevisionsOf given key revisions
+pub AreRevisionsOf-at : (recorded : ObjectKey → List ℕ) (given : List KeyRevision) (key : ObjectKey) (revisions : List ℕ) → AreRecorded recorded given
+    → recorded key ≡ revisions → AreRevisionsOf given key revisions
 AreRevisionsOf-at recorded given key revisions all is = λ n. (
   (λ among. all.among key n (subst (λ l. Contains l n) (sym is) among)),
   (λ among. subst (λ l. Contains l n) is (all.found (revision_of key n) among)),
@@ -150,19 +157,27 @@ reach_from_clouded spans given revisions key place latest are is any =
     Any-weaker (IsHiddenBy given key place) (ReachesKey key place latest) spans
     (λ span hidden. let hides = HidesKey-hidden given revisions key place span are hidden in (hides.0, hides.1, latest_from_unseen revisions place latest span.high is hides.2)) any
 
-pub first_clouded : (named : BTreeMap ObjectKey (List OpaqueSpan)) (wide : Wide) (spans : List OpaqueSpan) (given : List KeyRevision) (revisions : List ℕ)
-    (key : ObjectKey) (low high : ℕ) (a b : Option ℕ) → AreFiled named wide spans → AreRevisionsOf given key revisions
-    → IsFirstPlace (λ n. Any (HidesKey revisions key n) (items_at key_order named key)) low high a
-    → IsFirstPlace (λ n. AnyWide wide key (HidesKey revisions key n)) low high b
-    → IsFirstPlace (λ n. Any (IsHiddenBy given key n) spans) low high (lesser_place a b)
-first_clouded named wide spans given revisions key low high a b filed are first_named first_wide =
-    let P : ℕ → Type 0 = λ n. Any (HidesKey revisions key n) (items_at key_order named key) in
-    let Q : ℕ → Type 0 = λ n. AnyWide wide key (HidesKey revisions key n) in
-    IsFirstPlace-same (Either P Q) (λ n. Any (IsHiddenBy given key n) spans) low high (lesser_place a b)
-    (λ n either. Any-weaker (HidesKey revisions key n) (IsHiddenBy given key n) spans (λ span hides. IsHiddenBy-key given revisions key n span are hides)
-    (Any-given named wide spans key (HidesKey revisions key n) filed either))
-    (λ n any. Any-filed named wide spans key (HidesKey revisions key n) filed (λ span hides. hides.0)
-    (Any-weaker (IsHiddenBy given key n) (HidesKey revisions key n) spans (λ span hidden. HidesKey-hidden given revisions key n span are hidden) any))
+pub hidden_from_clouded : (spans : List OpaqueSpan) (given : List KeyRevision) (revisions : List ℕ) (key : ObjectKey) (place : ℕ) → AreRevisionsOf given key revisions
+    → Any (IsHiddenBy given key place) spans → Any (HidesKey revisions key place) spans
+hidden_from_clouded spans given revisions key place are any =
+    Any-weaker (IsHiddenBy given key place) (HidesKey revisions key place) spans (λ span hidden. HidesKey-hidden given revisions key place span are hidden) any
+
+pub clouded_from_hidden : (spans : List OpaqueSpan) (given : List KeyRevision) (revisions : List ℕ) (key : ObjectKey) (place : ℕ) → AreRevisionsOf given key revisions
+    → Any (HidesKey revisions key place) spans → Any (IsHiddenBy given key place) spans
+clouded_from_hidden spans given revisions key place are any =
+    Any-weaker (HidesKey revisions key place) (IsHiddenBy given key place) spans (λ span hides. IsHiddenBy-key given revisions key place span are hides) any
+
+-- of all spans from those under the key and those where a look-up of the key finds them
+pub IsFirstPlace-filed : (named : BTreeMap ObjectKey (List OpaqueSpan)) (wide : Wide) (spans : List OpaqueSpan) (key : ObjectKey) (revision low high : ℕ) (a b : Option ℕ)
+    → AreFiled named wide spans → IsFirstPlace (λ n. Any (ReachesKey key n revision) (items_at key_order named key)) low high a
+    → IsFirstPlace (λ n. AnyWide wide key (ReachesKey key n revision)) low high b
+    → IsFirstPlace (λ n. Any (ReachesKey key n revision) spans) low high (lesser_place a b)
+IsFirstPlace-filed named wide spans key revision low high a b filed first_named first_wide =
+    let P : ℕ → Type 0 = λ n. Any (ReachesKey key n revision) (items_at key_order named key) in
+    let Q : ℕ → Type 0 = λ n. AnyWide wide key (ReachesKey key n revision) in
+    IsFirstPlace-same (Either P Q) (λ n. Any (ReachesKey key n revision) spans) low high (lesser_place a b)
+    (λ n either. Any-given named wide spans key (ReachesKey key n revision) filed either)
+    (λ n any. Any-filed named wide spans key (ReachesKey key n revision) filed (λ span reaches. reaches.0) any)
     (IsFirstPlace-either P Q low high a b first_named first_wide)
 
 -- the two clauses of a first place

@@ -1,6 +1,7 @@
 pub mod Covered
 pub mod Adding
 pub mod FirstPlaces
+pub mod Firsts
 pub mod Fronts
 pub mod Joined
 pub mod Keeping

@@ -6,10 +6,11 @@ use Rattle.std.proofs.lemmas.Bool.{cases_lt, leb-false, leb-true, ltb-false, ltb
 use Rattle.std.proofs.lemmas.List.{get_or_append_left, get_or_default, get_or_push, length-append}
 use Rattle.std.proofs.lemmas.List.Elements.{Contains-get_or}
 use Rattle.std.proofs.lemmas.List.Sorted.{IsNonDecreasingBy-insert, IsNonDecreasingBy-push}
-use Rattle.base_types.proofs.Quantifiers.{Any-at, Any-weaker}
+use Rattle.base_types.proofs.Quantifiers.{Any-at}
 use Rattle.clouds.specs.declared.mark.Mark.{Mark}
-use Rattle.clouds.specs.Latest.{IsLatest}
-use Rattle.clouds.specs.Marks.{AreMarks, Hides, Reaches}
+use Rattle.clouds.specs.FirstPlace.{HoldsNowhere, IsLeastPlace}
+use Rattle.clouds.specs.Latest.{IsLastBeforeNext, IsLatest, last_place}
+use Rattle.clouds.specs.Marks.{AreMarks, Reaches}
 
 -- those in front of the place pass the test, and the others fail it
 abbrev pub Parts : {X : Type 0} → (X → Bool) → List X → ℕ → Type 0
@@ -43,6 +44,78 @@ IsLatest-found revisions place n d order parts after_first within = record {
       let is : get_or revisions among.0 revision ≡ revision = among.2 in
       absurd (omega arith))
       (cases_lt among.0 n);
+}
+
+-- up to where the next revision isn't reached
+pub IsLastBeforeNext-end : (revisions : List ℕ) (place n : ℕ) → Parts (is_upto place) revisions n → length revisions ≤ n → place ≤ last_place
+    → IsLastBeforeNext revisions place last_place
+IsLastBeforeNext-end revisions place n parts end fits = record {
+  from_place = fits;
+  before = λ revision among after.
+      let within : among.0 < length revisions = among.1 in
+      let upto : get_or revisions among.0 revision ≤ place = leb-true _ place (parts.0 among.0 revision (omega arith) (omega arith)) in
+      let is : get_or revisions among.0 revision ≡ revision = among.2 in
+      absurd (omega arith);
+  next = λ other after upto. absurd (omega arith);
+}
+
+pub IsLastBeforeNext-found : (revisions : List ℕ) (place n d : ℕ) → IsNonDecreasing revisions → Parts (is_upto place) revisions n → n < length revisions
+    → IsLastBeforeNext revisions place (get_or revisions n d - 1)
+IsLastBeforeNext-found revisions place n d order parts within =
+    let above : place < get_or revisions n d = leb-false _ place (parts.1 n d (omega arith) within) in
+    record {
+      from_place = omega arith;
+      before = λ revision among after. ⊎_elim
+          (λ (before : among.0 < n).
+          let upto : get_or revisions among.0 revision ≤ place = leb-true _ place (parts.0 among.0 revision (omega arith) before) in
+          let is : get_or revisions among.0 revision ≡ revision = among.2 in
+          absurd (omega arith))
+          (λ (behind : n ≤ among.0).
+          let up : get_or revisions n d ≤ get_or revisions among.0 d = order n among.0 d behind among.1 in
+          let is : get_or revisions among.0 d ≡ revision = get_or_default revisions among.0 d revision among.1 ∙ among.2 in
+          omega arith)
+          (cases_lt among.0 n);
+      next = λ other after upto. (get_or revisions n d, Contains-get_or revisions n d within, above, omega arith);
+    }
+
+-- the least of places from one on
+abbrev pub is_below : ℕ → ℕ → Bool
+is_below low place = ltb place low
+
+-- none from `low` on stands before the index
+least_at : (places : List ℕ) (low n d other : ℕ) → IsNonDecreasing places → Parts (is_below low) places n → low ≤ other → (among : Contains places other)
+    → (n ≤ among.0) × (get_or places n d ≤ other)
+least_at places low n d other order parts from among = ⊎_elim
+    (λ (before : among.0 < n).
+    let below : get_or places among.0 other < low = ltb-true _ low (parts.0 among.0 other (omega arith) before) in
+    let is : get_or places among.0 other ≡ other = among.2 in
+    absurd (omega arith))
+    (λ (behind : n ≤ among.0).
+    let up : get_or places n d ≤ get_or places among.0 d = order n among.0 d behind among.1 in
+    let is : get_or places among.0 d ≡ other = get_or_default places among.0 d other among.1 ∙ among.2 in
+    (behind, omega arith))
+    (cases_lt among.0 n)
+
+pub HoldsNowhere-end : (places : List ℕ) (low high n : ℕ) → IsNonDecreasing places → Parts (is_below low) places n → length places ≤ n → HoldsNowhere (Contains places) low high
+HoldsNowhere-end places low high n order parts end = λ place from upto among.
+    let both = least_at places low n 0 place order parts from among in
+    let behind : n ≤ among.0 = both.0 in
+    let within : among.0 < length places = among.1 in
+    absurd (omega arith)
+
+pub HoldsNowhere-far : (places : List ℕ) (low high n d : ℕ) → IsNonDecreasing places → Parts (is_below low) places n → high < get_or places n d → HoldsNowhere (Contains places) low high
+HoldsNowhere-far places low high n d order parts far = λ place from upto among.
+    let both = least_at places low n d place order parts from among in
+    let up : get_or places n d ≤ place = both.1 in
+    absurd (omega arith)
+
+pub IsLeastPlace-at : (places : List ℕ) (low high n d : ℕ) → IsNonDecreasing places → Parts (is_below low) places n → n < length places → get_or places n d ≤ high
+    → IsLeastPlace (Contains places) low high (get_or places n d)
+IsLeastPlace-at places low high n d order parts within upto = record {
+  from_low = ltb-false _ low (parts.1 n d (omega arith) within);
+  upto_high = upto;
+  here = Contains-get_or places n d within;
+  least = λ other from among. (least_at places low n d other order parts from among).1;
 }
 
 -- a window that reaches the latest revision ends before each later one, and the other way round
@@ -96,14 +169,6 @@ reaches_upto marks place revision n d are parts after_first within any = ⊎_eli
     let below : any.1.low < place = any.4.0 in
     absurd (omega arith))
     (cases_lt any.0 n)
-
-pub hides_from_reach : (marks : List Mark) (revisions : List ℕ) (place latest : ℕ) → IsLatest revisions place latest → Any (Reaches place latest) marks → Any (Hides revisions place) marks
-hides_from_reach marks revisions place latest is any =
-    Any-weaker (Reaches place latest) (Hides revisions place) marks (λ mark reaches. (reaches.0, unseen_from_latest revisions place latest mark.high is reaches.1)) any
-
-pub reach_from_hides : (marks : List Mark) (revisions : List ℕ) (place latest : ℕ) → IsLatest revisions place latest → Any (Hides revisions place) marks → Any (Reaches place latest) marks
-reach_from_hides marks revisions place latest is any =
-    Any-weaker (Hides revisions place) (Reaches place latest) marks (λ mark hides. (hides.0, latest_from_unseen revisions place latest mark.high is hides.1)) any
 
 -- a revision put behind all that aren't above it
 pub insert_in_order : (revisions : List ℕ) (revision n : ℕ) → IsNonDecreasing revisions → Parts (is_upto revision) revisions n → n ≤ length revisions → IsNonDecreasing (insert revisions n revision)

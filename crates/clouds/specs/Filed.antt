@@ -3,13 +3,16 @@ use Rattle.std.specs.Prelude.{◌≡◌, ℕ, ◌⊎◌, List, Contains}
 use Rattle.std.specs.BTreeMap.{BTreeMap}
 use Rattle.base_types.specs.Covers.{Covers}
 use Rattle.base_types.specs.declared.key.ObjectKey.{ObjectKey}
+use Rattle.clouds.specs.declared.recorded.Recorded.{Recorded}
 use Rattle.clouds.specs.declared.span.KeyRevision.{KeyRevision}
 use Rattle.clouds.specs.declared.span.OpaqueSpan.{OpaqueSpan}
 use Rattle.clouds.specs.declared.wide.Folder.{Folder}
 use Rattle.clouds.specs.declared.wide.Wide.{Wide}
+use Rattle.clouds.specs.FirstClouded.{AreFirstClouded}
 use Rattle.clouds.specs.Hiding.{revision_of}
 use Rattle.clouds.specs.Items.{items_at}
 use Rattle.clouds.specs.Kept.{key_order}
+use Rattle.clouds.specs.Recorded.{firsts_at, revisions_at}
 use Rattle.clouds.specs.Wide.{AnyWide, folder_order}
 use Rattle.clouds.specs.Writes.{Writes}
 
@@ -21,10 +24,11 @@ pub record AreFiled (named : BTreeMap ObjectKey (List OpaqueSpan)) (wide : Wide)
       → Contains (items_at key_order named key) span ⊎ AnyWide wide key (λ other. other ≡ span)
 
 -- the revisions under a key are its revisions
-pub record AreRecorded (recorded : BTreeMap ObjectKey (List ℕ)) (revisions : List KeyRevision) : Type 0 where
-  pub among : (key : ObjectKey) (revision : ℕ) → Contains (items_at key_order recorded key) revision → Contains revisions (revision_of key revision)
-  pub found : (r : KeyRevision) → Contains revisions r → Contains (items_at key_order recorded r.key) r.revision
+pub record AreRecorded (recorded : ObjectKey → List ℕ) (revisions : List KeyRevision) : Type 0 where
+  pub among : (key : ObjectKey) (revision : ℕ) → Contains (recorded key) revision → Contains revisions (revision_of key revision)
+  pub found : (r : KeyRevision) → Contains revisions r → Contains (recorded r.key) r.revision
 
-pub record AreKept (writes : Writes) (named : BTreeMap ObjectKey (List OpaqueSpan)) (wide : Wide) (recorded : BTreeMap ObjectKey (List ℕ)) : Type 0 where
+pub record AreKept (writes : Writes) (named : BTreeMap ObjectKey (List OpaqueSpan)) (wide : Wide) (recorded : BTreeMap ObjectKey Recorded) : Type 0 where
   pub filed : AreFiled named wide writes.spans
-  pub recorded_all : AreRecorded recorded writes.revisions
+  pub recorded_all : AreRecorded (revisions_at recorded) writes.revisions
+  pub firsts : (key : ObjectKey) → AreFirstClouded writes key (firsts_at recorded key)

@@ -1,11 +1,13 @@
 pub mod Clouds
 pub mod Filed
+pub mod FirstClouded
 pub mod FirstPlace
 pub mod Hiding
 pub mod Items
 pub mod Kept
 pub mod Latest
 pub mod Marks
+pub mod Recorded
 pub mod Upto
 pub mod Wide
 pub mod Writes

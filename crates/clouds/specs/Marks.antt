@@ -1,5 +1,5 @@
 -- Spans of one cover, in order.
-use Rattle.std.specs.Prelude.{◌≡◌, ◌<◌, ◌≤◌, ℕ, List, length, map, slice_index_or, Contains}
+use Rattle.std.specs.Prelude.{◌≡◌, ◌<◌, ◌≤◌, ℕ, List, length, map, slice_index_or}
 use Rattle.std.specs.List.Sorted.{IsNonDecreasingBy}
 use Rattle.base_types.specs.declared.key.Cover.{Cover}
 use Rattle.clouds.specs.declared.mark.Mark.{Mark}
@@ -20,7 +20,3 @@ spans_of cover marks = map (span_of cover) marks
 -- begins below the place and reaches the revision
 abbrev pub Reaches : ℕ → ℕ → Mark → Type 0
 Reaches place revision mark = (mark.low < place) × (revision ≤ mark.high)
-
--- begins below the place, and none of the revisions behind it is at or below the place
-abbrev pub Hides : List ℕ → ℕ → Mark → Type 0
-Hides revisions place mark = (mark.low < place) × ((revision : ℕ) → Contains revisions revision → mark.high < revision → place < revision)

@@ -1,10 +1,11 @@
 ghost use Rattle.std.specs.Prelude.{◌≡◌, ◌≤◌, ◌↔◌, ℕ, IsTrue, IfOk, IfSome, IfNone, Any, map};
 ghost use Rattle.std.specs.List.Sorted.{IsNonDecreasing};
 
-use crate::filing::{Filed, all_filed, all_recorded};
-use crate::recorded::{Recorded, latest};
+use crate::filing::{Filed, all_filed};
+use crate::places::{first_from, latest};
+use crate::recorded::{Recorded, all_recorded};
 use crate::span::{KeyRevision, OpaqueSpan};
-use crate::unrecorded::{first_place, lesser_place, reach};
+use crate::unrecorded::reach;
 use base_types::{ObjectKey, OutOfMemory, Revision};
 use std::alloc::Global;
 use std::collections::BTreeMap;
@@ -57,6 +58,7 @@ fn shown<T>(alloc: Global, items: &[T]) -> Result<Vec<Snapshot<T>>, OutOfMemory>
 
 impl Clouds {
     ghost use Rattle.clouds.specs.Clouds.{IsClouded, MayBeUnrecorded};
+    ghost use Rattle.clouds.specs.FirstClouded.{AreFirstClouded};
     ghost use Rattle.clouds.specs.FirstPlace.{HoldsNowhere, IsLeastPlace};
     ghost use Rattle.clouds.specs.Hiding.{AreRevisionsOf, ReachesKey};
 
@@ -69,9 +71,11 @@ impl Clouds {
         ensures spans { IfOk result (λ clouds. clouds.spans ≡ spans.now) }
         ensures revisions { IfOk result (λ clouds. clouds.revisions ≡ revisions.now) }
     {
+        let filed = all_filed(alloc, spans)?;
+        let recorded = all_recorded(alloc, spans, &filed, revisions)?;
         Ok(Clouds {
-            filed: all_filed(alloc, spans)?,
-            recorded: all_recorded(alloc, revisions)?,
+            filed,
+            recorded,
             spans: Snapshot::of(&shown(alloc, spans)?),
             revisions: Snapshot::of(&shown(alloc, revisions)?),
         })
@@ -83,7 +87,18 @@ impl Clouds {
         ensures revisions { AreRevisionsOf self.now.revisions key.now result.now }
     {
         match self.recorded.get(key) {
-            Some(revisions) => revisions.as_slice(),
+            Some(recorded) => recorded.revisions.as_slice(),
+            None => &[],
+        }
+    }
+
+    // The first clouded places at or behind the key's revisions, in order.
+    fn firsts_of(&self, key: &ObjectKey) -> &[u64]
+        ensures order { IsNonDecreasing result.now }
+        ensures firsts { AreFirstClouded self.now key.now result.now }
+    {
+        match self.recorded.get(key) {
+            Some(recorded) => recorded.first_clouded.as_slice(),
             None => &[],
         }
     }
@@ -108,14 +123,11 @@ impl Clouds {
         ensures some { IfSome result (IsLeastPlace (IsClouded self.now key.now) low high) }
         ensures none { IfNone result (HoldsNowhere (IsClouded self.now key.now) low high) }
     {
-        if low > high {
-            return None;
-        }
         let revisions = self.revisions_of(key);
-        lesser_place(
-            first_place(self.filed.named.get(key), key, revisions, low, high),
-            self.filed.wide.first_place(key, revisions, low, high),
-        )
+        if let Some(place) = self.filed.first_hidden(key, revisions, low, high) {
+            return Some(place);
+        }
+        first_from(self.firsts_of(key), low, high)
     }
 
     /// Whether an unrecorded write may have made this revision of the key.

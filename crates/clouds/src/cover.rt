@@ -1,7 +1,6 @@
 ghost use Rattle.std.specs.Prelude.{◌≡◌, ◌≤◌, ◌↔◌, [], ◌∷◌, ◌++◌, IsTrue, IfOk, OnErr, Any, true, false};
-ghost use Rattle.std.specs.List.Sorted.{IsNonDecreasing};
 
-use crate::mark::{Mark, first_place, next_mark, reaches};
+use crate::mark::{Mark, first_reached, next_mark, reaches};
 use crate::span::OpaqueSpan;
 use base_types::{Cover, ObjectKey, OutOfMemory, covers};
 use std::alloc::Global;
@@ -29,7 +28,7 @@ impl Model for CoverSpans {
 
 impl CoverSpans {
     ghost use Rattle.clouds.specs.FirstPlace.{IsFirstPlace};
-    ghost use Rattle.clouds.specs.Hiding.{HidesKey, ReachesKey};
+    ghost use Rattle.clouds.specs.Hiding.{ReachesKey};
 
     pub fn of(alloc: Global, span: &OpaqueSpan) -> Result<CoverSpans, OutOfMemory>
         ensures { IfOk result (λ spans. spans ≡ span.now ∷ []) }
@@ -68,22 +67,14 @@ impl CoverSpans {
         covers(&self.cover, key) && reaches(&self.marks, place, revision)
     }
 
-    /// The least place from `low` to `high` at which some span hides the key, which has these revisions.
-    pub fn first_place(
-        &self,
-        key: &ObjectKey,
-        revisions: &[u64],
-        low: u64,
-        high: u64,
-    ) -> Option<u64>
-        requires order { IsNonDecreasing revisions.now }
-        requires range { low ≤ high }
-        ensures { IsFirstPlace (λ place. Any (HidesKey revisions.now key.now place) self.now) low high result }
+    /// The least place from `low` to `high` at which some span of the key has begun that reaches the revision.
+    pub fn first_reached(&self, key: &ObjectKey, revision: u64, low: u64, high: u64) -> Option<u64>
+        ensures { IsFirstPlace (λ place. Any (ReachesKey key.now place revision) self.now) low high result }
     {
         if !covers(&self.cover, key) {
             return None;
         }
-        first_place(&self.marks, revisions, low, high)
+        first_reached(&self.marks, revision, low, high)
     }
 }
 

@@ -1,14 +1,14 @@
-ghost use Rattle.std.specs.Prelude.{◌≡◌, [], ◌∷◌, ◌++◌, IfOk, OnOk, List, map};
-ghost use Rattle.std.specs.List.Sorted.{IsPermutation};
-ghost use Rattle.clouds.specs.declared.span.KeyRevision.{KeyRevision};
+ghost use Rattle.std.specs.Prelude.{[], ◌∷◌, ◌++◌, IfOk, OnOk, Any, List, map};
+ghost use Rattle.std.specs.List.Sorted.{IsNonDecreasing, IsPermutation};
 ghost use Rattle.clouds.specs.declared.span.OpaqueSpan.{OpaqueSpan};
-ghost use Rattle.clouds.specs.Items.{AddsAt};
-ghost use Rattle.clouds.specs.Filed.{AreFiled, AreRecorded};
-ghost use Rattle.clouds.specs.Kept.{key_order};
+ghost use Rattle.clouds.specs.Filed.{AreFiled};
+ghost use Rattle.clouds.specs.FirstClouded.{IsFirstUntilNext};
+ghost use Rattle.clouds.specs.FirstPlace.{IsFirstPlace};
+ghost use Rattle.clouds.specs.Hiding.{HidesKey, ReachesKey};
 
-use crate::recorded::Recorded;
-use crate::span::{KeyRevision, OpaqueSpan};
-use crate::unrecorded::{Unrecorded, add_span};
+use crate::places::{last_before_next, latest};
+use crate::span::OpaqueSpan;
+use crate::unrecorded::{Unrecorded, add_span, first_reached, lesser_place};
 use crate::wide::Wide;
 use base_types::{CoverName, ObjectKey, OutOfMemory, Text, exact_key};
 use std::alloc::Global;
@@ -19,6 +19,36 @@ use std::collections::BTreeMap;
 pub struct Filed {
     pub named: BTreeMap<ObjectKey, Unrecorded>,
     pub wide: Wide,
+}
+
+impl Filed {
+    // The least place from `low` to `high` at which some span of the key has begun that reaches the revision.
+    fn first_reached(&self, key: &ObjectKey, revision: u64, low: u64, high: u64) -> Option<u64>
+        ensures { (spans : List OpaqueSpan) → AreFiled self.now.named self.now.wide spans
+            → IsFirstPlace (λ place. Any (ReachesKey key.now place revision) spans) low high result }
+    {
+        lesser_place(
+            first_reached(self.named.get(key), key, revision, low, high),
+            self.wide.first_reached(key, revision, low, high),
+        )
+    }
+
+    /// The least place from `low` to `high` at which some span hides the key, which has these revisions. It is
+    /// looked for up to the next revision alone: up to there what reaches the latest one hides the key.
+    pub fn first_hidden(
+        &self,
+        key: &ObjectKey,
+        revisions: &[u64],
+        low: u64,
+        high: u64,
+    ) -> Option<u64>
+        requires { IsNonDecreasing revisions.now }
+        ensures { (spans : List OpaqueSpan) → AreFiled self.now.named self.now.wide spans
+            → IsFirstUntilNext (λ place. Any (HidesKey revisions.now key.now place) spans) revisions.now low high result }
+    {
+        let last = last_before_next(revisions, low).min(high);
+        self.first_reached(key, latest(revisions, low), low, last)
+    }
 }
 
 // What spans are sorted by, so that those of one cover come together, by their lows.
@@ -96,57 +126,4 @@ pub fn all_filed(alloc: Global, spans: &[OpaqueSpan]) -> Result<Filed, OutOfMemo
     let order = by_cover(alloc, spans)?;
     let filed = file_each(alloc, &order)?;
     Ok(filed)
-}
-
-fn add_revision(
-    alloc: Global,
-    recorded: &mut BTreeMap<ObjectKey, Recorded>,
-    write: &KeyRevision,
-) -> Result<(), OutOfMemory>
-    ensures { OnOk result (AddsAt key_order recorded.old recorded.new write.now.key write.now.revision) }
-{
-    let revision = write.revision.get();
-    match recorded.get_mut(&write.key) {
-        Some(revisions) => {
-            revisions.add(revision)?;
-            return Ok(());
-        }
-        None => {
-            let _none = recorded.insert(write.key.clone()?, Recorded::of(alloc, revision)?)?;
-        }
-    }
-    Ok(())
-}
-
-fn by_revision(alloc: Global, writes: &[KeyRevision]) -> Result<Vec<&KeyRevision>, OutOfMemory>
-    ensures { IfOk result (λ order. IsPermutation writes.now (map (λ write. write.now) order.items)) }
-{
-    let mut order: Vec<&KeyRevision> = writes.iter().collect(alloc)?;
-    order.sort_by_key(|write| write.revision.get())?;
-    Ok(order)
-}
-
-fn record_each(
-    alloc: Global,
-    writes: &[&KeyRevision],
-) -> Result<BTreeMap<ObjectKey, Recorded>, OutOfMemory>
-    ensures { IfOk result (λ recorded. AreRecorded recorded (map (λ write. write.now) writes.now)) }
-{
-    let mut recorded = BTreeMap::new(alloc);
-    for write in writes {
-        add_revision(alloc, &mut recorded, write)?;
-    }
-    Ok(recorded)
-}
-
-/// Keeps each key's revisions.
-pub fn all_recorded(
-    alloc: Global,
-    writes: &[KeyRevision],
-) -> Result<BTreeMap<ObjectKey, Recorded>, OutOfMemory>
-    ensures { IfOk result (λ recorded. AreRecorded recorded writes.now) }
-{
-    let order = by_revision(alloc, writes)?;
-    let recorded = record_each(alloc, &order)?;
-    Ok(recorded)
 }

@@ -7,6 +7,7 @@ mod filing;
 mod lengths;
 mod mark;
 mod numbers;
+mod places;
 mod recorded;
 mod span;
 mod unrecorded;

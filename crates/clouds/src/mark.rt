@@ -1,7 +1,4 @@
 ghost use Rattle.std.specs.Prelude.{◌≡◌, ◌<◌, ◌≤◌, ◌↔◌, [], ◌∷◌, ◌++◌, IsTrue, IfSome, Any};
-ghost use Rattle.std.specs.List.Sorted.{IsNonDecreasing};
-
-use crate::recorded::latest;
 
 /// The ends of one span. Marks are in order by `low`.
 #[derive(Clone, Copy, PartialEq, Eq)]
@@ -12,7 +9,7 @@ pub struct Mark {
     pub reach: u64,
 }
 
-ghost use Rattle.clouds.specs.Marks.{AreMarks, Hides, Reaches};
+ghost use Rattle.clouds.specs.Marks.{AreMarks, Reaches};
 ghost use Rattle.clouds.specs.FirstPlace.{IsFirstPlace};
 
 /// The mark of these ends behind the others, unless it begins before the last.
@@ -51,36 +48,21 @@ pub fn reaches(marks: &[Mark], place: u64, revision: u64) -> bool
     revision <= marks[begun - 1].reach
 }
 
-// Whether some mark begins below the place, and no revision behind it shows the object by then.
-fn hides(marks: &[Mark], revisions: &[u64], place: u64) -> bool
-    requires marks { AreMarks marks.now }
-    requires revisions { IsNonDecreasing revisions.now }
-    ensures { IsTrue result ↔ Any (Hides revisions.now place) marks.now }
+/// The least place from `low` to `high` at which some mark that reaches the revision has begun.
+pub fn first_reached(marks: &[Mark], revision: u64, low: u64, high: u64) -> Option<u64>
+    requires { AreMarks marks.now }
+    ensures { IsFirstPlace (λ place. Any (Reaches place revision) marks.now) low high result }
 {
-    reaches(marks, place, latest(revisions, place))
-}
-
-/// The least place from `low` to `high` that some mark hides. A mark that doesn't hide the place right
-/// behind its `low` hides none.
-pub fn first_place(marks: &[Mark], revisions: &[u64], low: u64, high: u64) -> Option<u64>
-    requires marks { AreMarks marks.now }
-    requires revisions { IsNonDecreasing revisions.now }
-    requires range { low ≤ high }
-    ensures { IsFirstPlace (λ place. Any (Hides revisions.now place) marks.now) low high result }
-{
-    if hides(marks, revisions, low) {
-        return Some(low);
+    if low > high {
+        return None;
     }
-    let begun = marks.partition_point(|mark| mark.low < low);
-    let (_, later) = marks.split_at(begun);
-    for mark in later {
-        if mark.low >= high {
-            return None;
-        }
-        let place = mark.low + 1;
-        if hides(marks, revisions, place) {
-            return Some(place);
-        }
+    let short = marks.partition_point(|mark| mark.reach < revision);
+    if short >= marks.len() {
+        return None;
     }
-    None
+    let begins = marks[short].low;
+    if begins >= high {
+        return None;
+    }
+    Some(low.max(begins + 1))
 }

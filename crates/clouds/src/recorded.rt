@@ -1,59 +1,135 @@
-ghost use Rattle.std.specs.Prelude.{◌≡◌, ◌∷◌, [], List, ℕ, IfOk, OnOk};
-ghost use Rattle.std.specs.List.Sorted.{IsNonDecreasing, IsPermutation};
-ghost use Rattle.clouds.specs.Latest.{IsLatest};
+ghost use Rattle.std.specs.Prelude.{◌≡◌, ◌∷◌, [], List, IfOk, OnOk, Contains, map};
+ghost use Rattle.std.specs.List.Sorted.{IsPermutation};
+ghost use Rattle.base_types.specs.declared.key.ObjectKey.{ObjectKey};
+ghost use Rattle.clouds.specs.declared.span.OpaqueSpan.{OpaqueSpan};
+ghost use Rattle.clouds.specs.Filed.{AreFiled, AreRecorded};
+ghost use Rattle.clouds.specs.FirstClouded.{AreFirstClouded};
+ghost use Rattle.clouds.specs.Kept.{key_order};
+ghost use Rattle.clouds.specs.Recorded.{Adds, AddsFirst, AreSame, firsts_at, revisions_at};
 
-use base_types::OutOfMemory;
+use crate::filing::Filed;
+use crate::places::Places;
+use crate::span::{KeyRevision, OpaqueSpan};
+use base_types::{ObjectKey, OutOfMemory};
 use std::alloc::Global;
-use std::marker::Model;
+use std::collections::BTreeMap;
 
-/// The revisions of one key, in order.
+/// What is kept of one key's recorded writes.
 #[derive(Drop)]
 pub struct Recorded {
-    revisions: Vec<u64>,
+    pub revisions: Places,
+    /// For each revision the first clouded place at or behind it, if that comes before the next revision.
+    pub first_clouded: Places,
 }
 
-impl Model for Recorded {
-    ghost Value = { List ℕ };
-
-    ghost view = { λ r. r.revisions.items };
-
-    ghost invariant = { λ r. IsNonDecreasing r.revisions.items };
-}
-
-impl Recorded {
-    pub fn of(alloc: Global, revision: u64) -> Result<Recorded, OutOfMemory>
-        ensures { IfOk result (λ made. made ≡ revision ∷ []) }
-    {
-        let mut revisions = Vec::new(alloc);
-        revisions.push(revision)?;
-        Ok(Recorded { revisions })
-    }
-
-    /// Puts a revision in its place. At the end it costs a search alone.
-    pub fn add(&mut self, revision: u64) -> Result<(), OutOfMemory>
-        ensures { OnOk result (IsPermutation (revision ∷ self.old) self.new) }
-    {
-        let place = self.revisions.partition_point(|other| *other <= revision);
-        self.revisions.insert(place, revision)?;
-        Ok(())
-    }
-
-    pub fn as_slice(&self) -> &[u64]
-        ensures revisions { result.now ≡ self.now }
-        ensures order { IsNonDecreasing self.now }
-    {
-        self.revisions.as_slice()
-    }
-}
-
-/// The greatest of the revisions at or below a place, or 0 where there is none.
-pub fn latest(revisions: &[u64], place: u64) -> u64
-    requires { IsNonDecreasing revisions.now }
-    ensures { IsLatest revisions.now place result }
+fn add_revision(
+    alloc: Global,
+    recorded: &mut BTreeMap<ObjectKey, Recorded>,
+    write: &KeyRevision,
+) -> Result<(), OutOfMemory>
+    ensures revisions { OnOk result (Adds key_order (revisions_at recorded.old) (revisions_at recorded.new)
+        write.now.key write.now.revision) }
+    ensures firsts { OnOk result (AreSame (firsts_at recorded.old) (firsts_at recorded.new)) }
 {
-    let upto = revisions.partition_point(|revision| *revision <= place);
-    if upto == 0 {
-        return 0;
+    let revision = write.revision.get();
+    match recorded.get_mut(&write.key) {
+        Some(held) => {
+            held.revisions.add(revision)?;
+            return Ok(());
+        }
+        None => {
+            let made = Recorded {
+                revisions: Places::of(alloc, revision)?,
+                first_clouded: Places::new(alloc),
+            };
+            let _none = recorded.insert(write.key.clone()?, made)?;
+        }
     }
-    revisions[upto - 1]
+    Ok(())
+}
+
+fn by_revision(alloc: Global, writes: &[KeyRevision]) -> Result<Vec<&KeyRevision>, OutOfMemory>
+    ensures { IfOk result (λ order. IsPermutation writes.now (map (λ write. write.now) order.items)) }
+{
+    let mut order: Vec<&KeyRevision> = writes.iter().collect(alloc)?;
+    order.sort_by_key(|write| write.revision.get())?;
+    Ok(order)
+}
+
+fn record_each(
+    alloc: Global,
+    writes: &[&KeyRevision],
+) -> Result<BTreeMap<ObjectKey, Recorded>, OutOfMemory>
+    ensures revisions { IfOk result (λ recorded. AreRecorded (revisions_at recorded) (map (λ write. write.now) writes.now)) }
+    ensures firsts { IfOk result (λ recorded. (key : ObjectKey) → firsts_at recorded key ≡ []) }
+{
+    let mut recorded = BTreeMap::new(alloc);
+    for write in writes {
+        add_revision(alloc, &mut recorded, write)?;
+    }
+    Ok(recorded)
+}
+
+// Keeps the first place at or behind a recorded write that is hidden, unless another write of its key comes
+// before it.
+fn add_first(
+    filed: &Filed,
+    recorded: &mut BTreeMap<ObjectKey, Recorded>,
+    write: &KeyRevision,
+) -> Result<(), OutOfMemory>
+    requires { Contains (revisions_at recorded.now write.now.key) write.now.revision }
+    ensures revisions { OnOk result (AreSame (revisions_at recorded.old) (revisions_at recorded.new)) }
+    ensures firsts { OnOk result ((spans : List OpaqueSpan) → AreFiled filed.now.named filed.now.wide spans
+        → AddsFirst spans (revisions_at recorded.old write.now.key) (firsts_at recorded.old) (firsts_at recorded.new)
+        write.now.key write.now.revision) }
+{
+    let Some(held) = recorded.get_mut(&write.key) else {
+        return Ok(());
+    };
+    let revisions = held.revisions.as_slice();
+    let first = filed.first_hidden(&write.key, revisions, write.revision.get(), u64::MAX);
+    if let Some(place) = first {
+        held.first_clouded.add(place)?;
+    }
+    Ok(())
+}
+
+fn add_each_first(
+    filed: &Filed,
+    recorded: &mut BTreeMap<ObjectKey, Recorded>,
+    writes: &[&KeyRevision],
+) -> Result<(), OutOfMemory>
+    requires revisions { AreRecorded (revisions_at recorded.now) (map (λ write. write.now) writes.now) }
+    requires firsts { (key : ObjectKey) → firsts_at recorded.now key ≡ [] }
+    ensures revisions { OnOk result (AreSame (revisions_at recorded.old) (revisions_at recorded.new)) }
+    ensures firsts { OnOk result ((spans : List OpaqueSpan) → AreFiled filed.now.named filed.now.wide spans
+        → (key : ObjectKey) → AreFirstClouded (record { spans = spans; revisions = map (λ write. write.now) writes.now })
+        key (firsts_at recorded.new key)) }
+{
+    for write in writes {
+        add_first(filed, recorded, write)?;
+    }
+    Ok(())
+}
+
+/// Keeps each key's revisions, and the first clouded places behind them. Where there are no spans none is
+/// looked for.
+pub fn all_recorded(
+    alloc: Global,
+    spans: &[OpaqueSpan],
+    filed: &Filed,
+    writes: &[KeyRevision],
+) -> Result<BTreeMap<ObjectKey, Recorded>, OutOfMemory>
+    requires { AreFiled filed.now.named filed.now.wide spans.now }
+    ensures revisions { IfOk result (λ recorded. AreRecorded (revisions_at recorded) writes.now) }
+    ensures firsts { IfOk result (λ recorded. (key : ObjectKey) → AreFirstClouded (record { spans = spans.now; revisions = writes.now })
+        key (firsts_at recorded key)) }
+{
+    let order = by_revision(alloc, writes)?;
+    let mut recorded = record_each(alloc, &order)?;
+    if spans.is_empty() {
+        return Ok(recorded);
+    }
+    add_each_first(filed, &mut recorded, &order)?;
+    Ok(recorded)
 }

@@ -1,9 +1,8 @@
 ghost use Rattle.std.specs.Prelude.{◌≡◌, ◌≤◌, ◌↔◌, [], ◌∷◌, ◌++◌, IsTrue, IfOk, OnOk, Any};
-ghost use Rattle.std.specs.List.Sorted.{IsNonDecreasing};
 ghost use Rattle.clouds.specs.FirstPlace.{IsFirstPlace, lesser_place};
 ghost use Rattle.clouds.specs.Items.{AddsAt, items_of};
 ghost use Rattle.std.specs.Option.{option_copied};
-ghost use Rattle.clouds.specs.Hiding.{HidesKey, ReachesKey};
+ghost use Rattle.clouds.specs.Hiding.{ReachesKey};
 
 use crate::cover::CoverSpans;
 use crate::span::OpaqueSpan;
@@ -58,21 +57,13 @@ impl Unrecorded {
         some_reaches(&self.parts, key, place, revision)
     }
 
-    /// The least place from `low` to `high` at which some span hides the key, which has these revisions.
-    pub fn first_place(
-        &self,
-        key: &ObjectKey,
-        revisions: &[u64],
-        low: u64,
-        high: u64,
-    ) -> Option<u64>
-        requires order { IsNonDecreasing revisions.now }
-        requires range { low ≤ high }
-        ensures { IsFirstPlace (λ place. Any (HidesKey revisions.now key.now place) self.now) low high result }
+    /// The least place from `low` to `high` at which some span of the key has begun that reaches the revision.
+    pub fn first_reached(&self, key: &ObjectKey, revision: u64, low: u64, high: u64) -> Option<u64>
+        ensures { IsFirstPlace (λ place. Any (ReachesKey key.now place revision) self.now) low high result }
     {
         let mut first = None;
         for part in &self.parts {
-            first = lesser_place(first, part.first_place(key, revisions, low, high));
+            first = lesser_place(first, part.first_reached(key, revision, low, high));
         }
         first
     }
@@ -116,21 +107,20 @@ pub fn reach(spans: Option<&Unrecorded>, key: &ObjectKey, place: u64, revision: 
     }
 }
 
-/// The least place from `low` to `high` at which some span hides the key, where there are any.
-pub fn first_place(
+/// The least place from `low` to `high` at which some span of the key has begun that reaches the
+/// revision, where there are any.
+pub fn first_reached(
     spans: Option<&Unrecorded>,
     key: &ObjectKey,
-    revisions: &[u64],
+    revision: u64,
     low: u64,
     high: u64,
 ) -> Option<u64>
-    requires order { IsNonDecreasing revisions.now }
-    requires range { low ≤ high }
-    ensures { IsFirstPlace (λ place. Any (HidesKey revisions.now key.now place)
+    ensures { IsFirstPlace (λ place. Any (ReachesKey key.now place revision)
         (items_of (option_copied spans.entry))) low high result }
 {
     match spans {
-        Some(spans) => spans.first_place(key, revisions, low, high),
+        Some(spans) => spans.first_reached(key, revision, low, high),
         None => None,
     }
 }

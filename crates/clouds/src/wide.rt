@@ -1,9 +1,8 @@
 ghost use Rattle.std.specs.Prelude.{◌≡◌, ◌≤◌, ◌↔◌, take, IsTrue, IfOk, OnOk, Any};
 ghost use Rattle.std.specs.BTreeMap.{IsEmpty};
-ghost use Rattle.std.specs.List.Sorted.{IsNonDecreasing};
 ghost use Rattle.std.specs.Option.{option_copied};
 ghost use Rattle.clouds.specs.FirstPlace.{IsFirstPlace};
-ghost use Rattle.clouds.specs.Hiding.{HidesKey, ReachesKey};
+ghost use Rattle.clouds.specs.Hiding.{ReachesKey};
 ghost use Rattle.clouds.specs.Items.{AddsAt, items_of};
 ghost use Rattle.clouds.specs.Upto.{AreUpto};
 ghost use Rattle.clouds.specs.Wide.{AddsWide, AnyIn, AnyOf, AnyWide, Extends, IsNumbered, scope_order};
@@ -12,7 +11,7 @@ ghost use Rattle.clouds.specs.Wide.{any_scope, front_of, lengths_of, number_of, 
 use crate::lengths::Lengths;
 use crate::numbers::{Numbers, give_number, number_at};
 use crate::span::OpaqueSpan;
-use crate::unrecorded::{Unrecorded, add_span, first_place, lesser_place, reach};
+use crate::unrecorded::{Unrecorded, add_span, first_reached, lesser_place, reach};
 use base_types::{Cover, CoverName, ObjectKey, OutOfMemory, Text};
 use std::alloc::Global;
 use std::collections::BTreeMap;
@@ -231,19 +230,17 @@ impl Wide {
         scope: Scope,
         counts: &[usize],
         key: &ObjectKey,
-        revisions: &[u64],
+        revision: u64,
         low: u64,
         high: u64,
     ) -> Option<u64>
-        requires order { IsNonDecreasing revisions.now }
-        requires range { low ≤ high }
-        ensures { IsFirstPlace (λ place. AnyOf self.now scope key.now counts.now (HidesKey revisions.now key.now place))
+        ensures { IsFirstPlace (λ place. AnyOf self.now scope key.now counts.now (ReachesKey key.now place revision))
             low high result }
     {
         let mut first = None;
         for count in counts {
             let spans = self.spans_of_front(scope, front_of_name(&key.name, *count));
-            first = lesser_place(first, first_place(spans, key, revisions, low, high));
+            first = lesser_place(first, first_reached(spans, key, revision, low, high));
         }
         first
     }
@@ -252,36 +249,26 @@ impl Wide {
         &self,
         scope: Option<Scope>,
         key: &ObjectKey,
-        revisions: &[u64],
+        revision: u64,
         low: u64,
         high: u64,
     ) -> Option<u64>
-        requires order { IsNonDecreasing revisions.now }
-        requires range { low ≤ high }
-        ensures { IsFirstPlace (λ place. AnyIn self.now key.now scope (HidesKey revisions.now key.now place))
+        ensures { IsFirstPlace (λ place. AnyIn self.now key.now scope (ReachesKey key.now place revision))
             low high result }
     {
         let scope = scope?;
         let counts = self.lengths_upto(scope, key.name.len());
-        self.first_of_fronts(scope, counts, key, revisions, low, high)
+        self.first_of_fronts(scope, counts, key, revision, low, high)
     }
 
-    /// The least place from `low` to `high` at which some span hides the key, which has these revisions.
-    pub fn first_place(
-        &self,
-        key: &ObjectKey,
-        revisions: &[u64],
-        low: u64,
-        high: u64,
-    ) -> Option<u64>
-        requires order { IsNonDecreasing revisions.now }
-        requires range { low ≤ high }
-        ensures { IsFirstPlace (λ place. AnyWide self.now key.now (HidesKey revisions.now key.now place))
+    /// The least place from `low` to `high` at which some span of the key has begun that reaches the revision.
+    pub fn first_reached(&self, key: &ObjectKey, revision: u64, low: u64, high: u64) -> Option<u64>
+        ensures { IsFirstPlace (λ place. AnyWide self.now key.now (ReachesKey key.now place revision))
             low high result }
     {
         lesser_place(
-            self.first_in_scope(self.own_scope(key), key, revisions, low, high),
-            self.first_in_scope(self.any_scope(key), key, revisions, low, high),
+            self.first_in_scope(self.own_scope(key), key, revision, low, high),
+            self.first_in_scope(self.any_scope(key), key, revision, low, high),
         )
     }
 }

@@ -1,4 +1,0 @@
-use Rattle.clouds.proofs.unrecorded.first_place.Goals as goal
-
-pub returns-in-Some : goal.returns-in-Some
-returns-in-Some c = rw c.in-Some.is c.first_place.ensures
