@@ -2,8 +2,11 @@
 #![tactic(auto)]
 
 mod applying;
+mod chunks;
+mod draft;
 mod edit;
 mod fault;
+mod named;
 mod op;
 mod reading;
 mod size;
