@@ -4,6 +4,7 @@
 mod applying;
 mod chunks;
 mod draft;
+mod drafting;
 mod edit;
 mod fault;
 mod named;
