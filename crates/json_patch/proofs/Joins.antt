@@ -1,10 +1,11 @@
 -- Arrays in chunks, and what changes in them.
 use Rattle.std.proofs.Common.{◌≡◌, ℕ, zero, suc, ◌+◌, ◌<◌, ◌≤◌, List, [], ◌∷◌, ◌++◌, length, get_or, set, take, drop, refl, sym, ap, subst, ◌∙◌, append_assoc, append-nil, arith}
 use Rattle.std.specs.Prelude.{insert, remove}
-use Rattle.std.proofs.lemmas.List.{length-append, get_or-append-add, get_or_append_left, set-append_left, take_more}
+use Rattle.std.proofs.lemmas.List.{length-append, get_or-append-add, get_or_append_left, set-append_left, take_more, drop_more, get_or_read}
 use Rattle.std.proofs.lemmas.List.Concat.{flat_map-append}
 use Rattle.base_types.specs.Meaning.{Meaning}
-use Rattle.json_patch.specs.Joined.{joined}
+use Rattle.json_patch.specs.Joined.{joined, IsPlaceIn, number_of}
+use Rattle.json_patch.specs.declared.chunks.Place.{Place}
 
 -- a list behind another one
 insert_behind : {X : Type 0} (xs ys : List X) (n : ℕ) (x : X) → insert (xs ++ ys) (length xs + n) x ≡ xs ++ insert ys n x
@@ -86,6 +87,9 @@ joined_push parts part = flat_map-append (λ p. p) parts (part ∷ []) ∙ ap (�
 pub joined_more : (parts : List (List Meaning)) (i : ℕ) (part : List Meaning) → i < length parts → part ≡ get_or parts i part → joined (take (i + 1) parts) ≡ joined (take i parts) ++ part
 joined_more parts i part within is = ap joined (take_more parts i part within ∙ ap (λ p. take i parts ++ p ∷ []) (sym is)) ∙ joined_push (take i parts) part
 
+pub joined_drop : (parts : List (List Meaning)) (i : ℕ) (part : List Meaning) → i < length parts → part ≡ get_or parts i part → joined (drop i parts) ≡ part ++ joined (drop (i + 1) parts)
+joined_drop parts i part within is = ap joined (drop_more parts i part within) ∙ ap (λ p. p ++ joined (drop (i + 1) parts)) (sym is)
+
 -- a chunk in two
 pub joined_split : (parts : List (List Meaning)) (i : ℕ) (part before behind : List Meaning) → i < length parts → part ≡ get_or parts i part → before ++ behind ≡ part
     → joined (insert (set parts i before) (i + 1) behind) ≡ joined parts
@@ -94,3 +98,17 @@ joined_split (first ∷ parts) zero part before behind lt is two = sym (append_a
 joined_split (first ∷ parts) (suc i) part before behind lt is two =
     let e : suc i + 1 ≡ suc (i + 1) = omega arith in
     ap (λ m. joined (insert (first ∷ set parts i before) m behind)) e ∙ ap (λ l. first ++ l) (joined_split parts i part before behind (omega arith) is two)
+
+-- the same at a place that holds an item
+pub number_within : (parts : List (List Meaning)) (place : Place) → IsPlaceIn parts place → number_of parts place < length (joined parts)
+number_within parts place here = place_within parts place.part place.offset here.part here.offset
+
+pub read_at : (parts : List (List Meaning)) (place : Place) (part : List Meaning) (t : Meaning) → IsPlaceIn parts place → part ≡ get_or parts place.part part → t ≡ get_or part place.offset t
+    → t ≡ get_or (joined parts) (number_of parts place) t
+read_at parts place part t here is read =
+    read ∙ ap (λ p. get_or p place.offset t) (get_or_read parts place.part part here.part is []) ∙ sym (place_read parts place.part place.offset t here.part here.offset)
+
+pub written_at : (parts : List (List Meaning)) (place : Place) (part : List Meaning) (u : Meaning) → IsPlaceIn parts place → part ≡ get_or parts place.part part
+    → joined (set parts place.part (set part place.offset u)) ≡ set (joined parts) (number_of parts place) u
+written_at parts place part u here is =
+    ap (λ p. joined (set parts place.part (set p place.offset u))) (get_or_read parts place.part part here.part is []) ∙ place_set parts place.part place.offset u here.part here.offset

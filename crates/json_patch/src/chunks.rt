@@ -1,9 +1,14 @@
-ghost use Rattle.std.specs.Prelude.{◌≡◌, ◌<◌, ◌≤◌, ◌+◌, ◌++◌, ◌∷◌, [], length, get_or, set, insert, remove, IfOk, IfErr, OnOk};
+ghost use Rattle.std.specs.Prelude.{◌≡◌, ◌<◌, ◌≤◌, ◌+◌, ◌++◌, ◌∷◌, [], length, get_or, set, insert, remove};
+ghost use Rattle.std.specs.Prelude.{Some, IfOk, IfErr, OnOk, IfSome, IfNone, None, option_map, option_and_then};
+ghost use Rattle.base_types.specs.Meaning.{kids_of};
+ghost use Rattle.base_types.specs.Pointers.{index_of, kid_at};
 ghost use Rattle.json_patch.specs.Joined.{joined, IsPlaceIn, number_of};
 
 use crate::draft::{Chunk, Chunks, Draft};
 use base_types::OutOfMemory;
+use base_types::json::read_index;
 use std::alloc::Global;
+use std::mem;
 
 /// The most items of one chunk.
 const MAX_ITEMS: usize = 1_024;
@@ -73,18 +78,11 @@ impl Chunks {
         }
     }
 
-    /// How many items there are. There is no memory for as many as don't fit a `usize`.
+    /// How many items there are. There is no memory for more than a `usize` counts.
     pub fn len(&self) -> Result<usize, OutOfMemory>
         ensures { IfOk result (λ count. count ≡ length self.now) }
     {
-        let mut count = 0usize;
-        for part in &self.parts {
-            match count.checked_add(part.len()) {
-                Some(sum) => count = sum,
-                None => return Err(OutOfMemory),
-            }
-        }
-        Ok(count)
+        count(&self.parts)
     }
 
     /// Puts an item behind the others.
@@ -113,6 +111,56 @@ impl Chunks {
                 split_long(&mut self.parts, place.part)
             }
             Err(_) => self.push(alloc, item),
+        }
+    }
+}
+
+impl Chunks {
+    /// The item at an index, where the token of a pointer is one.
+    pub fn item(&self, token: &str) -> Result<Option<&Draft>, OutOfMemory>
+        ensures { IfOk result (λ found. option_map (λ t. t.now) found ≡
+            option_and_then (λ n. kid_at n (kids_of self.now)) (index_of token.now)) }
+    {
+        match find(&self.parts, token)? {
+            Some(place) => {
+                let part = &self.parts[place.part];
+                Ok(Some(&part.all[place.offset]))
+            }
+            None => Ok(None),
+        }
+    }
+}
+
+fn count(parts: &[Chunk]) -> Result<usize, OutOfMemory>
+    ensures { IfOk result (λ count. count ≡ length (joined parts.now)) }
+{
+    let mut count = 0usize;
+    for part in parts {
+        match count.checked_add(part.len()) {
+            Some(sum) => count = sum,
+            None => return Err(OutOfMemory),
+        }
+    }
+    Ok(count)
+}
+
+/// The place of the item at the index that a token of a pointer is.
+pub fn find(parts: &[Chunk], token: &str) -> Result<Option<Place>, OutOfMemory>
+    ensures place { IfOk result (λ found. IfSome found (IsPlaceIn parts.now)) }
+    ensures number { IfOk result (λ found. IfSome found (λ place. index_of token.now ≡
+        Some (number_of parts.now place))) }
+    ensures none { IfOk result (λ found. IfNone found (option_and_then (λ n. kid_at n (kids_of (joined parts.now)))
+        (index_of token.now) ≡ None)) }
+{
+    match read_index(token) {
+        Some(index) => match locate(parts, index) {
+            Ok(place) => Ok(Some(place)),
+            Err(_) => Ok(None),
+        },
+        None => {
+            // no index, or one that is past all that a `usize` counts
+            let _count = count(parts)?;
+            Ok(None)
         }
     }
 }
@@ -167,4 +215,14 @@ pub fn remove_at(parts: &mut Vec<Chunk>, place: Place) -> Draft
 {
     let part = &mut parts[place.part];
     part.remove(place.offset)
+}
+
+/// Puts an item at a place, and answers the one that stood there.
+pub fn replace_at(parts: &mut Vec<Chunk>, place: Place, item: Draft) -> Draft
+    requires { IsPlaceIn parts.old.items place }
+    ensures value { result ≡ get_or (joined parts.old.items) (number_of parts.old.items place) result }
+    ensures items { joined parts.new.items ≡ set (joined parts.old.items) (number_of parts.old.items place) item }
+{
+    let part = &mut parts[place.part];
+    mem::replace(&mut part.all[place.offset], item)
 }

@@ -10,7 +10,9 @@ mod fault;
 mod named;
 mod op;
 mod reading;
+mod sameness;
 mod size;
+mod walking;
 
 pub use applying::apply;
 pub use fault::{ApplyCause, ApplyFault, PatchFault};
