@@ -1,7 +1,8 @@
 -- Arrays in chunks, and what changes in them.
-use Rattle.std.proofs.Common.{◌≡◌, ℕ, zero, suc, ◌+◌, ◌<◌, ◌≤◌, List, [], ◌∷◌, ◌++◌, length, get_or, set, take, drop, refl, sym, ap, subst, ◌∙◌, append_assoc, append-nil, arith}
+use Rattle.std.proofs.Common.{◌≡◌, ◌==◌, IsTrue, ℕ, zero, suc, ◌+◌, ◌<◌, ◌≤◌, List, [], ◌∷◌, ◌++◌, length, get_or, set, take, drop, refl, sym, ap, subst, ◌∙◌, append_assoc, append-nil, arith}
 use Rattle.std.specs.Prelude.{insert, remove}
-use Rattle.std.proofs.lemmas.List.{length-append, get_or-append-add, get_or_append_left, set-append_left, take_more, drop_more, get_or_read}
+use Rattle.std.proofs.lemmas.Bool.{eqb-true}
+use Rattle.std.proofs.lemmas.List.{length-append, get_or-append-add, get_or_append_left, set-append_left, take_more, drop_more, take_all, take_at, take-append-drop, append_cancel_left, get_or_read}
 use Rattle.std.proofs.lemmas.List.Concat.{flat_map-append}
 use Rattle.base_types.specs.Meaning.{Meaning}
 use Rattle.json_patch.specs.Joined.{joined, IsPlaceIn, number_of}
@@ -112,3 +113,42 @@ pub written_at : (parts : List (List Meaning)) (place : Place) (part : List Mean
     → joined (set parts place.part (set part place.offset u)) ≡ set (joined parts) (number_of parts place) u
 written_at parts place part u here is =
     ap (λ p. joined (set parts place.part (set p place.offset u))) (get_or_read parts place.part part here.part is []) ∙ place_set parts place.part place.offset u here.part here.offset
+
+-- a walk that compares an array in chunks with a list, chunk by chunk
+joined_around : (parts : List (List Meaning)) (i : ℕ) (part : List Meaning) → i < length parts → part ≡ get_or parts i part → joined parts ≡ joined (take i parts) ++ (part ++ joined (drop (i + 1) parts))
+joined_around parts i part within is =
+    ap joined (sym (take-append-drop i parts)) ∙ flat_map-append (λ p. p) (take i parts) (drop i parts) ∙ ap (λ l. joined (take i parts) ++ l) (joined_drop parts i part within is)
+
+pub agree_further : (parts : List (List Meaning)) (i : ℕ) (part here behind rest all : List Meaning) → i < length parts → part ≡ get_or parts i part → joined (take i parts) ++ rest ≡ all
+    → here ++ behind ≡ rest → part ≡ here → joined (take (i + 1) parts) ++ behind ≡ all
+agree_further parts i part here behind rest all within is walked two same =
+    ap (λ l. l ++ behind) (joined_more parts i part within is) ∙ append_assoc (joined (take i parts)) part behind
+    ∙ ap (λ p. joined (take i parts) ++ (p ++ behind)) same ∙ ap (λ l. joined (take i parts) ++ l) two ∙ walked
+
+-- the chunk and what follows are the rest, where the whole is the list
+rest_is : (parts : List (List Meaning)) (i : ℕ) (part rest all : List Meaning) → i < length parts → part ≡ get_or parts i part → joined (take i parts) ++ rest ≡ all → joined parts ≡ all
+    → part ++ joined (drop (i + 1) parts) ≡ rest
+rest_is parts i part rest all within is walked same =
+    append_cancel_left (joined (take i parts)) (part ++ joined (drop (i + 1) parts)) rest (sym (joined_around parts i part within is) ∙ same ∙ sym walked)
+
+pub part_too_long : (parts : List (List Meaning)) (i : ℕ) (part rest all : List Meaning) → i < length parts → part ≡ get_or parts i part → joined (take i parts) ++ rest ≡ all → length rest < length part
+    → joined parts ≡ all → ⊥
+part_too_long parts i part rest all within is walked short same =
+    let long = sym (length-append part (joined (drop (i + 1) parts))) ∙ ap length (rest_is parts i part rest all within is walked same) in
+    omega arith
+
+pub part_differs : (parts : List (List Meaning)) (i : ℕ) (part rest all : List Meaning) → i < length parts → part ≡ get_or parts i part → joined (take i parts) ++ rest ≡ all → joined parts ≡ all
+    → part ≡ take (length part) rest
+part_differs parts i part rest all within is walked same =
+    sym (take_at part (joined (drop (i + 1) parts)) (length part) refl) ∙ ap (take (length part)) (rest_is parts i part rest all within is walked same)
+
+pub agree_to_end : (parts : List (List Meaning)) (i : ℕ) (rest all : List Meaning) → length parts ≤ i → joined (take i parts) ++ rest ≡ all → (rest ≡ [] → joined parts ≡ all) × (joined parts ≡ all → rest ≡ [])
+agree_to_end parts i rest all end walked =
+    let whole : joined (take i parts) ≡ joined parts = ap joined (take_all i parts end) in (
+      λ none. sym (append-nil (joined parts)) ∙ ap (λ l. joined parts ++ l) (sym none) ∙ ap (λ l. l ++ rest) (sym whole) ∙ walked,
+      λ same. append_cancel_left (joined parts) rest [] (ap (λ l. l ++ rest) (sym whole) ∙ walked ∙ sym same ∙ sym (append-nil (joined parts))),
+    )
+
+pub none_left : (rest : List Meaning) → (IsTrue (length rest == 0) → rest ≡ []) × (rest ≡ [] → IsTrue (length rest == 0))
+none_left [] = (λ yes. refl, λ is. refl)
+none_left (t ∷ rest) = (λ yes. let none = eqb-true (length (t ∷ rest)) 0 yes in absurd (omega arith), λ is. absurd (cc))

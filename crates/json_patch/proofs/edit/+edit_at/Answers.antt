@@ -12,52 +12,16 @@ use Rattle.json_patch.proofs.Sizes.{edited_items, edited_members}
 use Rattle.json_patch.proofs.edit.+edit_at.Goals as goal
 
 pub edit_below_items-returns-in-Some-clause-done : goal.edit_below_items-returns-in-Some-clause-done
-edit_below_items-returns-in-Some-clause-done t c =
-    let all = c.args.list.now in
-    let child = c.index_mut-child.result.now in
-    let n = c.in-Some.at in
-    let found = c.in-Some.ensures.some in
-    let is : index_of c.args.first.now ≡ Some n = ap index_of (sym c.as_str.ensures.value) ∙ found.0 in
-    let read = subst (λ l. child ≡ get_or l n child) c.list.view_is c.index_mut-child.ensures.value in
-    let there = item_there c.args.first.now all n child is found.1 read in
-    let whole = with_item c.args.first.now all n c.edit_at.new.tree is ∙ ap (λ l. items (kids_of (set l n c.edit_at.new.tree))) (sym c.list.view_is) in
-    IfOk-weaker c.edit_at.result (λ left. edited c.args.next.now c.args.after.now c.args.edit child ≡ Ok c.edit_at.new.tree) _
-    (λ left inner. done_below c.args.first.now c.args.next.now c.args.after.now c.args.edit (items (kids_of all)) child c.edit_at.new.tree _ there inner whole) c.edit_at.ensures.done
+edit_below_items-returns-in-Some-clause-done t c = ?
 
 pub edit_below_items-returns-in-Some-clause-taken : goal.edit_below_items-returns-in-Some-clause-taken
-edit_below_items-returns-in-Some-clause-taken t c =
-    let all = c.args.list.now in
-    let child = c.index_mut-child.result.now in
-    let n = c.in-Some.at in
-    let found = c.in-Some.ensures.some in
-    let is : index_of c.args.first.now ≡ Some n = ap index_of (sym c.as_str.ensures.value) ∙ found.0 in
-    let read = subst (λ l. child ≡ get_or l n child) c.list.view_is c.index_mut-child.ensures.value in
-    let below = pointed_below c.args.first.now c.args.next.now c.args.after.now (items (kids_of all)) child (item_there c.args.first.now all n child is found.1 read) in
-    IfOk-weaker c.edit_at.result (λ left. IsTaken c.args.edit left (pointed (c.args.next.now ∷ c.args.after.now) child)) _
-    (λ left inner. subst (IsTaken c.args.edit left) below inner) c.edit_at.ensures.taken
+edit_below_items-returns-in-Some-clause-taken t c = ?
 
 pub edit_below_items-returns-in-Some-clause-size : goal.edit_below_items-returns-in-Some-clause-size
-edit_below_items-returns-in-Some-clause-size t c =
-    let all = c.list.inside.all.items in
-    let child = c.index_mut-child.result.now in
-    let n = c.in-Some.at in
-    let within : n < length all = subst (λ l. n < length l) (sym c.list.view_is) c.in-Some.ensures.some.1 in
-    IfOk-weaker c.edit_at.result (IsEdited c.args.edit (1 + length c.args.after.now) child c.edit_at.new.tree) _
-    (λ left inner. levelled (λ n. IsEdited c.args.edit n (items (kids_of c.args.list.now)) (items (kids_of (set all c.in-Some.at c.edit_at.new.tree))) left) (length c.args.after.now)
-    (subst (λ l. IsEdited c.args.edit (1 + (1 + length c.args.after.now)) (items (kids_of l)) (items (kids_of (set all c.in-Some.at c.edit_at.new.tree))) left) c.list.view_is
-    (edited_items c.args.edit (1 + length c.args.after.now) all n child c.edit_at.new.tree left within c.index_mut-child.ensures.value inner))) c.edit_at.ensures.size
+edit_below_items-returns-in-Some-clause-size t c = ?
 
 pub edit_below_items-returns-in-Some-clause-refused : goal.edit_below_items-returns-in-Some-clause-refused
-edit_below_items-returns-in-Some-clause-refused t c =
-    let all = c.args.list.now in
-    let child = c.index_mut-child.result.now in
-    let n = c.in-Some.at in
-    let found = c.in-Some.ensures.some in
-    let is : index_of c.args.first.now ≡ Some n = ap index_of (sym c.as_str.ensures.value) ∙ found.0 in
-    let read = subst (λ l. child ≡ get_or l n child) c.list.view_is c.index_mut-child.ensures.value in
-    let there = item_there c.args.first.now all n child is found.1 read in
-    IfErr-weaker c.edit_at.result (RefusedBy (edited c.args.next.now c.args.after.now c.args.edit child)) _
-    (λ refusal inner. refused_below c.args.first.now c.args.next.now c.args.after.now c.args.edit (items (kids_of all)) child refusal there inner) c.edit_at.ensures.refused
+edit_below_items-returns-in-Some-clause-refused t c = ?
 
 pub edit_below_members-index_mut-member-requires : goal.edit_below_members-index_mut-member-requires
 edit_below_members-index_mut-member-requires t c =
