@@ -43,9 +43,10 @@ const NO_CHANGE: Change = Change {
     depth: 0,
 };
 
-/// The operations of a patch in order on a tree, which stays as it is (RFC 6902 section 5). The copy on
-/// which they work is made once, and each operation costs what it touches: the values that it brings,
-/// takes away or compares, and one look into each container on the way.
+/// The operations of a patch in order on a tree, which stays as it is (RFC 6902 section 5). They work on a
+/// draft that is made of it once, and each operation costs what it touches: the values that it brings,
+/// takes away or compares, one look into each container on the way, and of a long array a look at its
+/// chunks and the items of one of them.
 pub fn apply(alloc: Global, tree: &Tree, patch: &Patch) -> Result<Tree, ApplyFault>
     ensures ok { IfOk result (λ made. applied 0 patch.now tree.now ≡ Ok made) }
     ensures fault { IfErr result (IsFaultOf (applied 0 patch.now tree.now)) }

@@ -181,7 +181,12 @@ fn edit_below_members(
 }
 
 // Makes an edit of a container under one token.
-fn edit_in(alloc: Global, tree: &mut Draft, token: &str, edit: Edit) -> Result<Option<Draft>, Refusal>
+fn edit_in(
+    alloc: Global,
+    tree: &mut Draft,
+    token: &str,
+    edit: Edit,
+) -> Result<Option<Draft>, Refusal>
     ensures done { IfOk result (λ _. change_of edit token.now tree.old ≡ Ok tree.new) }
     ensures taken { IfOk result (λ left. IsTaken edit left (child_of token.now tree.old)) }
     ensures size { IfOk result (IsEdited edit 1 tree.old tree.new) }
@@ -194,7 +199,12 @@ fn edit_in(alloc: Global, tree: &mut Draft, token: &str, edit: Edit) -> Result<O
     }
 }
 
-fn edit_item(alloc: Global, list: &mut Chunks, token: &str, edit: Edit) -> Result<Option<Draft>, Refusal>
+fn edit_item(
+    alloc: Global,
+    list: &mut Chunks,
+    token: &str,
+    edit: Edit,
+) -> Result<Option<Draft>, Refusal>
     ensures done { IfOk result (λ _. change_of edit token.now (items (kids_of list.old)) ≡ Ok
         (items (kids_of list.new))) }
     ensures taken { IfOk result (λ left. IsTaken edit left (child_of token.now (items (kids_of list.old)))) }

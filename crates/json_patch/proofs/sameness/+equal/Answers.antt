@@ -33,21 +33,19 @@ equal_items-loop-part-preserved t c =
 pub equal_items-returns-then-len-rest : goal.equal_items-returns-then-len-rest
 equal_items-returns-then-len-rest t c =
     let l = c.loop-part in
-    let short : length l.rest.now < length c.part-item.result = subst (λ n. length l.rest.now < n) c.len.ensures c.if-len-rest.true in
-    (
+    let short : length l.rest.now < length c.part-item.result = subst (λ n. length l.rest.now < n) c.len.ensures c.if-len-rest.true in (
       λ no. absurd (false≢true no),
       λ same. absurd (part_too_long c.deref-part-items.result.now l.part-index c.part-item.result l.rest.now c.args.b.now c.loop-part-test.true c.part-item.is l.invariant short
-        (ap joined c.deref-part-items.ensures.value ∙ c.a.view_is ∙ same)),
+          (ap joined c.deref-part-items.ensures.value ∙ c.a.view_is ∙ same)),
     )
 
 pub equal_items-returns-then-not-equal_part : goal.equal_items-returns-then-not-equal_part
 equal_items-returns-then-not-equal_part t c =
     let l = c.loop-part in
-    let here : c.split_at.result.0.now ≡ take (length c.part-item.result) l.rest.now = c.split_at.ensures.front ∙ ap (λ n. take n l.rest.now) c.len-in-loop-part.ensures in
-    (
+    let here : c.split_at.result.0.now ≡ take (length c.part-item.result) l.rest.now = c.split_at.ensures.front ∙ ap (λ n. take n l.rest.now) c.len-in-loop-part.ensures in (
       λ no. absurd (false≢true no),
       λ same. c.if-not-equal_part.ensures.1 (part_differs c.deref-part-items.result.now l.part-index c.part-item.result l.rest.now c.args.b.now c.loop-part-test.true c.part-item.is l.invariant
-        (ap joined c.deref-part-items.ensures.value ∙ c.a.view_is ∙ same) ∙ sym here),
+          (ap joined c.deref-part-items.ensures.value ∙ c.a.view_is ∙ same) ∙ sym here),
     )
 
 pub equal_items-returns : goal.equal_items-returns
@@ -55,8 +53,7 @@ equal_items-returns t c =
     let l = c.loop-part in
     let both = agree_to_end c.deref-part-items.result.now l.part-index l.rest.now c.args.b.now c.loop-part-test.false l.invariant in
     let whole = ap joined c.deref-part-items.ensures.value ∙ c.a.view_is in
-    let none = none_left l.rest.now in
-    (
+    let none = none_left l.rest.now in (
       λ yes. sym whole ∙ both.0 (none.0 (sym c.is_empty.ensures ∙ yes)),
       λ same. c.is_empty.ensures ∙ none.1 (both.1 (whole ∙ same)),
     )

@@ -14,8 +14,8 @@ returns-in-Some c =
     let t = c.index.result.now in
     let here : IsPlaceIn parts place = subst (λ ps. IsPlaceIn ps place) c.deref.ensures.value (subst (λ o. IfSome o (IsPlaceIn c.deref.result.now)) c.in-Some.is found.place) in
     let number : index_of c.args.token.now ≡ Some (number_of parts place) =
-        subst (λ ps. index_of c.args.token.now ≡ Some (number_of ps place)) c.deref.ensures.value
-        (subst (λ o. IfSome o (λ p. index_of c.args.token.now ≡ Some (number_of c.deref.result.now p))) c.in-Some.is found.number) in
+    subst (λ ps. index_of c.args.token.now ≡ Some (number_of ps place)) c.deref.ensures.value
+    (subst (λ o. IfSome o (λ p. index_of c.args.token.now ≡ Some (number_of c.deref.result.now p))) c.in-Some.is found.number) in
     let is = subst (λ p. p ≡ get_or parts place.part p) (sym c.part.view_is) c.index-part.ensures in
     let read = subst (λ l. t ≡ get_or l (number_of parts place) t) c.self.view_is (read_at parts place all t here is c.index.ensures) in
     let within = subst (λ l. number_of parts place < length l) c.self.view_is (number_within parts place here) in
