@@ -1,4 +1,4 @@
-use Rattle.std.proofs.Common.{◌≡◌, ◌≤◌, ◌+◌, ◌^◌, ℕ, length, Some, arith}
+use Rattle.std.proofs.Common.{◌≡◌, ◌≤◌, ◌+◌, ℕ, length, Some, arith}
 use Rattle.base_types.specs.Pointers.{index_of}
 use Rattle.base_types.proofs.Indices.{kid_past, item_past}
 use Rattle.json_patch.specs.Joined.{joined}

@@ -1,4 +1,4 @@
-use Rattle.std.proofs.Common.{◌≡◌, ◌<◌, [], length, get_or, set, sym, ap, subst, ◌∙◌}
+use Rattle.std.proofs.Common.{[], get_or, set, sym, ap, ◌∙◌}
 use Rattle.std.specs.Prelude.{remove}
 use Rattle.std.proofs.lemmas.List.{get_or_read}
 use Rattle.json_patch.specs.Joined.{joined}

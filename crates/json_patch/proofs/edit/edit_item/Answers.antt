@@ -1,5 +1,5 @@
 use Rattle.std.proofs.Common.{◌≡◌, ◌<◌, length, get_or, set, Some, None, Ok, refl, sym, ap, subst, ◌∙◌}
-use Rattle.std.specs.Prelude.{insert, remove}
+use Rattle.std.specs.Prelude.{remove}
 use Rattle.base_types.specs.Meaning.{items, kids_of}
 use Rattle.json_patch.specs.Edits.{change_of, IsEdited}
 use Rattle.json_patch.specs.Effects.{place_of}

@@ -1,4 +1,4 @@
-use Rattle.std.proofs.Common.{◌≡◌, ◌≤◌, ◌+◌, ◌-◌, ◌^◌, min, max, arith}
+use Rattle.std.proofs.Common.{◌≡◌, ◌+◌, ◌-◌, ◌^◌, min, max, arith}
 use Rattle.base_types.specs.Meaning.{kids_of}
 use Rattle.json_patch.specs.Joined.{joined}
 use Rattle.json_patch.specs.Limits.{kids_values, kids_depth}

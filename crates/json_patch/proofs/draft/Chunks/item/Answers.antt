@@ -1,7 +1,7 @@
 use Rattle.std.proofs.Common.{◌≡◌, ◌<◌, length, get_or, Some, IfSome, sym, subst}
 use Rattle.base_types.specs.Pointers.{index_of}
 use Rattle.base_types.proofs.Indices.{item_read}
-use Rattle.json_patch.specs.Joined.{joined, IsPlaceIn, number_of}
+use Rattle.json_patch.specs.Joined.{IsPlaceIn, number_of}
 use Rattle.json_patch.proofs.Joins.{number_within, read_at}
 use Rattle.json_patch.proofs.draft.Chunks.item.Goals as goal
 
