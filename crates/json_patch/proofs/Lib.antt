@@ -1,5 +1,7 @@
 mod Examples
 pub mod Counting
+pub mod Finding
+pub mod Joins
 pub mod Listing
 pub mod Paths
 pub mod Prefixes

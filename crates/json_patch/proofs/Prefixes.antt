@@ -1,5 +1,5 @@
 -- When one pointer begins another, longer one, by their lengths.
-use Rattle.std.proofs.Common.{◌≡◌, ℕ, ◌<◌, ◌≤◌, Bool, true, false, ◌&&◌, List, [], ◌∷◌, length, take, bytes_eq, refl, ap, arith}
+use Rattle.std.proofs.Common.{◌≡◌, ℕ, ◌<◌, ◌≤◌, Bool, true, false, ◌&&◌, List, [], ◌∷◌, length, bytes_eq, refl, ap, arith}
 use Rattle.std.specs.List.{starts_with}
 use Rattle.json_patch.specs.Targets.{is_proper_prefix}
 

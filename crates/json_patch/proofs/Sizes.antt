@@ -1,5 +1,5 @@
 -- How a change of one value changes the depth and the number of values of a document.
-use Rattle.std.proofs.Common.{◌≡◌, ℕ, zero, suc, ◌+◌, ◌≤◌, ◌<◌, max, Bool, true, false, List, [], ◌∷◌, length, get_or, set, Option, Some, None, refl, sym, ap, subst, arith, bytes_eq}
+use Rattle.std.proofs.Common.{◌≡◌, ◌∙◌, ℕ, zero, suc, ◌+◌, ◌-◌, ◌^◌, ◌≤◌, ◌<◌, max, min, Bool, true, false, List, [], ◌∷◌, ◌++◌, drop, length, get_or, set, Option, Some, None, refl, sym, ap, subst, arith, bytes_eq}
 use Rattle.std.specs.Prelude.{insert, remove}
 use Rattle.std.specs.Ordering.{nat_cmp, match_ordering}
 use Rattle.std.specs.declared.cmp.Ordering.{Ordering}
@@ -16,6 +16,8 @@ use Rattle.base_types.specs.Parts.{lookup}
 use Rattle.base_types.specs.Stored.{fields_without}
 use Rattle.base_types.proofs.Ordered.{bytes_eq-Less, bytes_eq-Greater, bytes_eq-self, same_name}
 use Rattle.base_types.proofs.Placing.{above-below, below-above}
+use Rattle.json_patch.specs.Joined.{joined}
+use Rattle.json_patch.proofs.Joins.{joined_drop}
 use Rattle.json_patch.specs.Edits.{IsAsDeep, IsEdited, went_of, came_of}
 use Rattle.json_patch.specs.declared.edit.Edit.{Edit}
 use Rattle.json_patch.specs.declared.edit.Edit.TheVariants.{Add, Remove, Replace}
@@ -180,6 +182,29 @@ fields_depth-without k (field l u ms) = go (bytes_eq l k) (fields_depth-without 
     go : (b : Bool) → fields_depth (fields_without k ms) ≤ fields_depth ms → fields_depth (if b then fields_without k ms else field l u (fields_without k ms)) ≤ fields_depth (field l u ms)
     go true rest = omega arith
     go false rest = omega arith
+
+-- one chunk of an array after another
+kids_values-append : (xs ys : List Meaning) → kids_values (kids_of (xs ++ ys)) ≡ kids_values (kids_of xs) + kids_values (kids_of ys)
+kids_values-append [] ys = omega arith
+kids_values-append (t ∷ xs) ys = let rest = kids_values-append xs ys in omega arith
+
+kids_depth-append : (xs ys : List Meaning) → kids_depth (kids_of (xs ++ ys)) ≡ max (kids_depth (kids_of xs)) (kids_depth (kids_of ys))
+kids_depth-append [] ys = omega arith
+kids_depth-append (t ∷ xs) ys = let rest = kids_depth-append xs ys in omega arith
+
+pub values_more : (parts : List (List Meaning)) (i : ℕ) (part : List Meaning) (all v size new : ℕ) → i < length parts → part ≡ get_or parts i part
+    → min all (2 ^ 64 - 1) ≡ min (v + kids_values (kids_of (joined (drop i parts)))) (2 ^ 64 - 1) → size ≡ min (kids_values (kids_of part)) (2 ^ 64 - 1) → new ≡ min (v + size) (2 ^ 64 - 1)
+    → min all (2 ^ 64 - 1) ≡ min (new + kids_values (kids_of (joined (drop (i + 1) parts)))) (2 ^ 64 - 1)
+values_more parts i part all v size new lt is whole size_is new_is =
+    let next = ap (λ l. kids_values (kids_of l)) (joined_drop parts i part lt is) ∙ kids_values-append part (joined (drop (i + 1) parts)) in
+    omega arith
+
+pub depth_more : (parts : List (List Meaning)) (i : ℕ) (part : List Meaning) (all d size new : ℕ) → i < length parts → part ≡ get_or parts i part
+    → min all (2 ^ 64 - 1) ≡ min (max d (kids_depth (kids_of (joined (drop i parts))))) (2 ^ 64 - 1) → size ≡ min (kids_depth (kids_of part)) (2 ^ 64 - 1) → new ≡ max d size
+    → min all (2 ^ 64 - 1) ≡ min (max new (kids_depth (kids_of (joined (drop (i + 1) parts))))) (2 ^ 64 - 1)
+depth_more parts i part all d size new lt is whole size_is new_is =
+    let next = ap (λ l. kids_depth (kids_of l)) (joined_drop parts i part lt is) ∙ kids_depth-append part (joined (drop (i + 1) parts)) in
+    omega arith
 
 -- an edit below an item or a member is one of the container, one level up
 pub edited_items : (edit : Edit) (level : ℕ) (ts : List Meaning) (n : ℕ) (t u : Meaning) (left : Option Meaning) → n < length ts → t ≡ get_or ts n t → IsEdited edit level t u left

@@ -1,7 +1,10 @@
 pub mod Changes
+pub mod Drafts
 pub mod Edits
 pub mod Effects
+pub mod Joined
 pub mod Limits
 pub mod Patches
 pub mod Reading
 pub mod Targets
+pub mod Weights

@@ -7,11 +7,15 @@ ghost use Rattle.json_patch.specs.Effects.{effect, moved, copied, tested, done};
 ghost use Rattle.json_patch.specs.Patches.{applied};
 ghost use Rattle.json_patch.specs.Targets.{is_proper_prefix};
 
+use crate::draft::Draft;
+use crate::drafting::{copy, draft_of, tree_of};
 use crate::edit::{Edit, Refusal, edit_path};
 use crate::fault::{ApplyCause, ApplyFault};
 use crate::op::{Op, Patch};
+use crate::sameness::is_same;
 use crate::size::{Size, size_of};
-use base_types::json::{Pointer, Tree, copy, get};
+use crate::walking::get;
+use base_types::json::{Pointer, Tree};
 use base_types::{OutOfMemory, Text};
 use std::alloc::Global;
 
@@ -39,14 +43,15 @@ const NO_CHANGE: Change = Change {
     depth: 0,
 };
 
-/// The operations of a patch in order on a tree, which stays as it is (RFC 6902 section 5). The copy on
-/// which they work is made once, and each operation costs what it touches: the values that it brings,
-/// takes away or compares, and one look into each container on the way.
+/// The operations of a patch in order on a tree, which stays as it is (RFC 6902 section 5). They work on a
+/// draft that is made of it once, and each operation costs what it touches: the values that it brings,
+/// takes away or compares, one look into each container on the way, and of a long array a look at its
+/// chunks and the items of one of them.
 pub fn apply(alloc: Global, tree: &Tree, patch: &Patch) -> Result<Tree, ApplyFault>
     ensures ok { IfOk result (λ made. applied 0 patch.now tree.now ≡ Ok made) }
     ensures fault { IfErr result (IsFaultOf (applied 0 patch.now tree.now)) }
 {
-    let mut made = match copy(alloc, tree) {
+    let mut made = match draft_of(alloc, tree) {
         Ok(made) => made,
         Err(OutOfMemory) => return Err(ApplyFault::OutOfMemory),
     };
@@ -62,12 +67,15 @@ pub fn apply(alloc: Global, tree: &Tree, patch: &Patch) -> Result<Tree, ApplyFau
             Err(Refusal::OutOfMemory) => return Err(ApplyFault::OutOfMemory),
         }
     }
-    Ok(made)
+    match tree_of(alloc, &made) {
+        Ok(tree) => Ok(tree),
+        Err(OutOfMemory) => Err(ApplyFault::OutOfMemory),
+    }
 }
 
 // One operation with its limits, and how many values the document then has. `known` is that number before
 // it, where the document is known to be within the limits.
-fn step(alloc: Global, tree: &mut Tree, known: Option<u64>, op: &Op) -> Result<u64, Refusal>
+fn step(alloc: Global, tree: &mut Draft, known: Option<u64>, op: &Op) -> Result<u64, Refusal>
     requires { ForSome known (IsWithin tree.old) }
     ensures done { IfOk result (λ _. done op.now tree.old ≡ Ok tree.new) }
     ensures known { IfOk result (IsWithin tree.new) }
@@ -99,19 +107,19 @@ fn size_after(count: u64, change: Change) -> Size
     }
 }
 
-fn make(alloc: Global, tree: &mut Tree, op: &Op) -> Result<Change, Refusal>
+fn make(alloc: Global, tree: &mut Draft, op: &Op) -> Result<Change, Refusal>
     ensures done { IfOk result (λ _. effect op.now tree.old ≡ Ok tree.new) }
     ensures change { IfOk result (IsChange tree.old tree.new) }
     ensures refused { IfErr result (RefusedBy (effect op.now tree.old)) }
 {
     match op {
         Op::Add { path, value } => {
-            let value = copy(alloc, value)?;
+            let value = draft_of(alloc, value)?;
             change_by(alloc, tree, path.as_slice(), Edit::Add(value))
         }
         Op::Remove { path } => change_by(alloc, tree, path.as_slice(), Edit::Remove),
         Op::Replace { path, value } => {
-            let value = copy(alloc, value)?;
+            let value = draft_of(alloc, value)?;
             change_by(alloc, tree, path.as_slice(), Edit::Replace(value))
         }
         Op::Move { from, path } => move_value(alloc, tree, from.as_slice(), path.as_slice()),
@@ -120,7 +128,7 @@ fn make(alloc: Global, tree: &mut Tree, op: &Op) -> Result<Change, Refusal>
     }
 }
 
-fn change_by(alloc: Global, tree: &mut Tree, path: &[Text], edit: Edit) -> Result<Change, Refusal>
+fn change_by(alloc: Global, tree: &mut Draft, path: &[Text], edit: Edit) -> Result<Change, Refusal>
     ensures done { IfOk result (λ _. edited_at path.now edit tree.old ≡ Ok tree.new) }
     ensures change { IfOk result (IsChange tree.old tree.new) }
     ensures refused { IfErr result (RefusedBy (edited_at path.now edit tree.old)) }
@@ -148,7 +156,7 @@ fn coming(edit: &Edit, level: usize) -> (u64, u64)
     }
 }
 
-fn values_of(left: &Option<Tree>) -> u64
+fn values_of(left: &Option<Draft>) -> u64
     ensures { result ≡ min (went_of left.now) (2 ^ 64 - 1) }
 {
     match left {
@@ -160,7 +168,7 @@ fn values_of(left: &Option<Tree>) -> u64
 // The value is taken out and put in, and not copied. Where it doesn't get deeper its depth isn't asked.
 fn move_value(
     alloc: Global,
-    tree: &mut Tree,
+    tree: &mut Draft,
     from: &[Text],
     path: &[Text],
 ) -> Result<Change, Refusal>
@@ -202,7 +210,7 @@ fn is_proper_prefix(from: &[Text], path: &[Text]) -> bool
 
 fn copy_value(
     alloc: Global,
-    tree: &mut Tree,
+    tree: &mut Draft,
     from: &Pointer,
     path: &Pointer,
 ) -> Result<Change, Refusal>
@@ -210,22 +218,22 @@ fn copy_value(
     ensures change { IfOk result (IsChange tree.old tree.new) }
     ensures refused { IfErr result (RefusedBy (copied from.now path.now tree.old)) }
 {
-    let value = match get(tree, from) {
+    let value = match get(tree, from)? {
         Some(value) => copy(alloc, value)?,
         None => return Err(Refusal::Cause(ApplyCause::NoValue)),
     };
     change_by(alloc, tree, path.as_slice(), Edit::Add(value))
 }
 
-fn test_value(tree: &Tree, path: &Pointer, value: &Tree) -> Result<Change, Refusal>
+fn test_value(tree: &Draft, path: &Pointer, value: &Tree) -> Result<Change, Refusal>
     ensures done { IfOk result (λ _. tested path.now value.now tree.now ≡ Ok tree.now) }
     ensures change { IfOk result (IsChange tree.now tree.now) }
     ensures refused { IfErr result (RefusedBy (tested path.now value.now tree.now)) }
 {
-    match get(tree, path) {
+    match get(tree, path)? {
         None => Err(Refusal::Cause(ApplyCause::NoValue)),
         Some(there) => {
-            if there == value {
+            if is_same(there, value) {
                 Ok(NO_CHANGE)
             } else {
                 Err(Refusal::Cause(ApplyCause::Differs))

@@ -7,8 +7,10 @@ ghost use Rattle.base_types.specs.Pointers.{child_of, pointed};
 ghost use Rattle.json_patch.specs.Edits.{edited_at, change_of, missing_of, edited, RefusedBy, IsTaken, IsEdited};
 ghost use Rattle.json_patch.specs.Effects.{place_of};
 
+use crate::chunks::{find, remove_at, replace_at};
+use crate::draft::{Chunks, Draft, DraftMembers, DraftNode};
 use crate::fault::ApplyCause;
-use base_types::json::{MemberList, Node, Tree, Trees, read_index};
+use base_types::json::read_index;
 use base_types::{OutOfMemory, Text};
 use std::alloc::{AllocFailed, Global};
 use std::mem;
@@ -16,9 +18,9 @@ use std::mem;
 /// What changes under the last token of a target location.
 #[derive(Drop)]
 pub enum Edit {
-    Add(Tree),
+    Add(Draft),
     Remove,
-    Replace(Tree),
+    Replace(Draft),
 }
 
 /// Why an edit isn't made. The document may then be part of what it was, and is given up.
@@ -69,10 +71,10 @@ impl Edit {
 /// Makes an edit at a target location, and answers the value that left the document.
 pub fn edit_path(
     alloc: Global,
-    tree: &mut Tree,
+    tree: &mut Draft,
     path: &[Text],
     edit: Edit,
-) -> Result<Option<Tree>, Refusal>
+) -> Result<Option<Draft>, Refusal>
     ensures done { IfOk result (λ _. edited_at path.now edit tree.old ≡ Ok tree.new) }
     ensures taken { IfOk result (λ left. IsTaken edit left (pointed path.now tree.old)) }
     ensures size { IfOk result (IsEdited edit (length path.now) tree.old tree.new) }
@@ -85,7 +87,7 @@ pub fn edit_path(
 }
 
 // Another value takes the place of the whole document.
-fn edit_root(tree: &mut Tree, edit: Edit) -> Result<Option<Tree>, Refusal>
+fn edit_root(tree: &mut Draft, edit: Edit) -> Result<Option<Draft>, Refusal>
     ensures done { IfOk result (λ _. edited_at [] edit tree.old ≡ Ok tree.new) }
     ensures taken { IfOk result (λ left. IsTaken edit left (Some tree.old)) }
     ensures size { IfOk result (IsEdited edit 0 tree.old tree.new) }
@@ -101,11 +103,11 @@ fn edit_root(tree: &mut Tree, edit: Edit) -> Result<Option<Tree>, Refusal>
 #[cycle(edit_at)]
 fn edit_at(
     alloc: Global,
-    tree: &mut Tree,
+    tree: &mut Draft,
     first: &Text,
     rest: &[Text],
     edit: Edit,
-) -> Result<Option<Tree>, Refusal>
+) -> Result<Option<Draft>, Refusal>
     ensures done { IfOk result (λ _. edited first.now rest.now edit tree.old ≡ Ok tree.new) }
     ensures taken { IfOk result (λ left. IsTaken edit left (pointed (first.now ∷ rest.now) tree.old)) }
     ensures size { IfOk result (IsEdited edit (1 + length rest.now) tree.old tree.new) }
@@ -114,8 +116,8 @@ fn edit_at(
     match rest {
         [] => edit_in(alloc, tree, first.as_str(), edit),
         [next, after @ ..] => match &mut tree.node {
-            Node::Items(list) => edit_below_items(alloc, list, first, next, after, edit),
-            Node::Members(list) => edit_below_members(alloc, list, first, next, after, edit),
+            DraftNode::Items(list) => edit_below_items(alloc, list, first, next, after, edit),
+            DraftNode::Members(list) => edit_below_members(alloc, list, first, next, after, edit),
             _ => Err(Refusal::Cause(edit.missing())),
         },
     }
@@ -125,12 +127,12 @@ fn edit_at(
 #[cycle(edit_at)]
 fn edit_below_items(
     alloc: Global,
-    list: &mut Trees,
+    list: &mut Chunks,
     first: &Text,
     next: &Text,
     after: &[Text],
     edit: Edit,
-) -> Result<Option<Tree>, Refusal>
+) -> Result<Option<Draft>, Refusal>
     ensures done { IfOk result
         (λ _. edited first.now (next.now ∷ after.now) edit (items (kids_of list.old)) ≡ Ok (items (kids_of list.new))) }
     ensures taken { IfOk result
@@ -140,10 +142,10 @@ fn edit_below_items(
     ensures refused { IfErr result (RefusedBy (edited first.now (next.now ∷ after.now) edit
         (items (kids_of list.old)))) }
 {
-    match list.find(first.as_str()) {
-        Some(at) => {
-            let child = &mut list.all[at];
-            edit_at(alloc, child, next, after, edit)
+    match find(&list.parts, first.as_str())? {
+        Some(place) => {
+            let part = &mut list.parts[place.part];
+            edit_at(alloc, &mut part.all[place.offset], next, after, edit)
         }
         None => Err(Refusal::Cause(edit.missing())),
     }
@@ -153,12 +155,12 @@ fn edit_below_items(
 #[cycle(edit_at)]
 fn edit_below_members(
     alloc: Global,
-    list: &mut MemberList,
+    list: &mut DraftMembers,
     first: &Text,
     next: &Text,
     after: &[Text],
     edit: Edit,
-) -> Result<Option<Tree>, Refusal>
+) -> Result<Option<Draft>, Refusal>
     ensures done { IfOk result
         (λ _. edited first.now (next.now ∷ after.now) edit (members (fields_of list.old)) ≡ Ok
         (members (fields_of list.new))) }
@@ -179,20 +181,30 @@ fn edit_below_members(
 }
 
 // Makes an edit of a container under one token.
-fn edit_in(alloc: Global, tree: &mut Tree, token: &str, edit: Edit) -> Result<Option<Tree>, Refusal>
+fn edit_in(
+    alloc: Global,
+    tree: &mut Draft,
+    token: &str,
+    edit: Edit,
+) -> Result<Option<Draft>, Refusal>
     ensures done { IfOk result (λ _. change_of edit token.now tree.old ≡ Ok tree.new) }
     ensures taken { IfOk result (λ left. IsTaken edit left (child_of token.now tree.old)) }
     ensures size { IfOk result (IsEdited edit 1 tree.old tree.new) }
     ensures refused { IfErr result (RefusedBy (change_of edit token.now tree.old)) }
 {
     match &mut tree.node {
-        Node::Items(list) => edit_item(list, token, edit),
-        Node::Members(list) => edit_member(alloc, list, token, edit),
+        DraftNode::Items(list) => edit_item(alloc, list, token, edit),
+        DraftNode::Members(list) => edit_member(alloc, list, token, edit),
         _ => Err(Refusal::Cause(edit.missing())),
     }
 }
 
-fn edit_item(list: &mut Trees, token: &str, edit: Edit) -> Result<Option<Tree>, Refusal>
+fn edit_item(
+    alloc: Global,
+    list: &mut Chunks,
+    token: &str,
+    edit: Edit,
+) -> Result<Option<Draft>, Refusal>
     ensures done { IfOk result (λ _. change_of edit token.now (items (kids_of list.old)) ≡ Ok
         (items (kids_of list.new))) }
     ensures taken { IfOk result (λ left. IsTaken edit left (child_of token.now (items (kids_of list.old)))) }
@@ -200,19 +212,19 @@ fn edit_item(list: &mut Trees, token: &str, edit: Edit) -> Result<Option<Tree>, 
     ensures refused { IfErr result (RefusedBy (change_of edit token.now (items (kids_of list.old)))) }
 {
     match edit {
-        Edit::Add(value) => match place_of(token, list.all.len()) {
+        Edit::Add(value) => match place_of(token, list.len()?) {
             Some(at) => {
-                list.all.insert(at, value)?;
+                list.insert(alloc, at, value)?;
                 Ok(None)
             }
             None => Err(Refusal::Cause(ApplyCause::BadIndex)),
         },
-        Edit::Remove => match list.find(token) {
-            Some(at) => Ok(Some(list.all.remove(at))),
+        Edit::Remove => match find(&list.parts, token)? {
+            Some(place) => Ok(Some(remove_at(&mut list.parts, place))),
             None => Err(Refusal::Cause(ApplyCause::NoValue)),
         },
-        Edit::Replace(value) => match list.find(token) {
-            Some(at) => Ok(Some(mem::replace(&mut list.all[at], value))),
+        Edit::Replace(value) => match find(&list.parts, token)? {
+            Some(place) => Ok(Some(replace_at(&mut list.parts, place, value))),
             None => Err(Refusal::Cause(ApplyCause::NoValue)),
         },
     }
@@ -234,10 +246,10 @@ fn place_of(token: &str, count: usize) -> Option<usize>
 // Puts a value at a member, and answers the one that was there.
 fn put_member(
     alloc: Global,
-    list: &mut MemberList,
+    list: &mut DraftMembers,
     token: &str,
-    value: Tree,
-) -> Result<Option<Tree>, OutOfMemory>
+    value: Draft,
+) -> Result<Option<Draft>, OutOfMemory>
     ensures put { OnOk result (fields_of list.new ≡ put token.now value (fields_of list.old)) }
     ensures old { IfOk result (λ old. old ≡ lookup token.now (fields_of list.old)) }
     ensures sorted { IfOk result (λ _. AreSorted list.old) }
@@ -251,10 +263,10 @@ fn put_member(
 
 fn edit_member(
     alloc: Global,
-    list: &mut MemberList,
+    list: &mut DraftMembers,
     token: &str,
     edit: Edit,
-) -> Result<Option<Tree>, Refusal>
+) -> Result<Option<Draft>, Refusal>
     ensures done { IfOk result (λ _. change_of edit token.now (members (fields_of list.old)) ≡ Ok
         (members (fields_of list.new))) }
     ensures taken { IfOk result (λ left. IsTaken edit left (child_of token.now (members (fields_of list.old)))) }

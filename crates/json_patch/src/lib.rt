@@ -2,11 +2,17 @@
 #![tactic(auto)]
 
 mod applying;
+mod chunks;
+mod draft;
+mod drafting;
 mod edit;
 mod fault;
+mod named;
 mod op;
 mod reading;
+mod sameness;
 mod size;
+mod walking;
 
 pub use applying::apply;
 pub use fault::{ApplyCause, ApplyFault, PatchFault};

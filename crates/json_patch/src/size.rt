@@ -2,31 +2,31 @@ ghost use Rattle.std.specs.Prelude.{◌≡◌, ◌-◌, ◌^◌, min};
 ghost use Rattle.base_types.specs.Meaning.{kids_of, fields_of};
 ghost use Rattle.json_patch.specs.Limits.{depth, kids_depth, fields_depth, values, kids_values, fields_values};
 
-use base_types::json::{MemberList, Node, Tree, Trees};
+use crate::draft::{Chunk, Chunks, Draft, DraftMembers, DraftNode};
 
-/// How large a tree is. The numbers stop at 2^64 - 1.
+/// How large a document is. The numbers stop at 2^64 - 1.
 #[derive(Clone, Copy)]
 pub struct Size {
-    /// How many values there are, the tree itself among them.
+    /// How many values there are, the document itself among them.
     pub values: u64,
     /// How many containers stand one inside another.
     pub depth: u64,
 }
 
 #[cycle(size_of)]
-pub fn size_of(tree: &Tree) -> Size
+pub fn size_of(tree: &Draft) -> Size
     ensures values { result.values ≡ min (values tree.now) (2 ^ 64 - 1) }
     ensures depth { result.depth ≡ min (depth tree.now) (2 ^ 64 - 1) }
 {
     let inside = match &tree.node {
-        Node::Null | Node::Flag(_) | Node::Whole(_) | Node::Words(_) => {
+        DraftNode::Null | DraftNode::Flag(_) | DraftNode::Whole(_) | DraftNode::Words(_) => {
             return Size {
                 values: 1,
                 depth: 0,
             };
         }
-        Node::Items(list) => size_of_items(list),
-        Node::Members(list) => size_of_members(list),
+        DraftNode::Items(list) => size_of_items(list),
+        DraftNode::Members(list) => size_of_members(list),
     };
     Size {
         values: inside.values.saturating_add(1),
@@ -35,13 +35,28 @@ pub fn size_of(tree: &Tree) -> Size
 }
 
 #[cycle(size_of)]
-fn size_of_items(list: &Trees) -> Size
+fn size_of_items(list: &Chunks) -> Size
     ensures values { result.values ≡ min (kids_values (kids_of list.now)) (2 ^ 64 - 1) }
     ensures depth { result.depth ≡ min (kids_depth (kids_of list.now)) (2 ^ 64 - 1) }
 {
     let mut values = 0u64;
     let mut depth = 0u64;
-    for item in &list.all {
+    for part in &list.parts {
+        let size = size_of_part(part);
+        values = values.saturating_add(size.values);
+        depth = depth.max(size.depth);
+    }
+    Size { values, depth }
+}
+
+#[cycle(size_of)]
+fn size_of_part(part: &Chunk) -> Size
+    ensures values { result.values ≡ min (kids_values (kids_of part.now)) (2 ^ 64 - 1) }
+    ensures depth { result.depth ≡ min (kids_depth (kids_of part.now)) (2 ^ 64 - 1) }
+{
+    let mut values = 0u64;
+    let mut depth = 0u64;
+    for item in &part.all {
         let size = size_of(item);
         values = values.saturating_add(size.values);
         depth = depth.max(size.depth);
@@ -50,7 +65,7 @@ fn size_of_items(list: &Trees) -> Size
 }
 
 #[cycle(size_of)]
-fn size_of_members(list: &MemberList) -> Size
+fn size_of_members(list: &DraftMembers) -> Size
     ensures values { result.values ≡ min (fields_values (fields_of list.now)) (2 ^ 64 - 1) }
     ensures depth { result.depth ≡ min (fields_depth (fields_of list.now)) (2 ^ 64 - 1) }
 {

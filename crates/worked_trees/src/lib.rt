@@ -4,6 +4,8 @@
 #[cfg(test)]
 mod json_patch_limits;
 #[cfg(test)]
+mod json_patch_lists;
+#[cfg(test)]
 mod json_patch_refusals;
 #[cfg(test)]
 mod json_patch_rows;

@@ -7,55 +7,76 @@ use Rattle.base_types.specs.Search.{IsNamedAt, IsPlaceFor}
 use Rattle.base_types.proofs.Ordered.{named_within, lookup_absent}
 use Rattle.base_types.proofs.Removing.{sorted_changed}
 use Rattle.json_patch.specs.Edits.{edited, RefusedBy, IsTaken, IsEdited}
-use Rattle.json_patch.proofs.Paths.{done_below, refused_below, pointed_below, edited_missing, levelled, with_item, item_there, with_member, member_there}
+use Rattle.json_patch.proofs.Paths.{done_below, refused_below, pointed_below, edited_missing, levelled, with_member, member_there}
+use Rattle.json_patch.specs.Joined.{joined, number_of}
+use Rattle.json_patch.proofs.Finding.{found_place, found_number, place_there, place_written}
+use Rattle.json_patch.proofs.Joins.{number_within, read_at, written_at}
 use Rattle.json_patch.proofs.Sizes.{edited_items, edited_members}
 use Rattle.json_patch.proofs.edit.+edit_at.Goals as goal
 
 pub edit_below_items-returns-in-Some-clause-done : goal.edit_below_items-returns-in-Some-clause-done
 edit_below_items-returns-in-Some-clause-done t c =
     let all = c.args.list.now in
-    let child = c.index_mut-child.result.now in
-    let n = c.in-Some.at in
-    let found = c.in-Some.ensures.some in
-    let is : index_of c.args.first.now ≡ Some n = ap index_of (sym c.as_str.ensures.value) ∙ found.0 in
-    let read = subst (λ l. child ≡ get_or l n child) c.list.view_is c.index_mut-child.ensures.value in
-    let there = item_there c.args.first.now all n child is found.1 read in
-    let whole = with_item c.args.first.now all n c.edit_at.new.tree is ∙ ap (λ l. items (kids_of (set l n c.edit_at.new.tree))) (sym c.list.view_is) in
+    let parts = c.list.inside.parts.items in
+    let place = c.in-Some.place in
+    let part = c.part.inside.all.items in
+    let child = c.index_mut.result.now in
+    let found = c.in_ok-place in
+    let here = found_place c.deref.result.now parts found.field-0 place c.deref.ensures.value c.in-Some.is found.ensures.place in
+    let number = subst (λ token. index_of token ≡ Some (number_of parts place)) c.as_str.ensures.value (found_number c.as_str.result.now c.deref.result.now parts found.field-0 place c.deref.ensures.value c.in-Some.is found.ensures.number) in
+    let is = subst (λ p. p ≡ get_or parts place.part p) (sym c.part.view_is) c.index_mut-part.ensures.value in
+    let there = place_there c.args.first.now parts all place part child c.list.view_is here number is c.index_mut.ensures.value in
+    let whole = place_written c.args.first.now parts all place part c.edit_at.new.tree c.list.view_is here number is in
     IfOk-weaker c.edit_at.result (λ left. edited c.args.next.now c.args.after.now c.args.edit child ≡ Ok c.edit_at.new.tree) _
     (λ left inner. done_below c.args.first.now c.args.next.now c.args.after.now c.args.edit (items (kids_of all)) child c.edit_at.new.tree _ there inner whole) c.edit_at.ensures.done
 
 pub edit_below_items-returns-in-Some-clause-taken : goal.edit_below_items-returns-in-Some-clause-taken
 edit_below_items-returns-in-Some-clause-taken t c =
     let all = c.args.list.now in
-    let child = c.index_mut-child.result.now in
-    let n = c.in-Some.at in
-    let found = c.in-Some.ensures.some in
-    let is : index_of c.args.first.now ≡ Some n = ap index_of (sym c.as_str.ensures.value) ∙ found.0 in
-    let read = subst (λ l. child ≡ get_or l n child) c.list.view_is c.index_mut-child.ensures.value in
-    let below = pointed_below c.args.first.now c.args.next.now c.args.after.now (items (kids_of all)) child (item_there c.args.first.now all n child is found.1 read) in
+    let parts = c.list.inside.parts.items in
+    let place = c.in-Some.place in
+    let part = c.part.inside.all.items in
+    let child = c.index_mut.result.now in
+    let found = c.in_ok-place in
+    let here = found_place c.deref.result.now parts found.field-0 place c.deref.ensures.value c.in-Some.is found.ensures.place in
+    let number = subst (λ token. index_of token ≡ Some (number_of parts place)) c.as_str.ensures.value (found_number c.as_str.result.now c.deref.result.now parts found.field-0 place c.deref.ensures.value c.in-Some.is found.ensures.number) in
+    let is = subst (λ p. p ≡ get_or parts place.part p) (sym c.part.view_is) c.index_mut-part.ensures.value in
+    let there = place_there c.args.first.now parts all place part child c.list.view_is here number is c.index_mut.ensures.value in
+    let below = pointed_below c.args.first.now c.args.next.now c.args.after.now (items (kids_of all)) child there in
     IfOk-weaker c.edit_at.result (λ left. IsTaken c.args.edit left (pointed (c.args.next.now ∷ c.args.after.now) child)) _
     (λ left inner. subst (IsTaken c.args.edit left) below inner) c.edit_at.ensures.taken
 
 pub edit_below_items-returns-in-Some-clause-size : goal.edit_below_items-returns-in-Some-clause-size
 edit_below_items-returns-in-Some-clause-size t c =
-    let all = c.list.inside.all.items in
-    let child = c.index_mut-child.result.now in
-    let n = c.in-Some.at in
-    let within : n < length all = subst (λ l. n < length l) (sym c.list.view_is) c.in-Some.ensures.some.1 in
-    IfOk-weaker c.edit_at.result (IsEdited c.args.edit (1 + length c.args.after.now) child c.edit_at.new.tree) _
-    (λ left inner. levelled (λ n. IsEdited c.args.edit n (items (kids_of c.args.list.now)) (items (kids_of (set all c.in-Some.at c.edit_at.new.tree))) left) (length c.args.after.now)
-    (subst (λ l. IsEdited c.args.edit (1 + (1 + length c.args.after.now)) (items (kids_of l)) (items (kids_of (set all c.in-Some.at c.edit_at.new.tree))) left) c.list.view_is
-    (edited_items c.args.edit (1 + length c.args.after.now) all n child c.edit_at.new.tree left within c.index_mut-child.ensures.value inner))) c.edit_at.ensures.size
+    let parts = c.list.inside.parts.items in
+    let place = c.in-Some.place in
+    let part = c.part.inside.all.items in
+    let child = c.index_mut.result.now in
+    let new = c.edit_at.new.tree in
+    let n = number_of parts place in
+    let found = c.in_ok-place in
+    let here = found_place c.deref.result.now parts found.field-0 place c.deref.ensures.value c.in-Some.is found.ensures.place in
+    let is = subst (λ p. p ≡ get_or parts place.part p) (sym c.part.view_is) c.index_mut-part.ensures.value in
+    let read = read_at parts place part child here is c.index_mut.ensures.value in
+    let written = written_at parts place part new here is in
+    IfOk-weaker c.edit_at.result (IsEdited c.args.edit (1 + length c.args.after.now) child new) _
+    (λ left inner. levelled (λ n. IsEdited c.args.edit n (items (kids_of c.args.list.now)) (items (kids_of (joined (set parts place.part (set part place.offset new))))) left) (length c.args.after.now)
+    (subst (λ l. IsEdited c.args.edit (1 + (1 + length c.args.after.now)) (items (kids_of l)) (items (kids_of (joined (set parts place.part (set part place.offset new))))) left) c.list.view_is
+    (subst (λ l. IsEdited c.args.edit (1 + (1 + length c.args.after.now)) (items (kids_of (joined parts))) (items (kids_of l)) left) (sym written)
+    (edited_items c.args.edit (1 + length c.args.after.now) (joined parts) n child new left (number_within parts place here) read inner)))) c.edit_at.ensures.size
 
 pub edit_below_items-returns-in-Some-clause-refused : goal.edit_below_items-returns-in-Some-clause-refused
 edit_below_items-returns-in-Some-clause-refused t c =
     let all = c.args.list.now in
-    let child = c.index_mut-child.result.now in
-    let n = c.in-Some.at in
-    let found = c.in-Some.ensures.some in
-    let is : index_of c.args.first.now ≡ Some n = ap index_of (sym c.as_str.ensures.value) ∙ found.0 in
-    let read = subst (λ l. child ≡ get_or l n child) c.list.view_is c.index_mut-child.ensures.value in
-    let there = item_there c.args.first.now all n child is found.1 read in
+    let parts = c.list.inside.parts.items in
+    let place = c.in-Some.place in
+    let part = c.part.inside.all.items in
+    let child = c.index_mut.result.now in
+    let found = c.in_ok-place in
+    let here = found_place c.deref.result.now parts found.field-0 place c.deref.ensures.value c.in-Some.is found.ensures.place in
+    let number = subst (λ token. index_of token ≡ Some (number_of parts place)) c.as_str.ensures.value (found_number c.as_str.result.now c.deref.result.now parts found.field-0 place c.deref.ensures.value c.in-Some.is found.ensures.number) in
+    let is = subst (λ p. p ≡ get_or parts place.part p) (sym c.part.view_is) c.index_mut-part.ensures.value in
+    let there = place_there c.args.first.now parts all place part child c.list.view_is here number is c.index_mut.ensures.value in
     IfErr-weaker c.edit_at.result (RefusedBy (edited c.args.next.now c.args.after.now c.args.edit child)) _
     (λ refusal inner. refused_below c.args.first.now c.args.next.now c.args.after.now c.args.edit (items (kids_of all)) child refusal there inner) c.edit_at.ensures.refused
 

@@ -1,0 +1,17 @@
+-- The items of an array that is kept in chunks, and where each stands.
+use Rattle.std.specs.Prelude.{ℕ, ◌+◌, ◌<◌, List, [], length, get_or, take}
+use Rattle.std.specs.List.{flat_map}
+use Rattle.base_types.specs.Meaning.{Meaning}
+use Rattle.json_patch.specs.declared.chunks.Place.{Place}
+
+abbrev pub joined : List (List Meaning) → List Meaning
+joined parts = flat_map (λ part. part) parts
+
+-- an item stands at the place
+pub record IsPlaceIn (parts : List (List Meaning)) (place : Place) : Type 0 where
+  pub part : place.part < length parts
+  pub offset : place.offset < length (get_or parts place.part [])
+
+-- how many items stand before the place
+abbrev pub number_of : List (List Meaning) → Place → ℕ
+number_of parts place = length (joined (take place.part parts)) + place.offset
