@@ -1,6 +1,7 @@
 mod OutcomeOrder
 mod OutcomeClaims
 mod OutcomePlacing
+mod PlacingGathered
 mod OutcomeTrees
 mod OutcomeSharing
 mod FindingShown
