@@ -26,12 +26,12 @@ impl Worked {
     fn remove_middle(&mut self, rt: &(impl Abort + AllocGlobal)) {
         let middle = self.items.len() / 2;
         if middle < self.items.len() {
+            let gone = self.items.remove(middle);
+            drop(gone);
             let text = format!(in rt.alloc();
                 r#", {{"op": "remove", "path": "/{middle}"}}"#
             ).expect(rt, "memory");
             self.push_text(rt, text.as_str());
-            let gone = self.items.remove(middle);
-            drop(gone);
         }
     }
 }
