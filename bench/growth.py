@@ -19,6 +19,7 @@ times the size. A kind stops where a run takes longer than --most seconds (by de
   spans      writes one behind the other, each with a read whose window ends there
   absent     reads answered 404 in windows that stay open, among creates and deletes
   resources  hundreds of tracked resources
+  clouded    unrecorded writes that changed nothing, each with a revision right behind, and reads whose windows stay open
   names      one object, written over and over
   subjects   bindings that all name one group
 """
@@ -223,6 +224,16 @@ def nested(log, size):
     log.setup["policy"]["rules"] = [{"level": "Request", "users": ["p"]}, {"level": "RequestResponse"}]
 
 
+def clouded(log, size):
+    log.write("a", "0")
+    end = (size + 10) * 1000
+    for number in range(size // 3):
+        log.event("patch", COLLECTION + "/a", 200, None, None, level="Metadata", user={"username": "p"})
+        log.write("a", str(number), "update")
+        log.read("a", received=500, answered=end)
+    log.setup["policy"]["rules"] = [{"level": "Metadata", "users": ["p"]}, {"level": "RequestResponse"}]
+
+
 def bindings(log, size):
     log.authorize(0)
     rule = [{"verbs": ["get"], "apiGroups": [""], "resources": ["configmaps"]}]
@@ -240,7 +251,7 @@ def bindings(log, size):
 
 
 KINDS = {it.__name__: it for it in (plain, prefixes, nested, namespaces, decisions, bindings, pages, inserts, spans, absent,
-                                    resources, names, subjects)}
+                                    resources, clouded, names, subjects)}
 
 
 def judged(program, folder):
