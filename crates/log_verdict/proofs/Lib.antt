@@ -1,7 +1,6 @@
 mod OutcomeOrder
 mod OutcomeClaims
 mod OutcomePlacing
-mod PlacingGathered
 mod OutcomeTrees
 mod OutcomeSharing
 mod FindingShown

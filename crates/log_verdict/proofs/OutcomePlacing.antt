@@ -1,15 +1,32 @@
--- The lines of all events are those of a placement.
-use Rattle.std.proofs.Common.{◌≡◌, ℕ, ◌<◌, List, length, get_or, Option, Some, None, slice_get, AllPairs, IsSome, refl, sym, ◌∙◌, subst, arith}
+-- The lines of events are placed one after the other.
+use Rattle.std.proofs.Common.{◌≡◌, ℕ, zero, suc, ◌+◌, ◌<◌, ◌⊎◌, inl, inr, List, [], ◌∷◌, ◌++◌, length, get_or, Option, Some, None, slice_get, All, AllPairs, IsSome, refl, sym, ap, ◌∙◌, subst, arith}
+use Rattle.std.proofs.lemmas.List.{length-append}
 use Rattle.std.proofs.lemmas.Option.{same_Some, slice_get-get_or, slice_get_within}
-use Rattle.base_types.specs.Placements.{RisesByLine}
 use Rattle.base_types.specs.declared.placed.PlacedLine.{PlacedLine}
 use Rattle.event_claims.specs.Lines.{IsLined}
+use Rattle.history_model.proofs.Fits.{same_event}
+use Rattle.history_model.proofs.Members.{all_from, in_at}
 use Rattle.history_model.proofs.OutcomeLaw.{get_within}
 use Rattle.history_model.specs.Events.{Event}
 use Rattle.history_model.specs.Histories.{History, IsEvent}
 use Rattle.history_model.specs.Local.{IsRightUnder}
 use Rattle.history_model.specs.Placed.{ArePlacedLines, IsPlacedLine}
 use Rattle.history_model.specs.Readable.{IsReadable}
+
+-- the lines of the first n events
+pub record ArePlacedUpTo (h : History) (choice : List ℕ) (n : ℕ) (lines : List PlacedLine) : Type 0 where
+  pub all : length lines ≡ n
+  pub each : (number : ℕ) (event : Event) (line : PlacedLine) → IsEvent h number event → slice_get lines number ≡ Some line → IsPlacedLine h choice number event line
+
+get_pushed : {X : Type 0} (xs : List X) (x : X) (i : ℕ) (y : X) → slice_get (xs ++ x ∷ []) i ≡ Some y → (slice_get xs i ≡ Some y) ⊎ ((i ≡ length xs) × (x ≡ y))
+get_pushed [] x zero y e = inr (refl, same_Some x y e)
+get_pushed [] x (suc i) y e = absurd (cc e)
+get_pushed (z ∷ zs) x zero y e = inl e
+get_pushed (z ∷ zs) x (suc i) y e = go (get_pushed zs x i y e)
+  where
+    go : (slice_get zs i ≡ Some y) ⊎ ((i ≡ length zs) × (x ≡ y)) → (slice_get (z ∷ zs) (suc i) ≡ Some y) ⊎ ((suc i ≡ length (z ∷ zs)) × (x ≡ y))
+    go (inl q) = inl q
+    go (inr q) = inr (ap suc q.0, q.1)
 
 -- what holds of each two holds of those at two places
 pub pairs_at : {X : Type 0} (R : X → X → Type 0) (xs : List X) (i j : ℕ) (x y : X) → AllPairs R xs → i < j → slice_get xs i ≡ Some x → slice_get xs j ≡ Some y → R x y
@@ -18,19 +35,41 @@ pairs_at R xs i j x y pairs l a b =
     (subst (λ z. R (get_or xs i x) z) (same_Some (get_or xs j x) y (sym (slice_get-get_or xs j x (slice_get_within xs j y b)) ∙ b)) (pairs i j x l (slice_get_within xs j y b)))
 
 module _ (h : History) (choice : List ℕ) where
-  rises_at : IsReadable h → (lines : List PlacedLine) → ArePlacedLines h choice lines → (i j : ℕ) (x y : PlacedLine) → i < j → slice_get lines i ≡ Some x → slice_get lines j ≡ Some y
-      → (a : Event) × IsEvent h i a → (b : Event) × IsEvent h j b → x.line < y.line
-  rises_at r lines are i j x y less at_i at_j (a, is_a) (b, is_b) =
-      let l = pairs_at (λ (a b : Event). a.line < b.line) h.events i j a b r.lines less is_a is_b in
-      omega (arith, l, (are.each i a x is_a at_i).of_event, (are.each j b y is_b at_j).of_event)
+  pub placed_none : ArePlacedUpTo h choice 0 []
+  placed_none = record { all = refl; each = λ number event line k at. absurd (cc at) }
 
-  -- the lines of all events rise, since those of the log do
-  pub placed_rise : IsReadable h → (lines : List PlacedLine) → ArePlacedLines h choice lines → RisesByLine lines
-  placed_rise r lines are = λ i j d less below.
-      let all = are.all in
-      let before : i < length lines = omega (arith, less, below) in
-      rises_at r lines are i j (get_or lines i d) (get_or lines j d) less (slice_get-get_or lines i d before) (slice_get-get_or lines j d below)
-      (get_within h.events i (omega (arith, before, all))) (get_within h.events j (omega (arith, below, all)))
+  pub placed_more : (n : ℕ) (lines : List PlacedLine) (event : Event) (line : PlacedLine) → IsEvent h n event → IsPlacedLine h choice n event line → ArePlacedUpTo h choice n lines
+      → ArePlacedUpTo h choice (n + 1) (lines ++ line ∷ [])
+  placed_more n lines event line k placed are = record {
+    all = (let l = are.all in omega (arith, l, length-append lines (line ∷ [])));
+    each = λ number other found q at. each number other found q (get_pushed lines line number found at);
+  }
+    where
+      each : (number : ℕ) (other : Event) (found : PlacedLine) → IsEvent h number other → (slice_get lines number ≡ Some found) ⊎ ((number ≡ length lines) × (line ≡ found)) → IsPlacedLine h choice number other found
+      each number other found q (inl at) = are.each number other found q at
+      each number other found q (inr e) =
+          subst (IsPlacedLine h choice number other) e.1
+          (subst (λ m. IsPlacedLine h choice m other line) (sym last) (subst (λ z. IsPlacedLine h choice n z line) (same_event h n event other k (subst (λ m. IsEvent h m other) last q)) placed))
+        where
+          last : number ≡ n
+          last = e.0 ∙ are.all
+
+  -- the lines so far come before that of the next event
+  pub placed_before : IsReadable h → (n : ℕ) (lines : List PlacedLine) (event : Event) (line : PlacedLine) → IsEvent h n event → IsPlacedLine h choice n event line → ArePlacedUpTo h choice n lines
+      → All (λ earlier. earlier.line < line.line) lines
+  placed_before r n lines event line k placed are = all_from (λ earlier. earlier.line < line.line) lines (λ earlier c. go earlier (in_at lines earlier c))
+    where
+      go : (earlier : PlacedLine) → (i : ℕ) × (slice_get lines i ≡ Some earlier) → earlier.line < line.line
+      go earlier (i, at) = by (get_within h.events i (let l = slice_get_within h.events n event k in omega (arith, l, below)))
+        where
+          below : i < n
+          below = let l = slice_get_within lines i earlier at in omega (arith, l, are.all)
+
+          by : (other : Event) × IsEvent h i other → earlier.line < line.line
+          by (other, q) = let l = pairs_at (λ (a b : Event). a.line < b.line) h.events i n other event r.lines below q k in omega (arith, l, (are.each i other earlier q at).of_event, placed.of_event)
+
+  pub placed_all : (n : ℕ) (lines : List PlacedLine) → n ≡ length h.events → ArePlacedUpTo h choice n lines → ArePlacedLines h choice lines
+  placed_all n lines whole are = record { all = are.all ∙ whole; each = are.each }
 
   -- what is found of an event that is right
   pub line_found : (n : ℕ) (event : Event) (found : Option PlacedLine) → IsRightUnder h choice n event → IsLined h choice n event found → IsSome found

@@ -3,11 +3,9 @@ use Rattle.std.specs.Prelude.{ℕ, List}
 use Rattle.base_types.specs.Choices.{IsChoice}
 use Rattle.base_types.specs.declared.claim.Reason.{Reason}
 use Rattle.base_types.specs.declared.placed.Outcome.{Outcome}
-use Rattle.base_types.specs.declared.placed.PlacedLine.{PlacedLine}
 use Rattle.history_model.specs.Events.{Event}
 use Rattle.history_model.specs.Histories.{IsEvent, ranges}
 use Rattle.history_model.specs.Local.{IsRightUnder}
-use Rattle.history_model.specs.Placed.{IsPlacedLine}
 use Rattle.history_model.specs.Outcomes.{AreWrites, Unexplained, Write, shown_low, shown_high}
 use Rattle.version_store.specs.Histories.{history_of}
 use Rattle.version_store.specs.Known.{Known}
@@ -17,10 +15,6 @@ use Rattle.log_verdict.specs.Judging.{IsPrinted}
 pub record ExplainsEach (known : Known) (choice : List ℕ) : Type 0 where
   pub chosen : IsChoice (ranges (history_of known)) choice
   pub right : (number : ℕ) (event : Event) → IsEvent (history_of known) number event → IsRightUnder (history_of known) choice number event
-
--- the line of the event of this number under the choice
-abbrev pub IsLineOf : Known → List ℕ → ℕ → PlacedLine → Type 0
-IsLineOf known choice number line = (event : Event) → IsEvent (history_of known) number event → IsPlacedLine (history_of known) choice number event line
 
 -- the event's window, or the range of its decision, and the writes there
 pub record IsFindingOf (known : Known) (number : ℕ) (reason : Reason) (outcome : Outcome) : Type 0 where

@@ -7,7 +7,6 @@ mod finding;
 mod judged;
 mod judging;
 mod outcome;
-mod placing;
 mod report;
 mod source;
 mod strictly;
