@@ -104,7 +104,9 @@ def floor():
     if not shutil.which("cargo"):
         return None
     shutil.copytree(os.path.join(HERE, "parsefloor"), folder, dirs_exist_ok=True)
-    ran = subprocess.run(["cargo", "build", "--release", "--offline", "--quiet"], cwd=folder)
+    # Debian's packages of crates stand in the place of the index.
+    debian = ["--config", 'source.crates-io.replace-with="debian"', "--config", 'source.debian.directory="/usr/share/cargo/registry"']
+    ran = subprocess.run(["cargo", "build", "--release", "--offline", "--quiet", *debian], cwd=folder)
     return os.path.join(folder, "target/release/parsefloor") if ran.returncode == 0 else None
 
 
