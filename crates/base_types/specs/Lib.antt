@@ -3,6 +3,8 @@ pub mod Code
 pub mod Covers
 pub mod Edits
 pub mod Escapes
+pub mod Hidden
+pub mod Items
 pub mod Keys
 pub mod Matching
 pub mod Meaning

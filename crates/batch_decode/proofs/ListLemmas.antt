@@ -1,21 +1,24 @@
 -- The events of a list's values, and the numbers that they take.
-use Rattle.std.proofs.Common.{◌≡◌, ℕ, zero, suc, ◌+◌, ◌≤◌, ◌<◌, List, [], ◌∷◌, ◌++◌, length, get_or, map, slice_get, max, Bool, Option, Some, None, Result, Ok, Err, inr, refl, sym, ap, subst, ◌∙◌, arith, length-append}
+use Rattle.std.proofs.Common.{◌≡◌, ℕ, zero, suc, ◌+◌, ◌≤◌, ◌<◌, List, [], ◌∷◌, ◌++◌, length, get_or, map, slice_get, max, Bool, true, false, if◌then◌else◌, Option, Some, None, option_and_then, Result, Ok, Err, inr, refl, sym, ap, subst, ◌∙◌, arith, length-append}
 use Rattle.std.proofs.lemmas.List.Elements.{All-push}
 use Rattle.std.proofs.lemmas.Option.{slice_get-get_or}
-use Rattle.std.specs.Prelude.{All, IfSome, IfOk}
+use Rattle.std.specs.Prelude.{All, IfSome, IfOk, codes}
 use Rattle.base_types.specs.declared.memory.OutOfMemory.{OutOfMemory}
 use Rattle.line_reader.specs.declared.line.Line.{Line}
-use Rattle.serde_json.specs.Data.{Data, Items}
+use Rattle.serde_json.specs.Data.{Data, Items, array}
+use Rattle.serde_json.specs.Find.{get, as_array}
+use Rattle.serde_json.specs.Read as reading
 use Rattle.serde_json.specs.View.{view, items_view}
 use Rattle.serde_json.specs.declared.value.Value.{Value}
 use Rattle.audit_event.specs.declared.event.Event.{Event}
 use Rattle.audit_event.specs.Events.{IsEventOf, IsValueOf, IsSound}
-use Rattle.audit_event.specs.Headings.{is_item}
+use Rattle.audit_event.specs.Headings.{is_item, is_of_kind}
+use Rattle.base_types.specs.Items.{item_list}
+use Rattle.base_types.proofs.Sizes.{is_array, member_within}
 use Rattle.batch_decode.specs.declared.decoded.Decoded.{Decoded}
 use Rattle.batch_decode.specs.declared.decoded.ItemFault.{ItemFault}
 use Rattle.batch_decode.specs.Batches.{AreEventsOf, IsFaultBehind, DecodesValues, DecodesValue, IsNumbered, IsDecodedLine}
-use Rattle.batch_decode.specs.Lists.{item_list, list_items, heading_of, values_of}
-use Rattle.batch_decode.proofs.Sizes.{items_within}
+use Rattle.batch_decode.specs.Lists.{list_items, heading_of, values_of}
 
 pub item_list-items_view : (vs : List Value) → item_list (items_view vs) ≡ map view vs
 item_list-items_view [] = refl
@@ -57,6 +60,16 @@ item_read vs i item events after event within at count each sounds is sound more
       subst (AreEventsOf is_item (map view vs)) (sym more) (events_more is_item (map view vs) events event (view item) each found here),
       subst (All IsSound) (sym more) (All-push IsSound events event sounds sound),
     )
+
+listed : (b : Bool) (found : Option Data) (ds : Items) → (if b then option_and_then as_array found else None) ≡ Some ds → found ≡ Some (array ds)
+listed true None ds is = absurd (cc)
+listed true (Some d) ds is = ap Some (is_array d ds is)
+listed false found ds is = absurd (cc)
+
+-- an EventList has at most as many items as its text has bytes
+items_within : (text : List ℕ) (d : Data) (ds : Items) → reading.read text ≡ Some d → list_items d ≡ Some ds → length (item_list ds) ≤ length text
+items_within text d ds reads lists =
+    member_within text (codes "items") d ds reads (listed (is_of_kind (codes "EventList") d) (get (codes "items") d) ds lists)
 
 few_values : (bytes : List ℕ) (value : Data) → IsValueOf bytes value → (items : Option Items) → list_items value ≡ items → max 1 (length (values_of items value)) ≤ max 1 (length bytes)
 few_values bytes value is None was = omega arith

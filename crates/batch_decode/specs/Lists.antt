@@ -1,12 +1,9 @@
 -- What the JSON value of a line stands for: the items of an EventList (Kubernetes `audit.k8s.io/v1`), or itself.
 use Rattle.std.specs.Prelude.{ℕ, Bool, List, [], ◌∷◌, Option, Some, None, option_and_then, codes, if◌then◌else◌}
-use Rattle.serde_json.specs.Data.{Data, Items, no_items, item}
+use Rattle.serde_json.specs.Data.{Data, Items}
 use Rattle.serde_json.specs.Find.{get, as_array}
+use Rattle.base_types.specs.Items.{item_list}
 use Rattle.audit_event.specs.Headings.{is_of_kind, is_event, is_item}
-
-abbrev pub item_list : Items → List Data
-item_list no_items = []
-item_list (item value rest) = value ∷ item_list rest
 
 -- the items of an object that says that it is an EventList, where they are a list
 abbrev pub list_items : Data → Option Items

@@ -1,17 +1,15 @@
 -- Where unrecorded writes may have changed an object.
-use Rattle.std.specs.Prelude.{◌≡◌, ◌<◌, ◌≤◌, ℕ, List, Any, Contains}
+use Rattle.std.specs.Prelude.{◌<◌, ◌≤◌, ℕ, List, Any}
 use Rattle.base_types.specs.Covers.{Covers}
+use Rattle.base_types.specs.Hidden.{IsHidden}
 use Rattle.base_types.specs.declared.key.ObjectKey.{ObjectKey}
 use Rattle.clouds.specs.declared.span.KeyRevision.{KeyRevision}
 use Rattle.clouds.specs.declared.span.OpaqueSpan.{OpaqueSpan}
 use Rattle.clouds.specs.Writes.{Writes}
 
--- The unrecorded write may have happened by this place, and no revision of the key behind the write's
--- window shows the object again.
-pub record IsHiddenBy (revisions : List KeyRevision) (key : ObjectKey) (place : ℕ) (span : OpaqueSpan) : Type 0 where
-  pub hides : Covers span.cover key
-  pub begun : span.low < place
-  pub unseen : (r : KeyRevision) → Contains revisions r → r.key ≡ key → span.high < r.revision → place < r.revision
+-- the unrecorded write of this span may have changed the key's object, and no revision tells by this place
+abbrev pub IsHiddenBy : List KeyRevision → ObjectKey → ℕ → OpaqueSpan → Type 0
+IsHiddenBy revisions key place span = IsHidden KeyRevision (λ r. r.key) (λ r. r.revision) revisions (Covers span.cover key) span.low span.high key place
 
 -- nothing is known of the key's object at this place
 abbrev pub IsClouded : Writes → ObjectKey → ℕ → Type 0

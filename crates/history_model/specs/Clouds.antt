@@ -1,17 +1,15 @@
 -- Where unrecorded writes may have changed an object.
-use Rattle.std.specs.Prelude.{◌≡◌, ◌<◌, ◌≤◌, ℕ, Contains}
+use Rattle.std.specs.Prelude.{◌<◌, ◌≤◌, ℕ}
+use Rattle.base_types.specs.Hidden.{IsHidden}
 use Rattle.base_types.specs.declared.key.ObjectKey.{ObjectKey}
 use Rattle.history_model.specs.Events.{Event}
 use Rattle.history_model.specs.Groups.{Hides}
 use Rattle.history_model.specs.Histories.{History, Version, IsEvent}
 use Rattle.history_model.specs.Windows.{low_end, high_end}
 
--- The unrecorded write may have happened by this place, and no revision of the key behind the write's
--- window shows the object again.
-pub record IsHiddenBy (h : History) (key : ObjectKey) (place : ℕ) (event : Event) : Type 0 where
-  pub hides : Hides key event
-  pub begun : low_end h event < place
-  pub unseen : (v : Version) → Contains h.versions v → v.key ≡ key → high_end h event < v.revision → place < v.revision
+-- the unrecorded write of this event may have changed the key's object, and no version tells by this place
+abbrev pub IsHiddenBy : History → ObjectKey → ℕ → Event → Type 0
+IsHiddenBy h key place event = IsHidden Version (λ v. v.key) (λ v. v.revision) h.versions (Hides key event) (low_end h event) (high_end h event) key place
 
 -- nothing is known of the key's object at this place
 abbrev pub IsClouded : History → ObjectKey → ℕ → Type 0

@@ -12,9 +12,8 @@ use Rattle.serde_json.specs.Data.{Data, Items, no_items, item, Members, no_membe
 use Rattle.serde_json.specs.Data as data_of
 use Rattle.serde_json.specs.Find.{get, get_member, as_array}
 use Rattle.serde_json.specs.Read as reading
-use Rattle.audit_event.specs.Headings.{is_of_kind}
-use Rattle.batch_decode.specs.Lists.{item_list, list_items}
-use Rattle.batch_decode.proofs.LexSizes.{tokens_size}
+use Rattle.base_types.specs.Items.{item_list}
+use Rattle.base_types.proofs.LexSizes.{tokens_size}
 
 abbrev json_len : json.Items → ℕ
 json_len json.no_items = 0
@@ -343,7 +342,7 @@ found_within n (json.object ms) d k ds is within found = by (reading.of_members 
         let same : data_of.object out ≡ d = cc in
         get_each n k out ds (ap (get k) same ∙ found) (of_members_each n ms no_members out was within tt)
 
-is_array : (d : Data) (ds : Items) → as_array d ≡ Some ds → d ≡ array ds
+pub is_array : (d : Data) (ds : Items) → as_array d ≡ Some ds → d ≡ array ds
 is_array data_of.null ds is = absurd (cc)
 is_array (data_of.boolean b) ds is = absurd (cc)
 is_array (data_of.number x) ds is = absurd (cc)
@@ -351,17 +350,12 @@ is_array (data_of.string s) ds is = absurd (cc)
 is_array (array es) ds is = cc
 is_array (data_of.object ms) ds is = absurd (cc)
 
-listed : (b : Bool) (found : Option Data) (ds : Items) → (if b then option_and_then as_array found else None) ≡ Some ds → found ≡ Some (array ds)
-listed true None ds is = absurd (cc)
-listed true (Some d) ds is = ap Some (is_array d ds is)
-listed false found ds is = absurd (cc)
-
--- an EventList has at most as many items as its text has bytes
-pub items_within : (text : List ℕ) (d : Data) (ds : Items) → reading.read text ≡ Some d → list_items d ≡ Some ds → length (item_list ds) ≤ length text
-items_within text d ds reads lists = by_value (json.value reading.max_depth (tokens text)) refl reads
+-- a list that is a member of a text's object has at most as many items as the text has bytes
+pub member_within : (text name : List ℕ) (d : Data) (ds : Items) → reading.read text ≡ Some d → get name d ≡ Some (array ds) → length (item_list ds) ≤ length text
+member_within text name d ds reads found = by_value (json.value reading.max_depth (tokens text)) refl reads
   where
     by_last : (j : Json) (rest : List Token) → json.value reading.max_depth (tokens text) ≡ Some (j, rest) → option_and_then reading.of_json (if_last j rest) ≡ Some d → length (item_list ds) ≤ length text
-    by_last j [] was is = found_within (length text) j d (codes "items") ds is (value_object reading.max_depth (length text) (tokens text) j [] was (tokens_size text)) (listed (is_of_kind (codes "EventList") d) (get (codes "items") d) ds lists)
+    by_last j [] was is = found_within (length text) j d name ds is (value_object reading.max_depth (length text) (tokens text) j [] was (tokens_size text)) found
     by_last j (t ∷ ts) was is = absurd (cc)
 
     by_value : (first : Option (Json × List Token)) → json.value reading.max_depth (tokens text) ≡ first → option_and_then reading.of_json (option_and_then (λ p. if_last p.0 p.1) first) ≡ Some d → length (item_list ds) ≤ length text
