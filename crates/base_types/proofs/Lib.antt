@@ -6,7 +6,6 @@ pub mod Indices
 pub mod Integers
 pub mod KeyLemmas
 pub mod Lending
-pub mod LexSizes
 pub mod Lists
 pub mod MatchingLemmas
 pub mod Ordered
@@ -18,6 +17,5 @@ pub mod Quantifiers
 pub mod Reading
 pub mod Removing
 pub mod RevisionTexts
-pub mod Sizes
 pub mod Spelling
 pub mod Upto

@@ -14,7 +14,7 @@ use Rattle.audit_event.specs.declared.event.Event.{Event}
 use Rattle.audit_event.specs.Events.{IsEventOf, IsValueOf, IsSound}
 use Rattle.audit_event.specs.Headings.{is_item, is_of_kind}
 use Rattle.base_types.specs.Items.{item_list}
-use Rattle.base_types.proofs.Sizes.{is_array, member_within}
+use Rattle.packed_tree.proofs.Sizes.{is_array, member_within}
 use Rattle.batch_decode.specs.declared.decoded.Decoded.{Decoded}
 use Rattle.batch_decode.specs.declared.decoded.ItemFault.{ItemFault}
 use Rattle.batch_decode.specs.Batches.{AreEventsOf, IsFaultBehind, DecodesValues, DecodesValue, IsNumbered, IsDecodedLine}

@@ -13,7 +13,7 @@ use Rattle.serde_json.specs.Data as data_of
 use Rattle.serde_json.specs.Find.{get, get_member, as_array}
 use Rattle.serde_json.specs.Read as reading
 use Rattle.base_types.specs.Items.{item_list}
-use Rattle.base_types.proofs.LexSizes.{tokens_size}
+use Rattle.packed_tree.proofs.LexSizes.{tokens_size}
 
 abbrev json_len : json.Items → ℕ
 json_len json.no_items = 0
