@@ -13,3 +13,5 @@ mod judged_claims;
 mod log_intake_rows;
 #[cfg(test)]
 mod log_sift_rows;
+#[cfg(test)]
+mod placed_lines;

@@ -1,0 +1,57 @@
+use base_types::{OutOfMemory, PlacedAnswer, PlacedLine};
+use judge_pool::{LineSource, lines_all};
+use std::alloc::Global;
+use std::test::Fail;
+
+/// Each event stands on the line of its number, in no place; events of odd numbers have no line.
+#[derive(Drop)]
+struct Numbered {
+    count: u32,
+}
+
+fn numbered(event: u32) -> Option<PlacedLine> {
+    if event % 2 == 1 {
+        return None;
+    }
+    Some(PlacedLine {
+        line: u64::from(event),
+        answer: PlacedAnswer::Nowhere,
+        decision: None,
+    })
+}
+
+impl LineSource for Numbered {
+    ghost use Rattle.std.specs.Prelude.{Unit};
+
+    ghost events = { λ s. s.count };
+
+    ghost is_line = { λ s event line. Unit {0} };
+
+    fn count(&self) -> u32 {
+        self.count
+    }
+
+    fn line(&self, _alloc: Global, event: u32) -> Result<Option<PlacedLine>, OutOfMemory> {
+        Ok(numbered(event))
+    }
+}
+
+/// Whether each line is that of its place.
+fn are_in_order(lines: &[Option<PlacedLine>]) -> bool {
+    for (line, event) in lines.iter().zip(0..u32::MAX) {
+        if *line != numbered(event) {
+            return false;
+        }
+    }
+    true
+}
+
+#[test]
+fn all_lines_come(rt: HostRuntime) -> Result<(), Fail> {
+    for count in [0, 1, 5_000] {
+        let lines = lines_all(&rt, rt.alloc(), &Numbered { count })?;
+        assert_eq!(rt; lines.len(), count as usize);
+        assert!(rt; are_in_order(&lines), "of {count}");
+    }
+    Ok(())
+}
