@@ -12,6 +12,12 @@ use Rattle.history_model.specs.Histories.{History, IsEvent}
 use Rattle.history_model.specs.Local.{IsRightUnder}
 use Rattle.history_model.specs.Placed.{ArePlacedLines, IsPlacedLine}
 use Rattle.history_model.specs.Readable.{IsReadable}
+use Rattle.judge_pool.specs.Lines.{AreLines}
+use Rattle.version_store.specs.Histories.{history_of}
+use Rattle.version_store.specs.Known.{Known}
+use Rattle.window_writes.proofs.TurnShowing.{event_here}
+use Rattle.log_verdict.specs.Findings.{ExplainsEach}
+use Rattle.log_verdict.specs.Placing.{IsLineFound}
 
 -- the lines of the first n events
 pub record ArePlacedUpTo (h : History) (choice : List ℕ) (n : ℕ) (lines : List PlacedLine) : Type 0 where
@@ -81,3 +87,14 @@ module _ (h : History) (choice : List ℕ) where
     where
       by : IsRightUnder h choice n event × IsPlacedLine h choice n event line
       by = subst (IsLined h choice n event) is lined
+
+-- what was found of the event of this number, in a list that is handed on
+pub found_at : (known : Known) (choice : List ℕ) (found given : List (Option PlacedLine)) (n : ℕ) (d : Option PlacedLine) → ExplainsEach known choice
+    → AreLines (length known.log) (IsLineFound known choice) found → given ≡ found → n < length given
+    → (event : Event) × IsEvent (history_of known) n event × IsLined (history_of known) choice n event (get_or given n d)
+found_at known choice found given n d explains are same below =
+    let all = are.all in
+    let within : n < length found = subst (λ lines. n < length lines) same below in
+    let here = event_here known n (omega (arith, within, all)) in
+    let at = slice_get-get_or given n d below in
+    (here.0, here.1, are.each n (get_or given n d) (subst (λ lines. slice_get lines n ≡ Some (get_or given n d)) same at) here.0 here.1 explains.chosen)

@@ -6,18 +6,17 @@ ghost use Rattle.log_verdict.specs.Judging.{IsOutcomeOf};
 ghost use Rattle.version_store.specs.Histories.{history_of};
 
 use crate::finding::unexplained;
-use crate::source::ContextClaims;
+use crate::source::{ContextClaims, ContextLines};
 use base_types::{OutOfMemory, Outcome, Placement};
-use claims::place;
-use judge_pool::{Gate, claims_all};
+use judge_pool::{Gate, claims_all, lines_all};
 use placement::{Settled, settle};
 use std::alloc::Global;
 use std::marker::Sync;
 use std::thread::Threads;
 use version_store::Context;
 
-/// What the events of a context come to. Several threads take their claims; each event enters the gate before its
-/// claim is taken.
+/// What the events of a context come to. Several threads take their claims, and place them; each event enters the gate
+/// before its claim is taken.
 pub fn outcome_of<R: Threads + Sync, G: Gate>(
     rt: &R,
     alloc: Global,
@@ -29,22 +28,30 @@ pub fn outcome_of<R: Threads + Sync, G: Gate>(
     let claims = claims_all(rt, alloc, &ContextClaims { context }, gate)?;
     let settled = settle(alloc, context.ranges(), context.order(), claims.as_slice())?;
     match settled {
-        Settled::Fits(choice) => Ok(Outcome::Explained(placed(alloc, context, choice.as_slice())?)),
+        Settled::Fits(choice) => {
+            let lines = placed(rt, alloc, context, choice.as_slice())?;
+            Ok(Outcome::Explained(lines))
+        }
         Settled::Breaks { event, reason } => unexplained(alloc, context, event, reason),
     }
 }
 
-// The lines of all events under a choice that explains them.
-fn placed(alloc: Global, context: &Context, choice: &[u64]) -> Result<Placement, OutOfMemory>
+// The lines of all events under a choice that explains them. Several threads find them.
+fn placed<R: Threads + Sync>(
+    rt: &R,
+    alloc: Global,
+    context: &Context,
+    choice: &[u64],
+) -> Result<Placement, OutOfMemory>
     requires readable { IsReadable (history_of context.now) }
     requires explains { ExplainsEach context.now choice.now }
     ensures { IfOk result (ArePlacedLines (history_of context.now) choice.now) }
 {
+    let found = lines_all(rt, alloc, &ContextLines { context, choice })?;
     let mut lines = Placement::new(alloc);
-    for event in 0..context.count() {
-        let found = place(alloc, context, event, choice)?;
+    for line in &found {
         // The choice explains each event.
-        lines.push(found.unwrap())?;
+        lines.push(line.unwrap())?;
     }
     Ok(lines)
 }

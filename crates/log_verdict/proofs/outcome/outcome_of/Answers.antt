@@ -35,8 +35,8 @@ pub returns-in-Fits : goal.returns-in-Fits
 returns-in-Fits g c =
     let known = c.args.context.now in
     let least = least_of known c.in_ok-claims.claims c.in_ok-claims.ensures c.ranges-2.result.now c.order.result.now c.as_slice.result.now c.in_ok-settled.settled c.in-Fits.choice c.ranges-2.ensures c.as_slice.ensures c.in-Fits.is c.in_ok-settled.ensures.settled in
-    explained_is known c.in_ok-claims.claims c.in_ok-claims.ensures c.in-Fits.choice c.in_ok-placed-in-Fits.field-0 c.order.ensures.readable least
-    (subst (λ choice. ArePlacedLines (history_of known) choice c.in_ok-placed-in-Fits.field-0) c.as_slice-in-Fits.ensures c.in_ok-placed-in-Fits.ensures)
+    explained_is known c.in_ok-claims.claims c.in_ok-claims.ensures c.in-Fits.choice c.in_ok-lines.lines c.order.ensures.readable least
+    (subst (λ choice. ArePlacedLines (history_of known) choice c.in_ok-lines.lines) c.as_slice-in-Fits.ensures c.in_ok-lines.ensures)
 
 pub unexplained-requires-clause-known : goal.unexplained-requires-clause-known
 unexplained-requires-clause-known g c =

@@ -2,5 +2,5 @@ use Rattle.version_store.specs.Histories.{history_of}
 use Rattle.log_verdict.proofs.OutcomePlacing.{ArePlacedUpTo}
 use Rattle.log_verdict.proofs.outcome.placed.Given as goal
 
-abbrev pub invariant-loop-event : goal.invariant-loop-event
-invariant-loop-event l = ArePlacedUpTo (history_of l.context) l.choice l.event l.lines
+abbrev pub invariant-loop-line : goal.invariant-loop-line
+invariant-loop-line g l = ArePlacedUpTo (history_of l.context) l.choice l.line-index l.lines
