@@ -1,43 +1,51 @@
--- Answers to all events, in order, are their claims.
-use Rattle.std.proofs.Common.{◌≡◌, ℕ, zero, suc, ◌+◌, ◌<◌, List, [], ◌∷◌, Ok, IfOk, length, get_or, map, refl, sym, ap, subst, ◌∙◌, arith}
+-- Answers to all events, in order, are their claims, or their lines.
+use Rattle.std.proofs.Common.{◌≡◌, ℕ, zero, suc, ◌+◌, ◌<◌, List, [], ◌∷◌, Ok, Option, Some, IfOk, length, get_or, map, slice_get, refl, sym, ap, subst, ◌∙◌, arith}
 use Rattle.std.specs.List.{AllZip, range_with_len}
 use Rattle.std.proofs.lemmas.List.{same_lists}
 use Rattle.std.proofs.lemmas.Option.{get_or_from_slice_get, slice_get-get_or, slice_get_within}
 use Rattle.std.specs.declared.result.Result.{Result}
 use Rattle.base_types.specs.declared.claim.Claim.{Claim}
+use Rattle.base_types.specs.declared.placed.PlacedLine.{PlacedLine}
 use Rattle.judge_pool.specs.Claims.{AreClaims}
+use Rattle.judge_pool.specs.Lines.{AreLines}
 
--- where the call for an event gives a value, it is the event's claim
-abbrev pub AnswersEvent : {E : Type 0} → (ℕ → Claim → Type 0) → ℕ → Result Claim E → Type 0
+-- where the call for an event gives a value, it is one of the event's
+abbrev pub AnswersEvent : {X E : Type 0} → (ℕ → X → Type 0) → ℕ → Result X E → Type 0
 AnswersEvent Is event answer = IfOk answer (Is event)
 
-module _ (E : Type 0) where
+module _ {X : Type 0} (E : Type 0) (Is : ℕ → X → Type 0) where
   -- from an event on
-  gathered_from : (Is : ℕ → Claim → Type 0) (a n : ℕ) (claims : List Claim) → AllZip (AnswersEvent {E = E} Is) (range_with_len a n) (map Ok claims)
-      → (length claims ≡ n) × ((k : ℕ) (d : Claim) → k < n → Is (a + k) (get_or claims k d))
-  gathered_from Is a zero [] each = (refl, λ k d below. absurd (omega (arith, below)))
-  gathered_from Is a zero (claim ∷ claims) each = absurd each
-  gathered_from Is a (suc n) [] each = absurd each
-  gathered_from Is a (suc n) (claim ∷ claims) each =
-      let rest = gathered_from Is (a + 1) n claims each.1 in
+  gathered_from : (a n : ℕ) (xs : List X) → AllZip (AnswersEvent {E = E} Is) (range_with_len a n) (map Ok xs)
+      → (length xs ≡ n) × ((k : ℕ) (d : X) → k < n → Is (a + k) (get_or xs k d))
+  gathered_from a zero [] each = (refl, λ k d below. absurd (omega (arith, below)))
+  gathered_from a zero (x ∷ xs) each = absurd each
+  gathered_from a (suc n) [] each = absurd each
+  gathered_from a (suc n) (x ∷ xs) each =
+      let rest = gathered_from (a + 1) n xs each.1 in
       (ap suc rest.0, stands rest.1)
     where
-      stands : ((k : ℕ) (d : Claim) → k < n → Is (a + 1 + k) (get_or claims k d)) → (k : ℕ) (d : Claim) → k < suc n → Is (a + k) (get_or (claim ∷ claims) k d)
-      stands rest zero d below = let here : a ≡ a + 0 = omega arith in subst (λ event. Is event claim) here each.0
-      stands rest (suc k) d below = let next : a + 1 + k ≡ a + suc k = omega arith in subst (λ event. Is event (get_or claims k d)) next (rest k d (omega (arith, below)))
+      stands : ((k : ℕ) (d : X) → k < n → Is (a + 1 + k) (get_or xs k d)) → (k : ℕ) (d : X) → k < suc n → Is (a + k) (get_or (x ∷ xs) k d)
+      stands rest zero d below = let here : a ≡ a + 0 = omega arith in subst (λ event. Is event x) here each.0
+      stands rest (suc k) d below = let next : a + 1 + k ≡ a + suc k = omega arith in subst (λ event. Is event (get_or xs k d)) next (rest k d (omega (arith, below)))
 
-  pub gathered : (Is : ℕ → Claim → Type 0) (n : ℕ) (claims : List Claim) → AllZip (AnswersEvent {E = E} Is) (range_with_len 0 n) (map Ok claims) → AreClaims n Is claims
-  gathered Is n claims each =
-      let found = gathered_from Is 0 n claims each in
-      record {
-        all = found.0;
-        each = λ event claim at.
-            let below = slice_get_within claims event claim at in
+  gathered : (n : ℕ) (xs : List X) → AllZip (AnswersEvent {E = E} Is) (range_with_len 0 n) (map Ok xs)
+      → (length xs ≡ n) × ((event : ℕ) (x : X) → slice_get xs event ≡ Some x → Is event x)
+  gathered n xs each =
+      let found = gathered_from 0 n xs each in (
+        found.0,
+        λ event x at.
+            let below = slice_get_within xs event x at in
             let all = found.0 in
             let same : 0 + event ≡ event = omega arith in
-            let here = subst (λ e. Is e (get_or claims event claim)) same (found.1 event claim (omega (arith, below, all))) in
-            subst (Is event) (get_or_from_slice_get claims event claim claim at) here;
-      }
+            let here = subst (λ e. Is e (get_or xs event x)) same (found.1 event x (omega (arith, below, all))) in
+            subst (Is event) (get_or_from_slice_get xs event x x at) here,
+      )
+
+pub claims_gathered : (E : Type 0) (Is : ℕ → Claim → Type 0) (n : ℕ) (claims : List Claim) → AllZip (AnswersEvent {E = E} Is) (range_with_len 0 n) (map Ok claims) → AreClaims n Is claims
+claims_gathered E Is n claims each = let found = gathered E Is n claims each in record { all = found.0; each = found.1 }
+
+pub lines_gathered : (E : Type 0) (Is : ℕ → Option PlacedLine → Type 0) (n : ℕ) (lines : List (Option PlacedLine)) → AllZip (AnswersEvent {E = E} Is) (range_with_len 0 n) (map Ok lines) → AreLines n Is lines
+lines_gathered E Is n lines each = let found = gathered E Is n lines each in record { all = found.0; each = found.1 }
 
 -- there is one list of claims, where each event has one claim
 pub one_list : (Is : ℕ → Claim → Type 0) (n : ℕ) → ((event : ℕ) (a b : Claim) → event < n → Is event a → Is event b → a ≡ b)

@@ -10,7 +10,7 @@ use std::marker::Sync;
 use std::thread::Threads;
 
 /// What the claims of events are taken from.
-pub trait ClaimSource {
+pub trait ClaimSource: Sync {
     ghost events: { Self → ℕ };
 
     ghost is_claim: { Self → ℕ → Claim → Type 0 };
@@ -30,11 +30,11 @@ pub trait ClaimSource {
 }
 
 /// How many events are worth a thread of their own.
-const EVENTS_FOR_A_THREAD: usize = 64;
+pub const EVENTS_FOR_A_THREAD: usize = 64;
 
 /// The claims of all events, in order. Several threads take them; each event enters the gate before its
 /// claim is taken.
-pub fn claims_all<R: Threads + Sync, S: ClaimSource + Sync, G: Gate>(
+pub fn claims_all<R: Threads + Sync, S: ClaimSource, G: Gate>(
     rt: &R,
     alloc: Global,
     source: &S,

@@ -4,7 +4,7 @@ use Rattle.rayon.specs.Numbers.{nat_range}
 use Rattle.rayon.proofs.ToStd.{nat_range-All}
 use Rattle.base_types.specs.declared.memory.OutOfMemory.{OutOfMemory}
 use Rattle.judge_pool.specs.Claims.{AreClaims}
-use Rattle.judge_pool.proofs.Gathering.{AnswersEvent, gathered}
+use Rattle.judge_pool.proofs.Gathering.{AnswersEvent, claims_gathered}
 use Rattle.judge_pool.proofs.source.claims_all.Goals as goal
 
 -- each number of the range is an event
@@ -25,4 +25,4 @@ returns g c =
     let events = chain.1.1 ∙ (λ i. nat_range (ends.0 i) (ends.1 i)) ∙ ap (range_with_len 0) counted in
     let gave = rw c.in_ok-gathered-2.was at chain.2 in
     let answers = subst (λ rs. AllZip (AnswersEvent {E = OutOfMemory} is_claim) (range_with_len 0 count) rs) gave.1 (subst (λ events. AllZip (AnswersEvent {E = OutOfMemory} is_claim) events chain.0) events chain.1.2) in
-    subst (λ claims. AreClaims count is_claim claims) (sym (c.from_vec.ensures ∙ gave.2)) (gathered OutOfMemory is_claim count gave.0 answers)
+    subst (λ claims. AreClaims count is_claim claims) (sym (c.from_vec.ensures ∙ gave.2)) (claims_gathered OutOfMemory is_claim count gave.0 answers)
