@@ -6,6 +6,7 @@ use Rattle.base_types.specs.contracts.text.Text as text
 use Rattle.base_types.proofs.json.tree.Member.TheLaws.TheKnot as knot
 use Rattle.base_types.specs.contracts.json.tree.Tree as tree
 use Rattle.label_select.specs.contracts.selector.Requirement as requirement
+use Rattle.setup_file.proofs.tracked_list.TrackedList.TheSendSync as resources
 use Rattle.setup_file.specs.contracts.setup.Setup as setup
 use Rattle.setup_file.specs.contracts.setup.SnapshotObject as object
 use Rattle.version_store.specs.contracts.log.classifying.Classified as classified
@@ -35,7 +36,7 @@ setup_shared = declared_sync setup.the_type (
             (
               search (sendable, owned.crosses) depth 60 fits 20000,
               (
-                search (sendable, owned.crosses) depth 60 fits 20000,
+                resources.the_sync,
                 (
                   search (tree_shared, sendable, owned.crosses) depth 60 fits 20000,
                   (
