@@ -31,7 +31,7 @@ use base_types::{ObjectKey, OutOfMemory, Reason};
 use clouds::Clouds;
 use hash_seed::Seed;
 use node_pool::{Interner, Pool};
-use object_past::{Past, Removals, Versions};
+use object_past::Past;
 use object_versions::{Judged, LogPast, past_of};
 use rbac_timeline::Timeline;
 use setup_file::Setup;
@@ -43,27 +43,6 @@ use write_groups::Groups;
 
 /// So many distinct values the objects of a log may have.
 const MOST_NODES: u32 = 50_000_000;
-
-/// Versions are numbered by 32 bits.
-const MOST_VERSIONS: usize = 4_294_967_296;
-
-// The past, where its versions can be numbered. So many more would take more memory than there is.
-fn past_within(alloc: Global, versions: Versions, removals: Removals) -> Result<Past, OutOfMemory>
-    requires rising { AllPairs (λ a b. a.revision < b.revision) versions }
-    requires ends { AreEnds versions removals }
-    ensures versions { IfOk result (λ past. past.versions ≡ versions) }
-    ensures removals { IfOk result (λ past. past.removals ≡ removals) }
-    ensures few { IfOk result (λ past. length past.versions < 2 ^ 32) }
-{
-    if versions.len() >= MOST_VERSIONS {
-        return Err(OutOfMemory);
-    }
-    if removals.len() >= MOST_VERSIONS {
-        return Err(OutOfMemory);
-    }
-    let past = Past::build(alloc, versions, removals)?;
-    Ok(past)
-}
 
 /// What is found of the writes of a log.
 #[derive(Drop)]
@@ -103,6 +82,8 @@ struct Gathered {
 fn parts_of(alloc: Global, found: LogPast) -> Result<Parts, OutOfMemory>
     requires rising { AllPairs (λ a b. a.revision < b.revision) found.versions }
     requires ends { AreEnds found.versions found.removals }
+    requires few_versions { length found.versions < 2 ^ 32 }
+    requires few_removals { length found.removals < 2 ^ 32 }
     ensures same { IfOk result (λ parts. found ≡ past_with parts) }
     ensures few { IfOk result (λ parts. length parts.past.versions < 2 ^ 32) }
 {
@@ -115,7 +96,7 @@ fn parts_of(alloc: Global, found: LogPast) -> Result<Parts, OutOfMemory>
         judged,
         removals,
     } = found;
-    let past = past_within(alloc, versions, removals)?;
+    let past = Past::build(alloc, versions, removals)?;
     Ok(Parts {
         order,
         windows,
@@ -191,7 +172,7 @@ fn found_of(
     requires setup { IsSound setup.now }
     requires events { All IsSoundEvent events.now }
     requires lines { AreLines events.now }
-    requires few { length events.now + length setup.now.checkpoints < 2 ^ 32 }
+    requires few { length setup.now.snapshot + length events.now + length setup.now.checkpoints < 2 ^ 32 }
     requires trees { pool.now.trees ≡ pooled setup.now events.now }
     requires log { IsLogOf setup.now events.now pool.now.trees log.now }
     requires rising { RiseByLine log.now.events }
@@ -224,7 +205,7 @@ fn gather<R: Threads + Sync>(
     requires setup { IsSound setup.now }
     requires events { All IsSoundEvent events.now }
     requires lines { AreLines events.now }
-    requires few { length events.now + length setup.now.checkpoints < 2 ^ 32 }
+    requires few { length setup.now.snapshot + length events.now + length setup.now.checkpoints < 2 ^ 32 }
     ensures found { IfOk result (λ gathered. IsFound setup.now events.now gathered.pool.trees gathered.log
         gathered.found) }
     ensures full { result ≡ Err BuildFault.PoolFull → limit < length (pooled setup.now events.now) }
@@ -290,7 +271,7 @@ impl Context {
         requires setup { IsSound setup }
         requires events { All IsSoundEvent events }
         requires lines { AreLines events }
-        requires few { length events + length setup.checkpoints < 2 ^ 32 }
+        requires few { length setup.snapshot + length events + length setup.checkpoints < 2 ^ 32 }
         ensures setup { IfOk result (λ context. context.setup ≡ setup) }
         ensures events { IfOk result (λ context. context.events ≡ events) }
         ensures told { IfOk result IsTold }
@@ -312,7 +293,7 @@ impl Context {
         requires setup { IsSound setup }
         requires events { All IsSoundEvent events }
         requires lines { AreLines events }
-        requires few { length events + length setup.checkpoints < 2 ^ 32 }
+        requires few { length setup.snapshot + length events + length setup.checkpoints < 2 ^ 32 }
         ensures setup { IfOk result (λ context. context.setup ≡ setup) }
         ensures events { IfOk result (λ context. context.events ≡ events) }
         ensures told { IfOk result IsTold }

@@ -72,6 +72,9 @@ pub(crate) fn context<R: Threads + Sync>(
     if setup.checkpoints.len() > 100 {
         return Err("too many checkpoints".into());
     }
+    if setup.snapshot.len() > 100 {
+        return Err("too many objects".into());
+    }
     let events = events(alloc, log)?;
     match Context::build_within(rt, alloc, setup, events, limit, seed) {
         Ok(context) => Ok(Some(context)),

@@ -1,17 +1,18 @@
-use Rattle.std.proofs.Common.{◌≡◌, ◌<◌, ◌^◌, List, length, map, refl, sym, ap, ◌∙◌, subst}
+use Rattle.std.proofs.Common.{◌≡◌, ◌<◌, ◌^◌, List, length, map, refl, sym, ap, ◌∙◌, subst, arith}
 use Rattle.std.specs.Prelude.{AllPairs}
 use Rattle.history_model.specs.Histories.{History}
 use Rattle.object_versions.specs.Found.{HasFound, IsPastOf}
 use Rattle.object_versions.specs.Written.{IsSnapshot}
 use Rattle.object_versions.specs.declared.log_past.LogPast.{LogPast}
 use Rattle.write_groups.specs.Modelled.{event_of}
+use Rattle.write_groups.specs.declared.event.Item.{Item}
 use Rattle.write_groups.specs.declared.event.LogEvent.{LogEvent}
 use Rattle.object_versions.specs.Hidden.{unrecorded_in}
 use Rattle.rbac_timeline.specs.Known.{known_of as roles_of}
 use Rattle.base_types.specs.Meaning.{Meaning}
 use Rattle.base_types.specs.Values.{InRange}
 use Rattle.std.specs.Prelude.{[], All}
-use Rattle.version_store.proofs.Built.{are_rising, few_logged, has_bodies, has_times, have_codes, have_ends, have_nodes, is_past, is_readable, is_snapshot, kept_of, known_of, moments_are}
+use Rattle.version_store.proofs.Built.{are_rising, few_in_log, few_logged, has_bodies, has_times, have_codes, have_ends, have_nodes, is_past, is_readable, is_snapshot, kept_of, known_of, moments_are}
 use Rattle.version_store.proofs.Ranging.{numbers_are}
 use Rattle.version_store.specs.Gathering.{past_with}
 use Rattle.version_store.specs.Histories.{body_test, history_of}
@@ -55,6 +56,21 @@ parts_of-requires-clause-ends c =
     let right = is_past setup events trees log found (kept_of found) roles refl refl c.as_slice-snapshot.result.now c.as_slice-recorded.result.now c.as_slice-logged.result.now
     c.as_slice-snapshot.ensures c.as_slice-recorded.ensures c.as_slice-logged.ensures c.in_ok-found.ensures.past in
     have_ends setup events trees log found (kept_of found) roles refl refl right
+
+pub parts_of-requires-clause-few_versions : goal.parts_of-requires-clause-few_versions
+parts_of-requires-clause-few_versions c =
+    let room = few_in_log c.args.setup.now c.args.events.now c.args.pool.now.trees c.args.log.now c.requires.log c.requires.few in
+    let bound = c.in_ok-found.ensures.few_versions in
+    let items = ap (λ (l : List Item). length l) c.as_slice-snapshot.ensures in
+    let logged = ap (λ (l : List LogEvent). length l) c.as_slice-logged.ensures in
+    omega (arith, room, bound, items, logged)
+
+pub parts_of-requires-clause-few_removals : goal.parts_of-requires-clause-few_removals
+parts_of-requires-clause-few_removals c =
+    let room = few_logged c.args.setup.now c.args.events.now c.args.pool.now.trees c.args.log.now c.requires.log c.requires.few in
+    let bound = c.in_ok-found.ensures.few_removals in
+    let logged = ap (λ (l : List LogEvent). length l) c.as_slice-logged.ensures in
+    omega (arith, room, bound, logged)
 
 pub told_of-requires-clause-start : goal.told_of-requires-clause-start
 told_of-requires-clause-start c = sym (ap (λ (past : LogPast). past.windows.start) (sym c.in_ok-parts.ensures.same) ∙ c.in_ok-found.ensures.start)
