@@ -22,6 +22,7 @@ ghost use Rattle.version_store.specs.Uses.{AreUses};
 use crate::bodies::RequestBodies;
 use crate::context::Context;
 use crate::faults::{faults_of, makings_of};
+use crate::foreseen::past_foreseen;
 use crate::keys::keys_of;
 use crate::log::{BuildFault, Log, log_of};
 use crate::roles::timeline_of;
@@ -32,7 +33,7 @@ use clouds::Clouds;
 use hash_seed::Seed;
 use node_pool::{Interner, Pool};
 use object_past::Past;
-use object_versions::{Judged, LogPast, past_of};
+use object_versions::{Judged, LogPast};
 use rbac_timeline::Timeline;
 use setup_file::Setup;
 use std::alloc::Global;
@@ -162,7 +163,8 @@ fn told_of(alloc: Global, bodies: &RequestBodies<'_>, parts: &Parts) -> Result<T
 }
 
 // What a setup and its log say, once the log is in the terms of the model of history.
-fn found_of(
+fn found_of<R: Threads + Sync>(
+    rt: &R,
     alloc: Global,
     setup: &Setup,
     events: &Events,
@@ -187,7 +189,7 @@ fn found_of(
         log: logged,
         pool,
     };
-    let found = past_of(alloc, &bodies, setup.start, snapshot, logged)?;
+    let found = past_foreseen(rt, alloc, &bodies, setup.start, snapshot, logged)?;
     let parts = parts_of(alloc, found)?;
     let told = told_of(alloc, &bodies, &parts)?;
     Ok(Found { parts, told })
@@ -214,7 +216,7 @@ fn gather<R: Threads + Sync>(
     let mut interner = Interner::new(alloc, limit, seed)?;
     let log = log_of(rt, alloc, &mut interner, setup, events)?;
     let pool = interner.into_pool()?;
-    let found = found_of(alloc, setup, events, &pool, &log)?;
+    let found = found_of(rt, alloc, setup, events, &pool, &log)?;
     Ok(Gathered { pool, log, found })
 }
 
@@ -260,7 +262,8 @@ fn joined(setup: Setup, events: Events, gathered: Gathered) -> Context
 
 impl Context {
     /// What a setup and the events of a log say together. The objects may have 50,000,000 distinct values, lists and
-    /// members among them. Several threads classify the events. The hashes of what the pool holds begin with the seed.
+    /// members among them. Several threads classify the events and judge the bodies of writes. The hashes of what the
+    /// pool holds begin with the seed.
     pub fn build<R: Threads + Sync>(
         rt: &R,
         alloc: Global,
