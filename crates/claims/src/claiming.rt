@@ -51,14 +51,14 @@ pub fn place(
     placed_line(alloc, &view, event, context.fault(event), choice)
 }
 
-/// The places that the authoriser's caches may have been at when the event of this number was decided, both ends among
+/// The places that the authorizer's caches may have been at when the event of this number was decided, both ends among
 /// them.
 pub fn decision_window(context: &Context, event: u32) -> Window
     requires { event < length context.now.log }
     ensures low { (e : Event) → IsEvent (history_of context.now) event e → result.low ≡ decision_low
         (history_of context.now) e }
-    ensures high { (e : Event) → IsEvent (history_of context.now) event e → result.high ≡ decision_high
-        (history_of context.now) e }
+    ensures high { (e : Event) → IsEvent (history_of context.now) event e
+        → result.high ≡ decision_high (history_of context.now) e }
 {
     let judge = Judge { context };
     let view = view_of(&judge);

@@ -14,7 +14,7 @@ use Rattle.kubepast.specs.Program.{Concludes, IsAnswer, IsAnswerTo, IsOfTable}
 use Rattle.log_verdict.specs.Answers.{Answer, IsPlacementText, answer, report_answer, status_number}
 use Rattle.context_intake.specs.Refusals.{IsSetupRefused}
 use Rattle.std.specs.Io.KnownBytes.{Appends}
-use Rattle.kubepast.specs.Reported.{IsPrinted, IsReported, Takes, TakesNames, TakesPlacement}
+use Rattle.kubepast.specs.Reported.{PrintsPlacement, IsReported, Takes, TakesNames, TakesPlacement}
 use Rattle.log_verdict.specs.Verifying.{IsReadLast, most_placement}
 use Rattle.command_words.proofs.AskedFacts.{one_command}
 use Rattle.log_verdict.proofs.VerifyingFacts.{whole_from}
@@ -144,5 +144,5 @@ module _ {words : List (List ℕ)} {asked : Asked} {old now : List ℕ → Optio
 
   pub run_printed : (setup log : List ℕ) → IsAsked words (Some (Judge setup log)) → result ≡ 0 → (text : List ℕ) × IsPlacementText text × Appends before written text
   run_printed setup log asks =
-      let printed : IfOk found (IsPrinted (Judge setup log)) = subst (λ a. IfOk found (IsPrinted a)) (one_command words asked (Judge setup log) r.spelled asks) r.reported.printed in
+      let printed : IfOk found (PrintsPlacement (Judge setup log)) = subst (λ a. IfOk found (PrintsPlacement a)) (one_command words asked (Judge setup log) r.spelled asks) r.reported.printed in
       concluded_printed sink_before sink_now before written result found printed r.concluded

@@ -35,14 +35,15 @@ pub fn run<R: Threads + Sync, D: Desk, K: Sink, G: Gate, H: Gate>(
     gate: &G,
     lines: &H,
 ) -> u8
-    ensures answer { (files : List ℕ → List ℕ) → TellsWords (map string_bytes words.now) (D.left desk.old) files
-        → IsAnswered (IsAnswer (map string_bytes words.now) files)
-        (D.faults desk.old) (D.faults desk.new) (K.faults out.old) (K.faults out.new)
-        (K.written out.old) (K.written out.new) result }
+    ensures answer { (files : List ℕ → List ℕ)
+        → TellsWords (map string_bytes words.now) (D.left desk.old) files
+        → IsAnswered (IsAnswer (map string_bytes words.now) files) (D.faults desk.old)
+        (D.faults desk.new) (K.faults out.old) (K.faults out.new) (K.written out.old)
+        (K.written out.new) result }
 
     // Whether the desk tells its bytes or not.
-    ensures table { IsAnswered IsOfTable (D.faults desk.old) (D.faults desk.new) (K.faults out.old) (K.faults out.new)
-        (K.written out.old) (K.written out.new) result }
+    ensures table { IsAnswered IsOfTable (D.faults desk.old) (D.faults desk.new) (K.faults out.old)
+        (K.faults out.new) (K.written out.old) (K.written out.new) result }
     ensures usage { IsAsked (map string_bytes words.now) None
         → Ends 2 usage_answer.text (K.faults out.old) (K.faults out.new) (K.written out.old)
         (K.written out.new) result ⊎ (MayWantMemory (map string_bytes words.now) × (result ≡ 8)) }
@@ -52,8 +53,9 @@ pub fn run<R: Threads + Sync, D: Desk, K: Sink, G: Gate, H: Gate>(
     ensures memory { result ≡ 8 → Keeps (K.written out.old) (K.written out.new) }
     ensures desk_left { ((setup log : List ℕ) → AsksOf (map string_bytes words.now) setup log → ⊥)
         → desk.new ≡ desk.old }
-    ensures whole { (setup log : List ℕ) → AsksOf (map string_bytes words.now) setup log → (result ≡ 0) ⊎ (result ≡ 1)
-        → IsAtEnd (D.left desk.new setup) × IsAtEnd (D.left desk.new log) }
+    ensures whole { (setup log : List ℕ) → AsksOf (map string_bytes words.now) setup log
+        → (result ≡ 0) ⊎ (result ≡ 1) → IsAtEnd (D.left desk.new setup)
+        × IsAtEnd (D.left desk.new log) }
     ensures setup_taken { (setup log : List ℕ) → AsksOf (map string_bytes words.now) setup log
         → TakesSetup (D.left desk.old setup) (D.left desk.new setup) (result ≡ 5) }
     ensures log_taken { (setup log : List ℕ) → AsksOf (map string_bytes words.now) setup log
@@ -61,25 +63,29 @@ pub fn run<R: Threads + Sync, D: Desk, K: Sink, G: Gate, H: Gate>(
     ensures placement_whole { (setup log placement : List ℕ) → IsAsked (map string_bytes words.now)
         (Some (Verify setup log placement))
         → (result ≡ 0) ⊎ (result ≡ 1) → IsAtEnd (D.left desk.new placement) }
-    ensures placement_taken { (setup log placement : List ℕ) → IsAsked (map string_bytes words.now)
-        (Some (Verify setup log placement))
-        → TakesWhole most_placement (D.left desk.old placement) (D.left desk.new placement) (result ≡ 5) }
+    ensures placement_taken { (setup log placement : List ℕ)
+        → IsAsked (map string_bytes words.now) (Some (Verify setup log placement))
+        → TakesWhole most_placement (D.left desk.old placement) (D.left desk.new placement) (result
+        ≡ 5) }
     ensures placement_left { (setup log placement of_setup of_log : List ℕ) (refusal : Refusal)
         → IsAsked (map string_bytes words.now) (Some (Verify setup log placement))
         → D.left desk.old setup ≡ Some of_setup → D.left desk.old log ≡ Some of_log
-        → IsRefused of_setup of_log refusal → D.left desk.new placement ≡ D.left desk.old placement }
+        → IsRefused of_setup of_log refusal
+        → D.left desk.new placement ≡ D.left desk.old placement }
     ensures placement_after { (setup log placement : List ℕ) → IsAsked (map string_bytes words.now)
         (Some (Verify setup log placement))
         → IsReadLast (D.left desk.new setup) (D.left desk.new log) (D.left desk.old placement)
         (D.left desk.new placement) }
-    ensures log_left { (setup log of_setup : List ℕ) (refusal : Refusal) → AsksOf (map string_bytes words.now) setup log
-        → D.left desk.old setup ≡ Some of_setup → IsSetupRefused of_setup refusal
-        → D.left desk.new log ≡ D.left desk.old log }
-    ensures others_left { (asked : Asked) (name : List ℕ) → IsAsked (map string_bytes words.now) (Some asked)
-        → (Reads asked name → ⊥)
+    ensures log_left { (setup log of_setup : List ℕ) (refusal : Refusal)
+        → AsksOf (map string_bytes words.now) setup log → D.left desk.old setup ≡ Some of_setup
+        → IsSetupRefused of_setup refusal → D.left desk.new log ≡ D.left desk.old log }
+    ensures others_left { (asked : Asked) (name : List ℕ)
+        → IsAsked (map string_bytes words.now) (Some asked) → (Reads asked name → ⊥)
         → D.left desk.new name ≡ D.left desk.old name }
-    ensures printed { (setup log : List ℕ) → IsAsked (map string_bytes words.now) (Some (Judge setup log)) → result ≡ 0
-        → (text : List ℕ) × IsPlacementText text × Appends (K.written out.old) (K.written out.new) text }
+    ensures printed { (setup log : List ℕ)
+        → IsAsked (map string_bytes words.now) (Some (Judge setup log)) → result ≡ 0
+        → (text : List ℕ) × IsPlacementText text
+        × Appends (K.written out.old) (K.written out.new) text }
 {
     let gates = Gates {
         events: gate,
@@ -94,7 +100,8 @@ pub fn run<R: Threads + Sync, D: Desk, K: Sink, G: Gate, H: Gate>(
 
 // Writes what was found, or why nothing was, and gives the exit status.
 fn conclude<K: Sink>(out: &mut K, found: Result<Report, Stop>) -> u8
-    ensures { Concludes found (K.faults out.old) (K.faults out.new) (K.written out.old) (K.written out.new) result }
+    ensures { Concludes found (K.faults out.old) (K.faults out.new) (K.written out.old)
+        (K.written out.new) result }
 {
     match found {
         Ok(report) => end_with(out, report.status.number(), report.text.as_slice()),
