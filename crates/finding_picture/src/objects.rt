@@ -252,7 +252,8 @@ fn push_removal(text: &mut String, log: &[LogEvent], removal: &Removal) -> Resul
     let high = range.high;
     writeln!(
         text,
-        "<tr><td>from a place of {low} to {high} on</td><td>that it is absent</td><td><code>{uid}</code></td><td>line {line}</td></tr>"
+        "<tr><td>from a place of {low} to {high} on</td><td>that it is absent</td>\
+        <td><code>{uid}</code></td><td>line {line}</td></tr>"
     )?;
     Ok(())
 }

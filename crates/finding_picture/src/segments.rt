@@ -95,7 +95,8 @@ fn push_segment(text: &mut String, axis: &Axis, version: &Version) -> Result<(),
     let uid = Told(version.uid.as_str());
     writeln!(
         text,
-        r#"<rect class="segment" x="{x}" y="108" width="{width}" height="18"><title>from revision {revision}: uid {uid}</title></rect>"#
+        "<rect class=\"segment\" x=\"{x}\" y=\"108\" width=\"{width}\" height=\"18\">\
+        <title>from revision {revision}: uid {uid}</title></rect>"
     )?;
     Ok(())
 }

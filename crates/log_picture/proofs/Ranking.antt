@@ -21,11 +21,16 @@ use Rattle.clouds.specs.Kept.{key_order}
 use Rattle.history_model.proofs.JudgingLemmas.{numbers}
 use Rattle.history_model.proofs.Members.{all_from}
 use Rattle.log_picture.specs.Changes.{AreChanges, IsListedBefore, tally, tally_in}
-use Rattle.log_picture.specs.Tallied.{AreTallied, change_order, changed_as}
+use Rattle.log_picture.specs.Tallied.{AreTallied, changed_as}
+use Rattle.log_picture.specs.contracts.changed.ChangedOrd.TheImpl as changed_ord
 use Rattle.log_picture.specs.declared.changed.Changed.{Changed}
 use Rattle.log_picture.specs.declared.tallies.Tally.{Tally}
 use Rattle.object_past.specs.declared.version.Version.{Version}
 use Rattle.write_groups.proofs.Lists.{map_from, map_has, pairs_unmap}
+
+-- by count, the greatest first, and then by key; no two have one key
+abbrev change_order : Changed → Changed → Ordering
+change_order = (changed_ord.ghosts).cmp
 
 ranks : IsStrictWeakOrder (λ a b. is_lt (change_order a b))
 ranks = ranks_by (then_total (on_total (λ (c : Changed). c.count.0) (back_total nat_cmp_total)) (then_total (on_total (λ (c : Changed). c.key) key_order_total)

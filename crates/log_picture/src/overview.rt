@@ -142,7 +142,9 @@ fn append_last(text: &mut String, overview: Overview) -> Result<(), OutOfMemory>
     } = overview;
     write!(
         text,
-        "</dd>\n<dt>Revision at the start</dt><dd>{start}</dd>\n<dt>Objects at the start</dt><dd>{objects}</dd>\n<dt>Greatest revision</dt><dd>{greatest}</dd>\n</dl>\n"
+        "</dd>\n<dt>Revision at the start</dt><dd>{start}</dd>\n\
+        <dt>Objects at the start</dt><dd>{objects}</dd>\n\
+        <dt>Greatest revision</dt><dd>{greatest}</dd>\n</dl>\n"
     )?;
     Ok(())
 }

@@ -275,7 +275,8 @@ fn append_unrecorded_mark(
     let x = axis.position(low);
     writeln!(
         text,
-        "<line class=\"hatched\" x1=\"{x}\" y1=\"142\" x2=\"{x}\" y2=\"166\"><title>Line {line}: unrecorded write, from place {low} on</title></line>"
+        "<line class=\"hatched\" x1=\"{x}\" y1=\"142\" x2=\"{x}\" y2=\"166\">\
+        <title>Line {line}: unrecorded write, from place {low} on</title></line>"
     )?;
     Ok(())
 }
@@ -287,7 +288,9 @@ fn append_axis(text: &mut String, axis: &Axis) -> Result<(), OutOfMemory>
     let Axis { low, high, .. } = *axis;
     write!(
         text,
-        "<line class=\"axis\" x1=\"150\" y1=\"178\" x2=\"930\" y2=\"178\"/>\n<text x=\"150\" y=\"196\">revision {low}</text>\n<text x=\"930\" y=\"196\" text-anchor=\"end\">revision {high}</text>\n</svg>\n</figure>\n"
+        "<line class=\"axis\" x1=\"150\" y1=\"178\" x2=\"930\" y2=\"178\"/>\n\
+        <text x=\"150\" y=\"196\">revision {low}</text>\n\
+        <text x=\"930\" y=\"196\" text-anchor=\"end\">revision {high}</text>\n</svg>\n</figure>\n"
     )?;
     Ok(())
 }
