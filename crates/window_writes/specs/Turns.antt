@@ -11,7 +11,7 @@ use Rattle.object_past.specs.declared.removal.Removal.{Removal}
 use Rattle.object_past.specs.declared.version.Version.{Version}
 use Rattle.version_store.specs.Histories.{history_of}
 use Rattle.version_store.specs.Known.{Known}
-use Rattle.window_writes.specs.contracts.writes.TurnOrd.TheImpl as turn_ord
+use Rattle.window_writes.specs.contracts.writes.WriteTurnOrd.TheImpl as turn_ord
 use Rattle.window_writes.specs.declared.writes.WriteTurn.{WriteTurn}
 
 -- by place, those that made a revision before removals, and then by line
