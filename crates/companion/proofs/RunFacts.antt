@@ -10,6 +10,7 @@ use Rattle.log_verdict.specs.Endings.{IsAnswered}
 use Rattle.companion_words.specs.Command.{Asked, IsAsked, ReadsWords, Spells, Tells, TellsWords}
 use Rattle.companion.specs.Program.{IsAnswer, IsAnswerTo, usage_answer}
 use Rattle.companion.specs.Reported.{Concludes, IsReported, report_answer, status_number}
+use Rattle.companion.specs.Running.{ReadsDesk, StatusTells}
 use Rattle.companion.specs.declared.report.CommandReport.{CommandReport}
 use Rattle.companion.specs.declared.report.ExitStatus.{ExitStatus}
 use Rattle.companion.specs.declared.report.ExitStatus.TheVariants.{Done, Unexplained, SetupRefused, LogRefused, LimitPassed}
@@ -95,23 +96,50 @@ module _ {words : List (List ℕ)} {asked : Asked} {old now : List ℕ → Optio
   run_answer files tells =
       concluded_answer sink_before sink_now before written result found (IsAnswer words files) desk_before desk_now (right_answer words asked old files found r.spelled tells r.reported.answered) r.reported.fault r.concluded
 
-  pub run_usage : IsAsked words None → Ends 2 usage_answer.text sink_before sink_now before written result
-  run_usage none = absurd (none asked r.spelled)
+  pub run_status : StatusTells words desk_before desk_now sink_before sink_now before written result
+  run_status = record {
+    usage = λ none. absurd (none asked r.spelled);
+    usage_only = λ is. absurd (concluded_two sink_before sink_now before written result found r.concluded is);
+    read_fault = λ is. r.reported.fault (concluded_five sink_before sink_now before written result found r.concluded is);
+    write_fault = λ is. concluded_six sink_before sink_now before written result found r.concluded is;
+    memory = λ is. concluded_eight sink_before sink_now before written result found r.concluded is;
+  }
 
-  pub run_usage_only : result ≡ 2 → IsAsked words None
-  run_usage_only is = absurd (concluded_two sink_before sink_now before written result found r.concluded is)
+  pub run_read : ReadsDesk words old now untouched
+  run_read = record {
+    desk_left = λ none. r.reported.left (λ name reads. none name (asked, r.spelled, reads));
+    others_left = λ name none. r.reported.others name (λ reads. none (asked, r.spelled, reads));
+  }
 
-  pub run_read_fault : result ≡ 5 → Rose desk_before desk_now
-  run_read_fault is = r.reported.fault (concluded_five sink_before sink_now before written result found r.concluded is)
+-- how a call ends whose words are no command
+module _ (faults_before faults_now : ℕ) (before now : Option (List ℕ)) (result : ℕ) (text : List ℕ) where
+  two_no_five : Ends 2 text faults_before faults_now before now result → result ≡ 5 → ⊥
+  two_no_five (inl (whole, rest)) is = omega (arith, whole, is)
+  two_no_five (inr (part, rose, rest)) is = omega (arith, part, is)
 
-  pub run_write_fault : result ≡ 6 → Rose sink_before sink_now
-  run_write_fault is = concluded_six sink_before sink_now before written result found r.concluded is
+  two_no_eight : Ends 2 text faults_before faults_now before now result → result ≡ 8 → ⊥
+  two_no_eight (inl (whole, rest)) is = omega (arith, whole, is)
+  two_no_eight (inr (part, rose, rest)) is = omega (arith, part, is)
 
-  pub run_memory : result ≡ 8 → Keeps before written
-  run_memory is = concluded_eight sink_before sink_now before written result found r.concluded is
+  two_rose : Ends 2 text faults_before faults_now before now result → result ≡ 6 → Rose faults_before faults_now
+  two_rose (inl (whole, rest)) is = absurd (omega (arith, whole, is))
+  two_rose (inr (part, rose, rest)) is = rose
 
-  pub run_desk_left : ((name : List ℕ) → ReadsWords words name → ⊥) → untouched
-  run_desk_left none = r.reported.left (λ name reads. none name (asked, r.spelled, reads))
+-- a call whose words are no command
+module _ {words : List (List ℕ)} {desk_before desk_now sink_before sink_now : ℕ} {before now : Option (List ℕ)} {status : ℕ}
+    (none : IsAsked words None) (ends : Ends 2 usage_answer.text sink_before sink_now before now status) where
+  pub usage_status : StatusTells words desk_before desk_now sink_before sink_now before now status
+  usage_status = record {
+    usage = λ _. ends;
+    usage_only = λ _. none;
+    read_fault = λ is. absurd (two_no_five sink_before sink_now before now status usage_answer.text ends is);
+    write_fault = λ is. two_rose sink_before sink_now before now status usage_answer.text ends is;
+    memory = λ is. absurd (two_no_eight sink_before sink_now before now status usage_answer.text ends is);
+  }
 
-  pub run_others_left : (name : List ℕ) → (ReadsWords words name → ⊥) → now name ≡ old name
-  run_others_left name none = r.reported.others name (λ reads. none (asked, r.spelled, reads))
+module _ {words : List (List ℕ)} {left : List ℕ → Option (List ℕ)} {untouched : Type 0} (same : untouched) where
+  pub usage_read : ReadsDesk words left left untouched
+  usage_read = record {
+    desk_left = λ unasked. same;
+    others_left = λ name unread. refl;
+  }
