@@ -2,7 +2,7 @@
 use Rattle.std.proofs.Common.{◌≡◌, ℕ, ◌^◌, pos, neg_ℤ, map, sym, ap}
 use Rattle.std.specs.Prelude.{◌≤ℤ◌}
 use Rattle.claims.specs.Judging.{gives, selects}
-use Rattle.claims.specs.declared.judge.Judge.{Judge}
+use Rattle.claims.specs.declared.judge.ContextJudge.{ContextJudge}
 use Rattle.event_claims.specs.Views.{IsViewOf}
 use Rattle.event_claims.specs.declared.view.View.{View}
 use Rattle.history_model.specs.Events.{Event}
@@ -15,7 +15,7 @@ use Rattle.version_store.specs.Known.{Known}
 use Rattle.write_groups.specs.Modelled.{event_of, span_of}
 
 -- the view has the parts of a context
-pub record HasParts (known : Known) (view : View Judge Judge) : Type 0 where
+pub record HasParts (known : Known) (view : View ContextJudge ContextJudge) : Type 0 where
   pub start : view.start ≡ known.setup.start
   pub lag : view.lag ≡ known.setup.lag
   pub log : view.log.now ≡ known.log
@@ -29,7 +29,7 @@ pub record HasParts (known : Known) (view : View Judge Judge) : Type 0 where
   pub readable : IsReadable (history_of known)
   pub moments : (number : ℕ) (event : Event) → IsEvent (history_of known) number event → neg_ℤ (pos (2 ^ 101)) ≤ℤ event.lo
 
-pub viewed : (known : Known) (view : View Judge Judge) → HasParts known view → IsViewOf selects gives view (history_of known)
+pub viewed : (known : Known) (view : View ContextJudge ContextJudge) → HasParts known view → IsViewOf selects gives view (history_of known)
 viewed known view has = record {
   start = sym has.start;
   lag = sym has.lag;

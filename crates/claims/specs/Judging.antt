@@ -1,11 +1,11 @@
 -- How a context judges the selectors of lists, and decisions.
 use Rattle.std.specs.Prelude.{ℕ, Bool}
 use Rattle.base_types.specs.declared.placed.Places.{Places}
-use Rattle.claims.specs.declared.judge.Judge.{Judge}
+use Rattle.claims.specs.declared.judge.ContextJudge.{ContextJudge}
 use Rattle.version_store.specs.Histories.{history_of}
 
-abbrev pub selects : Judge → ℕ → ℕ → Bool
+abbrev pub selects : ContextJudge → ℕ → ℕ → Bool
 selects judge = (history_of judge.context.now).listable
 
-abbrev pub gives : Judge → ℕ → Places → Bool
+abbrev pub gives : ContextJudge → ℕ → Places → Bool
 gives judge = (history_of judge.context.now).decides

@@ -9,7 +9,7 @@ ghost use Rattle.history_model.specs.Windows.{decision_low, decision_high};
 ghost use Rattle.local_bounds.specs.Asked.{AreDeciding};
 ghost use Rattle.version_store.specs.Histories.{history_of};
 
-use crate::judge::{Judge, view_of};
+use crate::judge::{ContextJudge, view_of};
 use base_types::{Claim, OutOfMemory, PlacedLine};
 use event_claims::{claim_of, decision_window_of, placed_line};
 use std::alloc::Global;
@@ -28,7 +28,7 @@ pub fn claim(alloc: Global, context: &Context, event: u32) -> Result<Claim, OutO
     ensures ranges { IfOk result (λ claim. All (λ bound. bound.range < length
         (ranges (history_of context.now))) claim.bounds) }
 {
-    let judge = Judge { context };
+    let judge = ContextJudge { context };
     let view = view_of(&judge);
     claim_of(alloc, &view, event, context.fault(event))
 }
@@ -46,21 +46,21 @@ pub fn place(
         → IsChoice (ranges (history_of context.now)) choice.now
         → IsLined (history_of context.now) choice.now event e found) }
 {
-    let judge = Judge { context };
+    let judge = ContextJudge { context };
     let view = view_of(&judge);
     placed_line(alloc, &view, event, context.fault(event), choice)
 }
 
-/// The places that the authoriser's caches may have been at when the event of this number was decided, both ends among
+/// The places that the authorizer's caches may have been at when the event of this number was decided, both ends among
 /// them.
 pub fn decision_window(context: &Context, event: u32) -> Window
     requires { event < length context.now.log }
     ensures low { (e : Event) → IsEvent (history_of context.now) event e → result.low ≡ decision_low
         (history_of context.now) e }
-    ensures high { (e : Event) → IsEvent (history_of context.now) event e → result.high ≡ decision_high
-        (history_of context.now) e }
+    ensures high { (e : Event) → IsEvent (history_of context.now) event e
+        → result.high ≡ decision_high (history_of context.now) e }
 {
-    let judge = Judge { context };
+    let judge = ContextJudge { context };
     let view = view_of(&judge);
     let logged = &view.log[event as usize];
     decision_window_of(&view, logged)

@@ -11,11 +11,11 @@ use version_store::Context;
 
 /// A context as the judge of the selectors of lists, and of decisions.
 #[derive(Clone, Copy)]
-pub struct Judge<'a> {
+pub struct ContextJudge<'a> {
     pub context: &'a Context,
 }
 
-impl<'a> Listable for Judge<'a> {
+impl<'a> Listable for ContextJudge<'a> {
     ghost listable = { selects };
 
     fn is_listable(&self, event: u32, node: NodeId) -> Result<bool, OutOfMemory> {
@@ -23,7 +23,7 @@ impl<'a> Listable for Judge<'a> {
     }
 }
 
-impl<'a> Decisions for Judge<'a> {
+impl<'a> Decisions for ContextJudge<'a> {
     ghost decides = { gives };
 
     fn find(&self, event: u32, low: u64, high: u64) -> Option<Places> {
@@ -32,7 +32,7 @@ impl<'a> Decisions for Judge<'a> {
 }
 
 /// The log of the judge's context, and what it tells.
-pub fn view_of<'a>(judge: &'a Judge<'a>) -> View<'a, Judge<'a>, Judge<'a>>
+pub fn view_of<'a>(judge: &'a ContextJudge<'a>) -> View<'a, ContextJudge<'a>, ContextJudge<'a>>
     ensures view { IsViewOf selects gives result (history_of judge.now.context.now) }
     ensures log { result.log.now ≡ judge.now.context.now.log }
 {

@@ -1,6 +1,7 @@
 pub mod Added
 pub mod AnsweringFacts
 pub mod Causes
+pub mod DocumentFacts
 pub mod Gathered
 pub mod GatheringFacts
 pub mod ListKinds

@@ -5,6 +5,7 @@ ghost use Rattle.cluster_setup.specs.Making.{entries_of, objects_of, start_tree,
 ghost use Rattle.cluster_setup.specs.Parts.{with_content, with_start};
 
 use crate::building::{flag, object, put, said, whole};
+use crate::documents::documents_of;
 use crate::entries::entries_in;
 use crate::objects::objects_in;
 use crate::sources::Sources;
@@ -67,7 +68,8 @@ fn add_content<'a>(
         (flat_map (objects_of given.entry.trees.now) shown.now) (fields_of fields.old)) }
 {
     put(alloc, fields, "policy", copy(alloc, given.policy)?)?;
-    let sources = Sources::new(alloc, given.trees)?;
+    let documents = documents_of(alloc, given.trees)?;
+    let sources = Sources::new(alloc, documents.as_slice())?;
     let entries = entries_in(alloc, &sources, given.trees)?;
     put(alloc, fields, "resources", entries)?;
     let objects = objects_in(alloc, &sources, shown)?;

@@ -3,19 +3,20 @@ ghost use Rattle.std.specs.List.{flat_map};
 ghost use Rattle.base_types.specs.Meaning.{fields_of, items, kids_of};
 ghost use Rattle.cluster_setup.specs.Files.{word};
 ghost use Rattle.cluster_setup.specs.Making.{shapes_of, status_shapes_of, same_subresource, idle_subresource};
-ghost use Rattle.cluster_setup.specs.Making.{is_named, is_served, with_status, with_idle, subresources_of};
+ghost use Rattle.cluster_setup.specs.Making.{with_status, with_idle, subresources_of};
 ghost use Rattle.cluster_setup.specs.Making.{is_namespaced, entry_of, form_for, entries_of};
 ghost use Rattle.cluster_setup.specs.Parts.{names_of, with_all_idle, with_rules};
 ghost use Rattle.cluster_setup.specs.Table.{patch_of};
 
 use crate::building::{flag, items, object, put, said, say};
+use crate::documents::Document;
 use crate::finding::Found;
 use crate::shapes::{shape_list, shapes_of, status_shapes_of};
 use crate::sources::Sources;
 use crate::table::{Form, form_of, patch_of};
-use crate::words::{group_of, listed, version_of, word};
+use crate::words::{group_of, version_of, word};
+use base_types::OutOfMemory;
 use base_types::json::{MemberList, Tree};
-use base_types::{OutOfMemory, is_combined};
 use std::alloc::Global;
 
 /// The subresources that write nothing.
@@ -39,31 +40,16 @@ fn idle_subresource(alloc: Global, name: &str) -> Result<Tree, OutOfMemory>
     Ok(object(fields))
 }
 
-fn is_named(resource: &str, name: &str, entry: &Tree) -> bool
-    ensures { result ≡ is_named resource.now name.now entry.now }
-{
-    is_combined(word(entry, "name"), resource, name)
-}
-
-// Whether a document has the subresource of a name.
-fn is_served(document: &Tree, resource: &str, name: &str) -> bool
-    ensures { result ≡ is_served document.now resource.now name.now }
-{
-    listed(document, "resources")
-        .iter()
-        .any(|entry| is_named(resource, name, entry))
-}
-
 fn add_status(
     alloc: Global,
     list: &mut Vec<Tree>,
-    document: &Tree,
+    document: &Document<'_>,
     resource: &str,
     form: Form,
 ) -> Result<(), OutOfMemory>
     ensures { OnOk result (list.new.items ≡ with_status document.now resource.now form list.old.items) }
 {
-    if !is_served(document, resource, "status") {
+    if !document.is_served(alloc, resource, "status")? {
         return Ok(());
     }
     list.push(status_subresource(alloc, form)?)?;
@@ -73,13 +59,13 @@ fn add_status(
 fn add_idle(
     alloc: Global,
     list: &mut Vec<Tree>,
-    document: &Tree,
+    document: &Document<'_>,
     resource: &str,
     name: &str,
 ) -> Result<(), OutOfMemory>
     ensures { OnOk result (list.new.items ≡ with_idle document.now resource.now name.now list.old.items) }
 {
-    if !is_served(document, resource, name) {
+    if !document.is_served(alloc, resource, name)? {
         return Ok(());
     }
     list.push(idle_subresource(alloc, name)?)?;
@@ -89,7 +75,7 @@ fn add_idle(
 fn add_all_idle(
     alloc: Global,
     list: &mut Vec<Tree>,
-    document: &Tree,
+    document: &Document<'_>,
     resource: &str,
     names: &[&str],
 ) -> Result<(), OutOfMemory>
@@ -104,7 +90,7 @@ fn add_all_idle(
 // The subresources whose effect is known; a write of another one hides its object.
 fn subresources_of(
     alloc: Global,
-    document: &Tree,
+    document: &Document<'_>,
     resource: &str,
     form: Form,
 ) -> Result<Vec<Tree>, OutOfMemory>
@@ -151,7 +137,7 @@ fn names_of(alloc: Global, found: Found<'_>, list_kind: &str) -> Result<MemberLi
         found.entry.entry.now list_kind.now) }
 {
     let Found { document, entry } = found;
-    let group_version = word(document, "groupVersion");
+    let group_version = word(document.tree(), "groupVersion");
     said(
         alloc,
         &[
@@ -182,7 +168,7 @@ fn form_for(found: Found<'_>) -> Form
     ensures { result ≡ form_for found.entry.document.now found.entry.entry.now }
 {
     form_of(
-        group_of(word(found.document, "groupVersion")),
+        group_of(word(found.document.tree(), "groupVersion")),
         word(found.entry, "name"),
     )
 }

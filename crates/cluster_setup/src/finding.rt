@@ -2,6 +2,7 @@ ghost use Rattle.std.specs.Prelude.{◌≡◌, option_map};
 ghost use Rattle.cluster_setup.specs.Found.{is_list_of, is_entry_for, entry_in, has_entry, is_source, source_of};
 ghost use Rattle.cluster_setup.specs.Found.{is_of_group, is_elsewhere, is_same_resource, is_listed_again};
 
+use crate::documents::Document;
 use crate::files::{is_discovery, is_listing};
 use crate::words::{group_of, is_whole_name, listed, word};
 use base_types::json::Tree;
@@ -9,7 +10,7 @@ use base_types::json::Tree;
 /// The `APIResourceList` that has a resource, and its entry there.
 #[derive(Clone, Copy)]
 pub struct Found<'a> {
-    pub document: &'a Tree,
+    pub document: &'a Document<'a>,
     pub entry: &'a Tree,
 }
 

@@ -5,6 +5,7 @@ mod answering;
 mod assembling;
 mod blaming;
 mod building;
+mod documents;
 mod entries;
 mod fault;
 mod files;

@@ -93,7 +93,7 @@ fn add_objects<'a>(
     let Some(found) = sources.found_for(list) else {
         return Ok(());
     };
-    let version = word(found.document, "groupVersion");
+    let version = word(found.document.tree(), "groupVersion");
     let name = word(found.entry, "name");
     let kind = word(found.entry, "kind");
     add_items(

@@ -6,6 +6,7 @@ ghost use Rattle.cluster_setup.specs.Found.{is_elsewhere, is_listed_again};
 ghost use Rattle.cluster_setup.specs.Indexed.{AreListed, IsFirstWrong};
 ghost use Rattle.cluster_setup.specs.Refusing.{list_fault, file_fault, first_refused, refused_or};
 
+use crate::documents::documents_of;
 use crate::fault::{FileFault, SetupRefusal};
 use crate::files::{has_more, is_discovery, is_listing, list_revision, start_word};
 use crate::finding::{is_elsewhere, is_listed_again, source_of};
@@ -134,7 +135,8 @@ fn add_listed<'a>(behind: &mut Listed<'a>, tree: &'a Tree) -> Result<bool, OutOf
 fn first_wrong(alloc: Global, trees: &[Tree]) -> Result<Option<usize>, OutOfMemory>
     ensures { IfOk result (IsFirstWrong trees.now 0) }
 {
-    let sources = Sources::new(alloc, trees)?;
+    let documents = documents_of(alloc, trees)?;
+    let sources = Sources::new(alloc, documents.as_slice())?;
     let start = start_of(trees);
     let mut behind = BTreeSet::new(alloc);
     let mut first = None;

@@ -3,6 +3,7 @@ ghost use Rattle.base_types.specs.Meaning.{Meaning};
 ghost use Rattle.cluster_setup.specs.Found.{found_for};
 ghost use Rattle.cluster_setup.specs.Indexed.{AreEntries, AreSources, source_found};
 
+use crate::documents::Document;
 use crate::files::{is_discovery, is_listing};
 use crate::finding::Found;
 use crate::words::{is_whole_name, listed, word};
@@ -18,7 +19,7 @@ type Entries<'a> = BTreeMap<(&'a str, &'a str), Found<'a>>;
 /// All files, and where each resource is told in them.
 #[derive(Drop)]
 pub struct Sources<'a> {
-    trees: &'a [Tree],
+    documents: &'a [Document<'a>],
     entries: Entries<'a>,
 }
 
@@ -33,15 +34,15 @@ impl<'a> Model for Sources<'a> {
 
     ghost coded = { coded_list coded_meaning };
 
-    ghost view = { λ s. s.trees.now };
+    ghost view = { λ s. s.documents.now };
 
-    ghost invariant = { λ s. AreSources s.entries s.trees.now };
+    ghost invariant = { λ s. AreSources s.entries s.documents.now };
 }
 
 // Puts an entry in front of those behind it in its document.
 fn add_entry<'a>(
     entries: &mut Entries<'a>,
-    document: &'a Tree,
+    document: &'a Document<'a>,
     entry: &'a Tree,
 ) -> Result<(), OutOfMemory>
     ensures { OnOk result ((later behind : List Meaning) → AreEntries entries.old document.now later behind
@@ -50,20 +51,24 @@ fn add_entry<'a>(
     if !is_whole_name(word(entry, "name")) {
         return Ok(());
     }
-    let names = (word(document, "groupVersion"), word(entry, "kind"));
+    let names = (word(document.tree(), "groupVersion"), word(entry, "kind"));
     entries.insert(names, Found { document, entry })?;
     Ok(())
 }
 
 // Puts what a file tells of resources in front of what the files behind it do.
-fn add_document<'a>(entries: &mut Entries<'a>, document: &'a Tree) -> Result<(), OutOfMemory>
+fn add_document<'a>(
+    entries: &mut Entries<'a>,
+    document: &'a Document<'a>,
+) -> Result<(), OutOfMemory>
     ensures { OnOk result ((behind : List Meaning) → AreSources entries.old behind
         → AreSources entries.new (document.now ∷ behind)) }
 {
-    if !is_discovery(document) {
+    let tree = document.tree();
+    if !is_discovery(tree) {
         return Ok(());
     }
-    let told = listed(document, "resources");
+    let told = listed(tree, "resources");
     for at in (0..told.len()).rev() {
         add_entry(entries, document, &told[at])?;
     }
@@ -72,14 +77,14 @@ fn add_document<'a>(entries: &mut Entries<'a>, document: &'a Tree) -> Result<(),
 
 impl<'a> Sources<'a> {
     /// These files with their map. They are put in from the last to the first, so that the first of a version and kind stays.
-    pub fn new(alloc: Global, trees: &'a [Tree]) -> Result<Sources<'a>, OutOfMemory>
-        ensures { IfOk result (λ sources. sources ≡ trees.now) }
+    pub fn new(alloc: Global, documents: &'a [Document<'a>]) -> Result<Sources<'a>, OutOfMemory>
+        ensures { IfOk result (λ sources. sources ≡ documents.now) }
     {
         let mut entries = BTreeMap::new(alloc);
-        for at in (0..trees.len()).rev() {
-            add_document(&mut entries, &trees[at])?;
+        for at in (0..documents.len()).rev() {
+            add_document(&mut entries, &documents[at])?;
         }
-        Ok(Sources { trees, entries })
+        Ok(Sources { documents, entries })
     }
 
     /// The document that has a list's resource in the list's version, and its entry there.

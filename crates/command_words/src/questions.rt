@@ -30,7 +30,8 @@ fn read_named<'a>(
     log: &'a str,
     rest: &[String],
 ) -> Result<Option<Command<'a>>, OutOfMemory>
-    ensures read { IfOk result (IsAskRead (verb.now ∷ setup.entry.now ∷ log.entry.now ∷ map string_bytes rest.now)) }
+    ensures read { IfOk result (IsAskRead (verb.now ∷ setup.entry.now ∷ log.entry.now
+        ∷ map string_bytes rest.now)) }
     ensures memory { OnErr result (MayWantMemory (verb.now ∷ setup.entry.now ∷ log.entry.now
         ∷ map string_bytes rest.now)) }
 {

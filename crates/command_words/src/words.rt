@@ -79,7 +79,8 @@ fn read_three<'a>(verb: &str, first: &'a str, second: &'a str) -> Option<Command
 }
 
 fn read_four<'a>(verb: &str, first: &'a str, second: &'a str, third: &'a str) -> Option<Command<'a>>
-    ensures { IsPlainRead (verb.now ∷ first.entry.now ∷ second.entry.now ∷ third.entry.now ∷ []) result }
+    ensures { IsPlainRead (verb.now ∷ first.entry.now ∷ second.entry.now ∷ third.entry.now ∷ [])
+        result }
 {
     if verb == "verify" {
         return verify_words(first, second, third);
@@ -106,7 +107,8 @@ fn judge_words<'a>(setup: &'a str, log: &'a str) -> Option<Command<'a>>
 }
 
 fn strict_words<'a>(setup: &'a str, log: &'a str) -> Option<Command<'a>>
-    ensures { IsPlainRead (codes "judge" ∷ codes "--strict" ∷ setup.entry.now ∷ log.entry.now ∷ []) result }
+    ensures { IsPlainRead (codes "judge" ∷ codes "--strict" ∷ setup.entry.now ∷ log.entry.now ∷ [])
+        result }
 {
     if are_names(setup, log) {
         return Some(Command::Strict { setup, log });
@@ -115,7 +117,8 @@ fn strict_words<'a>(setup: &'a str, log: &'a str) -> Option<Command<'a>>
 }
 
 fn verify_words<'a>(setup: &'a str, log: &'a str, placement: &'a str) -> Option<Command<'a>>
-    ensures { IsPlainRead (codes "verify" ∷ setup.entry.now ∷ log.entry.now ∷ placement.entry.now ∷ []) result }
+    ensures { IsPlainRead (codes "verify" ∷ setup.entry.now ∷ log.entry.now ∷ placement.entry.now
+        ∷ []) result }
 {
     if are_names(setup, log) && is_third_name(setup, log, placement) {
         return Some(Command::Verify {

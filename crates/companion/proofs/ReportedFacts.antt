@@ -18,23 +18,23 @@ use Rattle.companion.specs.Picturing.{IsPictured}
 use Rattle.companion_words.specs.Command.{Asked, Picture, Reads, Setup, Sift, Tells}
 use Rattle.companion.specs.Making.{IsSetupAnswer}
 use Rattle.companion.specs.Program.{IsAnswerTo}
-use Rattle.companion.specs.Reported.{IsCutWithin, IsReported, TellsStop, made_answer, report_answer}
+use Rattle.companion.specs.Reported.{HasStretchesWithin, IsReported, TellsStop, made_answer, report_answer}
 use Rattle.companion.specs.Sifted.{IsSiftAnswer}
-use Rattle.companion.specs.declared.report.Report.{Report}
+use Rattle.companion.specs.declared.report.CommandReport.{CommandReport}
 
 -- want of memory is no fault
-never_fault : (found : Result Report Stop) → found ≡ Err OutOfMemory → IsErrOf found ReadFault → ⊥
+never_fault : (found : Result CommandReport Stop) → found ≡ Err OutOfMemory → IsErrOf found ReadFault → ⊥
 never_fault found is faulty = let apart : found ≡ Err ReadFault = faulty in cc
 
-never_both : (report : Report) → ◌≡◌ {A = Result Report Stop} (Ok report) (Err ReadFault) → ⊥
+never_both : (report : CommandReport) → ◌≡◌ {A = Result CommandReport Stop} (Ok report) (Err ReadFault) → ⊥
 never_both report same = cc
 
-never_memory : (report : Report) → ◌≡◌ {A = Result Report Stop} (Ok report) (Err OutOfMemory) → ⊥
+never_memory : (report : CommandReport) → ◌≡◌ {A = Result CommandReport Stop} (Ok report) (Err OutOfMemory) → ⊥
 never_memory report same = cc
 
 -- a name that wasn't read to its end
 module _ (old now : List ℕ → Option (List ℕ)) (untouched : Type 0) (faults_before faults_now : ℕ) (asked : Asked) (limit : List ℕ) where
-  stop_shown : (stop : WholeStop) (shown : Result Report Stop) → TellsStop stop limit shown
+  stop_shown : (stop : WholeStop) (shown : Result CommandReport Stop) → TellsStop stop limit shown
       → (stop ≡ whole.TooLong → (files : List ℕ → List ℕ) → Tells asked old files → IsAnswerTo (Some asked) files (answer 7 limit))
       → (stop ≡ whole.ReadFault → Rose faults_before faults_now) → (((name : List ℕ) → Reads asked name → ⊥) → untouched)
       → ((name : List ℕ) → (Reads asked name → ⊥) → now name ≡ old name) → IsReported asked old now untouched faults_before faults_now shown
@@ -68,7 +68,7 @@ module _ (old now : List ℕ → Option (List ℕ)) (untouched : Type 0) (faults
   sift_answer : (bytes : List ℕ) (text : SiftText) → AnswersSift left bytes (Ok text) → IsSiftAnswer left bytes (answer 0 (shown_text text))
   sift_answer bytes text is = inr (is.0, (is.1.0, is.1.1, is.1.2, ap (answer 0) is.1.3))
 
-  pub sift_reported : (text : SiftText) (report : Report) → report_answer report ≡ answer 0 (shown_text text) → IsCutWithin report.body
+  pub sift_reported : (text : SiftText) (report : CommandReport) → report_answer report ≡ answer 0 (shown_text text) → HasStretchesWithin report.body
       → ((bytes : List ℕ) → old log ≡ Some bytes → AnswersSift left bytes (Ok text)) → ((other : List ℕ) → other ≢ log → now other ≡ old other)
       → IsReported (Sift left log) old now untouched faults_before faults_now (Ok report)
   sift_reported text report same within right others = record {
@@ -79,7 +79,7 @@ module _ (old now : List ℕ → Option (List ℕ)) (untouched : Type 0) (faults
     others = others;
   }
 
-  pub sift_stopped : (stop : WholeStop) (shown : Result Report Stop) → TellsStop stop (ended (codes "limit input")) shown
+  pub sift_stopped : (stop : WholeStop) (shown : Result CommandReport Stop) → TellsStop stop (ended (codes "limit input")) shown
       → ((bytes : List ℕ) → old log ≡ Some bytes → AnswersSift left bytes (Err stop)) → (stop ≡ whole.ReadFault → Rose faults_before faults_now)
       → ((other : List ℕ) → other ≢ log → now other ≡ old other) → IsReported (Sift left log) old now untouched faults_before faults_now shown
   sift_stopped stop shown tells right fault others =
@@ -97,7 +97,7 @@ module _ (old now : List ℕ → Option (List ℕ)) (untouched : Type 0) (faults
   untold : ((name : List ℕ) → Contains (policy ∷ names) name → ⊥) → untouched
   untold none = absurd (none policy (zero, omega arith, refl))
 
-  pub setup_reported : (found : MadeText) (report : Report) → report_answer report ≡ made_answer found → IsCutWithin report.body
+  pub setup_reported : (found : MadeText) (report : CommandReport) → report_answer report ≡ made_answer found → HasStretchesWithin report.body
       → ((told : List ℕ → List ℕ) → TellsAll (policy ∷ names) old told → AnswersMade authorize time (told policy) names (map told names) (Ok found))
       → ((other : List ℕ) → (Contains (policy ∷ names) other → ⊥) → now other ≡ old other)
       → IsReported (Setup authorize time policy names) old now untouched faults_before faults_now (Ok report)
@@ -110,7 +110,7 @@ module _ (old now : List ℕ → Option (List ℕ)) (untouched : Type 0) (faults
     others = others;
   }
 
-  pub setup_stopped : (stop : WholeStop) (shown : Result Report Stop) → TellsStop stop (ended (codes "limit file")) shown
+  pub setup_stopped : (stop : WholeStop) (shown : Result CommandReport Stop) → TellsStop stop (ended (codes "limit file")) shown
       → ((told : List ℕ → List ℕ) → TellsAll (policy ∷ names) old told → AnswersMade authorize time (told policy) names (map told names) (Err stop))
       → (stop ≡ whole.ReadFault → Rose faults_before faults_now) → ((other : List ℕ) → (Contains (policy ∷ names) other → ⊥) → now other ≡ old other)
       → IsReported (Setup authorize time policy names) old now untouched faults_before faults_now shown
@@ -127,7 +127,7 @@ module _ (old now : List ℕ → Option (List ℕ)) (untouched : Type 0) (faults
   shown : (found : Result Verdict Stop) (page : Verdict) → found ≡ Ok page → IfOk found IsShown → IsShown page
   shown found page is right = subst (λ (f : Result Verdict Stop). IfOk f IsShown) is right
 
-  pub page_reported : (found : Result Verdict Stop) (page : Verdict) (report : Report) → found ≡ Ok page → report_answer report ≡ verdict_answer page → IsCutWithin report.body
+  pub page_reported : (found : Result Verdict Stop) (page : Verdict) (report : CommandReport) → found ≡ Ok page → report_answer report ≡ verdict_answer page → HasStretchesWithin report.body
       → IfOk found IsShown → ((other : List ℕ) → other ≢ setup → other ≢ log → now other ≡ old other)
       → IsReported (Picture setup log) old now untouched faults_before faults_now (Ok report)
   page_reported found page report is same within right others = record {

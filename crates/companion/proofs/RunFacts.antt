@@ -10,33 +10,34 @@ use Rattle.log_verdict.specs.Endings.{IsAnswered}
 use Rattle.companion_words.specs.Command.{Asked, IsAsked, ReadsWords, Spells, Tells, TellsWords}
 use Rattle.companion.specs.Program.{IsAnswer, IsAnswerTo, usage_answer}
 use Rattle.companion.specs.Reported.{Concludes, IsReported, report_answer, status_number}
-use Rattle.companion.specs.declared.report.Report.{Report}
-use Rattle.companion.specs.declared.report.Status.{Status}
-use Rattle.companion.specs.declared.report.Status.TheVariants.{Done, Unexplained, SetupRefused, LogRefused, LimitPassed}
+use Rattle.companion.specs.Running.{ReadsDesk, StatusTells}
+use Rattle.companion.specs.declared.report.CommandReport.{CommandReport}
+use Rattle.companion.specs.declared.report.ExitStatus.{ExitStatus}
+use Rattle.companion.specs.declared.report.ExitStatus.TheVariants.{Done, Unexplained, SetupRefused, LogRefused, LimitPassed}
 
 -- a report has other statuses than these
-apart_two : (status : Status) → status_number status ≡ 2 → ⊥
+apart_two : (status : ExitStatus) → status_number status ≡ 2 → ⊥
 apart_two Done is = omega (arith, is)
 apart_two Unexplained is = omega (arith, is)
 apart_two SetupRefused is = omega (arith, is)
 apart_two LogRefused is = omega (arith, is)
 apart_two LimitPassed is = omega (arith, is)
 
-apart_five : (status : Status) → status_number status ≡ 5 → ⊥
+apart_five : (status : ExitStatus) → status_number status ≡ 5 → ⊥
 apart_five Done is = omega (arith, is)
 apart_five Unexplained is = omega (arith, is)
 apart_five SetupRefused is = omega (arith, is)
 apart_five LogRefused is = omega (arith, is)
 apart_five LimitPassed is = omega (arith, is)
 
-apart_six : (status : Status) → status_number status ≡ 6 → ⊥
+apart_six : (status : ExitStatus) → status_number status ≡ 6 → ⊥
 apart_six Done is = omega (arith, is)
 apart_six Unexplained is = omega (arith, is)
 apart_six SetupRefused is = omega (arith, is)
 apart_six LogRefused is = omega (arith, is)
 apart_six LimitPassed is = omega (arith, is)
 
-apart_eight : (status : Status) → status_number status ≡ 8 → ⊥
+apart_eight : (status : ExitStatus) → status_number status ≡ 8 → ⊥
 apart_eight Done is = omega (arith, is)
 apart_eight Unexplained is = omega (arith, is)
 apart_eight SetupRefused is = omega (arith, is)
@@ -44,74 +45,101 @@ apart_eight LogRefused is = omega (arith, is)
 apart_eight LimitPassed is = omega (arith, is)
 
 module _ (faults_before faults_now : ℕ) (before now : Option (List ℕ)) (result : ℕ) where
-  pub concluded_answer : (found : Result Report Stop) (IsRight : Answer → Type 0) (desk_before desk_now : ℕ) → IfOk found (λ report. IsRight (report_answer report)) → (IsErrOf found ReadFault → Rose desk_before desk_now)
+  pub concluded_answer : (found : Result CommandReport Stop) (IsRight : Answer → Type 0) (desk_before desk_now : ℕ) → IfOk found (λ report. IsRight (report_answer report)) → (IsErrOf found ReadFault → Rose desk_before desk_now)
       → Concludes found faults_before faults_now before now result → IsAnswered IsRight desk_before desk_now faults_before faults_now before now result
   concluded_answer (Ok report) IsRight desk_before desk_now right rose ends = inl (report_answer report, right, ends)
   concluded_answer (Err ReadFault) IsRight desk_before desk_now right rose ends = inr (inl (rose refl, ends))
   concluded_answer (Err OutOfMemory) IsRight desk_before desk_now right rose ends = inr (inr ends)
 
-  pub concluded_two : (found : Result Report Stop) → Concludes found faults_before faults_now before now result → result ≡ 2 → ⊥
+  pub concluded_two : (found : Result CommandReport Stop) → Concludes found faults_before faults_now before now result → result ≡ 2 → ⊥
   concluded_two (Ok report) (inl (whole, rest)) is = apart_two report.status (sym whole ∙ is)
   concluded_two (Ok report) (inr (part, rose, rest)) is = omega (arith, part, is)
   concluded_two (Err ReadFault) (inl (whole, rest)) is = omega (arith, whole, is)
   concluded_two (Err ReadFault) (inr (part, rose, rest)) is = omega (arith, part, is)
   concluded_two (Err OutOfMemory) ends is = let memory = ends.0 in omega (arith, memory, is)
 
-  pub concluded_five : (found : Result Report Stop) → Concludes found faults_before faults_now before now result → result ≡ 5 → IsErrOf found ReadFault
+  pub concluded_five : (found : Result CommandReport Stop) → Concludes found faults_before faults_now before now result → result ≡ 5 → IsErrOf found ReadFault
   concluded_five (Ok report) (inl (whole, rest)) is = absurd (apart_five report.status (sym whole ∙ is))
   concluded_five (Ok report) (inr (part, rose, rest)) is = absurd (omega (arith, part, is))
   concluded_five (Err ReadFault) ends is = refl
   concluded_five (Err OutOfMemory) ends is = absurd (let memory = ends.0 in omega (arith, memory, is))
 
-  pub concluded_six : (found : Result Report Stop) → Concludes found faults_before faults_now before now result → result ≡ 6 → Rose faults_before faults_now
+  pub concluded_six : (found : Result CommandReport Stop) → Concludes found faults_before faults_now before now result → result ≡ 6 → Rose faults_before faults_now
   concluded_six (Ok report) (inl (whole, rest)) is = absurd (apart_six report.status (sym whole ∙ is))
   concluded_six (Ok report) (inr (part, rose, rest)) is = rose
   concluded_six (Err ReadFault) (inl (whole, rest)) is = absurd (omega (arith, whole, is))
   concluded_six (Err ReadFault) (inr (part, rose, rest)) is = rose
   concluded_six (Err OutOfMemory) ends is = absurd (let memory = ends.0 in omega (arith, memory, is))
 
-  pub concluded_eight : (found : Result Report Stop) → Concludes found faults_before faults_now before now result → result ≡ 8 → Keeps before now
+  pub concluded_eight : (found : Result CommandReport Stop) → Concludes found faults_before faults_now before now result → result ≡ 8 → Keeps before now
   concluded_eight (Ok report) (inl (whole, rest)) is = absurd (apart_eight report.status (sym whole ∙ is))
   concluded_eight (Ok report) (inr (part, rose, rest)) is = absurd (omega (arith, part, is))
   concluded_eight (Err ReadFault) (inl (whole, rest)) is = absurd (omega (arith, whole, is))
   concluded_eight (Err ReadFault) (inr (part, rose, rest)) is = absurd (omega (arith, part, is))
   concluded_eight (Err OutOfMemory) ends is = ends.1
 
-right_answer : (words : List (List ℕ)) (asked : Asked) (old : List ℕ → Option (List ℕ)) (files : List ℕ → List ℕ) (found : Result Report Stop) → Spells asked words → TellsWords words old files
+right_answer : (words : List (List ℕ)) (asked : Asked) (old : List ℕ → Option (List ℕ)) (files : List ℕ → List ℕ) (found : Result CommandReport Stop) → Spells asked words → TellsWords words old files
     → IfOk found (λ report. (files : List ℕ → List ℕ) → Tells asked old files → IsAnswerTo (Some asked) files (report_answer report)) → IfOk found (λ report. IsAnswer words files (report_answer report))
 right_answer words asked old files (Ok report) spelled tells right = (Some asked, spelled, right files (tells asked spelled))
 right_answer words asked old files (Err stop) spelled tells right = tt
 
 -- a call whose words are a command: the words, what was found, and how the call ended
-pub record HasRun (words : List (List ℕ)) (asked : Asked) (old now : List ℕ → Option (List ℕ)) (untouched : Type 0) (desk_before desk_now sink_before sink_now : ℕ) (before written : Option (List ℕ)) (result : ℕ) (found : Result Report Stop) : Type 0 where
+pub record HasRun (words : List (List ℕ)) (asked : Asked) (old now : List ℕ → Option (List ℕ)) (untouched : Type 0) (desk_before desk_now sink_before sink_now : ℕ) (before written : Option (List ℕ)) (result : ℕ) (found : Result CommandReport Stop) : Type 0 where
   pub spelled : Spells asked words
   pub reported : IsReported asked old now untouched desk_before desk_now found
   pub concluded : Concludes found sink_before sink_now before written result
 
 -- what such a call comes to
-module _ {words : List (List ℕ)} {asked : Asked} {old now : List ℕ → Option (List ℕ)} {untouched : Type 0} {desk_before desk_now sink_before sink_now : ℕ} {before written : Option (List ℕ)} {result : ℕ} {found : Result Report Stop}
+module _ {words : List (List ℕ)} {asked : Asked} {old now : List ℕ → Option (List ℕ)} {untouched : Type 0} {desk_before desk_now sink_before sink_now : ℕ} {before written : Option (List ℕ)} {result : ℕ} {found : Result CommandReport Stop}
     (r : HasRun words asked old now untouched desk_before desk_now sink_before sink_now before written result found) where
   pub run_answer : (files : List ℕ → List ℕ) → TellsWords words old files → IsAnswered (IsAnswer words files) desk_before desk_now sink_before sink_now before written result
   run_answer files tells =
       concluded_answer sink_before sink_now before written result found (IsAnswer words files) desk_before desk_now (right_answer words asked old files found r.spelled tells r.reported.answered) r.reported.fault r.concluded
 
-  pub run_usage : IsAsked words None → Ends 2 usage_answer.text sink_before sink_now before written result
-  run_usage none = absurd (none asked r.spelled)
+  pub run_status : StatusTells words desk_before desk_now sink_before sink_now before written result
+  run_status = record {
+    usage = λ none. absurd (none asked r.spelled);
+    usage_only = λ is. absurd (concluded_two sink_before sink_now before written result found r.concluded is);
+    read_fault = λ is. r.reported.fault (concluded_five sink_before sink_now before written result found r.concluded is);
+    write_fault = λ is. concluded_six sink_before sink_now before written result found r.concluded is;
+    memory = λ is. concluded_eight sink_before sink_now before written result found r.concluded is;
+  }
 
-  pub run_usage_only : result ≡ 2 → IsAsked words None
-  run_usage_only is = absurd (concluded_two sink_before sink_now before written result found r.concluded is)
+  pub run_read : ReadsDesk words old now untouched
+  run_read = record {
+    desk_left = λ none. r.reported.left (λ name reads. none name (asked, r.spelled, reads));
+    others_left = λ name none. r.reported.others name (λ reads. none (asked, r.spelled, reads));
+  }
 
-  pub run_read_fault : result ≡ 5 → Rose desk_before desk_now
-  run_read_fault is = r.reported.fault (concluded_five sink_before sink_now before written result found r.concluded is)
+-- how a call ends whose words are no command
+module _ (faults_before faults_now : ℕ) (before now : Option (List ℕ)) (result : ℕ) (text : List ℕ) where
+  two_no_five : Ends 2 text faults_before faults_now before now result → result ≡ 5 → ⊥
+  two_no_five (inl (whole, rest)) is = omega (arith, whole, is)
+  two_no_five (inr (part, rose, rest)) is = omega (arith, part, is)
 
-  pub run_write_fault : result ≡ 6 → Rose sink_before sink_now
-  run_write_fault is = concluded_six sink_before sink_now before written result found r.concluded is
+  two_no_eight : Ends 2 text faults_before faults_now before now result → result ≡ 8 → ⊥
+  two_no_eight (inl (whole, rest)) is = omega (arith, whole, is)
+  two_no_eight (inr (part, rose, rest)) is = omega (arith, part, is)
 
-  pub run_memory : result ≡ 8 → Keeps before written
-  run_memory is = concluded_eight sink_before sink_now before written result found r.concluded is
+  two_rose : Ends 2 text faults_before faults_now before now result → result ≡ 6 → Rose faults_before faults_now
+  two_rose (inl (whole, rest)) is = absurd (omega (arith, whole, is))
+  two_rose (inr (part, rose, rest)) is = rose
 
-  pub run_desk_left : ((name : List ℕ) → ReadsWords words name → ⊥) → untouched
-  run_desk_left none = r.reported.left (λ name reads. none name (asked, r.spelled, reads))
+-- a call whose words are no command
+module _ {words : List (List ℕ)} {desk_before desk_now sink_before sink_now : ℕ} {before now : Option (List ℕ)} {status : ℕ}
+    (none : IsAsked words None) (ends : Ends 2 usage_answer.text sink_before sink_now before now status) where
+  pub usage_status : StatusTells words desk_before desk_now sink_before sink_now before now status
+  usage_status = record {
+    usage = λ _. ends;
+    usage_only = λ _. none;
+    read_fault = λ is. absurd (two_no_five sink_before sink_now before now status usage_answer.text ends is);
+    write_fault = λ is. two_rose sink_before sink_now before now status usage_answer.text ends is;
+    memory = λ is. absurd (two_no_eight sink_before sink_now before now status usage_answer.text ends is);
+  }
 
-  pub run_others_left : (name : List ℕ) → (ReadsWords words name → ⊥) → now name ≡ old name
-  run_others_left name none = r.reported.others name (λ reads. none (asked, r.spelled, reads))
+module _ {words : List (List ℕ)} {left : List ℕ → Option (List ℕ)} {untouched : Type 0} (same : untouched) where
+  pub usage_read : ReadsDesk words left left untouched
+  usage_read = record {
+    desk_left = λ unasked. same;
+    others_left = λ name unread. refl;
+  }

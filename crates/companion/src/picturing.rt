@@ -42,9 +42,10 @@ pub fn picture<R: Threads + Sync, D: Desk, G: Gate, H: Gate>(
     ensures counted { D.faults desk.old ≤ D.faults desk.new }
     ensures setup_taken { TakesSetup (D.left desk.old setup.now) (D.left desk.new setup.now)
         (IsErrOf result Stop.ReadFault) }
-    ensures log_taken { TakesLog (D.left desk.old log.now) (D.left desk.new log.now) (IsErrOf result Stop.ReadFault) }
-    ensures log_left { (of_setup : List ℕ) (refusal : Refusal) → D.left desk.old setup.now ≡ Some of_setup
-        → IsSetupRefused of_setup refusal
+    ensures log_taken { TakesLog (D.left desk.old log.now) (D.left desk.new log.now)
+        (IsErrOf result Stop.ReadFault) }
+    ensures log_left { (of_setup : List ℕ) (refusal : Refusal)
+        → D.left desk.old setup.now ≡ Some of_setup → IsSetupRefused of_setup refusal
         → D.left desk.new log.now ≡ D.left desk.old log.now }
     ensures others { (other : List ℕ) → other ≢ setup.now → other ≢ log.now
         → D.left desk.new other ≡ D.left desk.old other }

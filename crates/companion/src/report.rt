@@ -6,7 +6,7 @@ use log_sift::SiftText;
 
 /// How a command was answered.
 #[derive(Clone, Copy)]
-pub enum Status {
+pub enum ExitStatus {
     /// It was done; a log that is shown is explained.
     Done,
     /// No placement explains the log that is shown.
@@ -19,24 +19,24 @@ pub enum Status {
     LimitPassed,
 }
 
-impl Status {
+impl ExitStatus {
     /// The exit status.
     pub fn number(self) -> u8
         ensures { result ≡ status_number self }
     {
         match self {
-            Status::Done => 0,
-            Status::Unexplained => 1,
-            Status::SetupRefused => 3,
-            Status::LogRefused => 4,
-            Status::LimitPassed => 7,
+            ExitStatus::Done => 0,
+            ExitStatus::Unexplained => 1,
+            ExitStatus::SetupRefused => 3,
+            ExitStatus::LogRefused => 4,
+            ExitStatus::LimitPassed => 7,
         }
     }
 }
 
 /// The text of an answer.
 #[derive(Drop)]
-pub enum Body {
+pub enum ReportText {
     /// A text that the program has.
     Fixed(&'static str),
     /// One that was made.
@@ -47,7 +47,7 @@ pub enum Body {
 
 /// A status and the text that goes with it.
 #[derive(Drop)]
-pub struct Report {
-    pub status: Status,
-    pub body: Body,
+pub struct CommandReport {
+    pub status: ExitStatus,
+    pub body: ReportText,
 }

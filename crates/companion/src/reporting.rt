@@ -2,11 +2,11 @@ ghost use Rattle.std.specs.Prelude.{◌≡◌, ◌≢◌, ◌∷◌, true, map, 
 ghost use Rattle.log_verdict.specs.Answers.{report_answer as verdict_answer, status_number as verdict_number};
 ghost use Rattle.cluster_setup.specs.Names.{are_distinct};
 ghost use Rattle.companion_words.specs.Command.{Explain, IsSpelled, Picture, Setup, Sift, command_asked};
-ghost use Rattle.companion.specs.Reported.{IsCutWithin, IsReported, TellsStop};
+ghost use Rattle.companion.specs.Reported.{HasStretchesWithin, IsReported, TellsStop};
 ghost use Rattle.companion.specs.Reported.{made_answer, report_answer, status_number};
 
 use crate::picturing::picture;
-use crate::report::{Body, Report, Status};
+use crate::report::{CommandReport, ExitStatus, ReportText};
 use cluster_setup::{MadeText, make_named};
 use companion_words::Command;
 use context_intake::Stop;
@@ -25,7 +25,7 @@ pub fn report_of<R: Threads + Sync, D: Desk, G: Gate, H: Gate>(
     command: Command<'_>,
     desk: &mut D,
     gates: Gates<'_, G, H>,
-) -> Result<Report, Stop>
+) -> Result<CommandReport, Stop>
     requires { IsSpelled (command_asked command) }
     ensures { IsReported (command_asked command.entry) (D.left desk.old) (D.left desk.new)
         (desk.new ≡ desk.old) (D.faults desk.old) (D.faults desk.new) result }
@@ -44,25 +44,30 @@ pub fn report_of<R: Threads + Sync, D: Desk, G: Gate, H: Gate>(
 }
 
 // The text of a code. The desk is left as it is.
-fn explained<D: Desk>(desk: &mut D, text: &'static str) -> Result<Report, Stop>
-    ensures { IsReported (Explain text.now) (D.left desk.old) (D.left desk.new) (desk.new ≡ desk.old)
-        (D.faults desk.old) (D.faults desk.new) result }
+fn explained<D: Desk>(desk: &mut D, text: &'static str) -> Result<CommandReport, Stop>
+    ensures { IsReported (Explain text.now) (D.left desk.old) (D.left desk.new) (desk.new
+        ≡ desk.old) (D.faults desk.old) (D.faults desk.new) result }
 {
-    Ok(Report {
-        status: Status::Done,
-        body: Body::Fixed(text),
+    Ok(CommandReport {
+        status: ExitStatus::Done,
+        body: ReportText::Fixed(text),
     })
 }
 
 // What becomes of the lines of a log.
-fn sifted<D: Desk>(alloc: Global, desk: &mut D, log: &str, left: bool) -> Result<Report, Stop>
-    ensures { IsReported (Sift left log.now) (D.left desk.old) (D.left desk.new) (desk.new ≡ desk.old)
-        (D.faults desk.old) (D.faults desk.new) result }
+fn sifted<D: Desk>(
+    alloc: Global,
+    desk: &mut D,
+    log: &str,
+    left: bool,
+) -> Result<CommandReport, Stop>
+    ensures { IsReported (Sift left log.now) (D.left desk.old) (D.left desk.new) (desk.new
+        ≡ desk.old) (D.faults desk.old) (D.faults desk.new) result }
 {
     match sift_named(alloc, desk, log, left) {
-        Ok(text) => Ok(Report {
-            status: Status::Done,
-            body: Body::Sifted(text),
+        Ok(text) => Ok(CommandReport {
+            status: ExitStatus::Done,
+            body: ReportText::Sifted(text),
         }),
         Err(stop) => stop_report(stop, "limit input\n"),
     }
@@ -76,10 +81,11 @@ fn made<D: Desk>(
     time: &str,
     policy: &str,
     files: &[String],
-) -> Result<Report, Stop>
+) -> Result<CommandReport, Stop>
     requires { are_distinct (policy.now ∷ map string_bytes files.now) ≡ true }
-    ensures { IsReported (Setup authorize time.now policy.now (map string_bytes files.now)) (D.left desk.old)
-        (D.left desk.new) (desk.new ≡ desk.old) (D.faults desk.old) (D.faults desk.new) result }
+    ensures { IsReported (Setup authorize time.now policy.now (map string_bytes files.now))
+        (D.left desk.old) (D.left desk.new) (desk.new ≡ desk.old) (D.faults desk.old)
+        (D.faults desk.new) result }
 {
     match make_named(alloc, desk, authorize, time, policy, files) {
         Ok(found) => Ok(made_report(found)),
@@ -87,30 +93,30 @@ fn made<D: Desk>(
     }
 }
 
-fn made_report(found: MadeText) -> Report
+fn made_report(found: MadeText) -> CommandReport
     ensures answer { report_answer result ≡ made_answer found }
-    ensures within { IsCutWithin result.body }
+    ensures within { HasStretchesWithin result.body }
 {
     match found {
-        MadeText::Setup(line) => Report {
-            status: Status::Done,
-            body: Body::Made(line),
+        MadeText::Setup(line) => CommandReport {
+            status: ExitStatus::Done,
+            body: ReportText::Made(line),
         },
-        MadeText::Refused(line) => Report {
-            status: Status::SetupRefused,
-            body: Body::Made(line),
+        MadeText::Refused(line) => CommandReport {
+            status: ExitStatus::SetupRefused,
+            body: ReportText::Made(line),
         },
     }
 }
 
 // Why a name wasn't read to its end; where it is too long, with the text of that limit.
-fn stop_report(stop: WholeStop, limit: &'static str) -> Result<Report, Stop>
+fn stop_report(stop: WholeStop, limit: &'static str) -> Result<CommandReport, Stop>
     ensures { TellsStop stop limit.now result }
 {
     match stop {
-        WholeStop::TooLong => Ok(Report {
-            status: Status::LimitPassed,
-            body: Body::Fixed(limit),
+        WholeStop::TooLong => Ok(CommandReport {
+            status: ExitStatus::LimitPassed,
+            body: ReportText::Fixed(limit),
         }),
         WholeStop::ReadFault => Err(Stop::ReadFault),
         WholeStop::OutOfMemory => Err(Stop::OutOfMemory),
@@ -125,10 +131,10 @@ fn pictured<R: Threads + Sync, D: Desk, G: Gate, H: Gate>(
     setup: &str,
     log: &str,
     gates: Gates<'_, G, H>,
-) -> Result<Report, Stop>
+) -> Result<CommandReport, Stop>
     requires { setup.now ≢ log.now }
-    ensures { IsReported (Picture setup.now log.now) (D.left desk.old) (D.left desk.new) (desk.new ≡ desk.old)
-        (D.faults desk.old) (D.faults desk.new) result }
+    ensures { IsReported (Picture setup.now log.now) (D.left desk.old) (D.left desk.new) (desk.new
+        ≡ desk.old) (D.faults desk.old) (D.faults desk.new) result }
 {
     match picture(rt, alloc, desk, setup, log, gates) {
         Ok(found) => Ok(page_report(found)),
@@ -136,24 +142,24 @@ fn pictured<R: Threads + Sync, D: Desk, G: Gate, H: Gate>(
     }
 }
 
-fn page_report(found: log_verdict::Report) -> Report
+fn page_report(found: log_verdict::Report) -> CommandReport
     ensures answer { report_answer result ≡ verdict_answer found }
-    ensures within { IsCutWithin result.body }
+    ensures within { HasStretchesWithin result.body }
 {
-    Report {
+    CommandReport {
         status: status_of(found.status),
-        body: Body::Made(found.text),
+        body: ReportText::Made(found.text),
     }
 }
 
-fn status_of(status: log_verdict::Status) -> Status
+fn status_of(status: log_verdict::Status) -> ExitStatus
     ensures { status_number result ≡ verdict_number status }
 {
     match status {
-        log_verdict::Status::Explained => Status::Done,
-        log_verdict::Status::Unexplained => Status::Unexplained,
-        log_verdict::Status::SetupRefused => Status::SetupRefused,
-        log_verdict::Status::LogRefused => Status::LogRefused,
-        log_verdict::Status::LimitPassed => Status::LimitPassed,
+        log_verdict::Status::Explained => ExitStatus::Done,
+        log_verdict::Status::Unexplained => ExitStatus::Unexplained,
+        log_verdict::Status::SetupRefused => ExitStatus::SetupRefused,
+        log_verdict::Status::LogRefused => ExitStatus::LogRefused,
+        log_verdict::Status::LimitPassed => ExitStatus::LimitPassed,
     }
 }

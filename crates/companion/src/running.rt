@@ -1,14 +1,12 @@
-ghost use Rattle.std.specs.Prelude.{◌≡◌, ℕ, List, None, IfOk, map, string_bytes};
-ghost use Rattle.std.specs.Io.KnownBytes.{Keeps};
-ghost use Rattle.edge_io.specs.Faults.{Rose};
-ghost use Rattle.companion_words.specs.Command.{IsAsked, ReadsWords, TellsWords};
-ghost use Rattle.edge_io.specs.Endings.{Ends};
+ghost use Rattle.std.specs.Prelude.{◌≡◌, ℕ, List, IfOk, map, string_bytes};
+ghost use Rattle.companion_words.specs.Command.{TellsWords};
 ghost use Rattle.log_verdict.specs.Endings.{IsAnswered};
-ghost use Rattle.companion.specs.Program.{IsAnswer, usage_answer};
-ghost use Rattle.companion.specs.Reported.{Concludes, IsCutWithin};
+ghost use Rattle.companion.specs.Program.{IsAnswer};
+ghost use Rattle.companion.specs.Reported.{Concludes, HasStretchesWithin};
+ghost use Rattle.companion.specs.Running.{ReadsDesk, StatusTells};
 
 use crate::ending::end_with_body;
-use crate::report::Report;
+use crate::report::CommandReport;
 use crate::reporting::report_of;
 use companion_words::read_words;
 use context_intake::Stop;
@@ -31,22 +29,18 @@ pub fn run<R: Threads + Sync, D: Desk, K: Sink, G: Gate, H: Gate>(
     gate: &G,
     lines: &H,
 ) -> u8
-    ensures answer { (files : List ℕ → List ℕ) → TellsWords (map string_bytes words.now) (D.left desk.old) files
-        → IsAnswered (IsAnswer (map string_bytes words.now) files)
-        (D.faults desk.old) (D.faults desk.new) (K.faults out.old) (K.faults out.new)
-        (K.written out.old) (K.written out.new) result }
+    ensures answer { (files : List ℕ → List ℕ)
+        → TellsWords (map string_bytes words.now) (D.left desk.old) files
+        → IsAnswered (IsAnswer (map string_bytes words.now) files) (D.faults desk.old)
+        (D.faults desk.new) (K.faults out.old) (K.faults out.new) (K.written out.old)
+        (K.written out.new) result }
 
     // Whether the desk tells its bytes or not.
-    ensures usage { IsAsked (map string_bytes words.now) None
-        → Ends 2 usage_answer.text (K.faults out.old) (K.faults out.new) (K.written out.old)
+    ensures status { StatusTells (map string_bytes words.now) (D.faults desk.old)
+        (D.faults desk.new) (K.faults out.old) (K.faults out.new) (K.written out.old)
         (K.written out.new) result }
-    ensures usage_only { result ≡ 2 → IsAsked (map string_bytes words.now) None }
-    ensures read_fault { result ≡ 5 → Rose (D.faults desk.old) (D.faults desk.new) }
-    ensures write_fault { result ≡ 6 → Rose (K.faults out.old) (K.faults out.new) }
-    ensures memory { result ≡ 8 → Keeps (K.written out.old) (K.written out.new) }
-    ensures desk_left { ((name : List ℕ) → ReadsWords (map string_bytes words.now) name → ⊥) → desk.new ≡ desk.old }
-    ensures others_left { (name : List ℕ) → (ReadsWords (map string_bytes words.now) name → ⊥)
-        → D.left desk.new name ≡ D.left desk.old name }
+    ensures read { ReadsDesk (map string_bytes words.now) (D.left desk.old) (D.left desk.new)
+        (desk.new ≡ desk.old) }
 {
     let gates = Gates {
         events: gate,
@@ -59,9 +53,10 @@ pub fn run<R: Threads + Sync, D: Desk, K: Sink, G: Gate, H: Gate>(
 }
 
 // Writes what was found, or why nothing was, and gives the exit status.
-fn conclude<K: Sink>(out: &mut K, found: Result<Report, Stop>) -> u8
-    requires { IfOk found (λ report. IsCutWithin report.body) }
-    ensures { Concludes found (K.faults out.old) (K.faults out.new) (K.written out.old) (K.written out.new) result }
+fn conclude<K: Sink>(out: &mut K, found: Result<CommandReport, Stop>) -> u8
+    requires { IfOk found (λ report. HasStretchesWithin report.body) }
+    ensures { Concludes found (K.faults out.old) (K.faults out.new) (K.written out.old)
+        (K.written out.new) result }
 {
     match found {
         Ok(report) => end_with_body(out, report.status.number(), &report.body),

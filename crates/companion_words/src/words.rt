@@ -102,7 +102,8 @@ fn mode_words<'a>(
     second: &'a str,
     others: &'a [String],
 ) -> Option<Command<'a>>
-    ensures { IsRead (codes "setup" ∷ first.entry.now ∷ second.entry.now ∷ map string_bytes others.entry.now) result }
+    ensures { IsRead (codes "setup" ∷ first.entry.now ∷ second.entry.now
+        ∷ map string_bytes others.entry.now) result }
 {
     if first == "--authorize" {
         return authorized_words(alloc, second, others);
@@ -126,7 +127,8 @@ fn named_words<'a>(
     policy: &'a str,
     files: &'a [String],
 ) -> Option<Command<'a>>
-    ensures { IsSetupRead authorize (time.entry.now ∷ policy.entry.now ∷ map string_bytes files.entry.now) result }
+    ensures { IsSetupRead authorize (time.entry.now ∷ policy.entry.now
+        ∷ map string_bytes files.entry.now) result }
 {
     if time == "--authorize" {
         return None;

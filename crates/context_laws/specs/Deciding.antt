@@ -10,7 +10,7 @@ use Rattle.version_store.specs.Judged.{judged_decision, judged_user}
 use Rattle.version_store.specs.Known.{Known}
 
 -- By the history that a setup and a log tell, caches at these places could give the judged decision of an event exactly
--- where one possible state for each role and each binding makes an authoriser give it.
+-- where one possible state for each role and each binding makes an authorizer give it.
 abbrev pub DecidesByChoice : Type 0
 DecidesByChoice = (setup log : List ℕ) (known : Known) (number : ℕ) (event : Event) (decision : Decision) (places : Places)
     → IsContextOf setup log known → slice_get known.events number ≡ Some event → judged_decision known.setup event ≡ Some decision

@@ -3,7 +3,7 @@ ghost use Rattle.context_laws.specs.Deciding.{DecidesByChoice};
 ghost use Rattle.context_laws.specs.Placing.{ExplainedAreRight};
 
 /// The history of a log takes a judged decision as possible exactly where one possible state for each role and each
-/// binding makes an authoriser give it.
+/// binding makes an authorizer give it.
 pub fn deciding_law()
     ensures { DecidesByChoice }
 {

@@ -11,12 +11,13 @@ use std::{fs, io};
 /// The name under which a desk of files has the standard input.
 pub const STANDARD_INPUT: &str = "-";
 
-// Where a name is read from.
+// Where a name is read from. What has ended is closed: a process may have so many files open.
 #[derive(Drop)]
 enum Source<F, I> {
-    Closed,
+    Unopened,
     File(F),
     Input(I),
+    Ended,
 }
 
 /// Files by their paths, and the standard input. It tells no content.
@@ -28,13 +29,13 @@ pub struct FileDesk<'a, R: Files + Input> {
 }
 
 impl<'a, R: Files + Input> FileDesk<'a, R> {
-    /// A desk of these names, each of which is opened at its first read.
+    /// A desk of these names, each of which is opened at its first read, and closed at its end.
     pub fn new(alloc: Global, rt: &'a R, names: &[String]) -> Result<FileDesk<'a, R>, OutOfMemory>
         ensures { IfOk result (λ desk. desk.faults ≡ 0) }
     {
         let mut sources = BTreeMap::new(alloc);
         for name in names {
-            sources.insert(name.clone()?, Source::Closed)?;
+            sources.insert(name.clone()?, Source::Unopened)?;
         }
         Ok(FileDesk {
             rt,
@@ -59,14 +60,18 @@ fn read_source<R: Files + Input>(
 ) -> io::Result<usize>
     ensures { IfOk result (λ n. n ≤ length into.new) }
 {
-    if let Source::Closed = source {
+    if let Source::Unopened = source {
         *source = open_source(rt, name)?;
     }
-    match source {
-        Source::Closed => Ok(0),
-        Source::File(file) => file.read(into),
-        Source::Input(input) => input.read(into),
+    let count = match source {
+        Source::Unopened | Source::Ended => 0,
+        Source::File(file) => file.read(into)?,
+        Source::Input(input) => input.read(into)?,
+    };
+    if count == 0 && !into.is_empty() {
+        *source = Source::Ended;
     }
+    Ok(count)
 }
 
 fn read_named<R: Files + Input>(
@@ -146,6 +151,7 @@ mod tests {
         let mut into = [0u8; 8];
         assert_eq!(rt; desk.read(&path, &mut into), Ok(4));
         assert_eq!(rt; &into[..4], b"told".as_slice());
+        assert_eq!(rt; desk.read(&path, &mut into), Ok(0));
         assert_eq!(rt; desk.read(&path, &mut into), Ok(0));
         assert_eq!(rt; desk.read("another", &mut into), Err(DeskFailed));
         assert_eq!(rt; desk.faults, 1);

@@ -1,4 +1,4 @@
--- Of a decision: the range of the places of its authoriser's four caches, and the roles and bindings that came and went in it.
+-- Of a decision: the range of the places of its authorizer's four caches, and the roles and bindings that came and went in it.
 use Rattle.std.specs.Prelude.{ℕ, Bool, ◌==◌, ◌&&◌, List, [], ◌∷◌, ◌++◌, codes, filter, is_some, length, nat_le, take, if◌then◌else◌}
 use Rattle.std.specs.List.{flat_map}
 use Rattle.base_types.specs.Keys.{key_spelling}

@@ -32,7 +32,8 @@ pub fn push_caches(
     context: &Context,
     finding: &Finding<'_>,
 ) -> Result<(), OutOfMemory>
-    ensures { OnOk result (string_bytes text.new ≡ string_bytes text.old ++ caches_text context.now finding.now) }
+    ensures { OnOk result (string_bytes text.new ≡ string_bytes text.old
+        ++ caches_text context.now finding.now) }
 {
     if finding.reason.number() == 14 {
         push_caches_section(alloc, text, context, finding.low, finding.high)?;
@@ -48,7 +49,8 @@ fn push_caches_section(
     low: u64,
     high: u64,
 ) -> Result<(), OutOfMemory>
-    ensures { OnOk result (string_bytes text.new ≡ string_bytes text.old ++ caches_section context.now low high) }
+    ensures { OnOk result (string_bytes text.new ≡ string_bytes text.old
+        ++ caches_section context.now low high) }
 {
     let come = all_come(alloc, context, low, high)?;
     let gone = all_gone(alloc, context, low, high)?;
@@ -108,7 +110,8 @@ fn all_come(
     low: u64,
     high: u64,
 ) -> Result<Vec<&Version>, OutOfMemory>
-    ensures { IfOk result (λ come. map (λ v. v.now) come.items ≡ filter (has_come low high) context.now.versions) }
+    ensures { IfOk result (λ come. map (λ v. v.now) come.items
+        ≡ filter (has_come low high) context.now.versions) }
 {
     let mut come = Vec::new(alloc);
     for version in context.versions() {
@@ -125,7 +128,8 @@ fn all_gone(
     low: u64,
     high: u64,
 ) -> Result<Vec<&Removal>, OutOfMemory>
-    ensures { IfOk result (λ gone. map (λ r. r.now) gone.items ≡ filter (may_have_gone low high) context.now.removals) }
+    ensures { IfOk result (λ gone. map (λ r. r.now) gone.items
+        ≡ filter (may_have_gone low high) context.now.removals) }
 {
     let mut gone = Vec::new(alloc);
     for removal in context.past().removals() {
@@ -142,8 +146,8 @@ fn push_all_come(
     log: &[LogEvent],
     come: &[&Version],
 ) -> Result<(), OutOfMemory>
-    ensures { OnOk result (string_bytes text.new ≡ string_bytes text.old ++ flat_map (come_row log.now)
-        (map (λ v. v.now) come.now)) }
+    ensures { OnOk result (string_bytes text.new ≡ string_bytes text.old
+        ++ flat_map (come_row log.now) (map (λ v. v.now) come.now)) }
 {
     for version in come {
         push_come(alloc, text, log, version)?;
@@ -157,8 +161,8 @@ fn push_all_gone(
     log: &[LogEvent],
     gone: &[&Removal],
 ) -> Result<(), OutOfMemory>
-    ensures { OnOk result (string_bytes text.new ≡ string_bytes text.old ++ flat_map (gone_row log.now)
-        (map (λ r. r.now) gone.now)) }
+    ensures { OnOk result (string_bytes text.new ≡ string_bytes text.old
+        ++ flat_map (gone_row log.now) (map (λ r. r.now) gone.now)) }
 {
     for removal in gone {
         push_gone(alloc, text, log, removal)?;
@@ -173,7 +177,8 @@ fn push_come(
     log: &[LogEvent],
     version: &Version,
 ) -> Result<(), OutOfMemory>
-    ensures { OnOk result (string_bytes text.new ≡ string_bytes text.old ++ come_row log.now version.now) }
+    ensures { OnOk result (string_bytes text.new ≡ string_bytes text.old
+        ++ come_row log.now version.now) }
 {
     let key = key_text(alloc, &version.key)?;
     let revision = version.revision.get();
@@ -194,7 +199,8 @@ fn push_gone(
     log: &[LogEvent],
     removal: &Removal,
 ) -> Result<(), OutOfMemory>
-    ensures { OnOk result (string_bytes text.new ≡ string_bytes text.old ++ gone_row log.now removal.now) }
+    ensures { OnOk result (string_bytes text.new ≡ string_bytes text.old
+        ++ gone_row log.now removal.now) }
 {
     let key = key_text(alloc, &removal.key)?;
     let range = removal.range;

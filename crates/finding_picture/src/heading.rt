@@ -14,7 +14,8 @@ pub fn push_heading(
     text: &mut String,
     finding: &Finding<'_>,
 ) -> Result<(), OutOfMemory>
-    ensures { OnOk result (string_bytes text.new ≡ string_bytes text.old ++ heading_text finding.now) }
+    ensures { OnOk result (string_bytes text.new ≡ string_bytes text.old
+        ++ heading_text finding.now) }
 {
     push_verdict(text, finding)?;
     push_guide(alloc, text, finding.reason)?;
@@ -23,7 +24,8 @@ pub fn push_heading(
 
 #[tactic(auto, unfolding(crate::specs::Heading::verdict_text))]
 fn push_verdict(text: &mut String, finding: &Finding<'_>) -> Result<(), OutOfMemory>
-    ensures { OnOk result (string_bytes text.new ≡ string_bytes text.old ++ verdict_text finding.now) }
+    ensures { OnOk result (string_bytes text.new ≡ string_bytes text.old
+        ++ verdict_text finding.now) }
 {
     let line = finding.line;
     let code = finding.reason.number();

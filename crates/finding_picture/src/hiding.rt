@@ -43,7 +43,8 @@ pub fn push_hiding(
     context: &Context,
     line: u64,
 ) -> Result<(), OutOfMemory>
-    ensures { OnOk result (string_bytes text.new ≡ string_bytes text.old ++ hiding_section context.now line) }
+    ensures { OnOk result (string_bytes text.new ≡ string_bytes text.old
+        ++ hiding_section context.now line) }
 {
     match key_on(context.log(), line) {
         Some(key) => push_own(alloc, text, context, key)?,
@@ -54,7 +55,8 @@ pub fn push_hiding(
 
 #[tactic(auto, unfolding(crate::specs::Hiding::hiding_text))]
 fn push_all(alloc: Global, text: &mut String, context: &Context) -> Result<(), OutOfMemory>
-    ensures { OnOk result (string_bytes text.new ≡ string_bytes text.old ++ hiding_text context.now None) }
+    ensures { OnOk result (string_bytes text.new ≡ string_bytes text.old
+        ++ hiding_text context.now None) }
 {
     let writes = unrecorded_in(alloc, context.log())?;
     text.push_str(BEFORE_HIDING)?;
@@ -70,7 +72,8 @@ fn push_own(
     context: &Context,
     key: &ObjectKey,
 ) -> Result<(), OutOfMemory>
-    ensures { OnOk result (string_bytes text.new ≡ string_bytes text.old ++ hiding_text context.now (Some key.now)) }
+    ensures { OnOk result (string_bytes text.new ≡ string_bytes text.old
+        ++ hiding_text context.now (Some key.now)) }
 {
     let log = context.log();
     let own = hiding_in(alloc, log, key)?;
@@ -87,7 +90,8 @@ fn push_own_rows(
     all: &[&LogEvent],
 ) -> Result<(), OutOfMemory>
     ensures { OnOk result (string_bytes text.new ≡ string_bytes text.old
-        ++ own_rows (history_of context.now) (map (λ event. event.now) own.now) (map (λ event. event.now) all.now)) }
+        ++ own_rows (history_of context.now) (map (λ event. event.now) own.now)
+        (map (λ event. event.now) all.now)) }
 {
     text.push_str(BEFORE_OWN)?;
     text.push_str(HIDING_COLUMNS)?;
@@ -129,7 +133,8 @@ fn is_unrecorded(event: &LogEvent) -> bool
 }
 
 fn unrecorded_in(alloc: Global, log: &[LogEvent]) -> Result<Vec<&LogEvent>, OutOfMemory>
-    ensures { IfOk result (λ writes. map (λ event. event.now) writes.items ≡ unrecorded_in log.now) }
+    ensures { IfOk result (λ writes. map (λ event. event.now) writes.items
+        ≡ unrecorded_in log.now) }
 {
     let mut writes = Vec::new(alloc);
     for event in log {
@@ -161,7 +166,8 @@ fn hiding_in<'a>(
     log: &'a [LogEvent],
     key: &ObjectKey,
 ) -> Result<Vec<&'a LogEvent>, OutOfMemory>
-    ensures { IfOk result (λ writes. map (λ event. event.now) writes.items ≡ hiding_in key.now log.now) }
+    ensures { IfOk result (λ writes. map (λ event. event.now) writes.items
+        ≡ hiding_in key.now log.now) }
 {
     let mut writes = Vec::new(alloc);
     for event in log {
@@ -207,7 +213,8 @@ fn low_of(context: &Context, event: &LogEvent) -> u64
 
 #[tactic(auto, unfolding(crate::specs::Hiding::cover_row))]
 fn push_cover(text: &mut String, line: u64, low: u64, cover: &Cover) -> Result<(), OutOfMemory>
-    ensures { OnOk result (string_bytes text.new ≡ string_bytes text.old ++ cover_row line low cover.now) }
+    ensures { OnOk result (string_bytes text.new ≡ string_bytes text.old
+        ++ cover_row line low cover.now) }
 {
     let group = Told(cover.group.as_str());
     let resource = Told(cover.resource.as_str());
@@ -224,7 +231,8 @@ fn push_cover(text: &mut String, line: u64, low: u64, cover: &Cover) -> Result<(
 
 #[tactic(auto, unfolding(crate::specs::Hiding::namespace_text))]
 fn push_namespace(text: &mut String, namespace: &Option<Text>) -> Result<(), OutOfMemory>
-    ensures { OnOk result (string_bytes text.new ≡ string_bytes text.old ++ namespace_text namespace.now) }
+    ensures { OnOk result (string_bytes text.new ≡ string_bytes text.old
+        ++ namespace_text namespace.now) }
 {
     match namespace {
         Some(namespace) => write!(text, "<code>{}</code>", Told(namespace.as_str()))?,

@@ -19,7 +19,8 @@ pub fn since<'a>(place: u64, versions: &'a [&'a Version]) -> &'a [&'a Version]
 
 fn first_since(place: u64, versions: &[&Version]) -> usize
     ensures bound { result ≤ length versions.now }
-    ensures rest { since place (map (λ v. v.now) versions.now) ≡ drop result (map (λ v. v.now) versions.now) }
+    ensures rest { since place (map (λ v. v.now) versions.now)
+        ≡ drop result (map (λ v. v.now) versions.now) }
 {
     let mut first = 0;
     for (index, version) in versions.iter().enumerate() {

@@ -23,7 +23,8 @@ pub fn user_on(context: &Context, line: u64) -> &str
 
 fn event_among(events: &[Event], line: u64) -> Option<&Event>
     requires { AllPairs (λ a b. a.line < b.line) events.now }
-    ensures { option_map (λ event. event.now) result ≡ find (λ event. event.line == line) events.now }
+    ensures { option_map (λ event. event.now) result
+        ≡ find (λ event. event.line == line) events.now }
 {
     let upto = events.partition_point(|event| event.line <= line);
     if upto == 0 {

@@ -40,7 +40,8 @@ pub fn push_object_section(
     line: u64,
     low: u64,
 ) -> Result<(), OutOfMemory>
-    ensures { OnOk result (string_bytes text.new ≡ string_bytes text.old ++ object_section context.now line low) }
+    ensures { OnOk result (string_bytes text.new ≡ string_bytes text.old
+        ++ object_section context.now line low) }
 {
     match key_on(context.log(), line) {
         Some(key) => push_object(alloc, text, context, key, low)?,
@@ -81,7 +82,8 @@ fn versions_of<'a>(
     context: &'a Context,
     key: &ObjectKey,
 ) -> Result<Vec<&'a Version>, OutOfMemory>
-    ensures { IfOk result (λ found. map (λ v. v.now) found.items ≡ versions_of context.now key.now) }
+    ensures { IfOk result (λ found. map (λ v. v.now) found.items
+        ≡ versions_of context.now key.now) }
 {
     let mut found = Vec::new(alloc);
     for version in context.versions() {
@@ -97,7 +99,8 @@ fn removals_of<'a>(
     context: &'a Context,
     key: &ObjectKey,
 ) -> Result<Vec<&'a Removal>, OutOfMemory>
-    ensures { IfOk result (λ found. map (λ r. r.now) found.items ≡ removals_of context.now key.now) }
+    ensures { IfOk result (λ found. map (λ r. r.now) found.items
+        ≡ removals_of context.now key.now) }
 {
     let mut found = Vec::new(alloc);
     for removal in context.past().removals() {
@@ -117,7 +120,8 @@ fn push_object_rows(
     removals: &[&Removal],
 ) -> Result<(), OutOfMemory>
     ensures { OnOk result (string_bytes text.new ≡ string_bytes text.old
-        ++ object_rows log.now low (map (λ v. v.now) versions.now) (map (λ r. r.now) removals.now)) }
+        ++ object_rows log.now low (map (λ v. v.now) versions.now)
+        (map (λ r. r.now) removals.now)) }
 {
     let listed = since(low, versions);
     push_versions(text, log, first_of(listed, MOST_VERSIONS))?;
@@ -183,8 +187,8 @@ fn push_versions(
     log: &[LogEvent],
     versions: &[&Version],
 ) -> Result<(), OutOfMemory>
-    ensures { OnOk result (string_bytes text.new ≡ string_bytes text.old ++ flat_map (version_row log.now)
-        (map (λ v. v.now) versions.now)) }
+    ensures { OnOk result (string_bytes text.new ≡ string_bytes text.old
+        ++ flat_map (version_row log.now) (map (λ v. v.now) versions.now)) }
 {
     for version in versions {
         push_version(text, log, version)?;
@@ -197,8 +201,8 @@ fn push_removals(
     log: &[LogEvent],
     removals: &[&Removal],
 ) -> Result<(), OutOfMemory>
-    ensures { OnOk result (string_bytes text.new ≡ string_bytes text.old ++ flat_map (removal_row log.now)
-        (map (λ r. r.now) removals.now)) }
+    ensures { OnOk result (string_bytes text.new ≡ string_bytes text.old
+        ++ flat_map (removal_row log.now) (map (λ r. r.now) removals.now)) }
 {
     for removal in removals {
         push_removal(text, log, removal)?;
@@ -208,7 +212,8 @@ fn push_removals(
 
 #[tactic(auto, unfolding(crate::specs::Objects::version_row))]
 fn push_version(text: &mut String, log: &[LogEvent], version: &Version) -> Result<(), OutOfMemory>
-    ensures { OnOk result (string_bytes text.new ≡ string_bytes text.old ++ version_row log.now version.now) }
+    ensures { OnOk result (string_bytes text.new ≡ string_bytes text.old
+        ++ version_row log.now version.now) }
 {
     let revision = version.revision.get();
     let uid = Told(version.uid.as_str());
@@ -224,7 +229,8 @@ fn push_version(text: &mut String, log: &[LogEvent], version: &Version) -> Resul
 /// Appends who wrote a version.
 #[tactic(auto, unfolding(crate::specs::Objects::maker_text))]
 pub fn push_maker(text: &mut String, log: &[LogEvent], maker: Maker) -> Result<(), OutOfMemory>
-    ensures { OnOk result (string_bytes text.new ≡ string_bytes text.old ++ maker_text log.now maker) }
+    ensures { OnOk result (string_bytes text.new ≡ string_bytes text.old
+        ++ maker_text log.now maker) }
 {
     match maker {
         Maker::Snapshot => text.push_str("the snapshot")?,
@@ -236,7 +242,8 @@ pub fn push_maker(text: &mut String, log: &[LogEvent], maker: Maker) -> Result<(
 
 #[tactic(auto, unfolding(crate::specs::Objects::removal_row))]
 fn push_removal(text: &mut String, log: &[LogEvent], removal: &Removal) -> Result<(), OutOfMemory>
-    ensures { OnOk result (string_bytes text.new ≡ string_bytes text.old ++ removal_row log.now removal.now) }
+    ensures { OnOk result (string_bytes text.new ≡ string_bytes text.old
+        ++ removal_row log.now removal.now) }
 {
     let range = removal.range;
     let line = line_at(log, range.event);
@@ -245,7 +252,8 @@ fn push_removal(text: &mut String, log: &[LogEvent], removal: &Removal) -> Resul
     let high = range.high;
     writeln!(
         text,
-        "<tr><td>from a place of {low} to {high} on</td><td>that it is absent</td><td><code>{uid}</code></td><td>line {line}</td></tr>"
+        "<tr><td>from a place of {low} to {high} on</td><td>that it is absent</td>\
+        <td><code>{uid}</code></td><td>line {line}</td></tr>"
     )?;
     Ok(())
 }

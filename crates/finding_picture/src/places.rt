@@ -41,7 +41,8 @@ pub fn push_places(
     context: &Context,
     finding: &Finding<'_>,
 ) -> Result<(), OutOfMemory>
-    ensures { OnOk result (string_bytes text.new ≡ string_bytes text.old ++ places_text context.now finding.now) }
+    ensures { OnOk result (string_bytes text.new ≡ string_bytes text.old
+        ++ places_text context.now finding.now) }
 {
     let versions = context.versions();
     let axis = places_axis(versions, finding.low, finding.high);
@@ -62,8 +63,8 @@ fn push_drawing(
     drawn: &[&Version],
 ) -> Result<(), OutOfMemory>
     ensures { OnOk result (string_bytes text.new ≡ string_bytes text.old
-        ++ drawing_text context.now.events axis.now finding.now (option_map (λ key. key.now) key.entry)
-        (map (λ v. v.now) drawn.now)) }
+        ++ drawing_text context.now.events axis.now finding.now
+        (option_map (λ key. key.now) key.entry) (map (λ v. v.now) drawn.now)) }
 {
     push_band(text, finding)?;
     push_marks(text, context, axis, finding.writes)?;

@@ -25,7 +25,8 @@ pub fn push_request(
     logged: Option<&LogEvent>,
 ) -> Result<(), OutOfMemory>
     ensures { OnOk result (string_bytes text.new ≡ string_bytes text.old
-        ++ request_text (option_map (λ event. event.now) event.entry) (option_map (λ event. event.now) logged.entry)) }
+        ++ request_text (option_map (λ event. event.now) event.entry)
+        (option_map (λ event. event.now) logged.entry)) }
 {
     push_event(text, event)?;
     push_showing(text, logged)?;
@@ -47,7 +48,8 @@ fn push_event(text: &mut String, event: Option<&Event>) -> Result<(), OutOfMemor
 
 #[tactic(auto, unfolding(crate::specs::Requests::event_text))]
 fn push_recorded(text: &mut String, event: &Event) -> Result<(), OutOfMemory>
-    ensures { OnOk result (string_bytes text.new ≡ string_bytes text.old ++ event_text (Some event.now)) }
+    ensures { OnOk result (string_bytes text.new ≡ string_bytes text.old
+        ++ event_text (Some event.now)) }
 {
     text.push_str("<h2>The event</h2>\n<dl>\n")?;
     push_asked(text, event)?;
@@ -69,7 +71,8 @@ fn push_asked(text: &mut String, event: &Event) -> Result<(), OutOfMemory>
 
 #[tactic(auto, unfolding(crate::specs::Requests::answered_text))]
 fn push_answered(text: &mut String, event: &Event) -> Result<(), OutOfMemory>
-    ensures { OnOk result (string_bytes text.new ≡ string_bytes text.old ++ answered_text event.now) }
+    ensures { OnOk result (string_bytes text.new ≡ string_bytes text.old
+        ++ answered_text event.now) }
 {
     push_time(text, "Received", event.received)?;
     push_time(text, "Staged", event.staged)?;
@@ -81,7 +84,8 @@ fn push_answered(text: &mut String, event: &Event) -> Result<(), OutOfMemory>
 // A name of the program's own, and a text of the input.
 #[tactic(auto, unfolding(crate::specs::Requests::entry_text))]
 fn push_entry(text: &mut String, name: &str, told: &Text) -> Result<(), OutOfMemory>
-    ensures { OnOk result (string_bytes text.new ≡ string_bytes text.old ++ entry_text name.now told.now) }
+    ensures { OnOk result (string_bytes text.new ≡ string_bytes text.old
+        ++ entry_text name.now told.now) }
 {
     writeln!(text, "<dt>{name}</dt><dd>{}</dd>", Told(told.as_str()))?;
     Ok(())
@@ -90,7 +94,8 @@ fn push_entry(text: &mut String, name: &str, told: &Text) -> Result<(), OutOfMem
 // A name of the program's own, and a moment.
 #[tactic(auto, unfolding(crate::specs::Requests::time_entry))]
 fn push_time(text: &mut String, name: &str, at: Moment) -> Result<(), OutOfMemory>
-    ensures { OnOk result (string_bytes text.new ≡ string_bytes text.old ++ time_entry name.now at) }
+    ensures { OnOk result (string_bytes text.new ≡ string_bytes text.old
+        ++ time_entry name.now at) }
 {
     write!(text, "<dt>{name}</dt><dd>")?;
     push_moment(text, at)?;
@@ -99,7 +104,8 @@ fn push_time(text: &mut String, name: &str, at: Moment) -> Result<(), OutOfMemor
 }
 
 fn push_query(text: &mut String, query: &[Pair]) -> Result<(), OutOfMemory>
-    ensures { OnOk result (string_bytes text.new ≡ string_bytes text.old ++ flat_map pair_text query.now) }
+    ensures { OnOk result (string_bytes text.new ≡ string_bytes text.old
+        ++ flat_map pair_text query.now) }
 {
     for pair in query {
         push_pair(text, pair)?;
@@ -122,7 +128,8 @@ fn push_pair(text: &mut String, pair: &Pair) -> Result<(), OutOfMemory>
 
 #[tactic(auto, unfolding(crate::specs::Requests::user_text))]
 fn push_user(text: &mut String, name: &str, user: &User) -> Result<(), OutOfMemory>
-    ensures { OnOk result (string_bytes text.new ≡ string_bytes text.old ++ user_text name.now user.now) }
+    ensures { OnOk result (string_bytes text.new ≡ string_bytes text.old
+        ++ user_text name.now user.now) }
 {
     push_entry(text, name, &user.name)?;
     push_groups(text, user.groups.as_slice())?;
@@ -130,7 +137,8 @@ fn push_user(text: &mut String, name: &str, user: &User) -> Result<(), OutOfMemo
 }
 
 fn push_groups(text: &mut String, groups: &[Text]) -> Result<(), OutOfMemory>
-    ensures { OnOk result (string_bytes text.new ≡ string_bytes text.old ++ flat_map group_text groups.now) }
+    ensures { OnOk result (string_bytes text.new ≡ string_bytes text.old
+        ++ flat_map group_text groups.now) }
 {
     for group in groups {
         push_entry(text, "Group", group)?;
@@ -140,7 +148,8 @@ fn push_groups(text: &mut String, groups: &[Text]) -> Result<(), OutOfMemory>
 
 #[tactic(auto, unfolding(crate::specs::Requests::impersonated_text))]
 fn push_impersonated(text: &mut String, user: &Option<User>) -> Result<(), OutOfMemory>
-    ensures { OnOk result (string_bytes text.new ≡ string_bytes text.old ++ impersonated_text user.now) }
+    ensures { OnOk result (string_bytes text.new ≡ string_bytes text.old
+        ++ impersonated_text user.now) }
 {
     if let Some(user) = user {
         push_user(text, "Impersonated user", user)?;
@@ -150,7 +159,8 @@ fn push_impersonated(text: &mut String, user: &Option<User>) -> Result<(), OutOf
 
 #[tactic(auto, unfolding(crate::specs::Requests::status_text))]
 fn push_status(text: &mut String, status: &Status) -> Result<(), OutOfMemory>
-    ensures { OnOk result (string_bytes text.new ≡ string_bytes text.old ++ status_text status.now status.now.code) }
+    ensures { OnOk result (string_bytes text.new ≡ string_bytes text.old
+        ++ status_text status.now status.now.code) }
 {
     match status.code {
         Some(code) => {
@@ -164,7 +174,8 @@ fn push_status(text: &mut String, status: &Status) -> Result<(), OutOfMemory>
 
 #[tactic(auto, unfolding(crate::specs::Requests::decision_text))]
 fn push_decision(text: &mut String, decision: Option<Decision>) -> Result<(), OutOfMemory>
-    ensures { OnOk result (string_bytes text.new ≡ string_bytes text.old ++ decision_text decision) }
+    ensures { OnOk result (string_bytes text.new ≡ string_bytes text.old
+        ++ decision_text decision) }
 {
     let word = decision_word(decision);
     writeln!(text, "<dt>Decision</dt><dd>{word}</dd>")?;

@@ -17,7 +17,8 @@ pub fn push_rows(
     context: &Context,
     writes: &[WriteLine],
 ) -> Result<(), OutOfMemory>
-    ensures { OnOk result (string_bytes text.new ≡ string_bytes text.old ++ rows_text context.now.events writes.now) }
+    ensures { OnOk result (string_bytes text.new ≡ string_bytes text.old
+        ++ rows_text context.now.events writes.now) }
 {
     text.push_str(
         "<h2>Writes in the window</h2>\n<table>\n<tr><th scope=\"col\">Revision or range</th>\
@@ -42,7 +43,8 @@ fn push_each(text: &mut String, context: &Context, writes: &[WriteLine]) -> Resu
 
 #[tactic(auto, unfolding(crate::specs::Rows::row_text))]
 fn push_row(text: &mut String, context: &Context, write: &WriteLine) -> Result<(), OutOfMemory>
-    ensures { OnOk result (string_bytes text.new ≡ string_bytes text.old ++ row_text context.now.events write.now) }
+    ensures { OnOk result (string_bytes text.new ≡ string_bytes text.old
+        ++ row_text context.now.events write.now) }
 {
     match write {
         WriteLine::Made {
@@ -74,8 +76,8 @@ fn push_author(
     line: u64,
     key: &Text,
 ) -> Result<(), OutOfMemory>
-    ensures { OnOk result (string_bytes text.new ≡ string_bytes text.old ++ author_text context.now.events
-        line key.now) }
+    ensures { OnOk result (string_bytes text.new ≡ string_bytes text.old
+        ++ author_text context.now.events line key.now) }
 {
     write!(
         text,
@@ -101,7 +103,8 @@ fn push_cells(text: &mut String, event: Option<&Event>) -> Result<(), OutOfMemor
 // Who wrote, and when it was received and answered.
 #[tactic(auto, unfolding(crate::specs::Rows::event_cells))]
 fn push_event_cells(text: &mut String, event: &Event) -> Result<(), OutOfMemory>
-    ensures { OnOk result (string_bytes text.new ≡ string_bytes text.old ++ event_cells (Some event.now)) }
+    ensures { OnOk result (string_bytes text.new ≡ string_bytes text.old
+        ++ event_cells (Some event.now)) }
 {
     write!(text, "<td>{}</td><td>", Told(event.user.name.as_str()))?;
     push_moment(text, event.received)?;

@@ -58,7 +58,8 @@ pub fn push_segments(
     versions: &[&Version],
 ) -> Result<(), OutOfMemory>
     ensures { OnOk result (string_bytes text.new ≡ string_bytes text.old
-        ++ segments_text axis.now (option_map (λ key. key.now) key.entry) (map (λ v. v.now) versions.now)) }
+        ++ segments_text axis.now (option_map (λ key. key.now) key.entry)
+        (map (λ v. v.now) versions.now)) }
 {
     if let Some(_) = key {
         text.push_str("<text x=\"40\" y=\"102\">versions of the event's object</text>\n")?;
@@ -68,8 +69,8 @@ pub fn push_segments(
 }
 
 fn push_boxes(text: &mut String, axis: &Axis, versions: &[&Version]) -> Result<(), OutOfMemory>
-    ensures { OnOk result (string_bytes text.new ≡ string_bytes text.old ++ flat_map (segment_text axis.now)
-        (map (λ v. v.now) versions.now)) }
+    ensures { OnOk result (string_bytes text.new ≡ string_bytes text.old
+        ++ flat_map (segment_text axis.now) (map (λ v. v.now) versions.now)) }
 {
     for version in versions {
         push_segment(text, axis, version)?;
@@ -85,7 +86,8 @@ fn segment_width(axis: &Axis, revision: u64) -> u64
 
 #[tactic(auto, unfolding(crate::specs::Segments::segment_text))]
 fn push_segment(text: &mut String, axis: &Axis, version: &Version) -> Result<(), OutOfMemory>
-    ensures { OnOk result (string_bytes text.new ≡ string_bytes text.old ++ segment_text axis.now version.now) }
+    ensures { OnOk result (string_bytes text.new ≡ string_bytes text.old
+        ++ segment_text axis.now version.now) }
 {
     let revision = version.revision.get();
     let x = axis.position(revision);
@@ -93,7 +95,8 @@ fn push_segment(text: &mut String, axis: &Axis, version: &Version) -> Result<(),
     let uid = Told(version.uid.as_str());
     writeln!(
         text,
-        r#"<rect class="segment" x="{x}" y="108" width="{width}" height="18"><title>from revision {revision}: uid {uid}</title></rect>"#
+        "<rect class=\"segment\" x=\"{x}\" y=\"108\" width=\"{width}\" height=\"18\">\
+        <title>from revision {revision}: uid {uid}</title></rect>"
     )?;
     Ok(())
 }

@@ -22,7 +22,8 @@ pub fn push_showing(text: &mut String, event: Option<&LogEvent>) -> Result<(), O
 
 #[tactic(auto, unfolding(crate::specs::Showing::wanted_revision))]
 fn push_wanted_revision(text: &mut String, wanted: Option<Revision>) -> Result<(), OutOfMemory>
-    ensures { OnOk result (string_bytes text.new ≡ string_bytes text.old ++ wanted_revision wanted) }
+    ensures { OnOk result (string_bytes text.new ≡ string_bytes text.old
+        ++ wanted_revision wanted) }
 {
     if let Some(revision) = wanted {
         let revision = revision.get();
@@ -43,7 +44,8 @@ fn push_wanted_uid(text: &mut String, wanted: &Option<Text>) -> Result<(), OutOf
 }
 
 fn push_answer(text: &mut String, answer: &Shown) -> Result<(), OutOfMemory>
-    ensures { OnOk result (string_bytes text.new ≡ string_bytes text.old ++ answer_text answer.now) }
+    ensures { OnOk result (string_bytes text.new ≡ string_bytes text.old
+        ++ answer_text answer.now) }
 {
     match answer {
         Shown::Made { item, .. } => push_item(text, item),
@@ -96,7 +98,8 @@ fn push_removed(text: &mut String, uid: &Text) -> Result<(), OutOfMemory>
 
 #[tactic(auto, unfolding(crate::specs::Showing::listing_text))]
 fn push_listing(text: &mut String, listing: &Listing) -> Result<(), OutOfMemory>
-    ensures { OnOk result (string_bytes text.new ≡ string_bytes text.old ++ listing_text listing.now) }
+    ensures { OnOk result (string_bytes text.new ≡ string_bytes text.old
+        ++ listing_text listing.now) }
 {
     let revision = listing.revision.get();
     let count = listing.items.len();

@@ -53,8 +53,8 @@ fn push_section(
     event: &Event,
     writes: &[WriteLine],
 ) -> Result<(), OutOfMemory>
-    ensures { OnOk result (string_bytes text.new ≡ string_bytes text.old ++ times_section context.now.events
-        event.now writes.now) }
+    ensures { OnOk result (string_bytes text.new ≡ string_bytes text.old
+        ++ times_section context.now.events event.now writes.now) }
 {
     let axis = times_axis(context, event, writes);
     push_band(text, &axis, event)?;
@@ -162,7 +162,8 @@ fn push_span(text: &mut String, event: &Event) -> Result<(), OutOfMemory>
 
 #[tactic(auto, unfolding(crate::specs::Times::times_band))]
 fn push_band(text: &mut String, axis: &Axis, event: &Event) -> Result<(), OutOfMemory>
-    ensures { OnOk result (string_bytes text.new ≡ string_bytes text.old ++ times_band axis.now event.now) }
+    ensures { OnOk result (string_bytes text.new ≡ string_bytes text.old
+        ++ times_band axis.now event.now) }
 {
     let low = instant(event.received);
     let x = axis.position(low);
@@ -216,7 +217,8 @@ fn push_event_bar(
     line: u64,
     event: &Event,
 ) -> Result<(), OutOfMemory>
-    ensures { OnOk result (string_bytes text.new ≡ string_bytes text.old ++ bar_text axis.now line (Some event.now)) }
+    ensures { OnOk result (string_bytes text.new ≡ string_bytes text.old
+        ++ bar_text axis.now line (Some event.now)) }
 {
     let low = instant(event.received);
     let x = axis.position(low);

@@ -7,7 +7,7 @@ use Rattle.base_types.specs.Meaning.{Meaning}
 use Rattle.object_past.specs.declared.version.Version.{Version}
 use Rattle.version_store.specs.Known.{Known}
 use Rattle.history_query.proofs.Alike.{AreAlikeFrom, IsAlikeSince, IsAmong, IsFirstAlike, alike_more, alike_none, alike_past, alike_whole}
-use Rattle.history_query.specs.Blaming.{IsSameAt, IsSince, value_at}
+use Rattle.history_query.specs.Blaming.{IsSameAt, IsSince, value_pointed}
 
 -- another version of the version's key, at or below its revision
 abbrev pub IsBefore : Version → Version → Type 0
@@ -19,7 +19,7 @@ IsSinceAmong trees pointer v versions n since = IsAlikeSince (λ (w : Version). 
 
 -- another version of the same object with the same value, by its parts
 abbrev pub IsAlike : List Meaning → List (List ℕ) → Version → Version → Type 0
-IsAlike trees pointer v other = (other.uid ≡ v.uid) × (value_at trees pointer other ≡ value_at trees pointer v)
+IsAlike trees pointer v other = (other.uid ≡ v.uid) × (value_pointed trees pointer other ≡ value_pointed trees pointer v)
 
 same_at : (trees : List Meaning) (pointer : List (List ℕ)) (v other : Version) → IsAlike trees pointer v other → IsSameAt trees pointer v other
 same_at trees pointer v other is = record { uid = is.0; value = is.1 }

@@ -10,14 +10,14 @@ use Rattle.rbac_timeline.specs.Known as rbac
 use Rattle.verdict_text.specs.Words.{ended}
 use Rattle.version_store.specs.Known.{Known}
 use Rattle.history_query.specs.Deciding.{IsCanText, IsCanTextBy, IsDecision, equal_places, possible_word}
-use Rattle.history_query.specs.Telling.{IsBelowStart, IsTold}
+use Rattle.history_query.specs.Telling.{IsBelowStart, IsToldText}
 
 pub unjudged_told : (known : Known) (place : ℕ) (who : User) (attrs : RequestAttrs) (text : List ℕ) → known.setup.authorize ≡ false → text ≡ ended (codes "unjudged")
     → IsCanText known place who attrs text
 unjudged_told known place who attrs text not is = subst (λ b. IsCanTextBy b known place who attrs text) (sym not) is
 
 pub judged_told : (known : Known) (place : ℕ) (who : User) (attrs : RequestAttrs) (text : List ℕ) → known.setup.authorize ≡ true
-    → IsTold (IsBelowStart known place) (IsDecision known place who attrs) text → IsCanText known place who attrs text
+    → IsToldText (IsBelowStart known place) (IsDecision known place who attrs) text → IsCanText known place who attrs text
 judged_told known place who attrs text judged is = subst (λ b. IsCanTextBy b known place who attrs text) (sym judged) is
 
 pub decision_told : (known : Known) (place : ℕ) (who : User) (attrs : RequestAttrs) (possible : Possible) (timeline : rbac.Known) (places : Places) (text : List ℕ)

@@ -20,25 +20,25 @@ use Rattle.version_store.specs.Keyed.{AreKeys}
 use Rattle.version_store.specs.Known.{Known}
 use Rattle.write_groups.specs.declared.groups.Group.{Group}
 use Rattle.version_store.specs.Told.{IsTold as IsTruth}
-use Rattle.history_query.specs.Blaming.{IsBlame, IsPresentBlame, IsSince, since_text, value_at, value_text}
+use Rattle.history_query.specs.Blaming.{IsBlame, IsPresentBlame, IsSince, since_text, value_pointed, value_text}
 use Rattle.history_query.specs.Deciding.{IsCanTextBy, IsDecision, possible_word}
 use Rattle.history_query.specs.OneText.{OneText}
 use Rattle.history_query.specs.Questions.{IsHistoryText}
 use Rattle.history_query.specs.Showing.{IsSightText, absent_text, clouded_text, present_text, sight_text}
-use Rattle.history_query.specs.Sights.{IsPresence, IsSight, MayBeAbsent}
+use Rattle.history_query.specs.Sights.{IsPresence, IsSight, ObjectMayBeAbsent}
 use Rattle.history_query.specs.States.{IsKeyText, IsStateOf, key_text, presence_text}
-use Rattle.history_query.specs.Telling.{IsBelowStart, IsTold, IsUntold}
+use Rattle.history_query.specs.Telling.{IsBelowStart, IsToldText, IsUntold}
 use Rattle.history_query.specs.declared.question.Question.{Question}
 use Rattle.history_query.specs.declared.question.Question.TheVariants.{Show, Versions, State, Blame, Can}
-use Rattle.history_query.specs.declared.sight.Sight.{Sight}
-use Rattle.history_query.specs.declared.sight.Sight.TheVariants.{Clouded, Told}
+use Rattle.history_query.specs.declared.sight.ObjectSight.{ObjectSight}
+use Rattle.history_query.specs.declared.sight.ObjectSight.TheVariants.{Clouded, Told}
 
 -- a text that is told once, or `unknown`
-told_once : (untold : Type 0) (Is : List ℕ → Type 0) → ((a b : List ℕ) → Is a → Is b → a ≡ b) → (a b : List ℕ) → IsTold untold Is a → IsTold untold Is b → a ≡ b
-told_once untold Is once a b (IsTold.nothing hid x) (IsTold.nothing other y) = x ∙ sym y
-told_once untold Is once a b (IsTold.nothing hid x) (IsTold.something seen y) = absurd (seen hid)
-told_once untold Is once a b (IsTold.something seen x) (IsTold.nothing hid y) = absurd (seen hid)
-told_once untold Is once a b (IsTold.something seen x) (IsTold.something other y) = once a b x y
+told_once : (untold : Type 0) (Is : List ℕ → Type 0) → ((a b : List ℕ) → Is a → Is b → a ≡ b) → (a b : List ℕ) → IsToldText untold Is a → IsToldText untold Is b → a ≡ b
+told_once untold Is once a b (IsToldText.nothing hid x) (IsToldText.nothing other y) = x ∙ sym y
+told_once untold Is once a b (IsToldText.nothing hid x) (IsToldText.something seen y) = absurd (seen hid)
+told_once untold Is once a b (IsToldText.something seen x) (IsToldText.nothing hid y) = absurd (seen hid)
+told_once untold Is once a b (IsToldText.something seen x) (IsToldText.something other y) = once a b x y
 
 -- two tests of one fact
 same_test : (P : Type 0) (a b : Bool) → (a ≡ true) ↔ P → (b ≡ true) ↔ P → a ≡ b
@@ -59,15 +59,15 @@ module _ (known : Known) (truth : IsTruth known) where
   one_presence key place (Some v) (Some w) x y = ap Some (same_version v w (same_Some (version_of v) (version_of w) (sym x.1.is_latest ∙ y.1.is_latest)))
 
   -- what is made of a sight is made once, where it is a text for hidden objects and one for what may be there
-  seen_once : {X : Type 0} (hidden : X) (of : Option Version → Bool → X) (is : Sight → X) → (is Clouded ≡ hidden)
+  seen_once : {X : Type 0} (hidden : X) (of : Option Version → Bool → X) (is : ObjectSight → X) → (is Clouded ≡ hidden)
       → ((p : _) (absent : Bool) → is (Told p absent) ≡ of (option_map (λ v. v.now) p) absent)
-      → (key : ObjectKey) (place : ℕ) (a b : Sight) → IsSight known key place a → IsSight known key place b → is a ≡ is b
+      → (key : ObjectKey) (place : ℕ) (a b : ObjectSight) → IsSight known key place a → IsSight known key place b → is a ≡ is b
   seen_once hidden of is at_cloud at_told key place Clouded Clouded x y = refl
   seen_once hidden of is at_cloud at_told key place Clouded (Told p absent) x y = absurd (y.0 x)
   seen_once hidden of is at_cloud at_told key place (Told p absent) Clouded x y = absurd (x.0 y)
   seen_once hidden of is at_cloud at_told key place (Told p absent) (Told q other) x y =
       let presences = one_presence key place _ _ x.1 y.1 in
-      let absents = same_test (MayBeAbsent (history_of known) key place) absent other x.2 y.2 in
+      let absents = same_test (ObjectMayBeAbsent (history_of known) key place) absent other x.2 y.2 in
       at_told p absent ∙ ap₂ of presences absents ∙ sym (at_told q other)
 
   show_once : (key : ObjectKey) (place : ℕ) (a b : List ℕ) → IsSightText known key place a → IsSightText known key place b → a ≡ b
@@ -105,7 +105,7 @@ module _ (known : Known) (truth : IsTruth known) where
   present_once : (pointer : List (List ℕ)) (present : Option Version) (a b : List ℕ) → IsPresentBlame known pointer present a → IsPresentBlame known pointer present b → a ≡ b
   present_once pointer None a b x y = x ∙ sym y
   present_once pointer (Some v) a b (since, is, x) (other, is', y) =
-      x ∙ ap (λ s. value_text (value_at known.trees pointer v) ++ since_text known.events known.log s) (one_since pointer v since other is is') ∙ sym y
+      x ∙ ap (λ s. value_text (value_pointed known.trees pointer v) ++ since_text known.events known.log s) (one_since pointer v since other is is') ∙ sym y
 
   blame_once : (key : ObjectKey) (pointer : List (List ℕ)) (place : ℕ) (a b : List ℕ) → IsBlame known key pointer place a → IsBlame known key pointer place b → a ≡ b
   blame_once key pointer place a b (Clouded, is, x) (Clouded, is', y) = x ∙ sym y
@@ -138,13 +138,13 @@ module _ (b : Known) (groups : List Group) where
   presence_in key place None is = is
   presence_in key place (Some v) is = is
 
-  sight_in : (key : ObjectKey) (place : ℕ) (sight : Sight) → IsSight b key place sight → IsSight regrouped key place sight
+  sight_in : (key : ObjectKey) (place : ℕ) (sight : ObjectSight) → IsSight b key place sight → IsSight regrouped key place sight
   sight_in key place Clouded is = is
   sight_in key place (Told present absent) is = (is.0, presence_in key place (option_map (λ v. v.now) present) is.1, is.2)
 
-  told_in : (untold : Type 0) (Is Other : List ℕ → Type 0) → ((text : List ℕ) → Is text → Other text) → (text : List ℕ) → IsTold untold Is text → IsTold untold Other text
-  told_in untold Is Other to text (IsTold.nothing hid is) = IsTold.nothing hid is
-  told_in untold Is Other to text (IsTold.something seen is) = IsTold.something seen (to text is)
+  told_in : (untold : Type 0) (Is Other : List ℕ → Type 0) → ((text : List ℕ) → Is text → Other text) → (text : List ℕ) → IsToldText untold Is text → IsToldText untold Other text
+  told_in untold Is Other to text (IsToldText.nothing hid is) = IsToldText.nothing hid is
+  told_in untold Is Other to text (IsToldText.something seen is) = IsToldText.something seen (to text is)
 
   keys_in : (place : ℕ) (keys : List ObjectKey) (texts : List (List ℕ)) → AllZip (IsKeyText b place) keys texts → AllZip (IsKeyText regrouped place) keys texts
   keys_in place [] [] is = is

@@ -15,7 +15,7 @@ use Rattle.object_past.specs.declared.removal.Removal.{Removal}
 use Rattle.object_past.specs.declared.version.Version.{Version}
 use Rattle.version_store.specs.Histories.{history_of}
 use Rattle.version_store.specs.Known.{Known}
-use Rattle.history_query.specs.Sights.{IsEndOf, IsPresence, MayBeAbsent, MayBeThere, gone, not_yet}
+use Rattle.history_query.specs.Sights.{IsRemovalOfLast, IsPresence, ObjectMayBeAbsent, ObjectMayBeThere, gone, not_yet}
 use Rattle.history_query.specs.Versions.{removal_behind}
 
 -- of items that differ by a number, two with the same are one
@@ -58,19 +58,19 @@ lent P (Some r) removal is holds = subst P (sym (same_Some r.now removal is)) ho
 module _ (known : Known) (key : ObjectKey) (place : ℕ) where
   -- an end of the version is that of the removal behind it
   ended : (v : Version) (removal : Removal) (end : past.Removal) → All (λ other. other.last ≡ v.revision → other ≡ removal) known.removals
-      → IsEndOf (history_of known) (version_of v) end → recorded removal ≡ end
+      → IsRemovalOfLast (history_of known) (version_of v) end → recorded removal ≡ end
   ended v removal end alone ends =
       let found = from_map recorded known.removals end ends.known in
       let same : found.0 ≡ removal = all_at (λ (other : Removal). other.last ≡ v.revision → other ≡ removal) known.removals found.0 alone found.1 (ap (λ (x : past.Removal). x.last) found.2 ∙ ends.of_last) in
       ap recorded (sym same) ∙ found.2
 
-  unended : (v : Version) (end : past.Removal) → removal_behind known.removals v ≡ None → IsEndOf (history_of known) (version_of v) end → ⊥
+  unended : (v : Version) (end : past.Removal) → removal_behind known.removals v ≡ None → IsRemovalOfLast (history_of known) (version_of v) end → ⊥
   unended v end none ends =
       let found = from_map recorded known.removals end ends.known in
       not_found (λ (other : Removal). other.last == v.revision) known.removals none found.0 found.1
       (test_eq found.0.last v.revision (ap (λ (x : past.Removal). x.last) found.2 ∙ ends.of_last))
 
-  is_end : (v : Version) (removal : Removal) → removal_behind known.removals v ≡ Some removal → IsEndOf (history_of known) (version_of v) (recorded removal)
+  is_end : (v : Version) (removal : Removal) → removal_behind known.removals v ≡ Some removal → IsRemovalOfLast (history_of known) (version_of v) (recorded removal)
   is_end v removal found =
       let at = found_in (λ (other : Removal). other.last == v.revision) known.removals removal found in record {
         known = in_map recorded known.removals removal at.0;
@@ -81,7 +81,7 @@ module _ (known : Known) (key : ObjectKey) (place : ℕ) where
   pub none_there : latest (map version_of known.versions) key place ≡ None → IsPresence known key place None
   none_there none v there = let some : Some v ≡ None = sym there.is_latest ∙ none in cc some
 
-  pub none_absent : latest (map version_of known.versions) key place ≡ None → (true ≡ true) ↔ MayBeAbsent (history_of known) key place
+  pub none_absent : latest (map version_of known.versions) key place ≡ None → (true ≡ true) ↔ ObjectMayBeAbsent (history_of known) key place
   none_absent none = (λ t. not_yet none, λ m. refl)
 
   pub presence : (v : Version) (removal : Option (Bor Removal)) (present : Option (Bor Version)) → latest (map version_of known.versions) key place ≡ Some (version_of v) → Contains known.versions v
@@ -91,37 +91,37 @@ module _ (known : Known) (key : ObjectKey) (place : ℕ) where
       → IfNone present (IsSomeAnd removal (λ (r : Bor Removal). r.now.range.high ≤ place))
       → IsPresence known key place (option_map (λ (w : Bor Version). w.now) present)
   presence v removal (Some w) is_latest among behind alone some none =
-      subst (λ (x : Version). Contains known.versions x × MayBeThere (history_of known) key place (version_of x)) (sym some.0)
+      subst (λ (x : Version). Contains known.versions x × ObjectMayBeThere (history_of known) key place (version_of x)) (sym some.0)
       (among, record { is_latest = is_latest; not_gone = λ end ends. before removal behind alone some.1 end ends })
     where
       before : (removal : Option (Bor Removal)) → option_map (λ (r : Bor Removal). r.now) removal ≡ removal_behind known.removals v
           → IfSome removal (λ (r : Bor Removal). All (λ other. other.last ≡ v.revision → other ≡ r.now) known.removals) → IfSome removal (λ (r : Bor Removal). place < r.now.range.high)
-          → (end : past.Removal) → IsEndOf (history_of known) (version_of v) end → place < end.range.high
+          → (end : past.Removal) → IsRemovalOfLast (history_of known) (version_of v) end → place < end.range.high
       before None behind alone below end ends = absurd (unended v end (sym behind) ends)
       before (Some r) behind alone below end ends = subst (λ (x : past.Removal). place < x.range.high) (ended v r.now end alone ends) below
   presence v None None is_latest among behind alone some none = absurd none
   presence v (Some r) None is_latest among behind alone some none = λ w there.
       let same : version_of v ≡ w = same_Some (version_of v) w (sym is_latest ∙ there.is_latest) in
-      let below : place < r.now.range.high = there.not_gone (recorded r.now) (subst (λ (x : past.Version). IsEndOf (history_of known) x (recorded r.now)) same (is_end v r.now (sym behind))) in
+      let below : place < r.now.range.high = there.not_gone (recorded r.now) (subst (λ (x : past.Version). IsRemovalOfLast (history_of known) x (recorded r.now)) same (is_end v r.now (sym behind))) in
       omega (arith, below, none)
 
   pub absence : (v : Version) (removal : Option (Bor Removal)) (may_be : Bool) → latest (map version_of known.versions) key place ≡ Some (version_of v)
       → option_map (λ (r : Bor Removal). r.now) removal ≡ removal_behind known.removals v
       → IfSome removal (λ (r : Bor Removal). All (λ other. other.last ≡ v.revision → other ≡ r.now) known.removals)
-      → (IsTrue may_be ↔ IsSomeAnd removal (λ (r : Bor Removal). r.now.range.low ≤ place)) → (may_be ≡ true) ↔ MayBeAbsent (history_of known) key place
+      → (IsTrue may_be ↔ IsSomeAnd removal (λ (r : Bor Removal). r.now.range.low ≤ place)) → (may_be ≡ true) ↔ ObjectMayBeAbsent (history_of known) key place
   absence v removal may_be is_latest behind alone told = (λ t. forth removal behind (told.0 t), λ m. told.1 (back removal behind alone m))
     where
       forth : (removal : Option (Bor Removal)) → option_map (λ (r : Bor Removal). r.now) removal ≡ removal_behind known.removals v
-          → IsSomeAnd removal (λ (r : Bor Removal). r.now.range.low ≤ place) → MayBeAbsent (history_of known) key place
+          → IsSomeAnd removal (λ (r : Bor Removal). r.now.range.low ≤ place) → ObjectMayBeAbsent (history_of known) key place
       forth None behind low = absurd low
       forth (Some r) behind low = gone (version_of v) (recorded r.now) is_latest (is_end v r.now (sym behind)) low
 
-      of_latest : (w : past.Version) (end : past.Removal) → latest (map version_of known.versions) key place ≡ Some w → IsEndOf (history_of known) w end → IsEndOf (history_of known) (version_of v) end
-      of_latest w end other ends = subst (λ (x : past.Version). IsEndOf (history_of known) x end) (sym (same_Some (version_of v) w (sym is_latest ∙ other))) ends
+      of_latest : (w : past.Version) (end : past.Removal) → latest (map version_of known.versions) key place ≡ Some w → IsRemovalOfLast (history_of known) w end → IsRemovalOfLast (history_of known) (version_of v) end
+      of_latest w end other ends = subst (λ (x : past.Version). IsRemovalOfLast (history_of known) x end) (sym (same_Some (version_of v) w (sym is_latest ∙ other))) ends
 
       back : (removal : Option (Bor Removal)) → option_map (λ (r : Bor Removal). r.now) removal ≡ removal_behind known.removals v
           → IfSome removal (λ (r : Bor Removal). All (λ other. other.last ≡ v.revision → other ≡ r.now) known.removals)
-          → MayBeAbsent (history_of known) key place → IsSomeAnd removal (λ (r : Bor Removal). r.now.range.low ≤ place)
+          → ObjectMayBeAbsent (history_of known) key place → IsSomeAnd removal (λ (r : Bor Removal). r.now.range.low ≤ place)
       back removal behind alone (not_yet none) = let some : Some (version_of v) ≡ None = sym is_latest ∙ none in absurd (cc some)
       back None behind alone (gone w end other ends low) = absurd (unended v end (sym behind) (of_latest w end other ends))
       back (Some r) behind alone (gone w end other ends low) = subst (λ (x : past.Removal). x.range.low ≤ place) (sym (ended v r.now end alone (of_latest w end other ends))) low

@@ -10,7 +10,7 @@ use Rattle.version_store.specs.Known.{Known}
 use Rattle.history_query.specs.Appending.{Appends}
 use Rattle.history_query.specs.Sights.{IsSight}
 use Rattle.history_query.specs.States.{IsKeyText, IsStateOf}
-use Rattle.history_query.specs.declared.sight.Sight.TheVariants.{Told}
+use Rattle.history_query.specs.declared.sight.ObjectSight.TheVariants.{Told}
 
 -- the texts of these keys are put behind what was there
 pub record AreTexts (known : Known) (place : ℕ) (keys : List ObjectKey) (old new : List ℕ) : Type 0 where

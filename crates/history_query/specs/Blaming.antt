@@ -10,18 +10,18 @@ use Rattle.version_store.specs.Known.{Known}
 use Rattle.write_groups.specs.declared.event.LogEvent.{LogEvent}
 use Rattle.history_query.specs.Showing.{clouded_text}
 use Rattle.history_query.specs.Sights.{IsSight}
-use Rattle.history_query.specs.Telling.{IsTold, IsUntold, json_text, user_text, who_text}
-use Rattle.history_query.specs.declared.sight.Sight.{Sight}
-use Rattle.history_query.specs.declared.sight.Sight.TheVariants.{Clouded, Told}
+use Rattle.history_query.specs.Telling.{IsToldText, IsUntold, json_text, user_text, who_text}
+use Rattle.history_query.specs.declared.sight.ObjectSight.{ObjectSight}
+use Rattle.history_query.specs.declared.sight.ObjectSight.TheVariants.{Clouded, Told}
 
 -- the value that the pointer identifies in the version (RFC 6901 section 4)
-abbrev pub value_at : List Meaning → List (List ℕ) → Version → Option Meaning
-value_at trees pointer v = option_and_then (pointed pointer) (slice_get trees v.node.0)
+abbrev pub value_pointed : List Meaning → List (List ℕ) → Version → Option Meaning
+value_pointed trees pointer v = option_and_then (pointed pointer) (slice_get trees v.node.0)
 
 -- another version of the same object with the same value there
 pub record IsSameAt (trees : List Meaning) (pointer : List (List ℕ)) (v other : Version) : Type 0 where
   pub uid : other.uid ≡ v.uid
-  pub value : value_at trees pointer other ≡ value_at trees pointer v
+  pub value : value_pointed trees pointer other ≡ value_pointed trees pointer v
 
 -- from this revision on, up to the version, each version of its key is one of the same object with the same value
 abbrev pub StaysFrom : Known → List (List ℕ) → Version → ℕ → Type 0
@@ -50,14 +50,14 @@ since_text events log since =
 abbrev pub IsPresentBlame : Known → List (List ℕ) → Option Version → List ℕ → Type 0
 IsPresentBlame known pointer None text = text ≡ ended (codes "absent")
 IsPresentBlame known pointer (Some v) text = (since : Version) × IsSince known pointer v since
-    × (text ≡ value_text (value_at known.trees pointer v) ++ since_text known.events known.log since)
+    × (text ≡ value_text (value_pointed known.trees pointer v) ++ since_text known.events known.log since)
 
-abbrev pub IsBlameOf : Known → List (List ℕ) → Sight → List ℕ → Type 0
+abbrev pub IsBlameOf : Known → List (List ℕ) → ObjectSight → List ℕ → Type 0
 IsBlameOf known pointer Clouded text = text ≡ clouded_text
 IsBlameOf known pointer (Told present absent) text = IsPresentBlame known pointer (option_map (λ v. v.now) present) text
 
 abbrev pub IsBlame : Known → ObjectKey → List (List ℕ) → ℕ → List ℕ → Type 0
-IsBlame known key pointer place text = (sight : Sight) × IsSight known key place sight × IsBlameOf known pointer sight text
+IsBlame known key pointer place text = (sight : ObjectSight) × IsSight known key place sight × IsBlameOf known pointer sight text
 
 abbrev pub IsBlameText : Known → ObjectKey → List (List ℕ) → ℕ → List ℕ → Type 0
-IsBlameText known key pointer place text = IsTold (IsUntold known key place) (IsBlame known key pointer place) text
+IsBlameText known key pointer place text = IsToldText (IsUntold known key place) (IsBlame known key pointer place) text

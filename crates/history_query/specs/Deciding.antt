@@ -1,4 +1,4 @@
--- What `can` prints: which decisions an authoriser could have given whose four caches all stood at a place.
+-- What `can` prints: which decisions an authorizer could have given whose four caches all stood at a place.
 use Rattle.std.specs.Prelude.{◌≡◌, ◌↔◌, ℕ, Bool, true, false, List, codes, if◌then◌else◌}
 use Rattle.base_types.specs.declared.placed.Places.{Places}
 use Rattle.base_types.specs.declared.request.Decision.TheVariants.{Allow, Forbid}
@@ -7,7 +7,7 @@ use Rattle.base_types.specs.declared.request.User.{User}
 use Rattle.rbac_timeline.specs.Decisions.{IsPossible}
 use Rattle.verdict_text.specs.Words.{ended}
 use Rattle.version_store.specs.Known.{Known}
-use Rattle.history_query.specs.Telling.{IsBelowStart, IsTold}
+use Rattle.history_query.specs.Telling.{IsBelowStart, IsToldText}
 
 abbrev pub equal_places : ℕ → Places
 equal_places place = record { roles = place; cluster_roles = place; bindings = place; cluster_bindings = place }
@@ -28,7 +28,7 @@ pub record IsDecision (known : Known) (place : ℕ) (who : User) (attrs : Reques
 -- `unjudged` at every place where the setup doesn't judge decisions
 abbrev pub IsCanTextBy : Bool → Known → ℕ → User → RequestAttrs → List ℕ → Type 0
 IsCanTextBy false known place who attrs text = text ≡ ended (codes "unjudged")
-IsCanTextBy true known place who attrs text = IsTold (IsBelowStart known place) (IsDecision known place who attrs) text
+IsCanTextBy true known place who attrs text = IsToldText (IsBelowStart known place) (IsDecision known place who attrs) text
 
 abbrev pub IsCanText : Known → ℕ → User → RequestAttrs → List ℕ → Type 0
 IsCanText known place who attrs text = IsCanTextBy known.setup.authorize known place who attrs text

@@ -6,9 +6,9 @@ use Rattle.object_past.specs.declared.version.Version.{Version}
 use Rattle.verdict_text.specs.Words.{ended, spaced}
 use Rattle.version_store.specs.Known.{Known}
 use Rattle.history_query.specs.Sights.{IsSight}
-use Rattle.history_query.specs.Telling.{IsTold, IsUntold, json_at}
-use Rattle.history_query.specs.declared.sight.Sight.{Sight}
-use Rattle.history_query.specs.declared.sight.Sight.TheVariants.{Clouded, Told}
+use Rattle.history_query.specs.Telling.{IsToldText, IsUntold, json_at}
+use Rattle.history_query.specs.declared.sight.ObjectSight.{ObjectSight}
+use Rattle.history_query.specs.declared.sight.ObjectSight.TheVariants.{Clouded, Told}
 
 abbrev pub clouded_text : List ℕ
 clouded_text = ended (codes "clouded")
@@ -22,12 +22,12 @@ abbrev pub absent_text : Bool → List ℕ
 absent_text true = ended (codes "absent")
 absent_text false = []
 
-abbrev pub sight_text : List Meaning → Sight → List ℕ
+abbrev pub sight_text : List Meaning → ObjectSight → List ℕ
 sight_text trees Clouded = clouded_text
 sight_text trees (Told present absent) = present_text trees (option_map (λ v. v.now) present) ++ absent_text absent
 
 abbrev pub IsSightText : Known → ObjectKey → ℕ → List ℕ → Type 0
-IsSightText known key place text = (sight : Sight) × IsSight known key place sight × (text ≡ sight_text known.trees sight)
+IsSightText known key place text = (sight : ObjectSight) × IsSight known key place sight × (text ≡ sight_text known.trees sight)
 
 abbrev pub IsShowText : Known → ObjectKey → ℕ → List ℕ → Type 0
-IsShowText known key place text = IsTold (IsUntold known key place) (IsSightText known key place) text
+IsShowText known key place text = IsToldText (IsUntold known key place) (IsSightText known key place) text

@@ -8,9 +8,9 @@ use Rattle.verdict_text.specs.Words.{ended, spaced}
 use Rattle.version_store.specs.Keyed.{AreKeys}
 use Rattle.version_store.specs.Known.{Known}
 use Rattle.history_query.specs.Sights.{IsSight}
-use Rattle.history_query.specs.Telling.{IsBelowStart, IsTold}
-use Rattle.history_query.specs.declared.sight.Sight.{Sight}
-use Rattle.history_query.specs.declared.sight.Sight.TheVariants.{Clouded, Told}
+use Rattle.history_query.specs.Telling.{IsBelowStart, IsToldText}
+use Rattle.history_query.specs.declared.sight.ObjectSight.{ObjectSight}
+use Rattle.history_query.specs.declared.sight.ObjectSight.TheVariants.{Clouded, Told}
 
 abbrev pub presence_word : Bool → List ℕ
 presence_word true = codes "maybe"
@@ -22,12 +22,12 @@ presence_text key None absent = []
 presence_text key (Some v) absent = ended (spaced (presence_word absent ∷ key_spelling key ∷ decimal v.revision ∷ []))
 
 -- `clouded KEY`, `present KEY M` or `maybe KEY M`
-abbrev pub key_text : ObjectKey → Sight → List ℕ
+abbrev pub key_text : ObjectKey → ObjectSight → List ℕ
 key_text key Clouded = ended (spaced (codes "clouded" ∷ key_spelling key ∷ []))
 key_text key (Told present absent) = presence_text key (option_map (λ v. v.now) present) absent
 
 abbrev pub IsKeyText : Known → ℕ → ObjectKey → List ℕ → Type 0
-IsKeyText known place key text = (sight : Sight) × IsSight known key place sight × (text ≡ key_text key sight)
+IsKeyText known place key text = (sight : ObjectSight) × IsSight known key place sight × (text ≡ key_text key sight)
 
 -- the texts of all keys that have a version or that an unrecorded write names, in order
 pub record IsStateOf (known : Known) (place : ℕ) (text : List ℕ) : Type 0 where
@@ -38,4 +38,4 @@ pub record IsStateOf (known : Known) (place : ℕ) (text : List ℕ) : Type 0 wh
   pub joined : text ≡ flat_map (λ one. one) texts
 
 abbrev pub IsStateText : Known → ℕ → List ℕ → Type 0
-IsStateText known place text = IsTold (IsBelowStart known place) (IsStateOf known place) text
+IsStateText known place text = IsToldText (IsBelowStart known place) (IsStateOf known place) text

@@ -30,9 +30,9 @@ abbrev pub unknown_text : List ℕ
 unknown_text = ended (codes "unknown")
 
 -- `unknown` where nothing is told, else such a text
-pub data IsTold (untold : Type 0) (Is : List ℕ → Type 0) (text : List ℕ) : Type 0 where
-  nothing : untold → text ≡ unknown_text → IsTold untold Is text
-  something : (untold → ⊥) → Is text → IsTold untold Is text
+pub data IsToldText (untold : Type 0) (Is : List ℕ → Type 0) (text : List ℕ) : Type 0 where
+  nothing : untold → text ≡ unknown_text → IsToldText untold Is text
+  something : (untold → ⊥) → Is text → IsToldText untold Is text
 
 -- the compact JSON text of a tree (RFC 8259)
 abbrev pub json_text : Meaning → List ℕ

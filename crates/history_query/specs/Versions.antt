@@ -10,7 +10,7 @@ use Rattle.verdict_text.specs.Words.{ended, spaced}
 use Rattle.version_store.specs.Known.{Known, versions_of}
 use Rattle.write_groups.specs.Lines.{line_at}
 use Rattle.write_groups.specs.declared.event.LogEvent.{LogEvent}
-use Rattle.history_query.specs.Telling.{IsTold, IsTracked, who_text}
+use Rattle.history_query.specs.Telling.{IsToldText, IsTracked, who_text}
 
 -- `M UID WHO`
 abbrev pub version_text : List LogEvent → Version → List ℕ
@@ -26,11 +26,11 @@ removal_text log (Some removal) =
 abbrev pub removal_behind : List Removal → Version → Option Removal
 removal_behind removals v = find (λ removal. removal.last == v.revision) removals
 
-abbrev pub lines_of : Known → Version → List ℕ
-lines_of known v = version_text known.log v ++ removal_text known.log (removal_behind known.removals v)
+abbrev pub version_lines : Known → Version → List ℕ
+version_lines known v = version_text known.log v ++ removal_text known.log (removal_behind known.removals v)
 
 abbrev pub versions_text : Known → ObjectKey → List ℕ
-versions_text known key = flat_map (lines_of known) (versions_of known key)
+versions_text known key = flat_map (version_lines known) (versions_of known key)
 
 abbrev pub IsVersionsText : Known → ObjectKey → List ℕ → Type 0
-IsVersionsText known key text = IsTold (IsTracked known.setup key → ⊥) (λ told. told ≡ versions_text known key) text
+IsVersionsText known key text = IsToldText (IsTracked known.setup key → ⊥) (λ told. told ≡ versions_text known key) text

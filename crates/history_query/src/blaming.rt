@@ -1,11 +1,11 @@
 ghost use Rattle.std.specs.Prelude.{◌≡◌, ◌<◌, ◌≤◌, ◌++◌, ◌↔◌, IfOk, IfSome, IsTrue, OnOk, length, string_bytes};
 ghost use Rattle.std.specs.Prelude.{option_and_then, slice_get, Contains};
 ghost use Rattle.history_query.specs.Appending.{Appends};
-ghost use Rattle.history_query.specs.Blaming.{IsBlame, IsBlameText, IsPresentBlame, IsSince, since_text, value_at};
+ghost use Rattle.history_query.specs.Blaming.{IsBlame, IsBlameText, IsPresentBlame, IsSince, since_text, value_pointed};
 ghost use Rattle.history_query.specs.Blaming.{value_text};
 
 use crate::json::append_json;
-use crate::sight::{Sight, sight_of};
+use crate::sight::{ObjectSight, sight_of};
 use crate::telling::{append_user, append_who, is_untold};
 use base_types::json::Pointer;
 use base_types::{Bytes, ObjectKey, OutOfMemory};
@@ -42,13 +42,13 @@ fn append_blame(
     pointer: &Pointer,
     place: u64,
 ) -> Result<(), OutOfMemory>
-    ensures { OnOk result (Appends (IsBlame context.now key.now pointer.now place) (string_bytes text.old)
-        (string_bytes text.new)) }
+    ensures { OnOk result (Appends (IsBlame context.now key.now pointer.now place)
+        (string_bytes text.old) (string_bytes text.new)) }
 {
     match sight_of(context, key, place) {
-        Sight::Clouded => text.push_str("clouded\n")?,
-        Sight::Told { present: None, .. } => text.push_str("absent\n")?,
-        Sight::Told {
+        ObjectSight::Clouded => text.push_str("clouded\n")?,
+        ObjectSight::Told { present: None, .. } => text.push_str("absent\n")?,
+        ObjectSight::Told {
             present: Some(version),
             ..
         } => append_origin(alloc, text, context, pointer, version)?,
@@ -80,8 +80,8 @@ fn append_value(
     value: Option<NodeId>,
 ) -> Result<(), OutOfMemory>
     requires { IfSome value (λ node. node.0 < length context.now.trees) }
-    ensures { OnOk result (string_bytes text.new ≡ string_bytes text.old ++ value_text (option_and_then
-        (λ node. slice_get context.now.trees node.0) value)) }
+    ensures { OnOk result (string_bytes text.new ≡ string_bytes text.old
+        ++ value_text (option_and_then (λ node. slice_get context.now.trees node.0) value)) }
 {
     match value {
         Some(node) => append_tree(alloc, text, context, node)?,
@@ -112,8 +112,8 @@ fn append_since(
     context: &Context,
     since: &Version,
 ) -> Result<(), OutOfMemory>
-    ensures { OnOk result (string_bytes text.new ≡ string_bytes text.old ++ since_text context.now.events
-        context.now.log since.now) }
+    ensures { OnOk result (string_bytes text.new ≡ string_bytes text.old
+        ++ since_text context.now.events context.now.log since.now) }
 {
     write!(text, "since {} ", since.revision.get())?;
     append_who(text, context, since.maker)?;
@@ -144,7 +144,8 @@ fn since_of<'a>(context: &'a Context, pointer: &Pointer, version: &'a Version) -
 
 // Another version of the version's key, at or below its revision.
 fn is_before(other: &Version, version: &Version) -> bool
-    ensures { IsTrue result ↔ ((other.now.key ≡ version.now.key) × (other.now.revision ≤ version.now.revision)) }
+    ensures { IsTrue result ↔ ((other.now.key ≡ version.now.key)
+        × (other.now.revision ≤ version.now.revision)) }
 {
     other.key == version.key && other.revision.get() <= version.revision.get()
 }
@@ -154,7 +155,8 @@ fn is_same_at(context: &Context, pointer: &Pointer, version: &Version, other: &V
     requires version { Contains context.now.versions version.now }
     requires other { Contains context.now.versions other.now }
     ensures { IsTrue result ↔ ((other.now.uid ≡ version.now.uid)
-        × (value_at context.now.trees pointer.now other.now ≡ value_at context.now.trees pointer.now version.now)) }
+        × (value_pointed context.now.trees pointer.now other.now
+        ≡ value_pointed context.now.trees pointer.now version.now)) }
 {
     other.uid == version.uid && has_same_value(context, pointer, version, other)
 }
@@ -162,8 +164,8 @@ fn is_same_at(context: &Context, pointer: &Pointer, version: &Version, other: &V
 fn has_same_value(context: &Context, pointer: &Pointer, version: &Version, other: &Version) -> bool
     requires version { Contains context.now.versions version.now }
     requires other { Contains context.now.versions other.now }
-    ensures { IsTrue result ↔ (value_at context.now.trees pointer.now other.now ≡ value_at context.now.trees
-        pointer.now version.now) }
+    ensures { IsTrue result ↔ (value_pointed context.now.trees pointer.now other.now
+        ≡ value_pointed context.now.trees pointer.now version.now) }
 {
     are_same(
         context.pool(),
@@ -175,8 +177,8 @@ fn has_same_value(context: &Context, pointer: &Pointer, version: &Version, other
 // What the pointer identifies in a version.
 fn value_in(context: &Context, pointer: &Pointer, version: &Version) -> Option<NodeId>
     requires { Contains context.now.versions version.now }
-    ensures value { option_and_then (λ node. slice_get context.now.trees node.0) result ≡ value_at
-        context.now.trees pointer.now version.now }
+    ensures value { option_and_then (λ node. slice_get context.now.trees node.0) result
+        ≡ value_pointed context.now.trees pointer.now version.now }
     ensures within { IfSome result (λ node. node.0 < length context.now.trees) }
 {
     let _versions = context.versions();

@@ -6,7 +6,7 @@ use base_types::{Bytes, OutOfMemory, Places, Possible, RequestAttrs, User};
 use std::alloc::Global;
 use version_store::Context;
 
-/// Which decisions an authoriser could have given on a request whose four caches all stood at a place.
+/// Which decisions an authorizer could have given on a request whose four caches all stood at a place.
 pub fn can(
     alloc: Global,
     context: &Context,

@@ -29,8 +29,10 @@ pub fn append_json(
     node: NodeId,
 ) -> Result<(), OutOfMemory>
     requires within { node.0 < length pool.now.trees }
-    requires numbers { (tree : Meaning) → slice_get pool.now.trees node.0 ≡ Some tree → InRange tree }
-    ensures { OnOk result (string_bytes text.new ≡ string_bytes text.old ++ json_at pool.now.trees node.0) }
+    requires numbers { (tree : Meaning) → slice_get pool.now.trees node.0 ≡ Some tree
+        → InRange tree }
+    ensures { OnOk result (string_bytes text.new ≡ string_bytes text.old
+        ++ json_at pool.now.trees node.0) }
 {
     let tree = pool.tree(node)?;
     let printed = print(alloc, &tree)?;

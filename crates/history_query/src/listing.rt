@@ -1,5 +1,6 @@
 ghost use Rattle.std.specs.Prelude.{◌≡◌, ◌++◌, IfOk, OnOk, Some, string_bytes};
-ghost use Rattle.history_query.specs.Versions.{IsVersionsText, lines_of, removal_text, version_text, versions_text};
+ghost use Rattle.history_query.specs.Versions.{IsVersionsText, version_lines, removal_text};
+ghost use Rattle.history_query.specs.Versions.{version_text, versions_text};
 
 use crate::sight::removal_behind;
 use crate::telling::{append_who, is_tracked, line_at};
@@ -28,7 +29,8 @@ fn append_versions(
     context: &Context,
     key: &ObjectKey,
 ) -> Result<(), OutOfMemory>
-    ensures { OnOk result (string_bytes text.new ≡ string_bytes text.old ++ versions_text context.now key.now) }
+    ensures { OnOk result (string_bytes text.new ≡ string_bytes text.old
+        ++ versions_text context.now key.now) }
 {
     for version in context.versions() {
         if version.key == *key {
@@ -45,7 +47,8 @@ fn append_lines(
     context: &Context,
     version: &Version,
 ) -> Result<(), OutOfMemory>
-    ensures { OnOk result (string_bytes text.new ≡ string_bytes text.old ++ lines_of context.now version.now) }
+    ensures { OnOk result (string_bytes text.new ≡ string_bytes text.old
+        ++ version_lines context.now version.now) }
 {
     append_version(alloc, text, context, version)?;
     if let Some(removal) = removal_behind(context.past(), version) {
@@ -60,7 +63,8 @@ fn append_version(
     context: &Context,
     version: &Version,
 ) -> Result<(), OutOfMemory>
-    ensures { OnOk result (string_bytes text.new ≡ string_bytes text.old ++ version_text context.now.log version.now) }
+    ensures { OnOk result (string_bytes text.new ≡ string_bytes text.old
+        ++ version_text context.now.log version.now) }
 {
     let uid = escape(alloc, &version.uid)?;
     let revision = version.revision.get();
@@ -75,8 +79,8 @@ fn append_removal(
     context: &Context,
     removal: &Removal,
 ) -> Result<(), OutOfMemory>
-    ensures { OnOk result (string_bytes text.new ≡ string_bytes text.old ++ removal_text context.now.log
-        (Some removal.now)) }
+    ensures { OnOk result (string_bytes text.new ≡ string_bytes text.old
+        ++ removal_text context.now.log (Some removal.now)) }
 {
     let range = removal.range;
     let line = line_at(context, range.event);

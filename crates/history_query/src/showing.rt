@@ -3,7 +3,7 @@ ghost use Rattle.history_query.specs.Showing.{IsShowText, absent_text, present_t
 ghost use Rattle.history_query.specs.Shown.{ShowsKnown};
 
 use crate::json::append_json;
-use crate::sight::{Sight, sight_of};
+use crate::sight::{ObjectSight, sight_of};
 use crate::telling::is_untold;
 use base_types::{Bytes, ObjectKey, OutOfMemory};
 use object_past::Version;
@@ -32,14 +32,15 @@ fn append_sight(
     alloc: Global,
     text: &mut String,
     context: &Context,
-    sight: Sight<'_>,
+    sight: ObjectSight<'_>,
 ) -> Result<(), OutOfMemory>
     requires { ShowsKnown context.now.versions sight }
-    ensures { OnOk result (string_bytes text.new ≡ string_bytes text.old ++ sight_text context.now.trees sight.entry) }
+    ensures { OnOk result (string_bytes text.new ≡ string_bytes text.old
+        ++ sight_text context.now.trees sight.entry) }
 {
     match sight {
-        Sight::Clouded => text.push_str("clouded\n")?,
-        Sight::Told { present, absent } => {
+        ObjectSight::Clouded => text.push_str("clouded\n")?,
+        ObjectSight::Told { present, absent } => {
             append_present(alloc, text, context, present)?;
             append_absent(text, absent)?;
         }
@@ -54,8 +55,8 @@ fn append_present(
     present: Option<&Version>,
 ) -> Result<(), OutOfMemory>
     requires { IfSome present (λ version. Contains context.now.versions version.now) }
-    ensures { OnOk result (string_bytes text.new ≡ string_bytes text.old ++ present_text context.now.trees
-        (option_map (λ version. version.now) present.entry)) }
+    ensures { OnOk result (string_bytes text.new ≡ string_bytes text.old
+        ++ present_text context.now.trees (option_map (λ version. version.now) present.entry)) }
 {
     if let Some(version) = present {
         append_version(alloc, text, context, version)?;
@@ -70,8 +71,8 @@ fn append_version(
     version: &Version,
 ) -> Result<(), OutOfMemory>
     requires { Contains context.now.versions version.now }
-    ensures { OnOk result (string_bytes text.new ≡ string_bytes text.old ++ present_text context.now.trees
-        (Some version.now)) }
+    ensures { OnOk result (string_bytes text.new ≡ string_bytes text.old
+        ++ present_text context.now.trees (Some version.now)) }
 {
     // For the proof alone: the pool has the tree of each version.
     let _versions = context.versions();

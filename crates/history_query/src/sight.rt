@@ -8,7 +8,7 @@ use version_store::Context;
 
 /// What can be told of an object at a place.
 #[derive(Clone, Copy)]
-pub enum Sight<'a> {
+pub enum ObjectSight<'a> {
     /// Nothing: unrecorded writes may have changed it.
     Clouded,
     Told {
@@ -20,21 +20,21 @@ pub enum Sight<'a> {
 }
 
 /// What can be told of the key's object at a place at or above the start.
-pub fn sight_of<'a>(context: &'a Context, key: &ObjectKey, place: u64) -> Sight<'a>
+pub fn sight_of<'a>(context: &'a Context, key: &ObjectKey, place: u64) -> ObjectSight<'a>
     ensures { IsSight context.now key.now place result }
 {
     if context.clouds().clouded(key, place) {
-        return Sight::Clouded;
+        return ObjectSight::Clouded;
     }
     match context.latest(key, place) {
         Some(version) => {
             let removal = removal_behind(context.past(), version);
-            Sight::Told {
+            ObjectSight::Told {
                 present: present_at(version, removal, place),
                 absent: may_be_gone(removal, place),
             }
         }
-        None => Sight::Told {
+        None => ObjectSight::Told {
             present: None,
             absent: true,
         },
@@ -43,7 +43,8 @@ pub fn sight_of<'a>(context: &'a Context, key: &ObjectKey, place: u64) -> Sight<
 
 /// The removal of the object whose last version this is.
 pub fn removal_behind<'a>(past: &'a Past, version: &Version) -> Option<&'a Removal>
-    ensures behind { option_map (λ removal. removal.now) result ≡ removal_behind past.now.removals version.now }
+    ensures behind { option_map (λ removal. removal.now) result
+        ≡ removal_behind past.now.removals version.now }
     ensures alone { IfSome result (λ removal. All (λ other. other.last ≡ version.now.revision
         → other ≡ removal.now) past.now.removals) }
 {
@@ -59,7 +60,8 @@ fn present_at<'a>(
 ) -> Option<&'a Version>
     ensures some { IfSome result (λ present. (present.now ≡ version.now) × IfSome removal.entry
         (λ removal. place < removal.now.range.high)) }
-    ensures none { IfNone result (IsSomeAnd removal.entry (λ removal. removal.now.range.high ≤ place)) }
+    ensures none { IfNone result (IsSomeAnd removal.entry (λ removal. removal.now.range.high
+        ≤ place)) }
 {
     match removal {
         Some(removal) => {

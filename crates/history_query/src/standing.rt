@@ -4,7 +4,7 @@ ghost use Rattle.history_query.specs.Appending.{Appends};
 ghost use Rattle.history_query.specs.States.{IsKeyText, IsStateOf, IsStateText, presence_text, presence_word};
 ghost use Rattle.verdict_text.specs.Words.{ended, spaced};
 
-use crate::sight::{Sight, sight_of};
+use crate::sight::{ObjectSight, sight_of};
 use crate::telling::is_below_start;
 use base_types::{Bytes, ObjectKey, OutOfMemory, key_text};
 use object_past::Version;
@@ -30,7 +30,8 @@ fn append_keys(
     context: &Context,
     place: u64,
 ) -> Result<(), OutOfMemory>
-    ensures { OnOk result (Appends (IsStateOf context.now place) (string_bytes text.old) (string_bytes text.new)) }
+    ensures { OnOk result (Appends (IsStateOf context.now place) (string_bytes text.old)
+        (string_bytes text.new)) }
 {
     let keys = context.keys();
     for key in keys {
@@ -51,18 +52,19 @@ fn append_key(
         (string_bytes text.new)) }
 {
     match sight_of(context, key, place) {
-        Sight::Clouded => append_clouded(alloc, text, key)?,
-        Sight::Told {
+        ObjectSight::Clouded => append_clouded(alloc, text, key)?,
+        ObjectSight::Told {
             present: Some(version),
             absent,
         } => append_presence(alloc, text, key, version, absent)?,
-        Sight::Told { present: None, .. } => {}
+        ObjectSight::Told { present: None, .. } => {}
     }
     Ok(())
 }
 
 fn append_clouded(alloc: Global, text: &mut String, key: &ObjectKey) -> Result<(), OutOfMemory>
-    ensures { OnOk result (string_bytes text.new ≡ string_bytes text.old ++ ended (spaced (codes "clouded" ∷ key_spelling key.now ∷ []))) }
+    ensures { OnOk result (string_bytes text.new ≡ string_bytes text.old
+        ++ ended (spaced (codes "clouded" ∷ key_spelling key.now ∷ []))) }
 {
     let spelled = key_text(alloc, key)?;
     writeln!(text, "clouded {}", spelled.as_str())?;

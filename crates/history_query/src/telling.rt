@@ -9,7 +9,8 @@ use std::alloc::Global;
 use version_store::Context;
 
 fn is_of(tracked: &Tracked, key: &ObjectKey) -> bool
-    ensures { IsTrue result ↔ ((tracked.now.group ≡ key.now.group) × (tracked.now.resource ≡ key.now.resource)) }
+    ensures { IsTrue result ↔ ((tracked.now.group ≡ key.now.group)
+        × (tracked.now.resource ≡ key.now.resource)) }
 {
     tracked.group == key.group && tracked.resource == key.resource
 }
@@ -47,7 +48,8 @@ pub fn line_at(context: &Context, number: u32) -> u64
 
 /// Appends the line of the write that made a version, `snapshot` or `unknown`.
 pub fn append_who(text: &mut String, context: &Context, maker: Maker) -> Result<(), OutOfMemory>
-    ensures { OnOk result (string_bytes text.new ≡ string_bytes text.old ++ who_text context.now.log maker) }
+    ensures { OnOk result (string_bytes text.new ≡ string_bytes text.old
+        ++ who_text context.now.log maker) }
 {
     match maker {
         Maker::Snapshot => text.push_str("snapshot")?,
@@ -64,7 +66,8 @@ pub fn append_user(
     context: &Context,
     maker: Maker,
 ) -> Result<(), OutOfMemory>
-    ensures { OnOk result (string_bytes text.new ≡ string_bytes text.old ++ user_text context.now.events maker) }
+    ensures { OnOk result (string_bytes text.new ≡ string_bytes text.old
+        ++ user_text context.now.events maker) }
 {
     match maker {
         Maker::Event(number) => append_author(alloc, text, context, number)?,

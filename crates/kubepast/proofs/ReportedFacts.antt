@@ -20,7 +20,7 @@ use Rattle.log_verdict.specs.Answers.{Answer, history_answer, judged_answer, ref
 use Rattle.log_verdict.specs.Judging.{IsJudged}
 use Rattle.kubepast.specs.Program.{IsAnswerTo}
 use Rattle.context_intake.specs.Refusals.{IsSetupRefused}
-use Rattle.kubepast.specs.Reported.{IsPrinted, IsReported, IsVerdict}
+use Rattle.kubepast.specs.Reported.{PrintsPlacement, IsReported, HasVerdictStatus}
 use Rattle.log_verdict.specs.Strictly as strict
 use Rattle.log_verdict.specs.Strictly.{IsStrictlyJudged}
 use Rattle.log_verdict.specs.Verifying.{IsReadLast, IsVerified, most_placement}
@@ -81,20 +81,20 @@ refused_apart (MalformedLog line code) (inr is) = omega (arith, is)
 refused_apart (PastLimit limit) (inl is) = omega (arith, is)
 refused_apart (PastLimit limit) (inr is) = omega (arith, is)
 
-no_verdict : (refusal : Refusal) (report : Report) → report_answer report ≡ refusal_answer refusal → IsVerdict report → ⊥
+no_verdict : (refusal : Refusal) (report : Report) → report_answer report ≡ refusal_answer refusal → HasVerdictStatus report → ⊥
 no_verdict refusal report told verdict = refused_apart refusal (subst (λ (a : Answer). (a.status ≡ 0) ⊎ (a.status ≡ 1)) told verdict)
 
 -- each verdict's report is of an end
-judged_end : (Q : Type 0) (judged : Judged) (report : Report) → report_answer report ≡ judged_answer judged → ((outcome : Outcome) → judged ≡ Verdict outcome → Q) → IsVerdict report → Q
+judged_end : (Q : Type 0) (judged : Judged) (report : Report) → report_answer report ≡ judged_answer judged → ((outcome : Outcome) → judged ≡ Verdict outcome → Q) → HasVerdictStatus report → Q
 judged_end Q (Refused refusal) report told ends verdict = absurd (no_verdict refusal report told verdict)
 judged_end Q (Verdict outcome) report told ends verdict = ends outcome refl
 
-strictly_end : (Q : Type 0) (found : StrictlyJudged) (report : Report) → report_answer report ≡ strictly_answer found → (strict.IsVerdict found → Q) → IsVerdict report → Q
+strictly_end : (Q : Type 0) (found : StrictlyJudged) (report : Report) → report_answer report ≡ strictly_answer found → (strict.HasVerdictStatus found → Q) → HasVerdictStatus report → Q
 strictly_end Q (Plain (Refused refusal)) report told ends verdict = absurd (no_verdict refusal report told verdict)
 strictly_end Q (Plain (Verdict outcome)) report told ends verdict = ends tt
 strictly_end Q (Settled outcome answer) report told ends verdict = ends tt
 
-verified_end : (Q : Type 0) (found : Verified) (report : Report) → report_answer report ≡ verified_answer found → ((checked : Checked) → found ≡ verified.Judged checked → Q) → IsVerdict report → Q
+verified_end : (Q : Type 0) (found : Verified) (report : Report) → report_answer report ≡ verified_answer found → ((checked : Checked) → found ≡ verified.Judged checked → Q) → HasVerdictStatus report → Q
 verified_end Q (verified.Refused refusal) report told ends verdict = absurd (no_verdict refusal report told verdict)
 verified_end Q verified.TooLong report told ends verdict = absurd (other 7 (subst (λ (a : Answer). (a.status ≡ 0) ⊎ (a.status ≡ 1)) told verdict) refl)
   where
@@ -108,7 +108,7 @@ verified_end Q (verified.Misspelt line) report told ends verdict = absurd (other
     other status (inr is) no_status = omega (arith, is, no_status)
 verified_end Q (verified.Judged checked) report told ends verdict = ends checked refl
 
-history_end : (Q : Type 0) (found : Answered) (report : Report) → report_answer report ≡ history_answer found → ((text : List ℕ) → found ≡ answered.History text → Q) → IsVerdict report → Q
+history_end : (Q : Type 0) (found : Answered) (report : Report) → report_answer report ≡ history_answer found → ((text : List ℕ) → found ≡ answered.History text → Q) → HasVerdictStatus report → Q
 history_end Q (answered.Refused refusal) report told ends verdict = absurd (no_verdict refusal report told verdict)
 history_end Q (answered.History text) report told ends verdict = ends text refl
 
@@ -122,14 +122,14 @@ module _ (old now : List ℕ → Option (List ℕ)) (untouched : Type 0) (before
       → IfOk inner (λ judged. (s l : List ℕ) → old setup ≡ Some s → old log ≡ Some l → IsJudged s l judged)
       → IfOk inner (λ judged. (outcome : Outcome) → judged ≡ Verdict outcome → IsAtEnd (now setup) × IsAtEnd (now log))
       → (IsErrOf inner ReadFault → Rose before after) → TakesSetup (old setup) (now setup) (IsErrOf inner ReadFault) → TakesLog (old log) (now log) (IsErrOf inner ReadFault)
-      → ((s : List ℕ) (refusal : Refusal) → old setup ≡ Some s → IsSetupRefused s refusal → now log ≡ old log) → ((name : List ℕ) → name ≢ setup → name ≢ log → now name ≡ old name) → IfOk result (IsPrinted (Judge setup log))
+      → ((s : List ℕ) (refusal : Refusal) → old setup ≡ Some s → IsSetupRefused s refusal → now log ≡ old log) → ((name : List ℕ) → name ≢ setup → name ≢ log → now name ≡ old name) → IfOk result (PrintsPlacement (Judge setup log))
       → IsReported (Judge setup log) old now untouched before after result
   judge_reported inner passed is ends fault setup_taken log_taken log_left others printed = record {
     answered = of_report judged_answer inner result _ (λ report. (files : List ℕ → List ℕ) → Tells (Judge setup log) old files → IsAnswerTo (Some (Judge setup log)) files (report_answer report)) passed is
         (λ judged report told judges files tells. (judged, judges (files setup) (files log) (tells setup (inl refl)) (tells log (inr refl)), told));
     fault = λ failed. fault (failed_read judged_answer inner result passed failed);
     taken = record {
-      whole = of_report judged_answer inner result _ (λ report. IsVerdict report → IsAtEnd (now setup) × IsAtEnd (now log)) passed ends
+      whole = of_report judged_answer inner result _ (λ report. HasVerdictStatus report → IsAtEnd (now setup) × IsAtEnd (now log)) passed ends
           (λ judged report told ended. judged_end (IsAtEnd (now setup) × IsAtEnd (now log)) judged report told ended);
       setup_taken = setup_as (old setup) (now setup) (now setup) (IsErrOf inner ReadFault) (IsErrOf result ReadFault) refl (failed_read judged_answer inner result passed) setup_taken;
       log_taken = log_as (old log) (old log) (now log) (IsErrOf inner ReadFault) (IsErrOf result ReadFault) refl (failed_read judged_answer inner result passed) log_taken;
@@ -141,7 +141,7 @@ module _ (old now : List ℕ → Option (List ℕ)) (untouched : Type 0) (before
 
   pub strictly_reported : (inner : Result StrictlyJudged Stop) → IsPassed strictly_answer inner result
       → IfOk inner (λ found. (s l : List ℕ) → old setup ≡ Some s → old log ≡ Some l → IsStrictlyJudged s l found)
-      → IfOk inner (λ found. strict.IsVerdict found → IsAtEnd (now setup) × IsAtEnd (now log))
+      → IfOk inner (λ found. strict.HasVerdictStatus found → IsAtEnd (now setup) × IsAtEnd (now log))
       → (IsErrOf inner ReadFault → Rose before after) → TakesSetup (old setup) (now setup) (IsErrOf inner ReadFault) → TakesLog (old log) (now log) (IsErrOf inner ReadFault)
       → ((s : List ℕ) (refusal : Refusal) → old setup ≡ Some s → IsSetupRefused s refusal → now log ≡ old log) → ((name : List ℕ) → name ≢ setup → name ≢ log → now name ≡ old name)
       → IsReported (Strict setup log) old now untouched before after result
@@ -150,7 +150,7 @@ module _ (old now : List ℕ → Option (List ℕ)) (untouched : Type 0) (before
         (λ found report told judges files tells. (found, judges (files setup) (files log) (tells setup (inl refl)) (tells log (inr refl)), told));
     fault = λ failed. fault (failed_read strictly_answer inner result passed failed);
     taken = record {
-      whole = of_report strictly_answer inner result _ (λ report. IsVerdict report → IsAtEnd (now setup) × IsAtEnd (now log)) passed ends
+      whole = of_report strictly_answer inner result _ (λ report. HasVerdictStatus report → IsAtEnd (now setup) × IsAtEnd (now log)) passed ends
           (λ found report told ended. strictly_end (IsAtEnd (now setup) × IsAtEnd (now log)) found report told ended);
       setup_taken = setup_as (old setup) (now setup) (now setup) (IsErrOf inner ReadFault) (IsErrOf result ReadFault) refl (failed_read strictly_answer inner result passed) setup_taken;
       log_taken = log_as (old log) (old log) (now log) (IsErrOf inner ReadFault) (IsErrOf result ReadFault) refl (failed_read strictly_answer inner result passed) log_taken;
@@ -174,14 +174,14 @@ module _ (old now : List ℕ → Option (List ℕ)) (untouched : Type 0) (before
     fault = λ failed. fault (failed_read verified_answer inner result passed failed);
     taken = (
       record {
-        whole = of_report verified_answer inner result _ (λ report. IsVerdict report → IsAtEnd (now setup) × IsAtEnd (now log)) passed ends
+        whole = of_report verified_answer inner result _ (λ report. HasVerdictStatus report → IsAtEnd (now setup) × IsAtEnd (now log)) passed ends
             (λ found report told ended. verified_end (IsAtEnd (now setup) × IsAtEnd (now log)) found report told (λ checked same. let all = ended checked same in (all.0, all.1)));
         setup_taken = setup_as (old setup) (now setup) (now setup) (IsErrOf inner ReadFault) (IsErrOf result ReadFault) refl (failed_read verified_answer inner result passed) setup_taken;
         log_taken = log_as (old log) (old log) (now log) (IsErrOf inner ReadFault) (IsErrOf result ReadFault) refl (failed_read verified_answer inner result passed) log_taken;
         log_left = log_left;
       },
       record {
-        whole = of_report verified_answer inner result _ (λ report. IsVerdict report → IsAtEnd (now placement)) passed ends
+        whole = of_report verified_answer inner result _ (λ report. HasVerdictStatus report → IsAtEnd (now placement)) passed ends
             (λ found report told ended. verified_end (IsAtEnd (now placement)) found report told (λ checked same. let all = ended checked same in all.2));
         taken = whole_from most_placement (old placement) (old placement) (now placement) (IsErrOf inner ReadFault) (IsErrOf result ReadFault) refl (failed_read verified_answer inner result passed) placement_taken;
         left = left;
@@ -203,7 +203,7 @@ module _ (old now : List ℕ → Option (List ℕ)) (untouched : Type 0) (before
         (λ found report told answers files tells. (found, answers (files setup) (files log) (tells setup (inl refl)) (tells log (inr refl)), told));
     fault = λ failed. fault (failed_read history_answer inner result passed failed);
     taken = record {
-      whole = of_report history_answer inner result _ (λ report. IsVerdict report → IsAtEnd (now setup) × IsAtEnd (now log)) passed ends
+      whole = of_report history_answer inner result _ (λ report. HasVerdictStatus report → IsAtEnd (now setup) × IsAtEnd (now log)) passed ends
           (λ found report told ended. history_end (IsAtEnd (now setup) × IsAtEnd (now log)) found report told ended);
       setup_taken = setup_as (old setup) (now setup) (now setup) (IsErrOf inner ReadFault) (IsErrOf result ReadFault) refl (failed_read history_answer inner result passed) setup_taken;
       log_taken = log_as (old log) (old log) (now log) (IsErrOf inner ReadFault) (IsErrOf result ReadFault) refl (failed_read history_answer inner result passed) log_taken;

@@ -1,36 +1,58 @@
 -- Answers that are passed on.
 use Rattle.std.proofs.Common.{◌≡◌, ℕ, List, Option, Some, None, Result, Ok, Err, IfOk, IsErrOf, inl, inr, refl, sym, ◌∙◌, subst, arith}
-use Rattle.std.specs.Io.KnownBytes.{Keeps}
+use Rattle.std.specs.Io.KnownBytes.{Appends, IsAtEnd, Keeps}
 use Rattle.context_intake.specs.Contexts.{IsRefused}
 use Rattle.context_intake.specs.declared.refusal.Refusal.{Refusal}
-use Rattle.context_intake.proofs.ReadingFacts.{log_as, setup_as}
+use Rattle.context_intake.proofs.ReadingFacts.{log_as, log_untouched, setup_as}
 use Rattle.edge_io.specs.Faults.{Rose}
 use Rattle.edge_io.specs.Whole.{TakesWhole}
-use Rattle.log_intake.specs.Setup.{TakesSetup}
+use Rattle.log_intake.specs.Setup.{TakesSetup, most_setup}
 use Rattle.log_intake.specs.Taking.{TakesLog}
-use Rattle.command_words.specs.Command.{Ask, Asked, AsksOf, IsAsked, IsOfNames, Judge, Make, Reads, Spells, Strict, Tells, TellsWords, Verify}
+use Rattle.command_words.specs.Command.{Ask, Asked, AsksOf, IsAsked, IsOfNames, Judge, Make, MayWantMemory, Reads, Spells, Strict, Tells, TellsWords, Verify}
 use Rattle.log_verdict.specs.Endings.{IsAnswered}
-use Rattle.kubepast.specs.Program.{Concludes, IsAnswer, IsAnswerTo, IsOfTable}
+use Rattle.edge_io.specs.Endings.{Ends}
+use Rattle.kubepast.specs.Program.{Concludes, IsAnswer, IsAnswerTo, IsOfTable, usage_answer}
 use Rattle.log_verdict.specs.Answers.{Answer, IsPlacementText, answer, report_answer, status_number}
 use Rattle.context_intake.specs.Refusals.{IsSetupRefused}
-use Rattle.std.specs.Io.KnownBytes.{Appends}
-use Rattle.kubepast.specs.Reported.{IsPrinted, IsReported, Takes, TakesNames, TakesPlacement}
+use Rattle.kubepast.specs.Reported.{HasVerdictStatus, IsReported, PrintsPlacement, Takes, TakesNames, TakesPlacement}
+use Rattle.kubepast.specs.Running.{IsVerdictStatus, ReadsDesk, ReadsNames, ReadsPlacement, StatusTells}
 use Rattle.log_verdict.specs.Verifying.{IsReadLast, most_placement}
 use Rattle.command_words.proofs.AskedFacts.{one_command}
-use Rattle.log_verdict.proofs.VerifyingFacts.{whole_from}
+use Rattle.log_verdict.proofs.VerifyingFacts.{whole_from, whole_untouched}
 use Rattle.log_verdict.specs.declared.report.Report.{Report}
 use Rattle.log_verdict.specs.declared.report.Status.{Status}
 use Rattle.log_verdict.specs.declared.report.Status.TheVariants.{Explained, Unexplained, SetupRefused, LogRefused, LimitPassed}
 use Rattle.context_intake.specs.declared.stop.Stop.{Stop}
 use Rattle.context_intake.specs.declared.stop.Stop.TheVariants.{OutOfMemory, ReadFault}
 
--- a report has another status than a failed read
-no_fault : (status : Status) → status_number status ≡ 5 → ⊥
-no_fault Explained is = omega (arith, is)
-no_fault Unexplained is = omega (arith, is)
-no_fault SetupRefused is = omega (arith, is)
-no_fault LogRefused is = omega (arith, is)
-no_fault LimitPassed is = omega (arith, is)
+-- a report has other statuses than these
+apart_two : (status : Status) → status_number status ≡ 2 → ⊥
+apart_two Explained is = omega (arith, is)
+apart_two Unexplained is = omega (arith, is)
+apart_two SetupRefused is = omega (arith, is)
+apart_two LogRefused is = omega (arith, is)
+apart_two LimitPassed is = omega (arith, is)
+
+apart_five : (status : Status) → status_number status ≡ 5 → ⊥
+apart_five Explained is = omega (arith, is)
+apart_five Unexplained is = omega (arith, is)
+apart_five SetupRefused is = omega (arith, is)
+apart_five LogRefused is = omega (arith, is)
+apart_five LimitPassed is = omega (arith, is)
+
+apart_six : (status : Status) → status_number status ≡ 6 → ⊥
+apart_six Explained is = omega (arith, is)
+apart_six Unexplained is = omega (arith, is)
+apart_six SetupRefused is = omega (arith, is)
+apart_six LogRefused is = omega (arith, is)
+apart_six LimitPassed is = omega (arith, is)
+
+apart_eight : (status : Status) → status_number status ≡ 8 → ⊥
+apart_eight Explained is = omega (arith, is)
+apart_eight Unexplained is = omega (arith, is)
+apart_eight SetupRefused is = omega (arith, is)
+apart_eight LogRefused is = omega (arith, is)
+apart_eight LimitPassed is = omega (arith, is)
 
 -- a report is an answer of the table
 report_of_table : (status : Status) (text : List ℕ) → IsOfTable (answer (status_number status) text)
@@ -56,10 +78,44 @@ module _ (faults_before faults_now : ℕ) (before now : Option (List ℕ)) (resu
   concluded_answer (Err OutOfMemory) IsRight desk_before desk_now right rose ends = inr (inr ends)
 
   pub concluded_fault : (found : Result Report Stop) → Concludes found faults_before faults_now before now result → result ≡ 5 → found ≡ Err ReadFault
-  concluded_fault (Ok report) (inl (whole, rest)) is = absurd (no_fault report.status (sym whole ∙ is))
+  concluded_fault (Ok report) (inl (whole, rest)) is = absurd (apart_five report.status (sym whole ∙ is))
   concluded_fault (Ok report) (inr (part, rose, rest)) is = absurd (omega (arith, part, is))
   concluded_fault (Err ReadFault) ends is = refl
   concluded_fault (Err OutOfMemory) ends is = absurd (let memory = ends.0 in omega (arith, memory, is))
+
+  concluded_two : (found : Result Report Stop) → Concludes found faults_before faults_now before now result → result ≡ 2 → ⊥
+  concluded_two (Ok report) (inl (whole, rest)) is = apart_two report.status (sym whole ∙ is)
+  concluded_two (Ok report) (inr (part, rose, rest)) is = omega (arith, part, is)
+  concluded_two (Err ReadFault) (inl (whole, rest)) is = omega (arith, whole, is)
+  concluded_two (Err ReadFault) (inr (part, rose, rest)) is = omega (arith, part, is)
+  concluded_two (Err OutOfMemory) ends is = let memory = ends.0 in omega (arith, memory, is)
+
+  concluded_six : (found : Result Report Stop) → Concludes found faults_before faults_now before now result → result ≡ 6 → Rose faults_before faults_now
+  concluded_six (Ok report) (inl (whole, rest)) is = absurd (apart_six report.status (sym whole ∙ is))
+  concluded_six (Ok report) (inr (part, rose, rest)) is = rose
+  concluded_six (Err ReadFault) (inl (whole, rest)) is = absurd (omega (arith, whole, is))
+  concluded_six (Err ReadFault) (inr (part, rose, rest)) is = rose
+  concluded_six (Err OutOfMemory) ends is = absurd (let memory = ends.0 in omega (arith, memory, is))
+
+  concluded_eight : (found : Result Report Stop) → Concludes found faults_before faults_now before now result → result ≡ 8 → Keeps before now
+  concluded_eight (Ok report) (inl (whole, rest)) is = absurd (apart_eight report.status (sym whole ∙ is))
+  concluded_eight (Ok report) (inr (part, rose, rest)) is = absurd (omega (arith, part, is))
+  concluded_eight (Err ReadFault) (inl (whole, rest)) is = absurd (omega (arith, whole, is))
+  concluded_eight (Err ReadFault) (inr (part, rose, rest)) is = absurd (omega (arith, part, is))
+  concluded_eight (Err OutOfMemory) ends is = ends.1
+
+  concluded_verdict : (found : Result Report Stop) (Told : Type 0) → IfOk found (λ report. HasVerdictStatus report → Told)
+      → Concludes found faults_before faults_now before now result → IsVerdictStatus result → Told
+  concluded_verdict (Ok report) Told told (inl (whole, rest)) (inl is) = told (inl (sym whole ∙ is))
+  concluded_verdict (Ok report) Told told (inl (whole, rest)) (inr is) = told (inr (sym whole ∙ is))
+  concluded_verdict (Ok report) Told told (inr (part, rose, rest)) (inl is) = absurd (omega (arith, part, is))
+  concluded_verdict (Ok report) Told told (inr (part, rose, rest)) (inr is) = absurd (omega (arith, part, is))
+  concluded_verdict (Err ReadFault) Told told (inl (whole, rest)) (inl is) = absurd (omega (arith, whole, is))
+  concluded_verdict (Err ReadFault) Told told (inl (whole, rest)) (inr is) = absurd (omega (arith, whole, is))
+  concluded_verdict (Err ReadFault) Told told (inr (part, rose, rest)) (inl is) = absurd (omega (arith, part, is))
+  concluded_verdict (Err ReadFault) Told told (inr (part, rose, rest)) (inr is) = absurd (omega (arith, part, is))
+  concluded_verdict (Err OutOfMemory) Told told ends (inl is) = absurd (let memory = ends.0 in omega (arith, memory, is))
+  concluded_verdict (Err OutOfMemory) Told told ends (inr is) = absurd (let memory = ends.0 in omega (arith, memory, is))
 
   pub concluded_printed : (found : Result Report Stop) → IfOk found (λ report. status_number report.status ≡ 0 → IsPlacementText report.text)
       → Concludes found faults_before faults_now before now result → result ≡ 0 → (text : List ℕ) × IsPlacementText text × Appends before now text
@@ -116,33 +172,123 @@ module _ {words : List (List ℕ)} {asked : Asked} {old now : List ℕ → Optio
   pub run_table : IsAnswered IsOfTable desk_before desk_now sink_before sink_now before written result
   run_table = concluded_answer sink_before sink_now before written result found IsOfTable desk_before desk_now (of_table found) r.reported.fault r.concluded
 
-  pub run_desk_left : ((setup log : List ℕ) → AsksOf words setup log → ⊥) → untouched
-  run_desk_left none = nothing_named asked old now untouched found (λ setup log of. none setup log (asked, r.spelled, of)) r.reported.taken
+  pub run_status : StatusTells words desk_before desk_now sink_before sink_now before written result
+  run_status = record {
+    usage = λ none. absurd (none asked r.spelled);
+    usage_only = λ is. absurd (concluded_two sink_before sink_now before written result found r.concluded is);
+    read_fault = λ is. r.reported.fault (failed is);
+    write_fault = λ is. concluded_six sink_before sink_now before written result found r.concluded is;
+    memory = λ is. concluded_eight sink_before sink_now before written result found r.concluded is;
+  }
 
-  pub run_setup_taken : (setup log : List ℕ) → AsksOf words setup log → TakesSetup (old setup) (now setup) (result ≡ 5)
-  run_setup_taken setup log asks = setup_as (old setup) (now setup) (now setup) (IsErrOf found ReadFault) (result ≡ 5) refl failed (takes_names setup log asks).setup_taken
+  names_read : (setup log : List ℕ) → AsksOf words setup log → ReadsNames old now result setup log
+  names_read setup log asks =
+      let takes : TakesNames setup log old now found = takes_names setup log asks in
+      record {
+        whole = concluded_verdict sink_before sink_now before written result found (IsAtEnd (now setup) × IsAtEnd (now log)) takes.whole r.concluded;
+        setup_taken = setup_as (old setup) (now setup) (now setup) (IsErrOf found ReadFault) (result ≡ 5) refl failed takes.setup_taken;
+        log_taken = log_as (old log) (old log) (now log) (IsErrOf found ReadFault) (result ≡ 5) refl failed takes.log_taken;
+        log_left = takes.log_left;
+      }
 
-  pub run_log_taken : (setup log : List ℕ) → AsksOf words setup log → TakesLog (old log) (now log) (result ≡ 5)
-  run_log_taken setup log asks = log_as (old log) (old log) (now log) (IsErrOf found ReadFault) (result ≡ 5) refl failed (takes_names setup log asks).log_taken
+  placement_read : (setup log placement : List ℕ) → IsAsked words (Some (Verify setup log placement)) → ReadsPlacement old now result setup log placement
+  placement_read setup log placement asks =
+      let takes : TakesPlacement setup log placement old now found = takes_placement setup log placement asks in
+      record {
+        whole = concluded_verdict sink_before sink_now before written result found (IsAtEnd (now placement)) takes.whole r.concluded;
+        taken = whole_from most_placement (old placement) (old placement) (now placement) (IsErrOf found ReadFault) (result ≡ 5) refl failed takes.taken;
+        left = takes.left;
+        after = takes.after;
+      }
 
-  pub run_placement_taken : (setup log placement : List ℕ) → IsAsked words (Some (Verify setup log placement)) → TakesWhole most_placement (old placement) (now placement) (result ≡ 5)
-  run_placement_taken setup log placement asks =
-      whole_from most_placement (old placement) (old placement) (now placement) (IsErrOf found ReadFault) (result ≡ 5) refl failed (takes_placement setup log placement asks).taken
+  others_left : (other : Asked) (name : List ℕ) → IsAsked words (Some other) → (Reads other name → ⊥) → now name ≡ old name
+  others_left other name asks unread = r.reported.others name (subst (λ a. Reads a name → ⊥) (one_command words other asked asks r.spelled) unread)
 
-  pub run_placement_left : (setup log placement of_setup of_log : List ℕ) (refusal : Refusal) → IsAsked words (Some (Verify setup log placement))
-      → old setup ≡ Some of_setup → old log ≡ Some of_log → IsRefused of_setup of_log refusal → now placement ≡ old placement
-  run_placement_left setup log placement of_setup of_log refusal asks = (takes_placement setup log placement asks).left of_setup of_log refusal
-
-  pub run_placement_after : (setup log placement : List ℕ) → IsAsked words (Some (Verify setup log placement)) → IsReadLast (now setup) (now log) (old placement) (now placement)
-  run_placement_after setup log placement asks = (takes_placement setup log placement asks).after
-
-  pub run_log_left : (setup log of_setup : List ℕ) (refusal : Refusal) → AsksOf words setup log → old setup ≡ Some of_setup → IsSetupRefused of_setup refusal → now log ≡ old log
-  run_log_left setup log of_setup refusal asks = (takes_names setup log asks).log_left of_setup refusal
-
-  pub run_others_left : (other : Asked) (name : List ℕ) → IsAsked words (Some other) → (Reads other name → ⊥) → now name ≡ old name
-  run_others_left other name asks unread = r.reported.others name (subst (λ a. Reads a name → ⊥) (one_command words other asked asks r.spelled) unread)
+  pub run_read : ReadsDesk words old now untouched result
+  run_read = record {
+    names = names_read;
+    placement = placement_read;
+    others_left = others_left;
+    desk_left = λ none. nothing_named asked old now untouched found (λ setup log of. none setup log (asked, r.spelled, of)) r.reported.taken;
+  }
 
   pub run_printed : (setup log : List ℕ) → IsAsked words (Some (Judge setup log)) → result ≡ 0 → (text : List ℕ) × IsPlacementText text × Appends before written text
   run_printed setup log asks =
-      let printed : IfOk found (IsPrinted (Judge setup log)) = subst (λ a. IfOk found (IsPrinted a)) (one_command words asked (Judge setup log) r.spelled asks) r.reported.printed in
+      let printed : IfOk found (PrintsPlacement (Judge setup log)) = subst (λ a. IfOk found (PrintsPlacement a)) (one_command words asked (Judge setup log) r.spelled asks) r.reported.printed in
       concluded_printed sink_before sink_now before written result found printed r.concluded
+
+-- how a call ends whose words are no command
+module _ (faults_before faults_now : ℕ) (before now : Option (List ℕ)) (result : ℕ) (text : List ℕ) where
+  two_no_five : Ends 2 text faults_before faults_now before now result → result ≡ 5 → ⊥
+  two_no_five (inl (whole, rest)) is = omega (arith, whole, is)
+  two_no_five (inr (part, rose, rest)) is = omega (arith, part, is)
+
+  two_no_eight : Ends 2 text faults_before faults_now before now result → result ≡ 8 → ⊥
+  two_no_eight (inl (whole, rest)) is = omega (arith, whole, is)
+  two_no_eight (inr (part, rose, rest)) is = omega (arith, part, is)
+
+  two_rose : Ends 2 text faults_before faults_now before now result → result ≡ 6 → Rose faults_before faults_now
+  two_rose (inl (whole, rest)) is = absurd (omega (arith, whole, is))
+  two_rose (inr (part, rose, rest)) is = rose
+
+-- a call whose words are no command
+module _ {words : List (List ℕ)} {desk_before desk_now sink_before sink_now : ℕ} {before now : Option (List ℕ)} {status : ℕ}
+    (none : IsAsked words None) (ends : Ends 2 usage_answer.text sink_before sink_now before now status) where
+  pub usage_status : StatusTells words desk_before desk_now sink_before sink_now before now status
+  usage_status = record {
+    usage = λ _. inl ends;
+    usage_only = λ _. none;
+    read_fault = λ is. absurd (two_no_five sink_before sink_now before now status usage_answer.text ends is);
+    write_fault = λ is. two_rose sink_before sink_now before now status usage_answer.text ends is;
+    memory = λ is. absurd (two_no_eight sink_before sink_now before now status usage_answer.text ends is);
+  }
+
+module _ {words : List (List ℕ)} {left : List ℕ → Option (List ℕ)} {untouched : Type 0} {status : ℕ} (same : untouched) (none : IsAsked words None) where
+  pub usage_read : ReadsDesk words left left untouched status
+  usage_read = record {
+    names = λ setup log asks. absurd (none asks.0 asks.1);
+    placement = λ setup log placement asks. absurd (none (Verify setup log placement) asks);
+    others_left = λ asked name asks unread. refl;
+    desk_left = λ unasked. same;
+  }
+
+-- a call that lacked the memory to read its words
+eight_no_verdict : IsVerdictStatus 8 → ⊥
+eight_no_verdict (inl is) = omega (arith, is)
+eight_no_verdict (inr is) = omega (arith, is)
+
+module _ {words : List (List ℕ)} {desk_now sink_now : ℕ} {written : Option (List ℕ)} (wants : MayWantMemory words) where
+  pub unread_status : StatusTells words desk_now desk_now sink_now sink_now written written 8
+  unread_status = record {
+    usage = λ none. inr (wants, refl);
+    usage_only = λ is. absurd (omega (arith, is));
+    read_fault = λ is. absurd (omega (arith, is));
+    write_fault = λ is. absurd (omega (arith, is));
+    memory = λ is. keeps_same written;
+  }
+
+module _ {left : List ℕ → Option (List ℕ)} where
+  names_unread : (setup log : List ℕ) → ReadsNames left left 8 setup log
+  names_unread setup log = record {
+    whole = λ is. absurd (eight_no_verdict is);
+    setup_taken = whole_untouched most_setup (left setup) (left setup) _ refl;
+    log_taken = log_untouched (left log) (left log) _ refl;
+    log_left = λ of_setup refusal told refused. refl;
+  }
+
+  placement_unread : (setup log placement : List ℕ) → ReadsPlacement left left 8 setup log placement
+  placement_unread setup log placement = record {
+    whole = λ is. absurd (eight_no_verdict is);
+    taken = whole_untouched most_placement (left placement) (left placement) _ refl;
+    left = λ of_setup of_log refusal told_setup told_log refused. refl;
+    after = inl refl;
+  }
+
+module _ {words : List (List ℕ)} {left : List ℕ → Option (List ℕ)} {untouched : Type 0} (same : untouched) where
+  pub unread_read : ReadsDesk words left left untouched 8
+  unread_read = record {
+    names = λ setup log asks. names_unread setup log;
+    placement = λ setup log placement asks. placement_unread setup log placement;
+    others_left = λ asked name asks unread. refl;
+    desk_left = λ unasked. same;
+  }

@@ -2,4 +2,5 @@ pub mod OneAnswer
 pub mod PrintedHolds
 pub mod Program
 pub mod Reported
+pub mod Running
 pub mod Summary

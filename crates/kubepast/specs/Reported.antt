@@ -21,19 +21,19 @@ abbrev pub IsSpelled : Asked → Type 0
 IsSpelled asked = (words : List (List ℕ)) × Spells asked words
 
 -- the report tells that a log is explained or not, that a placement holds or not, or what a history says
-abbrev pub IsVerdict : Report → Type 0
-IsVerdict report = (status_number report.status ≡ 0) ⊎ (status_number report.status ≡ 1)
+abbrev pub HasVerdictStatus : Report → Type 0
+HasVerdictStatus report = (status_number report.status ≡ 0) ⊎ (status_number report.status ≡ 1)
 
 -- what was taken of a setup and a log: nothing of the log where the setup is refused
 pub record TakesNames (setup log : List ℕ) (old now : List ℕ → Option (List ℕ)) (found : Result Report Stop) : Type 0 where
-  pub whole : IfOk found (λ report. IsVerdict report → IsAtEnd (now setup) × IsAtEnd (now log))
+  pub whole : IfOk found (λ report. HasVerdictStatus report → IsAtEnd (now setup) × IsAtEnd (now log))
   pub setup_taken : TakesSetup (old setup) (now setup) (IsErrOf found ReadFault)
   pub log_taken : TakesLog (old log) (now log) (IsErrOf found ReadFault)
   pub log_left : (of_setup : List ℕ) (refusal : Refusal) → old setup ≡ Some of_setup → IsSetupRefused of_setup refusal → now log ≡ old log
 
 -- what was taken of a placement: nothing where the setup or the log is refused, or isn't read to its end
 pub record TakesPlacement (setup log placement : List ℕ) (old now : List ℕ → Option (List ℕ)) (found : Result Report Stop) : Type 0 where
-  pub whole : IfOk found (λ report. IsVerdict report → IsAtEnd (now placement))
+  pub whole : IfOk found (λ report. HasVerdictStatus report → IsAtEnd (now placement))
   pub taken : TakesWhole most_placement (old placement) (now placement) (IsErrOf found ReadFault)
   pub left : (of_setup of_log : List ℕ) (refusal : Refusal) → old setup ≡ Some of_setup → old log ≡ Some of_log → IsRefused of_setup of_log refusal → now placement ≡ old placement
   pub after : IsReadLast (now setup) (now log) (old placement) (now placement)
@@ -46,12 +46,12 @@ Takes (Verify setup log placement) old now untouched found = TakesNames setup lo
 Takes (Ask setup log question) old now untouched found = TakesNames setup log old now found
 Takes (Make number events) old now untouched found = untouched
 
-abbrev pub IsPrinted : Asked → Report → Type 0
-IsPrinted (Judge setup log) report = status_number report.status ≡ 0 → IsPlacementText report.text
-IsPrinted (Strict setup log) report = Unit {0}
-IsPrinted (Verify setup log placement) report = Unit {0}
-IsPrinted (Ask setup log question) report = Unit {0}
-IsPrinted (Make number events) report = Unit {0}
+abbrev pub PrintsPlacement : Asked → Report → Type 0
+PrintsPlacement (Judge setup log) report = status_number report.status ≡ 0 → IsPlacementText report.text
+PrintsPlacement (Strict setup log) report = Unit {0}
+PrintsPlacement (Verify setup log placement) report = Unit {0}
+PrintsPlacement (Ask setup log question) report = Unit {0}
+PrintsPlacement (Make number events) report = Unit {0}
 
 -- the report is that of the command; the faults are those of the desk
 pub record IsReported (asked : Asked) (old now : List ℕ → Option (List ℕ)) (untouched : Type 0) (faults_before faults_now : ℕ) (found : Result Report Stop) : Type 0 where
@@ -59,4 +59,4 @@ pub record IsReported (asked : Asked) (old now : List ℕ → Option (List ℕ))
   pub fault : IsErrOf found ReadFault → Rose faults_before faults_now
   pub taken : Takes asked old now untouched found
   pub others : (name : List ℕ) → (Reads asked name → ⊥) → now name ≡ old name
-  pub printed : IfOk found (IsPrinted asked)
+  pub printed : IfOk found (PrintsPlacement asked)

@@ -62,7 +62,8 @@ pub fn made_report(
 }
 
 fn files_of(alloc: Global, setup: Bytes, log: Bytes) -> Result<InputFiles, OutOfMemory>
-    ensures { IfOk result (λ files. files ≡ record { name = codes "setup"; bytes = setup } ∷ record { name = codes "log"; bytes = log } ∷ []) }
+    ensures { IfOk result (λ files. files ≡ record { name = codes "setup"; bytes = setup }
+        ∷ record { name = codes "log"; bytes = log } ∷ []) }
 {
     let mut files = InputFiles::new(alloc);
     files.push(InputFile {

@@ -57,8 +57,8 @@ fn judged<R: Threads + Sync, D: Desk, G: Gate, H: Gate>(
     gates: Gates<'_, G, H>,
 ) -> Result<Report, Stop>
     requires { setup.now ≢ log.now }
-    ensures { IsReported (Judge setup.now log.now) (D.left desk.old) (D.left desk.new) (desk.new ≡ desk.old)
-        (D.faults desk.old) (D.faults desk.new) result }
+    ensures { IsReported (Judge setup.now log.now) (D.left desk.old) (D.left desk.new) (desk.new
+        ≡ desk.old) (D.faults desk.old) (D.faults desk.new) result }
 {
     let judged = judge(rt, alloc, desk, setup, log, gates)?;
     Ok(judged_report(alloc, &judged)?)
@@ -74,8 +74,8 @@ fn strictly<R: Threads + Sync, D: Desk, G: Gate, H: Gate>(
     gates: Gates<'_, G, H>,
 ) -> Result<Report, Stop>
     requires { setup.now ≢ log.now }
-    ensures { IsReported (Strict setup.now log.now) (D.left desk.old) (D.left desk.new) (desk.new ≡ desk.old)
-        (D.faults desk.old) (D.faults desk.new) result }
+    ensures { IsReported (Strict setup.now log.now) (D.left desk.old) (D.left desk.new) (desk.new
+        ≡ desk.old) (D.faults desk.old) (D.faults desk.new) result }
 {
     let found = judge_strictly(rt, alloc, desk, setup, log, gates)?;
     Ok(strictly_report(alloc, &found)?)
@@ -94,8 +94,8 @@ fn verified<R: Threads + Sync, D: Desk, H: Gate>(
     requires differ { setup.now ≢ log.now }
     requires not_setup { placement.now ≢ setup.now }
     requires not_log { placement.now ≢ log.now }
-    ensures { IsReported (Verify setup.now log.now placement.now) (D.left desk.old) (D.left desk.new)
-        (desk.new ≡ desk.old) (D.faults desk.old) (D.faults desk.new) result }
+    ensures { IsReported (Verify setup.now log.now placement.now) (D.left desk.old)
+        (D.left desk.new) (desk.new ≡ desk.old) (D.faults desk.old) (D.faults desk.new) result }
 {
     let verified = verify(rt, alloc, desk, setup, log, placement, lines)?;
     Ok(verified_report(alloc, verified)?)

@@ -16,7 +16,7 @@ use Rattle.log_moments.proofs.Following.{last_behind, last_is}
 use Rattle.log_moments.specs.Nexts.{AreNexts, IsNextOf, number_before}
 use Rattle.log_moments.specs.Things.{IsLastNumber, ShowsVersion, greatest_for, no_end}
 use Rattle.log_moments.specs.Views.{AreNumbers}
-use Rattle.log_moments.specs.declared.numbers.Numbers.{Numbers}
+use Rattle.log_moments.specs.declared.numbers.NumberRange.{NumberRange}
 
 -- a read's greatest number isn't below the one that it has anyway
 pub greatest_behind : (reading : Reading) (low last : ℕ) → low ≤ last → low < no_end → low ≤ greatest_for reading last
@@ -28,7 +28,7 @@ greatest_behind (Checkpoint revision) low last upto below = upto
 
 -- no such version is known, so it has no numbers
 pub unknown_has_none : (h : History) (versions : List Version) (event : Event) (item : Item) → h.versions ≡ map version_of versions
-    → All (λ (v : Version). v.key ≡ item.key → v.revision ≢ item.revision) versions → (numbers : Numbers) → ShowsVersion h event item numbers → ⊥
+    → All (λ (v : Version). v.key ≡ item.key → v.revision ≢ item.revision) versions → (numbers : NumberRange) → ShowsVersion h event item numbers → ⊥
 unknown_has_none h versions event item are none numbers shows =
     let known = shows.known in
     let from = from_map version_of versions known.1 (subst (λ l. Contains l known.1) are (known.0, known.2, known.3)) in
@@ -45,7 +45,7 @@ module _ (h : History) (versions : List Version) (nexts : List (Option ℕ)) (ev
       let here = slice_get-get_or nexts position None within in
       subst (IsNextOf versions v) (sym (is_after (get_or nexts position None) here)) (found.each position v (get_or nexts position None) at here)
 
-  pub shows : (numbers : Numbers) → (IsCloudedWithin h item.key (low_end h event) (high_end h event) → ⊥) → numbers.least ≡ 2 * item.revision + 1
+  pub shows : (numbers : NumberRange) → (IsCloudedWithin h item.key (low_end h event) (high_end h event) → ⊥) → numbers.least ≡ 2 * item.revision + 1
       → numbers.greatest ≡ greatest_for event.reading (number_before after) → ShowsVersion h event item numbers
   shows numbers clear least greatest = record {
     known = subst (Any (λ (w : past.Version). (w.key ≡ item.key) × (w.revision ≡ item.revision))) (sym are)
@@ -58,7 +58,7 @@ module _ (h : History) (versions : List Version) (nexts : List (Option ℕ)) (ev
     greatest = greatest;
   }
 
-  pub in_turn : (numbers : Numbers) → numbers.least ≡ 2 * item.revision + 1 → numbers.least < no_end → numbers.greatest ≡ greatest_for event.reading (number_before after)
+  pub in_turn : (numbers : NumberRange) → numbers.least ≡ 2 * item.revision + 1 → numbers.least < no_end → numbers.greatest ≡ greatest_for event.reading (number_before after)
       → numbers.least ≤ numbers.greatest
   in_turn numbers least below greatest =
       let gap : 2 * v.revision + 1 < no_end = omega (arith, of_revision, least, below) in
@@ -67,7 +67,7 @@ module _ (h : History) (versions : List Version) (nexts : List (Option ℕ)) (ev
       subst (λ n. numbers.least ≤ n) (sym greatest) upto
 
 -- numbers by an equal condition
-pub numbers_by : (P Q : Numbers → Type 0) (found : Option Numbers) → ((numbers : Numbers) → P numbers ↔ Q numbers) → AreNumbers Q found → AreNumbers P found
+pub numbers_by : (P Q : NumberRange → Type 0) (found : Option NumberRange) → ((numbers : NumberRange) → P numbers ↔ Q numbers) → AreNumbers Q found → AreNumbers P found
 numbers_by P Q None same none = λ numbers has. none numbers ((same numbers).0 has)
 numbers_by P Q (Some numbers) same are = ((same numbers).1 are.0, are.1)
 

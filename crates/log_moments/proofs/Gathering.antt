@@ -11,7 +11,7 @@ use Rattle.history_model.specs.Readable.{IsReadable}
 use Rattle.history_model.specs.Words.{Word, Makes, Removes, At, Strays, Nothing, word}
 use Rattle.object_versions.proofs.Mapped.{pairs_push}
 use Rattle.log_moments.specs.Things.{AreThings, HasNumbers, HasNumbersAt, IsLastNumber, IsThingOf, ShowsVersion, before_next, greatest_for, without_end}
-use Rattle.log_moments.specs.declared.numbers.Numbers.{Numbers}
+use Rattle.log_moments.specs.declared.numbers.NumberRange.{NumberRange}
 use Rattle.strict_order.specs.declared.thing.Thing.{Thing}
 
 -- a version has one last number
@@ -24,14 +24,14 @@ last_once h key revision a b (before_next v x p) (without_end none q) = absurd (
 last_once h key revision a b (without_end none p) (before_next w y q) = absurd (let upto = none w y.known y.of_key in let behind = y.behind in omega (arith, upto, behind))
 last_once h key revision a b (without_end none p) (without_end other q) = p ∙ sym q
 
-same_numbers : (a b : Numbers) → a.least ≡ b.least → a.greatest ≡ b.greatest → a ≡ b
+same_numbers : (a b : NumberRange) → a.least ≡ b.least → a.greatest ≡ b.greatest → a ≡ b
 same_numbers a b least greatest = λ i. record { least = least i; greatest = greatest i }
 
-shown_once : (h : History) (event : Event) (item : Item) (a b : Numbers) → ShowsVersion h event item a → ShowsVersion h event item b → a ≡ b
+shown_once : (h : History) (event : Event) (item : Item) (a b : NumberRange) → ShowsVersion h event item a → ShowsVersion h event item b → a ≡ b
 shown_once h event item a b x y = same_numbers a b (x.least ∙ sym y.least)
     (x.greatest ∙ ap (greatest_for event.reading) (last_once h item.key item.revision x.last y.last x.is_last y.is_last) ∙ sym y.greatest)
 
-answered_once : (h : History) (event : Event) (answer : Answer) (a b : Numbers) → HasNumbersAt h event answer a → HasNumbersAt h event answer b → a ≡ b
+answered_once : (h : History) (event : Event) (answer : Answer) (a b : NumberRange) → HasNumbersAt h event answer a → HasNumbersAt h event answer b → a ≡ b
 answered_once h event (Made item created) a b x y = shown_once h event item a b x y
 answered_once h event (Removed key uid) a b x y = absurd x
 answered_once h event (Opaque cover) a b x y = absurd x
@@ -44,7 +44,7 @@ answered_once h event Free a b x y = absurd x
 answered_once h event Aside a b x y = absurd x
 
 -- an event has its numbers alone
-pub numbers_once : (h : History) (event : Event) (answer : Answer) (w : Word) (a b : Numbers) → HasNumbers h event answer w a → HasNumbers h event answer w b → a ≡ b
+pub numbers_once : (h : History) (event : Event) (answer : Answer) (w : Word) (a b : NumberRange) → HasNumbers h event answer w a → HasNumbers h event answer w b → a ≡ b
 numbers_once h event answer (Makes m) a b x y = same_numbers a b (x.0 ∙ sym y.0) (x.1 ∙ sym y.1)
 numbers_once h event answer (Removes removal) a b x y = absurd x
 numbers_once h event answer At a b x y = answered_once h event answer a b x y
@@ -58,7 +58,7 @@ same_thing a b line lo hi least greatest = λ i. record { line = line i; lo = re
 pub thing_once : (h : History) (number : ℕ) (event : Event) (a b : Thing) → IsThingOf h number event a → IsThingOf h number event b → a ≡ b
 thing_once h number event a b x y =
     let same = numbers_once h event event.answer (word h number event) (record { least = a.least; greatest = a.greatest }) (record { least = b.least; greatest = b.greatest }) x.numbered y.numbered in
-    same_thing a b (x.line ∙ sym y.line) (x.lo ∙ sym y.lo) (x.hi ∙ sym y.hi) (ap (λ (n : Numbers). n.least) same) (ap (λ (n : Numbers). n.greatest) same)
+    same_thing a b (x.line ∙ sym y.line) (x.lo ∙ sym y.lo) (x.hi ∙ sym y.hi) (ap (λ (n : NumberRange). n.least) same) (ap (λ (n : NumberRange). n.greatest) same)
 
 -- the thing is that of one of the first n events
 pub record IsThingBefore (h : History) (n : ℕ) (thing : Thing) : Type 0 where
@@ -143,7 +143,7 @@ all_things h n things whole done = record {
 }
 
 -- an event's thing, by its numbers
-pub thing_is : (h : History) (number : ℕ) (event : Event) (numbers : Numbers) (thing : Thing) → thing.least ≡ numbers.least → thing.greatest ≡ numbers.greatest
+pub thing_is : (h : History) (number : ℕ) (event : Event) (numbers : NumberRange) (thing : Thing) → thing.least ≡ numbers.least → thing.greatest ≡ numbers.greatest
     → HasNumbers h event event.answer (word h number event) numbers → HasNumbers h event event.answer (word h number event) (record { least = thing.least; greatest = thing.greatest })
 thing_is h number event numbers thing least greatest has =
     subst (HasNumbers h event event.answer (word h number event)) (same_numbers numbers (record { least = thing.least; greatest = thing.greatest }) (sym least) (sym greatest)) has

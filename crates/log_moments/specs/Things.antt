@@ -8,7 +8,7 @@ use Rattle.history_model.specs.Events.{Event, Item, Listing, Reading, MostRecent
 use Rattle.history_model.specs.Histories.{History, Version, IsEvent}
 use Rattle.history_model.specs.Windows.{low_end, high_end}
 use Rattle.history_model.specs.Words.{Word, Makes, Removes, At, Strays, Nothing, word}
-use Rattle.log_moments.specs.declared.numbers.Numbers.{Numbers}
+use Rattle.log_moments.specs.declared.numbers.NumberRange.{NumberRange}
 use Rattle.strict_order.specs.declared.thing.Thing.{Thing}
 
 -- behind the numbers of all revisions
@@ -43,7 +43,7 @@ greatest_for (Checkpoint revision) last = last
 
 -- The answer shows a version of which all is known while the answer may have been given: it stands behind the version's
 -- write, and before the next one of its key.
-pub record ShowsVersion (h : History) (event : Event) (item : Item) (numbers : Numbers) : Type 0 where
+pub record ShowsVersion (h : History) (event : Event) (item : Item) (numbers : NumberRange) : Type 0 where
   pub known : Any (λ v. (v.key ≡ item.key) × (v.revision ≡ item.revision)) h.versions
   pub clear : IsCloudedWithin h item.key (low_end h event) (high_end h event) → ⊥
   pub least : numbers.least ≡ 2 * item.revision + 1
@@ -52,12 +52,12 @@ pub record ShowsVersion (h : History) (event : Event) (item : Item) (numbers : N
   pub greatest : numbers.greatest ≡ greatest_for event.reading last
 
 -- the answer shows all objects of a scope at one revision: it stands in the gap behind that
-pub record ShowsList (event : Event) (listing : Listing) (numbers : Numbers) : Type 0 where
+pub record ShowsList (event : Event) (listing : Listing) (numbers : NumberRange) : Type 0 where
   pub least : numbers.least ≡ 2 * listing.revision + 1
   pub greatest : numbers.greatest ≡ greatest_for event.reading (2 * listing.revision + 1)
 
 -- the numbers of an answer that stands at a place of its window
-abbrev pub HasNumbersAt : History → Event → Answer → Numbers → Type 0
+abbrev pub HasNumbersAt : History → Event → Answer → NumberRange → Type 0
 HasNumbersAt h event (Made item created) numbers = ShowsVersion h event item numbers
 HasNumbersAt h event (Removed key uid) numbers = ⊥
 HasNumbersAt h event (Opaque cover) numbers = ⊥
@@ -71,7 +71,7 @@ HasNumbersAt h event Aside numbers = ⊥
 
 -- The numbers of an event with this answer, which is this in a placement. The maker of a revision stands at its write; every
 -- other write that is no stray found its version.
-abbrev pub HasNumbers : History → Event → Answer → Word → Numbers → Type 0
+abbrev pub HasNumbers : History → Event → Answer → Word → NumberRange → Type 0
 HasNumbers h event answer (Makes m) numbers = (numbers.least ≡ 2 * m.item.revision) × (numbers.greatest ≡ 2 * m.item.revision)
 HasNumbers h event answer (Removes removal) numbers = ⊥
 HasNumbers h event answer At numbers = HasNumbersAt h event answer numbers

@@ -40,7 +40,8 @@ pub fn position_of(versions: &[Version], item: &Item) -> Option<usize>
     requires { AllPairs (λ a b. a.revision < b.revision) versions.now }
     ensures some { IfSome result (λ position. (v : _) × (slice_get versions.now position ≡ Some v)
         × (v.key ≡ item.now.key) × (v.revision ≡ item.now.revision)) }
-    ensures none { IfNone result (All (λ v. v.key ≡ item.now.key → v.revision ≢ item.now.revision) versions.now) }
+    ensures none { IfNone result (All (λ v. v.key ≡ item.now.key
+        → v.revision ≢ item.now.revision) versions.now) }
 {
     let revision = item.revision.get();
     let upto = versions.partition_point(|version| version.revision.get() <= revision);

@@ -2,7 +2,7 @@ ghost use Rattle.std.specs.Prelude.{◌≡◌, Bool};
 ghost use Rattle.history_model.specs.Events.{Event, Made};
 ghost use Rattle.history_model.specs.Histories.{History};
 ghost use Rattle.history_model.specs.Words.{answer_word, is_by, word};
-ghost use Rattle.log_moments.specs.Views.{IsStanding};
+ghost use Rattle.log_moments.specs.Views.{IsRevisionStanding};
 ghost use Rattle.object_past.specs.Modelled.{maker_of};
 ghost use Rattle.object_past.specs.Past.{HasPast};
 ghost use Rattle.write_groups.specs.Modelled.{event_of, item_of};
@@ -13,7 +13,7 @@ use write_groups::{Item, Listing, LogEvent, Shown};
 
 /// What gives an event its place in the order of revisions.
 #[derive(Clone, Copy)]
-pub enum Standing<'a> {
+pub enum RevisionStanding<'a> {
     /// It made this revision.
     Writes(u64),
     /// It shows the object of one revision.
@@ -37,25 +37,30 @@ fn is_maker(maker: Maker, number: usize) -> bool
 
 // A write makes the version of the revision that it was answered with, or finds it there; or the revision is of another
 // object.
-fn write_standing<'a>(past: &Past, start: Revision, number: usize, item: &'a Item) -> Standing<'a>
+fn write_standing<'a>(
+    past: &Past,
+    start: Revision,
+    number: usize,
+    item: &'a Item,
+) -> RevisionStanding<'a>
     ensures { (h : History) (event : Event) (created : Bool) → h.start ≡ start → HasPast past.now h
-        → IsStanding h event (Made (item_of item.now) created) (answer_word h number event
+        → IsRevisionStanding h event (Made (item_of item.now) created) (answer_word h number event
         (Made (item_of item.now) created)) result }
 {
     let revision = item.revision.get();
     if revision <= start.get() {
-        return Standing::Shows(item);
+        return RevisionStanding::Shows(item);
     }
     let Some(version) = past.at(revision) else {
-        return Standing::Shows(item);
+        return RevisionStanding::Shows(item);
     };
     if !same_key(&version.key, &item.key) {
-        return Standing::Nowhere;
+        return RevisionStanding::Nowhere;
     }
     if !is_maker(version.maker, number) {
-        return Standing::Shows(item);
+        return RevisionStanding::Shows(item);
     }
-    Standing::Writes(revision)
+    RevisionStanding::Writes(revision)
 }
 
 /// What gives the event of this number its place in the order of revisions.
@@ -64,20 +69,21 @@ pub fn standing_of<'a>(
     start: Revision,
     number: usize,
     event: &'a LogEvent,
-) -> Standing<'a>
+) -> RevisionStanding<'a>
     ensures { (h : History) → h.start ≡ start → HasPast past.now h
-        → IsStanding h (event_of event.now) (event_of event.now).answer (word h number (event_of event.now)) result }
+        → IsRevisionStanding h (event_of event.now) (event_of event.now).answer
+        (word h number (event_of event.now)) result }
 {
     match &event.answer {
         Shown::Made { item, created: _ } => write_standing(past, start, number, item),
-        Shown::Removed { key: _, uid: _ } => Standing::Nowhere,
-        Shown::Opaque { cover: _ } => Standing::Nowhere,
-        Shown::Saw { item } => Standing::Shows(item),
-        Shown::SawNone { key: _ } => Standing::Nowhere,
-        Shown::SawSome { key: _ } => Standing::Nowhere,
-        Shown::SawOther { key: _ } => Standing::Nowhere,
-        Shown::Listed { listing } => Standing::Lists(listing),
-        Shown::Free => Standing::Nowhere,
-        Shown::Aside => Standing::Nowhere,
+        Shown::Removed { key: _, uid: _ } => RevisionStanding::Nowhere,
+        Shown::Opaque { cover: _ } => RevisionStanding::Nowhere,
+        Shown::Saw { item } => RevisionStanding::Shows(item),
+        Shown::SawNone { key: _ } => RevisionStanding::Nowhere,
+        Shown::SawSome { key: _ } => RevisionStanding::Nowhere,
+        Shown::SawOther { key: _ } => RevisionStanding::Nowhere,
+        Shown::Listed { listing } => RevisionStanding::Lists(listing),
+        Shown::Free => RevisionStanding::Nowhere,
+        Shown::Aside => RevisionStanding::Nowhere,
     }
 }

@@ -29,7 +29,8 @@ fn append_lines(text: &mut String, lines: &[LineMoment]) -> Result<(), OutOfMemo
 }
 
 fn append_line(text: &mut String, line: &LineMoment) -> Result<(), OutOfMemory>
-    ensures { OnOk result (string_bytes text.new ≡ string_bytes text.old ++ ended (line_text line.now)) }
+    ensures { OnOk result (string_bytes text.new ≡ string_bytes text.old
+        ++ ended (line_text line.now)) }
 {
     let nanos = line.moment.0;
     writeln!(text, "{} {nanos}", line.line)?;

@@ -3,7 +3,7 @@ ghost use Rattle.history_model.specs.Events.{is_checkpoint};
 ghost use Rattle.history_model.specs.Histories.{History};
 ghost use Rattle.history_model.specs.Readable.{IsReadable};
 ghost use Rattle.log_moments.specs.Things.{AreThings, IsThingOf};
-ghost use Rattle.log_moments.specs.Views.{IsFoundThing, IsViewOf};
+ghost use Rattle.log_moments.specs.Views.{IsFoundThing, IsLogViewOf};
 ghost use Rattle.version_store.specs.Histories.{history_of};
 ghost use Rattle.write_groups.specs.Modelled.{event_of};
 
@@ -34,7 +34,8 @@ fn is_checkpoint(event: &LogEvent) -> bool
 
 // The thing that the event of this number is.
 fn thing_of(view: &LogView<'_>, number: usize, event: &LogEvent) -> Option<Thing>
-    ensures { (h : History) → IsViewOf view.now h → IsFoundThing (IsThingOf h number (event_of event.now)) result }
+    ensures { (h : History) → IsLogViewOf view.now h
+        → IsFoundThing (IsThingOf h number (event_of event.now)) result }
 {
     if is_checkpoint(event) {
         return None;
@@ -50,9 +51,9 @@ fn thing_of(view: &LogView<'_>, number: usize, event: &LogEvent) -> Option<Thing
 }
 
 fn things_in(alloc: Global, view: &LogView<'_>) -> Result<Vec<Thing>, OutOfMemory>
-    ensures things { IfOk result (λ things. (h : History) → IsViewOf view.now h → IsReadable h
+    ensures things { IfOk result (λ things. (h : History) → IsLogViewOf view.now h → IsReadable h
         → AreThings h things.items) }
-    ensures numbers { IfOk result (λ things. (h : History) → IsViewOf view.now h
+    ensures numbers { IfOk result (λ things. (h : History) → IsLogViewOf view.now h
         → All (λ thing. thing.least ≤ thing.greatest) things.items) }
 {
     let mut things = Vec::new(alloc);

@@ -20,12 +20,17 @@ use Rattle.clouds.proofs.Adding.{key_order_total, same_key_from}
 use Rattle.clouds.specs.Kept.{key_order}
 use Rattle.history_model.proofs.JudgingLemmas.{numbers}
 use Rattle.history_model.proofs.Members.{all_from}
-use Rattle.log_picture.specs.Changes.{AreChanges, ComesBefore, tally, tally_in}
-use Rattle.log_picture.specs.Tallied.{AreTallied, change_order, changed_as}
+use Rattle.log_picture.specs.Changes.{AreChanges, IsListedBefore, tally, tally_in}
+use Rattle.log_picture.specs.Tallied.{AreTallied, changed_as}
+use Rattle.log_picture.specs.contracts.changed.ChangedOrd.TheImpl as changed_ord
 use Rattle.log_picture.specs.declared.changed.Changed.{Changed}
 use Rattle.log_picture.specs.declared.tallies.Tally.{Tally}
 use Rattle.object_past.specs.declared.version.Version.{Version}
 use Rattle.write_groups.proofs.Lists.{map_from, map_has, pairs_unmap}
+
+-- by count, the greatest first, and then by key; no two have one key
+abbrev change_order : Changed → Changed → Ordering
+change_order = (changed_ord.ghosts).cmp
 
 ranks : IsStrictWeakOrder (λ a b. is_lt (change_order a b))
 ranks = ranks_by (then_total (on_total (λ (c : Changed). c.count.0) (back_total nat_cmp_total)) (then_total (on_total (λ (c : Changed). c.key) key_order_total)
@@ -49,14 +54,14 @@ more_first a b l = then_less (nat_cmp b.count.0 a.count.0) _ (nat_less b.count.0
 key_first : (a b : Changed) → a.count.0 ≡ b.count.0 → key_order a.key b.key ≡ Less → is_lt (change_order a b) ≡ true
 key_first a b e l = then_next (nat_cmp b.count.0 a.count.0) _ (ap (nat_cmp b.count.0) e ∙ tied_itself nat_cmp_total b.count.0) (then_less (key_order a.key b.key) _ l)
 
-before : (a b : Changed) → a.key ≢ b.key → is_lt (change_order b a) ≡ false → ComesBefore a b
+before : (a b : Changed) → a.key ≢ b.key → is_lt (change_order b a) ≡ false → IsListedBefore a b
 before a b differs not = go (numbers a.count.0 b.count.0)
   where
-    by : a.count.0 ≡ b.count.0 → (key_order a.key b.key ≡ Less) ⊎ (key_order b.key a.key ≡ Less) → ComesBefore a b
+    by : a.count.0 ≡ b.count.0 → (key_order a.key b.key ≡ Less) ⊎ (key_order b.key a.key ≡ Less) → IsListedBefore a b
     by e (inl l) = inr (e, l)
     by e (inr l) = absurd (true≢false (sym (key_first b a (sym e) l) ∙ not))
 
-    go : (a.count.0 < b.count.0) ⊎ (b.count.0 < a.count.0) ⊎ (a.count.0 ≡ b.count.0) → ComesBefore a b
+    go : (a.count.0 < b.count.0) ⊎ (b.count.0 < a.count.0) ⊎ (a.count.0 ≡ b.count.0) → IsListedBefore a b
     go (inl l) = absurd (true≢false (sym (more_first b a l) ∙ not))
     go (inr (inl l)) = inl l
     go (inr (inr e)) = by e (keys_order a.key b.key differs)

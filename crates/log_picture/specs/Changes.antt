@@ -41,14 +41,14 @@ abbrev pub tally_in : Changed → Tally
 tally_in c = record { count = c.count.0; first = c.first; last = c.last }
 
 -- it has more versions than the other, or as many and the lesser key
-abbrev pub ComesBefore : Changed → Changed → Type 0
-ComesBefore a b = (b.count.0 < a.count.0) ⊎ ((a.count.0 ≡ b.count.0) × (key_order a.key b.key ≡ Less))
+abbrev pub IsListedBefore : Changed → Changed → Type 0
+IsListedBefore a b = (b.count.0 < a.count.0) ⊎ ((a.count.0 ≡ b.count.0) × (key_order a.key b.key ≡ Less))
 
 -- each object that recorded writes changed, once and with its tally, the most changed first
 pub record AreChanges (versions : List Version) (changes : List Changed) : Type 0 where
   pub each : All (λ c. tally versions c.key ≡ Some (tally_in c)) changes
   pub whole : (key : ObjectKey) → IsSome (tally versions key) → Any (λ c. c.key ≡ key) changes
-  pub order : AllPairs ComesBefore changes
+  pub order : AllPairs IsListedBefore changes
 
 unfoldable pub change_text : List ℕ → ℕ → ℕ → ℕ → List ℕ
 change_text key count first last = shown (

@@ -4,7 +4,7 @@ use Rattle.base_types.specs.declared.request.Decision.{Decision}
 use Rattle.base_types.specs.declared.request.Decision.TheVariants.{Allow, Forbid}
 use Rattle.log_picture.specs.Kinds.{is_of, kind_words}
 use Rattle.log_picture.specs.declared.counting.TheConstants.{COUNTS_HEAD}
-use Rattle.log_picture.specs.declared.kind.Kind.{Kind}
+use Rattle.log_picture.specs.declared.kind.AnswerKind.{AnswerKind}
 use Rattle.log_picture.specs.declared.kind.TheConstants.{KINDS}
 use Rattle.markup.specs.Pieces.{fixed, number, shown}
 use Rattle.write_groups.specs.declared.event.LogEvent.{LogEvent}
@@ -29,7 +29,7 @@ row_text words count = shown (
     ∷ fixed (codes "</td></tr>\n") ∷ [])
 
 -- how many events and checkpoints are of the kind
-unfoldable pub kind_row : List LogEvent → Kind → List ℕ
+unfoldable pub kind_row : List LogEvent → AnswerKind → List ℕ
 kind_row log kind = row_text (kind_words kind) (count_by (is_of kind) log)
 
 unfoldable pub decisions_text : ℕ → ℕ → List ℕ

@@ -1,13 +1,13 @@
 -- What an event's answer says of the cluster, without the objects.
 use Rattle.std.specs.Prelude.{ℕ, Bool, true, false, List, codes}
-use Rattle.log_picture.specs.contracts.kind.KindPartialEq.TheImpl as same
-use Rattle.log_picture.specs.declared.kind.Kind.{Kind}
-use Rattle.log_picture.specs.declared.kind.Kind.TheVariants as kind
+use Rattle.log_picture.specs.contracts.kind.AnswerKindPartialEq.TheImpl as same
+use Rattle.log_picture.specs.declared.kind.AnswerKind.{AnswerKind}
+use Rattle.log_picture.specs.declared.kind.AnswerKind.TheVariants as kind
 use Rattle.write_groups.specs.declared.event.LogEvent.{LogEvent}
 use Rattle.write_groups.specs.declared.event.Shown.{Shown}
 use Rattle.write_groups.specs.declared.event.Shown.TheVariants.{Made, Removed, Opaque, Saw, SawNone, SawSome, SawOther, Listed, Free, Aside}
 
-abbrev pub kind_of : Shown → Kind
+abbrev pub kind_of : Shown → AnswerKind
 kind_of (Made item true) = kind.Created
 kind_of (Made item false) = kind.Changed
 kind_of (Removed key uid) = kind.Removed
@@ -20,7 +20,7 @@ kind_of (Listed listing) = kind.Listed
 kind_of Free = kind.Free
 kind_of Aside = kind.Aside
 
-abbrev pub kind_words : Kind → List ℕ
+abbrev pub kind_words : AnswerKind → List ℕ
 kind_words kind.Created = codes "write that created an object"
 kind_words kind.Changed = codes "write that changed an object"
 kind_words kind.Removed = codes "write that removed an object"
@@ -33,5 +33,5 @@ kind_words kind.Listed = codes "list"
 kind_words kind.Free = codes "says nothing of any object"
 kind_words kind.Aside = codes "not judged"
 
-abbrev pub is_of : Kind → LogEvent → Bool
+abbrev pub is_of : AnswerKind → LogEvent → Bool
 is_of kind event = (same.ghosts).eq (kind_of event.answer) kind

@@ -6,10 +6,10 @@ use Rattle.base_types.specs.declared.request.Decision.TheVariants.{Allow, Forbid
 use Rattle.log_picture.specs.Kinds.{kind_of, kind_words}
 use Rattle.log_picture.specs.Limits.{event_limit, rest_of, spread}
 use Rattle.log_picture.specs.Overview.{receipt}
-use Rattle.log_picture.specs.declared.kind.Kind.{Kind}
-use Rattle.log_picture.specs.declared.kind.Kind.TheVariants as kind
-use Rattle.log_picture.specs.declared.lanes.Form.{Form}
-use Rattle.log_picture.specs.declared.lanes.Form.TheVariants as form
+use Rattle.log_picture.specs.declared.kind.AnswerKind.{AnswerKind}
+use Rattle.log_picture.specs.declared.kind.AnswerKind.TheVariants as kind
+use Rattle.log_picture.specs.declared.lanes.MarkForm.{MarkForm}
+use Rattle.log_picture.specs.declared.lanes.MarkForm.TheVariants as form
 use Rattle.log_picture.specs.declared.lanes.Marked.{Marked}
 use Rattle.log_picture.specs.declared.lanes.TheConstants.{NO_EVENTS, TIME_HEAD}
 use Rattle.log_picture.specs.declared.tables.TheConstants.{EVENTS_END, EVENTS_HEAD}
@@ -20,7 +20,7 @@ use Rattle.markup.specs.declared.drawing.Axis.{Axis}
 use Rattle.write_groups.specs.declared.event.LogEvent.{LogEvent}
 
 -- how the answer of an event is marked, where it is
-abbrev pub form_of : Kind → Option Form
+abbrev pub form_of : AnswerKind → Option MarkForm
 form_of kind.Created = Some form.Write
 form_of kind.Changed = Some form.Write
 form_of kind.Removed = Some form.Removal
@@ -34,13 +34,13 @@ form_of kind.Free = None
 form_of kind.Aside = None
 
 -- how its judged decision is marked, where it has one
-abbrev pub decision_form : Option Decision → Option Form
+abbrev pub decision_form : Option Decision → Option MarkForm
 decision_form None = None
 decision_form (Some Allow) = Some form.Allow
 decision_form (Some Forbid) = Some form.Forbid
 
 -- by which of the page's styles it is drawn
-abbrev pub style_of : Form → List ℕ
+abbrev pub style_of : MarkForm → List ℕ
 style_of form.Write = codes "tick"
 style_of form.Removal = codes "diamond"
 style_of form.Read = codes "segment"
@@ -50,7 +50,7 @@ style_of form.Forbid = codes "tick"
 style_of form.Unrecorded = codes "hatched"
 
 -- a tick, a diamond, a circle, a square, a cross that stands, one that lies, a broken tick
-abbrev pub outline_of : Form → List ℕ
+abbrev pub outline_of : MarkForm → List ℕ
 outline_of form.Write = codes "M0 -9V9"
 outline_of form.Removal = codes "M0 -8L6 0L0 8L-6 0Z"
 outline_of form.Read = codes "M-5 0A5 5 0 1 0 5 0A5 5 0 1 0 -5 0Z"
@@ -60,7 +60,7 @@ outline_of form.Forbid = codes "M-5 -5L5 5M5 -5L-5 5"
 outline_of form.Unrecorded = codes "M0 -9V9"
 
 -- how far down its lane is
-abbrev pub lane_of : Form → ℕ
+abbrev pub lane_of : MarkForm → ℕ
 lane_of form.Write = 24
 lane_of form.Removal = 54
 lane_of form.Read = 84
@@ -80,10 +80,10 @@ title_text event = shown (
     ∷ fixed (codes "</title></path>\n") ∷ [])
 
 -- a mark of this form at the event's receipt
-unfoldable pub form_mark : ℕ → Event → Form → List ℕ
+unfoldable pub form_mark : ℕ → Event → MarkForm → List ℕ
 form_mark x event form = shape_text (style_of form) (outline_of form) x (lane_of form) ++ title_text event
 
-unfoldable pub mark_text : ℕ → Event → Option Form → List ℕ
+unfoldable pub mark_text : ℕ → Event → Option MarkForm → List ℕ
 mark_text x event None = []
 mark_text x event (Some form) = form_mark x event form
 

@@ -13,8 +13,8 @@ version_limit = 600
 abbrev pub removal_limit : ℕ
 removal_limit = 200
 
-abbrev pub gap_limit : ℕ
-gap_limit = 200
+abbrev pub unrecorded_limit : ℕ
+unrecorded_limit = 200
 
 -- so many objects that changed are listed at most
 abbrev pub change_limit : ℕ

@@ -11,9 +11,9 @@ use Rattle.log_picture.specs.Lanes.{time_text}
 use Rattle.log_picture.specs.Overview.{first_receipt, greatest_revision, last_receipt, overview_text}
 use Rattle.log_picture.specs.Revised.{history_text, written_versions}
 use Rattle.log_picture.specs.declared.changed.Changed.{Changed}
-use Rattle.log_picture.specs.declared.kind.Kind.TheVariants.{Unrecorded}
+use Rattle.log_picture.specs.declared.kind.AnswerKind.TheVariants.{Unrecorded}
 use Rattle.log_picture.specs.declared.overview.Overview.{Overview}
-use Rattle.log_picture.specs.declared.revised.Gap.{Gap}
+use Rattle.log_picture.specs.declared.revised.UnrecordedWrite.{UnrecordedWrite}
 use Rattle.markup.specs.Frame.{begin_text, end_text}
 use Rattle.markup.specs.declared.drawing.Axis.{Axis}
 use Rattle.version_store.specs.Histories.{history_of}
@@ -22,12 +22,12 @@ use Rattle.write_groups.specs.Modelled.{event_of}
 use Rattle.write_groups.specs.declared.event.LogEvent.{LogEvent}
 
 -- an unrecorded write may have happened from the lowest place of its window on
-abbrev pub gap_of : History → LogEvent → Gap
-gap_of h event = record { line = event.line; low = low_end h (event_of event) }
+abbrev pub unrecorded_of : History → LogEvent → UnrecordedWrite
+unrecorded_of h event = record { line = event.line; low = low_end h (event_of event) }
 
 -- the unrecorded writes among these events
-abbrev pub gaps_in : History → List LogEvent → List Gap
-gaps_in h log = map (gap_of h) (filter (is_of Unrecorded) log)
+abbrev pub unrecorded_writes_in : History → List LogEvent → List UnrecordedWrite
+unrecorded_writes_in h log = map (unrecorded_of h) (filter (is_of Unrecorded) log)
 
 abbrev pub overview_of : Known → Overview
 overview_of known = record {
@@ -53,18 +53,18 @@ unfoldable pub events_text : Known → Overview → List ℕ
 events_text known overview = overview_text overview ++ counts_text known.log ++ time_text (time_axis overview) known.events known.log
 
 -- the history by revision, and the removals
-unfoldable pub objects_text : Known → Overview → List PlacedLine → List Gap → List ℕ
-objects_text known overview lines gaps =
-    history_text (revision_axis overview) known.log (written_versions known.versions) known.removals gaps ++ removals_text known.log lines known.removals
+unfoldable pub objects_text : Known → Overview → List PlacedLine → List UnrecordedWrite → List ℕ
+objects_text known overview lines unrecorded_writes =
+    history_text (revision_axis overview) known.log (written_versions known.versions) known.removals unrecorded_writes ++ removals_text known.log lines known.removals
 
-unfoldable pub sections_text : Known → Overview → List PlacedLine → List Gap → List Changed → List ℕ
-sections_text known overview lines gaps changes =
-    events_text known overview ++ changes_text changes ++ objects_text known overview lines gaps
+unfoldable pub sections_text : Known → Overview → List PlacedLine → List UnrecordedWrite → List Changed → List ℕ
+sections_text known overview lines unrecorded_writes changes =
+    events_text known overview ++ changes_text changes ++ objects_text known overview lines unrecorded_writes
 
 -- the page, with the objects that changed
 unfoldable pub log_page_text : Known → List PlacedLine → List Changed → List ℕ
 log_page_text known lines changes =
-    begin_text (codes "Explained log") ++ sections_text known (overview_of known) lines (gaps_in (history_of known) known.log) changes
+    begin_text (codes "Explained log") ++ sections_text known (overview_of known) lines (unrecorded_writes_in (history_of known) known.log) changes
     ++ end_text
 
 -- the page of what a setup and a log tell, and of the placement that explains the log

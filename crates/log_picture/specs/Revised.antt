@@ -2,11 +2,11 @@
 use Rattle.std.specs.Prelude.{ℕ, ◌+◌, ◌-◌, ◌*◌, ◌%◌, max, Bool, true, false, List, [], ◌∷◌, ◌++◌, codes, filter, flat_map}
 use Rattle.base_types.specs.Keys.{key_spelling}
 use Rattle.base_types.specs.declared.claim.Range.{Range}
-use Rattle.log_picture.specs.Limits.{gap_limit, removal_limit, rest_of, spread, version_limit}
+use Rattle.log_picture.specs.Limits.{unrecorded_limit, removal_limit, rest_of, spread, version_limit}
 use Rattle.log_picture.specs.declared.gone.TheConstants.{TABLE_END}
-use Rattle.log_picture.specs.declared.revised.Gap.{Gap}
+use Rattle.log_picture.specs.declared.revised.UnrecordedWrite.{UnrecordedWrite}
 use Rattle.log_picture.specs.declared.revised.TheConstants.{HISTORY_HEAD}
-use Rattle.log_picture.specs.declared.tables.TheConstants.{GAPS_HEAD, VERSIONS_HEAD}
+use Rattle.log_picture.specs.declared.tables.TheConstants.{UNRECORDED_HEAD, VERSIONS_HEAD}
 use Rattle.markup.specs.Drawing.{position}
 use Rattle.markup.specs.Pieces.{fixed, number, told, shown}
 use Rattle.markup.specs.declared.drawing.Axis.{Axis}
@@ -64,12 +64,12 @@ removal_mark axis log removal =
     bar_text axis removal.range ++ range_text (line_at log removal.range.event) removal.range.low removal.range.high (key_spelling removal.key)
 
 -- a broken tick at the lowest place of the window of an unrecorded write
-unfoldable pub gap_mark : Axis → Gap → List ℕ
-gap_mark axis gap = shown (
-    fixed (codes "<line class=\"hatched\" x1=\"") ∷ number (position axis gap.low)
-    ∷ fixed (codes "\" y1=\"142\" x2=\"") ∷ number (position axis gap.low)
-    ∷ fixed (codes "\" y2=\"166\"><title>Line ") ∷ number gap.line
-    ∷ fixed (codes ": unrecorded write, from place ") ∷ number gap.low
+unfoldable pub unrecorded_mark : Axis → UnrecordedWrite → List ℕ
+unrecorded_mark axis unrecorded = shown (
+    fixed (codes "<line class=\"hatched\" x1=\"") ∷ number (position axis unrecorded.low)
+    ∷ fixed (codes "\" y1=\"142\" x2=\"") ∷ number (position axis unrecorded.low)
+    ∷ fixed (codes "\" y2=\"166\"><title>Line ") ∷ number unrecorded.line
+    ∷ fixed (codes ": unrecorded write, from place ") ∷ number unrecorded.low
     ∷ fixed (codes " on</title></line>\n") ∷ [])
 
 -- the axis with the numbers of its ends
@@ -80,20 +80,20 @@ axis_text axis = shown (
     ∷ fixed (codes "</text>\n</svg>\n</figure>\n") ∷ [])
 
 -- the marks of versions, removals and unrecorded writes, all over the log
-unfoldable pub history_marks : Axis → List LogEvent → List Version → List Removal → List Gap → List ℕ
-history_marks axis log versions removals gaps =
+unfoldable pub history_marks : Axis → List LogEvent → List Version → List Removal → List UnrecordedWrite → List ℕ
+history_marks axis log versions removals unrecorded_writes =
     flat_map (version_mark axis) (spread version_limit versions) ++ flat_map (removal_mark axis log) (spread removal_limit removals)
-    ++ flat_map (gap_mark axis) (spread gap_limit gaps)
+    ++ flat_map (unrecorded_mark axis) (spread unrecorded_limit unrecorded_writes)
 
-unfoldable pub history_drawing : Axis → List LogEvent → List Version → List Removal → List Gap → List ℕ
-history_drawing axis log versions removals gaps = HISTORY_HEAD.now ++ history_marks axis log versions removals gaps ++ axis_text axis
+unfoldable pub history_drawing : Axis → List LogEvent → List Version → List Removal → List UnrecordedWrite → List ℕ
+history_drawing axis log versions removals unrecorded_writes = HISTORY_HEAD.now ++ history_marks axis log versions removals unrecorded_writes ++ axis_text axis
 
 -- how many aren't drawn
-unfoldable pub left_out_text : List Version → List Removal → List Gap → List ℕ
-left_out_text versions removals gaps =
+unfoldable pub left_out_text : List Version → List Removal → List UnrecordedWrite → List ℕ
+left_out_text versions removals unrecorded_writes =
     rest_of version_limit versions (codes "Versions that aren't drawn")
     ++ rest_of removal_limit removals (codes "Removals that aren't drawn")
-    ++ rest_of gap_limit gaps (codes "Unrecorded writes that aren't drawn")
+    ++ rest_of unrecorded_limit unrecorded_writes (codes "Unrecorded writes that aren't drawn")
 
 -- the line that wrote the version
 unfoldable pub maker_text : List LogEvent → Maker → List ℕ
@@ -109,19 +109,19 @@ version_cells v = shown (
 unfoldable pub version_row : List LogEvent → Version → List ℕ
 version_row log v = version_cells v ++ maker_text log v.maker ++ codes "</td></tr>\n"
 
-unfoldable pub gap_row : Gap → List ℕ
-gap_row gap = shown (
-    fixed (codes "<tr><td>") ∷ number gap.line ∷ fixed (codes "</td><td>") ∷ number gap.low
+unfoldable pub unrecorded_row : UnrecordedWrite → List ℕ
+unrecorded_row unrecorded = shown (
+    fixed (codes "<tr><td>") ∷ number unrecorded.line ∷ fixed (codes "</td><td>") ∷ number unrecorded.low
     ∷ fixed (codes "</td></tr>\n") ∷ [])
 
 -- the versions and unrecorded writes that are drawn
 unfoldable pub versions_table : List LogEvent → List Version → List ℕ
 versions_table log versions = VERSIONS_HEAD.now ++ flat_map (version_row log) (spread version_limit versions) ++ TABLE_END.now
 
-unfoldable pub gaps_table : List Gap → List ℕ
-gaps_table gaps = GAPS_HEAD.now ++ flat_map gap_row (spread gap_limit gaps) ++ TABLE_END.now
+unfoldable pub unrecorded_table : List UnrecordedWrite → List ℕ
+unrecorded_table unrecorded_writes = UNRECORDED_HEAD.now ++ flat_map unrecorded_row (spread unrecorded_limit unrecorded_writes) ++ TABLE_END.now
 
-unfoldable pub history_text : Axis → List LogEvent → List Version → List Removal → List Gap → List ℕ
-history_text axis log versions removals gaps =
-    history_drawing axis log versions removals gaps ++ left_out_text versions removals gaps ++ versions_table log versions
-    ++ gaps_table gaps
+unfoldable pub history_text : Axis → List LogEvent → List Version → List Removal → List UnrecordedWrite → List ℕ
+history_text axis log versions removals unrecorded_writes =
+    history_drawing axis log versions removals unrecorded_writes ++ left_out_text versions removals unrecorded_writes ++ versions_table log versions
+    ++ unrecorded_table unrecorded_writes

@@ -1,11 +1,9 @@
 -- What is counted of each object, under its key.
 use Rattle.std.specs.Prelude.{◌≡◌, ◌+◌, ◌<◌, ◌^◌, ℕ, List, [], ◌∷◌, ◌++◌, IfSome}
 use Rattle.std.specs.BTreeMap.{BTreeMap, get}
-use Rattle.std.specs.declared.cmp.Ordering.{Ordering}
 use Rattle.base_types.specs.declared.key.ObjectKey.{ObjectKey}
 use Rattle.clouds.specs.Kept.{key_order}
 use Rattle.log_picture.specs.Changes.{tally}
-use Rattle.log_picture.specs.contracts.changed.ChangedOrd.TheImpl as changed_ord
 use Rattle.log_picture.specs.declared.changed.Changed.{Changed}
 use Rattle.log_picture.specs.declared.tallies.Tally.{Tally}
 use Rattle.object_past.specs.declared.version.Version.{Version}
@@ -31,7 +29,3 @@ one_more t revision = record { count = t.count + 1; first = t.first; last = revi
 -- an entry with its count in front
 abbrev pub changed_as : ObjectKey × Tally → Changed
 changed_as entry = record { count = record { 0 = entry.1.count }; key = entry.0; first = entry.1.first; last = entry.1.last }
-
--- by count, the greatest first, and then by key; no two have one key
-abbrev pub change_order : Changed → Changed → Ordering
-change_order = (changed_ord.ghosts).cmp

@@ -69,7 +69,8 @@ pub fn append_changes(
     text: &mut String,
     changes: &[Changed],
 ) -> Result<(), OutOfMemory>
-    ensures { OnOk result (string_bytes text.new ≡ string_bytes text.old ++ changes_text changes.now) }
+    ensures { OnOk result (string_bytes text.new ≡ string_bytes text.old
+        ++ changes_text changes.now) }
 {
     text.push_str(CHANGES_HEAD)?;
     append_rows(alloc, text, first_of(changes, CHANGE_LIMIT))?;
@@ -84,7 +85,8 @@ pub fn append_changes(
 }
 
 fn append_rows(alloc: Global, text: &mut String, changes: &[Changed]) -> Result<(), OutOfMemory>
-    ensures { OnOk result (string_bytes text.new ≡ string_bytes text.old ++ flat_map change_row changes.now) }
+    ensures { OnOk result (string_bytes text.new ≡ string_bytes text.old
+        ++ flat_map change_row changes.now) }
 {
     for changed in changes {
         append_row(alloc, text, changed)?;
@@ -94,7 +96,8 @@ fn append_rows(alloc: Global, text: &mut String, changes: &[Changed]) -> Result<
 
 #[tactic(auto, unfolding(crate::specs::Changes::change_text))]
 fn append_row(alloc: Global, text: &mut String, changed: &Changed) -> Result<(), OutOfMemory>
-    ensures { OnOk result (string_bytes text.new ≡ string_bytes text.old ++ change_row changed.now) }
+    ensures { OnOk result (string_bytes text.new ≡ string_bytes text.old
+        ++ change_row changed.now) }
 {
     let key = key_text(alloc, &changed.key)?;
     let count = changed.count.0;

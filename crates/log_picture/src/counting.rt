@@ -2,7 +2,7 @@ ghost use Rattle.std.specs.Prelude.{◌≡◌, ◌++◌, OnOk, count_by, flat_ma
 ghost use Rattle.log_picture.specs.Counts.{counts_text, decisions_text, has_decision, kind_row, row_text};
 ghost use Rattle.log_picture.specs.Counts.{same_decision, totals_text};
 
-use crate::kind::{KINDS, Kind, count_of, kind_words};
+use crate::kind::{AnswerKind, KINDS, count_of, kind_words};
 use base_types::{Decision, OutOfMemory};
 use write_groups::LogEvent;
 
@@ -62,8 +62,13 @@ fn append_totals(text: &mut String, log: &[LogEvent]) -> Result<(), OutOfMemory>
     Ok(())
 }
 
-fn append_kinds(text: &mut String, log: &[LogEvent], kinds: &[Kind]) -> Result<(), OutOfMemory>
-    ensures { OnOk result (string_bytes text.new ≡ string_bytes text.old ++ flat_map (kind_row log.now) kinds.now) }
+fn append_kinds(
+    text: &mut String,
+    log: &[LogEvent],
+    kinds: &[AnswerKind],
+) -> Result<(), OutOfMemory>
+    ensures { OnOk result (string_bytes text.new ≡ string_bytes text.old
+        ++ flat_map (kind_row log.now) kinds.now) }
 {
     for kind in kinds {
         append_kind(text, log, *kind)?;
@@ -72,7 +77,7 @@ fn append_kinds(text: &mut String, log: &[LogEvent], kinds: &[Kind]) -> Result<(
 }
 
 #[tactic(auto, unfolding(crate::specs::Counts::kind_row))]
-fn append_kind(text: &mut String, log: &[LogEvent], kind: Kind) -> Result<(), OutOfMemory>
+fn append_kind(text: &mut String, log: &[LogEvent], kind: AnswerKind) -> Result<(), OutOfMemory>
     ensures { OnOk result (string_bytes text.new ≡ string_bytes text.old ++ kind_row log.now kind) }
 {
     append_row(text, kind_words(kind), count_of(log, kind))
@@ -80,7 +85,8 @@ fn append_kind(text: &mut String, log: &[LogEvent], kind: Kind) -> Result<(), Ou
 
 #[tactic(auto, unfolding(crate::specs::Counts::row_text))]
 fn append_row(text: &mut String, words: &str, count: usize) -> Result<(), OutOfMemory>
-    ensures { OnOk result (string_bytes text.new ≡ string_bytes text.old ++ row_text words.now count) }
+    ensures { OnOk result (string_bytes text.new ≡ string_bytes text.old
+        ++ row_text words.now count) }
 {
     writeln!(
         text,
@@ -91,7 +97,8 @@ fn append_row(text: &mut String, words: &str, count: usize) -> Result<(), OutOfM
 
 #[tactic(auto, unfolding(crate::specs::Counts::decisions_text))]
 fn append_decisions(text: &mut String, allowed: usize, forbidden: usize) -> Result<(), OutOfMemory>
-    ensures { OnOk result (string_bytes text.new ≡ string_bytes text.old ++ decisions_text allowed forbidden) }
+    ensures { OnOk result (string_bytes text.new ≡ string_bytes text.old
+        ++ decisions_text allowed forbidden) }
 {
     write!(
         text,

@@ -63,8 +63,8 @@ pub fn append_removals(
     lines: &[PlacedLine],
     removals: &[&Removal],
 ) -> Result<(), OutOfMemory>
-    ensures { OnOk result (string_bytes text.new ≡ string_bytes text.old ++ removals_text log.now lines.now
-        (map (λ one. one.now) removals.now)) }
+    ensures { OnOk result (string_bytes text.new ≡ string_bytes text.old
+        ++ removals_text log.now lines.now (map (λ one. one.now) removals.now)) }
 {
     append_listed(alloc, text, log, lines, removals)?;
     append_rest(
@@ -85,8 +85,8 @@ fn append_listed(
     lines: &[PlacedLine],
     removals: &[&Removal],
 ) -> Result<(), OutOfMemory>
-    ensures { OnOk result (string_bytes text.new ≡ string_bytes text.old ++ removals_table log.now lines.now
-        (map (λ one. one.now) removals.now)) }
+    ensures { OnOk result (string_bytes text.new ≡ string_bytes text.old
+        ++ removals_table log.now lines.now (map (λ one. one.now) removals.now)) }
 {
     let listed = spread(alloc, removals, REMOVAL_LIMIT)?;
     text.push_str(REMOVALS_HEAD)?;
@@ -119,7 +119,8 @@ fn append_row(
     lines: &[PlacedLine],
     removal: &Removal,
 ) -> Result<(), OutOfMemory>
-    ensures { OnOk result (string_bytes text.new ≡ string_bytes text.old ++ removal_row log.now lines.now removal.now) }
+    ensures { OnOk result (string_bytes text.new ≡ string_bytes text.old
+        ++ removal_row log.now lines.now removal.now) }
 {
     append_removed(alloc, text, log, removal)?;
     append_place(text, place_of(log, lines, removal.range.event))?;
@@ -134,7 +135,8 @@ fn append_removed(
     log: &[LogEvent],
     removal: &Removal,
 ) -> Result<(), OutOfMemory>
-    ensures { OnOk result (string_bytes text.new ≡ string_bytes text.old ++ removed_text log.now removal.now) }
+    ensures { OnOk result (string_bytes text.new ≡ string_bytes text.old
+        ++ removed_text log.now removal.now) }
 {
     let line = line_at(log, removal.range.event);
     let key = key_text(alloc, &removal.key)?;

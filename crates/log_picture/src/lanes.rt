@@ -4,7 +4,7 @@ ghost use Rattle.log_picture.specs.Lanes.{form_of, has_mark, lane_of, mark_text,
 ghost use Rattle.log_picture.specs.Lanes.{marks_text, outline_of, pair_of, shape_text, style_of, time_axis_text};
 ghost use Rattle.log_picture.specs.Lanes.{time_drawing, time_text, title_text};
 
-use crate::kind::{Kind, kind_of};
+use crate::kind::{AnswerKind, kind_of};
 use crate::limits::EVENT_LIMIT;
 use crate::overview::receipt;
 use crate::spreading::spread;
@@ -17,7 +17,7 @@ use write_groups::LogEvent;
 
 /// How an event is marked. Forms differ in their lines and not by colour alone.
 #[derive(Clone, Copy, PartialEq, Eq)]
-pub enum Form {
+pub enum MarkForm {
     Write,
     Removal,
     Read,
@@ -53,76 +53,76 @@ broken ticks. The table below says the same.</desc>
 /// What stands in place of the drawing where no event has a mark.
 pub const NO_EVENTS: &str = "<h2>The log over time</h2>\n<p>No event is drawn.</p>\n";
 
-fn form_of(kind: Kind) -> Option<Form>
+fn form_of(kind: AnswerKind) -> Option<MarkForm>
     ensures { result ≡ form_of kind }
 {
     match kind {
-        Kind::Created => Some(Form::Write),
-        Kind::Changed => Some(Form::Write),
-        Kind::Removed => Some(Form::Removal),
-        Kind::Unrecorded => Some(Form::Unrecorded),
-        Kind::Saw => Some(Form::Read),
-        Kind::NotFound => Some(Form::Read),
-        Kind::AlreadyExists => Some(Form::Read),
-        Kind::Conflict => Some(Form::Read),
-        Kind::Listed => Some(Form::List),
-        Kind::Free => None,
-        Kind::Aside => None,
+        AnswerKind::Created => Some(MarkForm::Write),
+        AnswerKind::Changed => Some(MarkForm::Write),
+        AnswerKind::Removed => Some(MarkForm::Removal),
+        AnswerKind::Unrecorded => Some(MarkForm::Unrecorded),
+        AnswerKind::Saw => Some(MarkForm::Read),
+        AnswerKind::NotFound => Some(MarkForm::Read),
+        AnswerKind::AlreadyExists => Some(MarkForm::Read),
+        AnswerKind::Conflict => Some(MarkForm::Read),
+        AnswerKind::Listed => Some(MarkForm::List),
+        AnswerKind::Free => None,
+        AnswerKind::Aside => None,
     }
 }
 
-fn decision_form(decision: Option<Decision>) -> Option<Form>
+fn decision_form(decision: Option<Decision>) -> Option<MarkForm>
     ensures { result ≡ decision_form decision }
 {
     match decision {
-        Some(Decision::Allow) => Some(Form::Allow),
-        Some(Decision::Forbid) => Some(Form::Forbid),
+        Some(Decision::Allow) => Some(MarkForm::Allow),
+        Some(Decision::Forbid) => Some(MarkForm::Forbid),
         None => None,
     }
 }
 
 // By which of the page's styles it is drawn.
-fn style_of(form: Form) -> &'static str
+fn style_of(form: MarkForm) -> &'static str
     ensures { result.now ≡ style_of form }
 {
     match form {
-        Form::Write => "tick",
-        Form::Removal => "diamond",
-        Form::Read => "segment",
-        Form::List => "segment",
-        Form::Allow => "tick",
-        Form::Forbid => "tick",
-        Form::Unrecorded => "hatched",
+        MarkForm::Write => "tick",
+        MarkForm::Removal => "diamond",
+        MarkForm::Read => "segment",
+        MarkForm::List => "segment",
+        MarkForm::Allow => "tick",
+        MarkForm::Forbid => "tick",
+        MarkForm::Unrecorded => "hatched",
     }
 }
 
 // The lines of the form, as SVG's path data.
-fn outline_of(form: Form) -> &'static str
+fn outline_of(form: MarkForm) -> &'static str
     ensures { result.now ≡ outline_of form }
 {
     match form {
-        Form::Write => "M0 -9V9",
-        Form::Removal => "M0 -8L6 0L0 8L-6 0Z",
-        Form::Read => "M-5 0A5 5 0 1 0 5 0A5 5 0 1 0 -5 0Z",
-        Form::List => "M-5 -5H5V5H-5Z",
-        Form::Allow => "M-6 0H6M0 -6V6",
-        Form::Forbid => "M-5 -5L5 5M5 -5L-5 5",
-        Form::Unrecorded => "M0 -9V9",
+        MarkForm::Write => "M0 -9V9",
+        MarkForm::Removal => "M0 -8L6 0L0 8L-6 0Z",
+        MarkForm::Read => "M-5 0A5 5 0 1 0 5 0A5 5 0 1 0 -5 0Z",
+        MarkForm::List => "M-5 -5H5V5H-5Z",
+        MarkForm::Allow => "M-6 0H6M0 -6V6",
+        MarkForm::Forbid => "M-5 -5L5 5M5 -5L-5 5",
+        MarkForm::Unrecorded => "M0 -9V9",
     }
 }
 
 // How far down its lane is.
-fn lane_of(form: Form) -> u32
+fn lane_of(form: MarkForm) -> u32
     ensures { result ≡ lane_of form }
 {
     match form {
-        Form::Write => 24,
-        Form::Removal => 54,
-        Form::Read => 84,
-        Form::List => 114,
-        Form::Allow => 144,
-        Form::Forbid => 144,
-        Form::Unrecorded => 174,
+        MarkForm::Write => 24,
+        MarkForm::Removal => 54,
+        MarkForm::Read => 84,
+        MarkForm::List => 114,
+        MarkForm::Allow => 144,
+        MarkForm::Forbid => 144,
+        MarkForm::Unrecorded => 174,
     }
 }
 
@@ -138,8 +138,8 @@ fn push_marked<'a>(
     event: &'a Event,
     logged: &'a LogEvent,
 ) -> Result<(), OutOfMemory>
-    ensures { OnOk result (map pair_of marked.new.items ≡ map pair_of marked.old.items ++ filter has_mark
-        ((event.now, logged.now) ∷ [])) }
+    ensures { OnOk result (map pair_of marked.new.items ≡ map pair_of marked.old.items
+        ++ filter has_mark ((event.now, logged.now) ∷ [])) }
 {
     if !has_mark(event, logged) {
         return Ok(());
@@ -171,7 +171,8 @@ pub fn append_time(
     events: &[Event],
     log: &[LogEvent],
 ) -> Result<(), OutOfMemory>
-    ensures { OnOk result (string_bytes text.new ≡ string_bytes text.old ++ time_text axis.now events.now log.now) }
+    ensures { OnOk result (string_bytes text.new ≡ string_bytes text.old
+        ++ time_text axis.now events.now log.now) }
 {
     let marked = marked_of(alloc, events, log)?;
     append_marked(alloc, text, axis, marked.as_slice())?;
@@ -225,8 +226,8 @@ fn append_drawing(text: &mut String, axis: &Axis, drawn: &[Marked<'_>]) -> Resul
 }
 
 fn append_marks(text: &mut String, axis: &Axis, drawn: &[Marked<'_>]) -> Result<(), OutOfMemory>
-    ensures { OnOk result (string_bytes text.new ≡ string_bytes text.old ++ flat_map (marks_text axis.now)
-        (map pair_of drawn.now)) }
+    ensures { OnOk result (string_bytes text.new ≡ string_bytes text.old
+        ++ flat_map (marks_text axis.now) (map pair_of drawn.now)) }
 {
     for one in drawn {
         append_event_marks(text, axis, one.event, one.logged)?;
@@ -255,9 +256,10 @@ fn append_mark(
     text: &mut String,
     x: u64,
     event: &Event,
-    form: Option<Form>,
+    form: Option<MarkForm>,
 ) -> Result<(), OutOfMemory>
-    ensures { OnOk result (string_bytes text.new ≡ string_bytes text.old ++ mark_text x event.now form) }
+    ensures { OnOk result (string_bytes text.new ≡ string_bytes text.old
+        ++ mark_text x event.now form) }
 {
     match form {
         Some(form) => append_form(text, x, event, form)?,
@@ -267,8 +269,9 @@ fn append_mark(
 }
 
 #[tactic(auto, unfolding(crate::specs::Lanes::form_mark))]
-fn append_form(text: &mut String, x: u64, event: &Event, form: Form) -> Result<(), OutOfMemory>
-    ensures { OnOk result (string_bytes text.new ≡ string_bytes text.old ++ form_mark x event.now form) }
+fn append_form(text: &mut String, x: u64, event: &Event, form: MarkForm) -> Result<(), OutOfMemory>
+    ensures { OnOk result (string_bytes text.new ≡ string_bytes text.old
+        ++ form_mark x event.now form) }
 {
     append_shape(text, style_of(form), outline_of(form), x, lane_of(form))?;
     append_title(text, event)?;
@@ -283,7 +286,8 @@ fn append_shape(
     x: u64,
     y: u32,
 ) -> Result<(), OutOfMemory>
-    ensures { OnOk result (string_bytes text.new ≡ string_bytes text.old ++ shape_text style.now outline.now x y) }
+    ensures { OnOk result (string_bytes text.new ≡ string_bytes text.old
+        ++ shape_text style.now outline.now x y) }
 {
     write!(
         text,
@@ -308,7 +312,8 @@ fn append_title(text: &mut String, event: &Event) -> Result<(), OutOfMemory>
 
 #[tactic(auto, unfolding(crate::specs::Lanes::time_axis_text))]
 fn append_axis(text: &mut String, axis: &Axis) -> Result<(), OutOfMemory>
-    ensures { OnOk result (string_bytes text.new ≡ string_bytes text.old ++ time_axis_text axis.now) }
+    ensures { OnOk result (string_bytes text.new ≡ string_bytes text.old
+        ++ time_axis_text axis.now) }
 {
     append_axis_low(text, axis)?;
     append_axis_high(text, axis)?;
@@ -317,7 +322,8 @@ fn append_axis(text: &mut String, axis: &Axis) -> Result<(), OutOfMemory>
 
 #[tactic(auto, unfolding(crate::specs::Lanes::axis_low_text))]
 fn append_axis_low(text: &mut String, axis: &Axis) -> Result<(), OutOfMemory>
-    ensures { OnOk result (string_bytes text.new ≡ string_bytes text.old ++ axis_low_text axis.now) }
+    ensures { OnOk result (string_bytes text.new ≡ string_bytes text.old
+        ++ axis_low_text axis.now) }
 {
     text.push_str(
         "<line class=\"axis\" x1=\"150\" y1=\"198\" x2=\"930\" y2=\"198\"/>\n<text x=\"150\" y=\"216\">",
@@ -328,7 +334,8 @@ fn append_axis_low(text: &mut String, axis: &Axis) -> Result<(), OutOfMemory>
 
 #[tactic(auto, unfolding(crate::specs::Lanes::axis_high_text))]
 fn append_axis_high(text: &mut String, axis: &Axis) -> Result<(), OutOfMemory>
-    ensures { OnOk result (string_bytes text.new ≡ string_bytes text.old ++ axis_high_text axis.now) }
+    ensures { OnOk result (string_bytes text.new ≡ string_bytes text.old
+        ++ axis_high_text axis.now) }
 {
     text.push_str("</text>\n<text x=\"930\" y=\"216\" text-anchor=\"end\">")?;
     push_moment(text, moment_at(axis.high))?;

@@ -7,7 +7,7 @@ pub const VERSION_LIMIT: usize = 600;
 
 pub const REMOVAL_LIMIT: usize = 200;
 
-pub const GAP_LIMIT: usize = 200;
+pub const UNRECORDED_LIMIT: usize = 200;
 
 /// How many objects that changed are listed at most.
 pub const CHANGE_LIMIT: usize = 20;

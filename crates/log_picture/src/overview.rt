@@ -80,7 +80,8 @@ pub fn greatest_revision(start: Revision, versions: &[Version]) -> u64
 /// Appends the verdict and the log's numbers.
 #[tactic(auto, unfolding(crate::specs::Overview::overview_text))]
 pub fn append_overview(text: &mut String, overview: Overview) -> Result<(), OutOfMemory>
-    ensures { OnOk result (string_bytes text.new ≡ string_bytes text.old ++ overview_text overview) }
+    ensures { OnOk result (string_bytes text.new ≡ string_bytes text.old
+        ++ overview_text overview) }
 {
     append_first(text, overview)?;
     append_receipts_or_none(text, overview)?;
@@ -90,7 +91,8 @@ pub fn append_overview(text: &mut String, overview: Overview) -> Result<(), OutO
 
 #[tactic(auto, unfolding(crate::specs::Overview::receipts_or_none))]
 fn append_receipts_or_none(text: &mut String, overview: Overview) -> Result<(), OutOfMemory>
-    ensures { OnOk result (string_bytes text.new ≡ string_bytes text.old ++ receipts_or_none overview) }
+    ensures { OnOk result (string_bytes text.new ≡ string_bytes text.old
+        ++ receipts_or_none overview) }
 {
     if overview.events == 0 {
         text.push_str("none</dd>\n<dt>Last receipt</dt><dd>none")?;
@@ -102,7 +104,8 @@ fn append_receipts_or_none(text: &mut String, overview: Overview) -> Result<(), 
 
 #[tactic(auto, unfolding(crate::specs::Overview::receipts_text))]
 fn append_receipts(text: &mut String, overview: Overview) -> Result<(), OutOfMemory>
-    ensures { OnOk result (string_bytes text.new ≡ string_bytes text.old ++ receipts_text overview) }
+    ensures { OnOk result (string_bytes text.new ≡ string_bytes text.old
+        ++ receipts_text overview) }
 {
     push_moment(text, moment_at(overview.first))?;
     text.push_str("</dd>\n<dt>Last receipt</dt><dd>")?;
@@ -139,7 +142,9 @@ fn append_last(text: &mut String, overview: Overview) -> Result<(), OutOfMemory>
     } = overview;
     write!(
         text,
-        "</dd>\n<dt>Revision at the start</dt><dd>{start}</dd>\n<dt>Objects at the start</dt><dd>{objects}</dd>\n<dt>Greatest revision</dt><dd>{greatest}</dd>\n</dl>\n"
+        "</dd>\n<dt>Revision at the start</dt><dd>{start}</dd>\n\
+        <dt>Objects at the start</dt><dd>{objects}</dd>\n\
+        <dt>Greatest revision</dt><dd>{greatest}</dd>\n</dl>\n"
     )?;
     Ok(())
 }

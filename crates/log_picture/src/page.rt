@@ -1,15 +1,16 @@
 ghost use Rattle.std.specs.Prelude.{◌≡◌, ◌<◌, [], ◌∷◌, ◌++◌, IfOk, OnOk, Some, length, slice_get, string_bytes};
-ghost use Rattle.log_picture.specs.Page.{events_text, gap_of, gaps_in, IsLogPage, OnePage, log_page_text};
+ghost use Rattle.log_picture.specs.Page.{events_text, unrecorded_of, unrecorded_writes_in};
+ghost use Rattle.log_picture.specs.Page.{IsLogPage, OnePage, log_page_text};
 ghost use Rattle.log_picture.specs.Page.{objects_text, overview_of, revision_axis, sections_text, time_axis};
 ghost use Rattle.version_store.specs.Histories.{history_of};
 
 use crate::changed::{Changed, append_changes, changes_of};
 use crate::counting::append_counts;
 use crate::gone::append_removals;
-use crate::kind::{Kind, is_of};
+use crate::kind::{AnswerKind, is_of};
 use crate::lanes::append_time;
 use crate::overview::{Overview, append_overview, first_receipt, greatest_revision, last_receipt};
-use crate::revised::{Drawn, Gap, append_history, written_of};
+use crate::revised::{Drawn, UnrecordedWrite, append_history, written_of};
 use crate::spreading::each_of;
 use base_types::{OutOfMemory, PlacedLine, Placement};
 use markup::{Axis, push_begin, push_end};
@@ -27,7 +28,7 @@ pub fn log_page(
 ) -> Result<String, OutOfMemory>
     ensures { IfOk result (λ page. IsLogPage context.now placement.now (string_bytes page)) }
 {
-    let gaps = gaps_of(alloc, context)?;
+    let unrecorded_writes = unrecorded_writes_of(alloc, context)?;
     let changes = changes_of(alloc, context.versions())?;
     let mut text = String::new(alloc);
     push_begin(&mut text, "Explained log")?;
@@ -36,7 +37,7 @@ pub fn log_page(
         &mut text,
         context,
         placement.as_slice(),
-        gaps.as_slice(),
+        unrecorded_writes.as_slice(),
         changes.as_slice(),
     )?;
     push_end(&mut text)?;
@@ -49,44 +50,54 @@ pub fn one_page_law()
 {}
 
 // Puts the event of this number behind the others, where it is an unrecorded write.
-fn push_gap(
-    gaps: &mut Vec<Gap>,
+fn push_unrecorded(
+    unrecorded_writes: &mut Vec<UnrecordedWrite>,
     context: &Context,
     number: u32,
     event: &LogEvent,
 ) -> Result<(), OutOfMemory>
     requires within { number < length context.now.log }
     requires at { slice_get context.now.log number ≡ Some event.now }
-    ensures { OnOk result (gaps.new.items ≡ gaps.old.items ++ gaps_in (history_of context.now) (event.now ∷ [])) }
+    ensures { OnOk result (unrecorded_writes.new.items ≡ unrecorded_writes.old.items
+        ++ unrecorded_writes_in (history_of context.now) (event.now ∷ [])) }
 {
-    if !is_of(event, Kind::Unrecorded) {
+    if !is_of(event, AnswerKind::Unrecorded) {
         return Ok(());
     }
-    gaps.push(gap_of(context, number, event))?;
+    unrecorded_writes.push(unrecorded_of(context, number, event))?;
     Ok(())
 }
 
-fn gap_of(context: &Context, number: u32, event: &LogEvent) -> Gap
+fn unrecorded_of(context: &Context, number: u32, event: &LogEvent) -> UnrecordedWrite
     requires within { number < length context.now.log }
     requires at { slice_get context.now.log number ≡ Some event.now }
-    ensures { result ≡ gap_of (history_of context.now) event.now }
+    ensures { result ≡ unrecorded_of (history_of context.now) event.now }
 {
     let window = context.window(number);
-    Gap {
+    UnrecordedWrite {
         line: event.line,
         low: window.low,
     }
 }
 
-fn gaps_of(alloc: Global, context: &Context) -> Result<Vec<Gap>, OutOfMemory>
-    ensures { IfOk result (λ gaps. gaps.items ≡ gaps_in (history_of context.now) context.now.log) }
+fn unrecorded_writes_of(
+    alloc: Global,
+    context: &Context,
+) -> Result<Vec<UnrecordedWrite>, OutOfMemory>
+    ensures { IfOk result (λ unrecorded_writes. unrecorded_writes.items
+        ≡ unrecorded_writes_in (history_of context.now) context.now.log) }
 {
     let log = context.log();
-    let mut gaps = Vec::new(alloc);
+    let mut unrecorded_writes = Vec::new(alloc);
     for number in 0..context.count() {
-        push_gap(&mut gaps, context, number, &log[number as usize])?;
+        push_unrecorded(
+            &mut unrecorded_writes,
+            context,
+            number,
+            &log[number as usize],
+        )?;
     }
-    Ok(gaps)
+    Ok(unrecorded_writes)
 }
 
 fn overview_of(context: &Context) -> Overview
@@ -133,16 +144,17 @@ fn append_sections(
     text: &mut String,
     context: &Context,
     lines: &[PlacedLine],
-    gaps: &[Gap],
+    unrecorded_writes: &[UnrecordedWrite],
     changes: &[Changed],
 ) -> Result<(), OutOfMemory>
-    ensures { OnOk result (string_bytes text.new ≡ string_bytes text.old ++ sections_text context.now
-        (overview_of context.now) lines.now gaps.now changes.now) }
+    ensures { OnOk result (string_bytes text.new ≡ string_bytes text.old
+        ++ sections_text context.now (overview_of context.now) lines.now unrecorded_writes.now
+        changes.now) }
 {
     let overview = overview_of(context);
     append_events(alloc, text, context, overview)?;
     append_changes(alloc, text, changes)?;
-    append_objects(alloc, text, context, overview, lines, gaps)?;
+    append_objects(alloc, text, context, overview, lines, unrecorded_writes)?;
     Ok(())
 }
 
@@ -154,7 +166,8 @@ fn append_events(
     context: &Context,
     overview: Overview,
 ) -> Result<(), OutOfMemory>
-    ensures { OnOk result (string_bytes text.new ≡ string_bytes text.old ++ events_text context.now overview) }
+    ensures { OnOk result (string_bytes text.new ≡ string_bytes text.old
+        ++ events_text context.now overview) }
 {
     let log = context.log();
     let axis = time_axis(overview);
@@ -172,10 +185,10 @@ fn append_objects(
     context: &Context,
     overview: Overview,
     lines: &[PlacedLine],
-    gaps: &[Gap],
+    unrecorded_writes: &[UnrecordedWrite],
 ) -> Result<(), OutOfMemory>
-    ensures { OnOk result (string_bytes text.new ≡ string_bytes text.old ++ objects_text context.now overview
-        lines.now gaps.now) }
+    ensures { OnOk result (string_bytes text.new ≡ string_bytes text.old
+        ++ objects_text context.now overview lines.now unrecorded_writes.now) }
 {
     let log = context.log();
     let versions = written_of(alloc, context.versions())?;
@@ -185,7 +198,7 @@ fn append_objects(
         log,
         versions: versions.as_slice(),
         removals: removals.as_slice(),
-        gaps,
+        unrecorded_writes,
     };
     append_history(alloc, text, &drawn)?;
     append_removals(alloc, text, log, lines, removals.as_slice())?;

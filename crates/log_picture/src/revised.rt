@@ -1,11 +1,11 @@
 ghost use Rattle.std.specs.Prelude.{◌≡◌, ◌++◌, IfOk, OnOk, flat_map, map, string_bytes};
-ghost use Rattle.log_picture.specs.Revised.{axis_text, bar_text, bar_width, gap_mark, history_drawing};
+ghost use Rattle.log_picture.specs.Revised.{axis_text, bar_text, bar_width, unrecorded_mark, history_drawing};
 ghost use Rattle.log_picture.specs.Revised.{history_marks, history_text, is_written, left_out_text, range_text};
 ghost use Rattle.log_picture.specs.Revised.{rect_text, removal_mark, tick_text, version_mark, written_versions};
 
-use crate::limits::{GAP_LIMIT, REMOVAL_LIMIT, VERSION_LIMIT};
+use crate::limits::{REMOVAL_LIMIT, UNRECORDED_LIMIT, VERSION_LIMIT};
 use crate::spreading::{append_rest, spread};
-use crate::tables::{append_gaps, append_versions};
+use crate::tables::{append_unrecorded, append_versions};
 use base_types::{OutOfMemory, Range, key_text};
 use markup::{Axis, Told};
 use object_past::{Maker, Removal, Version};
@@ -14,7 +14,7 @@ use write_groups::{LogEvent, line_at};
 
 /// An unrecorded write.
 #[derive(Clone, Copy)]
-pub struct Gap {
+pub struct UnrecordedWrite {
     /// The event's line.
     pub line: u64,
     /// The lowest place of its window.
@@ -28,7 +28,7 @@ pub struct Drawn<'a> {
     pub log: &'a [LogEvent],
     pub versions: &'a [&'a Version],
     pub removals: &'a [&'a Removal],
-    pub gaps: &'a [Gap],
+    pub unrecorded_writes: &'a [UnrecordedWrite],
 }
 
 /// What stands in front of the drawing's marks.
@@ -55,7 +55,8 @@ fn is_written(maker: Maker) -> bool
 
 /// The versions behind the start.
 pub fn written_of(alloc: Global, versions: &[Version]) -> Result<Vec<&Version>, OutOfMemory>
-    ensures { IfOk result (λ written. map (λ one. one.now) written.items ≡ written_versions versions.now) }
+    ensures { IfOk result (λ written. map (λ one. one.now) written.items
+        ≡ written_versions versions.now) }
 {
     let mut written = Vec::new(alloc);
     for version in versions {
@@ -73,22 +74,24 @@ pub fn append_history(
     text: &mut String,
     drawn: &Drawn<'_>,
 ) -> Result<(), OutOfMemory>
-    ensures { OnOk result (string_bytes text.new ≡ string_bytes text.old ++ history_text drawn.now.axis
-        drawn.now.log.now (map (λ one. one.now) drawn.now.versions.now) (map (λ one. one.now) drawn.now.removals.now)
-        drawn.now.gaps.now) }
+    ensures { OnOk result (string_bytes text.new ≡ string_bytes text.old
+        ++ history_text drawn.now.axis drawn.now.log.now
+        (map (λ one. one.now) drawn.now.versions.now) (map (λ one. one.now) drawn.now.removals.now)
+        drawn.now.unrecorded_writes.now) }
 {
     append_drawing(alloc, text, drawn)?;
     append_left_out(alloc, text, drawn)?;
     append_versions(alloc, text, drawn.log, drawn.versions)?;
-    append_gaps(alloc, text, drawn.gaps)?;
+    append_unrecorded(alloc, text, drawn.unrecorded_writes)?;
     Ok(())
 }
 
 #[tactic(auto, unfolding(crate::specs::Revised::history_drawing))]
 fn append_drawing(alloc: Global, text: &mut String, drawn: &Drawn<'_>) -> Result<(), OutOfMemory>
-    ensures { OnOk result (string_bytes text.new ≡ string_bytes text.old ++ history_drawing drawn.now.axis
-        drawn.now.log.now (map (λ one. one.now) drawn.now.versions.now) (map (λ one. one.now) drawn.now.removals.now)
-        drawn.now.gaps.now) }
+    ensures { OnOk result (string_bytes text.new ≡ string_bytes text.old
+        ++ history_drawing drawn.now.axis drawn.now.log.now
+        (map (λ one. one.now) drawn.now.versions.now) (map (λ one. one.now) drawn.now.removals.now)
+        drawn.now.unrecorded_writes.now) }
 {
     text.push_str(HISTORY_HEAD)?;
     append_history_marks(alloc, text, drawn)?;
@@ -102,17 +105,18 @@ fn append_history_marks(
     text: &mut String,
     drawn: &Drawn<'_>,
 ) -> Result<(), OutOfMemory>
-    ensures { OnOk result (string_bytes text.new ≡ string_bytes text.old ++ history_marks drawn.now.axis
-        drawn.now.log.now (map (λ one. one.now) drawn.now.versions.now) (map (λ one. one.now) drawn.now.removals.now)
-        drawn.now.gaps.now) }
+    ensures { OnOk result (string_bytes text.new ≡ string_bytes text.old
+        ++ history_marks drawn.now.axis drawn.now.log.now
+        (map (λ one. one.now) drawn.now.versions.now) (map (λ one. one.now) drawn.now.removals.now)
+        drawn.now.unrecorded_writes.now) }
 {
     let axis = &drawn.axis;
     let versions = spread(alloc, drawn.versions, VERSION_LIMIT)?;
     let removals = spread(alloc, drawn.removals, REMOVAL_LIMIT)?;
-    let gaps = spread(alloc, drawn.gaps, GAP_LIMIT)?;
+    let unrecorded_writes = spread(alloc, drawn.unrecorded_writes, UNRECORDED_LIMIT)?;
     append_version_marks(alloc, text, axis, versions.as_slice())?;
     append_removal_marks(alloc, text, axis, drawn.log, removals.as_slice())?;
-    append_gap_marks(text, axis, gaps.as_slice())?;
+    append_unrecorded_marks(text, axis, unrecorded_writes.as_slice())?;
     Ok(())
 }
 
@@ -137,7 +141,8 @@ fn append_version_mark(
     axis: &Axis,
     version: &Version,
 ) -> Result<(), OutOfMemory>
-    ensures { OnOk result (string_bytes text.new ≡ string_bytes text.old ++ version_mark axis.now version.now) }
+    ensures { OnOk result (string_bytes text.new ≡ string_bytes text.old
+        ++ version_mark axis.now version.now) }
 {
     let revision = version.revision.get();
     let x = axis.position(revision);
@@ -148,7 +153,8 @@ fn append_version_mark(
 
 #[tactic(auto, unfolding(crate::specs::Revised::tick_text))]
 fn append_tick(text: &mut String, x: u64, revision: u64, key: &str) -> Result<(), OutOfMemory>
-    ensures { OnOk result (string_bytes text.new ≡ string_bytes text.old ++ tick_text x revision key.now) }
+    ensures { OnOk result (string_bytes text.new ≡ string_bytes text.old
+        ++ tick_text x revision key.now) }
 {
     writeln!(
         text,
@@ -190,7 +196,8 @@ fn append_removal_mark(
     log: &[LogEvent],
     removal: &Removal,
 ) -> Result<(), OutOfMemory>
-    ensures { OnOk result (string_bytes text.new ≡ string_bytes text.old ++ removal_mark axis.now log.now removal.now) }
+    ensures { OnOk result (string_bytes text.new ≡ string_bytes text.old
+        ++ removal_mark axis.now log.now removal.now) }
 {
     let range = removal.range;
     let line = line_at(log, range.event);
@@ -201,7 +208,8 @@ fn append_removal_mark(
 }
 
 fn append_bar(text: &mut String, axis: &Axis, range: Range) -> Result<(), OutOfMemory>
-    ensures { OnOk result (string_bytes text.new ≡ string_bytes text.old ++ bar_text axis.now range) }
+    ensures { OnOk result (string_bytes text.new ≡ string_bytes text.old
+        ++ bar_text axis.now range) }
 {
     let x = axis.position(range.low);
     let y = 62 + range.event % 6 * 11;
@@ -229,7 +237,8 @@ fn append_range(
     high: u64,
     key: &str,
 ) -> Result<(), OutOfMemory>
-    ensures { OnOk result (string_bytes text.new ≡ string_bytes text.old ++ range_text line low high key.now) }
+    ensures { OnOk result (string_bytes text.new ≡ string_bytes text.old
+        ++ range_text line low high key.now) }
 {
     writeln!(
         text,
@@ -239,24 +248,35 @@ fn append_range(
     Ok(())
 }
 
-fn append_gap_marks(text: &mut String, axis: &Axis, gaps: &[Gap]) -> Result<(), OutOfMemory>
-    ensures { OnOk result (string_bytes text.new ≡ string_bytes text.old ++ flat_map (gap_mark axis.now) gaps.now) }
+fn append_unrecorded_marks(
+    text: &mut String,
+    axis: &Axis,
+    unrecorded_writes: &[UnrecordedWrite],
+) -> Result<(), OutOfMemory>
+    ensures { OnOk result (string_bytes text.new ≡ string_bytes text.old
+        ++ flat_map (unrecorded_mark axis.now) unrecorded_writes.now) }
 {
-    for gap in gaps {
-        append_gap_mark(text, axis, *gap)?;
+    for unrecorded in unrecorded_writes {
+        append_unrecorded_mark(text, axis, *unrecorded)?;
     }
     Ok(())
 }
 
-#[tactic(auto, unfolding(crate::specs::Revised::gap_mark))]
-fn append_gap_mark(text: &mut String, axis: &Axis, gap: Gap) -> Result<(), OutOfMemory>
-    ensures { OnOk result (string_bytes text.new ≡ string_bytes text.old ++ gap_mark axis.now gap) }
+#[tactic(auto, unfolding(crate::specs::Revised::unrecorded_mark))]
+fn append_unrecorded_mark(
+    text: &mut String,
+    axis: &Axis,
+    unrecorded: UnrecordedWrite,
+) -> Result<(), OutOfMemory>
+    ensures { OnOk result (string_bytes text.new ≡ string_bytes text.old
+        ++ unrecorded_mark axis.now unrecorded) }
 {
-    let Gap { line, low } = gap;
+    let UnrecordedWrite { line, low } = unrecorded;
     let x = axis.position(low);
     writeln!(
         text,
-        "<line class=\"hatched\" x1=\"{x}\" y1=\"142\" x2=\"{x}\" y2=\"166\"><title>Line {line}: unrecorded write, from place {low} on</title></line>"
+        "<line class=\"hatched\" x1=\"{x}\" y1=\"142\" x2=\"{x}\" y2=\"166\">\
+        <title>Line {line}: unrecorded write, from place {low} on</title></line>"
     )?;
     Ok(())
 }
@@ -268,7 +288,9 @@ fn append_axis(text: &mut String, axis: &Axis) -> Result<(), OutOfMemory>
     let Axis { low, high, .. } = *axis;
     write!(
         text,
-        "<line class=\"axis\" x1=\"150\" y1=\"178\" x2=\"930\" y2=\"178\"/>\n<text x=\"150\" y=\"196\">revision {low}</text>\n<text x=\"930\" y=\"196\" text-anchor=\"end\">revision {high}</text>\n</svg>\n</figure>\n"
+        "<line class=\"axis\" x1=\"150\" y1=\"178\" x2=\"930\" y2=\"178\"/>\n\
+        <text x=\"150\" y=\"196\">revision {low}</text>\n\
+        <text x=\"930\" y=\"196\" text-anchor=\"end\">revision {high}</text>\n</svg>\n</figure>\n"
     )?;
     Ok(())
 }
@@ -277,7 +299,7 @@ fn append_axis(text: &mut String, axis: &Axis) -> Result<(), OutOfMemory>
 fn append_left_out(alloc: Global, text: &mut String, drawn: &Drawn<'_>) -> Result<(), OutOfMemory>
     ensures { OnOk result (string_bytes text.new ≡ string_bytes text.old ++ left_out_text
         (map (λ one. one.now) drawn.now.versions.now) (map (λ one. one.now) drawn.now.removals.now)
-        drawn.now.gaps.now) }
+        drawn.now.unrecorded_writes.now) }
 {
     append_rest(
         alloc,
@@ -296,8 +318,8 @@ fn append_left_out(alloc: Global, text: &mut String, drawn: &Drawn<'_>) -> Resul
     append_rest(
         alloc,
         text,
-        drawn.gaps,
-        GAP_LIMIT,
+        drawn.unrecorded_writes,
+        UNRECORDED_LIMIT,
         "Unrecorded writes that aren't drawn",
     )?;
     Ok(())

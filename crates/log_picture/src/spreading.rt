@@ -41,7 +41,8 @@ pub fn append_rest<T: Copy>(
     limit: usize,
     words: &str,
 ) -> Result<(), OutOfMemory>
-    ensures { OnOk result (string_bytes text.new ≡ string_bytes text.old ++ rest_of limit items.now words.now) }
+    ensures { OnOk result (string_bytes text.new ≡ string_bytes text.old
+        ++ rest_of limit items.now words.now) }
 {
     let taken = spread(alloc, items, limit)?;
     push_rest(text, taken.len(), items.len(), words)

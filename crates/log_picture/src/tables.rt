@@ -1,13 +1,13 @@
 ghost use Rattle.std.specs.Prelude.{◌≡◌, ◌++◌, OnOk, flat_map, map, string_bytes};
 ghost use Rattle.log_picture.specs.Lanes.{asked_cells, decision_words, event_row, events_table, pair_of};
-ghost use Rattle.log_picture.specs.Revised.{gap_row, gaps_table, maker_text, version_cells, version_row};
+ghost use Rattle.log_picture.specs.Revised.{unrecorded_row, unrecorded_table, maker_text, version_cells, version_row};
 ghost use Rattle.log_picture.specs.Revised.{versions_table};
 
 use crate::gone::TABLE_END;
 use crate::kind::{kind_of, kind_words};
 use crate::lanes::Marked;
-use crate::limits::{GAP_LIMIT, VERSION_LIMIT};
-use crate::revised::Gap;
+use crate::limits::{UNRECORDED_LIMIT, VERSION_LIMIT};
+use crate::revised::UnrecordedWrite;
 use crate::spreading::spread;
 use audit_event::Event;
 use base_types::{Decision, OutOfMemory, key_text};
@@ -24,7 +24,7 @@ pub const VERSIONS_HEAD: &str = r#"<h3>Versions behind the start</h3>
 "#;
 
 /// What stands in front of the rows of the unrecorded writes.
-pub const GAPS_HEAD: &str = r#"<h3>Unrecorded writes</h3>
+pub const UNRECORDED_HEAD: &str = r#"<h3>Unrecorded writes</h3>
 <p>From the lowest place of its window on, nothing is known of the objects that such a write may have changed.</p>
 <table>
 <thead><tr><th scope="col">Line</th><th scope="col">Lowest place</th></tr></thead>
@@ -83,7 +83,8 @@ fn append_version_row(
     log: &[LogEvent],
     version: &Version,
 ) -> Result<(), OutOfMemory>
-    ensures { OnOk result (string_bytes text.new ≡ string_bytes text.old ++ version_row log.now version.now) }
+    ensures { OnOk result (string_bytes text.new ≡ string_bytes text.old
+        ++ version_row log.now version.now) }
 {
     append_version_cells(alloc, text, version)?;
     append_maker(text, log, version.maker)?;
@@ -97,7 +98,8 @@ fn append_version_cells(
     text: &mut String,
     version: &Version,
 ) -> Result<(), OutOfMemory>
-    ensures { OnOk result (string_bytes text.new ≡ string_bytes text.old ++ version_cells version.now) }
+    ensures { OnOk result (string_bytes text.new ≡ string_bytes text.old
+        ++ version_cells version.now) }
 {
     let revision = version.revision.get();
     let key = key_text(alloc, &version.key)?;
@@ -111,7 +113,8 @@ fn append_version_cells(
 
 #[tactic(auto, unfolding(crate::specs::Revised::maker_text))]
 fn append_maker(text: &mut String, log: &[LogEvent], maker: Maker) -> Result<(), OutOfMemory>
-    ensures { OnOk result (string_bytes text.new ≡ string_bytes text.old ++ maker_text log.now maker) }
+    ensures { OnOk result (string_bytes text.new ≡ string_bytes text.old
+        ++ maker_text log.now maker) }
 {
     match maker {
         Maker::Snapshot => text.push_str("there at the start")?,
@@ -122,31 +125,41 @@ fn append_maker(text: &mut String, log: &[LogEvent], maker: Maker) -> Result<(),
 }
 
 /// Appends the table of the drawn unrecorded writes.
-#[tactic(auto, unfolding(crate::specs::Revised::gaps_table))]
-pub fn append_gaps(alloc: Global, text: &mut String, gaps: &[Gap]) -> Result<(), OutOfMemory>
-    ensures { OnOk result (string_bytes text.new ≡ string_bytes text.old ++ gaps_table gaps.now) }
+#[tactic(auto, unfolding(crate::specs::Revised::unrecorded_table))]
+pub fn append_unrecorded(
+    alloc: Global,
+    text: &mut String,
+    unrecorded_writes: &[UnrecordedWrite],
+) -> Result<(), OutOfMemory>
+    ensures { OnOk result (string_bytes text.new ≡ string_bytes text.old
+        ++ unrecorded_table unrecorded_writes.now) }
 {
-    let listed = spread(alloc, gaps, GAP_LIMIT)?;
-    text.push_str(GAPS_HEAD)?;
-    append_gap_rows(text, listed.as_slice())?;
+    let listed = spread(alloc, unrecorded_writes, UNRECORDED_LIMIT)?;
+    text.push_str(UNRECORDED_HEAD)?;
+    append_unrecorded_rows(text, listed.as_slice())?;
     text.push_str(TABLE_END)?;
     Ok(())
 }
 
-fn append_gap_rows(text: &mut String, gaps: &[Gap]) -> Result<(), OutOfMemory>
-    ensures { OnOk result (string_bytes text.new ≡ string_bytes text.old ++ flat_map gap_row gaps.now) }
+fn append_unrecorded_rows(
+    text: &mut String,
+    unrecorded_writes: &[UnrecordedWrite],
+) -> Result<(), OutOfMemory>
+    ensures { OnOk result (string_bytes text.new ≡ string_bytes text.old
+        ++ flat_map unrecorded_row unrecorded_writes.now) }
 {
-    for gap in gaps {
-        append_gap_row(text, *gap)?;
+    for unrecorded in unrecorded_writes {
+        append_unrecorded_row(text, *unrecorded)?;
     }
     Ok(())
 }
 
-#[tactic(auto, unfolding(crate::specs::Revised::gap_row))]
-fn append_gap_row(text: &mut String, gap: Gap) -> Result<(), OutOfMemory>
-    ensures { OnOk result (string_bytes text.new ≡ string_bytes text.old ++ gap_row gap) }
+#[tactic(auto, unfolding(crate::specs::Revised::unrecorded_row))]
+fn append_unrecorded_row(text: &mut String, unrecorded: UnrecordedWrite) -> Result<(), OutOfMemory>
+    ensures { OnOk result (string_bytes text.new ≡ string_bytes text.old
+        ++ unrecorded_row unrecorded) }
 {
-    let Gap { line, low } = gap;
+    let UnrecordedWrite { line, low } = unrecorded;
     writeln!(text, "<tr><td>{line}</td><td>{low}</td></tr>")?;
     Ok(())
 }
@@ -154,7 +167,8 @@ fn append_gap_row(text: &mut String, gap: Gap) -> Result<(), OutOfMemory>
 /// Appends the table of the drawn events.
 #[tactic(auto, unfolding(crate::specs::Lanes::events_table))]
 pub fn append_events(text: &mut String, drawn: &[Marked<'_>]) -> Result<(), OutOfMemory>
-    ensures { OnOk result (string_bytes text.new ≡ string_bytes text.old ++ events_table (map pair_of drawn.now)) }
+    ensures { OnOk result (string_bytes text.new ≡ string_bytes text.old
+        ++ events_table (map pair_of drawn.now)) }
 {
     text.push_str(EVENTS_HEAD)?;
     append_event_rows(text, drawn)?;
@@ -184,7 +198,8 @@ fn append_event_rows(text: &mut String, drawn: &[Marked<'_>]) -> Result<(), OutO
 
 #[tactic(auto, unfolding(crate::specs::Lanes::event_row))]
 fn append_event_row(text: &mut String, event: &Event, logged: &LogEvent) -> Result<(), OutOfMemory>
-    ensures { OnOk result (string_bytes text.new ≡ string_bytes text.old ++ event_row (event.now, logged.now)) }
+    ensures { OnOk result (string_bytes text.new ≡ string_bytes text.old
+        ++ event_row (event.now, logged.now)) }
 {
     write!(text, "<tr><td>{}</td><td>", event.line)?;
     push_moment(text, event.received)?;
@@ -194,7 +209,8 @@ fn append_event_row(text: &mut String, event: &Event, logged: &LogEvent) -> Resu
 
 #[tactic(auto, unfolding(crate::specs::Lanes::asked_cells))]
 fn append_asked(text: &mut String, event: &Event, logged: &LogEvent) -> Result<(), OutOfMemory>
-    ensures { OnOk result (string_bytes text.new ≡ string_bytes text.old ++ asked_cells event.now logged.now) }
+    ensures { OnOk result (string_bytes text.new ≡ string_bytes text.old
+        ++ asked_cells event.now logged.now) }
 {
     let answered = kind_words(kind_of(&logged.answer));
     let decided = decision_words(logged.decision);

@@ -5,7 +5,7 @@ use Rattle.std.proofs.lemmas.List.{length-drop, length-take-le, take_rest}
 use Rattle.line_reader.specs.Lines.{newline, last_line, lines_of}
 use Rattle.line_reader.specs.Search.{HasNoNewline}
 use Rattle.line_reader.proofs.LineFacts.{line_cut, rest_of-line, rest_of-none, whole_lines-line, whole_lines-none}
-use Rattle.log_sift.specs.Cutting.{BeginsWith, closed, texts_of}
+use Rattle.log_sift.specs.Cutting.{BeginsWith, closed, line_texts}
 
 -- a line and its newline at the front
 pub begins_closed : (line more : List ℕ) → HasNoNewline line → BeginsWith (line ++ newline ∷ more) line (closed line) more
@@ -42,7 +42,7 @@ cut_closed log start end first within is none =
     let text : slice_range log start (end + 1) ≡ closed line = ap (λ n. take n (drop start log)) count ∙ ap (λ bytes. take (suc (length line)) bytes) cut ∙ take_closed line more in
     let begins = begins_closed line more none in record {
       lines = ap lines_of cut ∙ begins.lines;
-      texts = ap texts_of cut ∙ begins.texts ∙ ap (λ first. first ∷ texts_of more) (sym text);
+      texts = ap line_texts cut ∙ begins.texts ∙ ap (λ first. first ∷ line_texts more) (sym text);
     }
 
 -- the last line, which lacks its newline

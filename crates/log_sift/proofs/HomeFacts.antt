@@ -5,25 +5,25 @@ use Rattle.std.proofs.lemmas.List.Elements.{All-cons, All-nil, Contains-append_r
 use Rattle.audit_event.specs.declared.event.Event.{Event}
 use Rattle.audit_event.specs.Keeping.{AreOfOneStage}
 use Rattle.log_intake.specs.Log.{IsNew}
-use Rattle.log_sift.specs.declared.recalling.HomeKey.{HomeKey}
+use Rattle.log_sift.specs.declared.recalling.EventIdentity.{EventIdentity}
 use Rattle.log_sift.specs.declared.recalling.Home.{Home}
-use Rattle.log_sift.specs.Recalling.{AreHomes, IsAt, home_key_of}
+use Rattle.log_sift.specs.Recalling.{AreHomes, IsAt, identity_of}
 
-pub one_identity : (a b : Event) → AreOfOneStage a b → home_key_of a ≡ home_key_of b
+pub one_identity : (a b : Event) → AreOfOneStage a b → identity_of a ≡ identity_of b
 one_identity a b one = λ i. record { audit_id = (one i).audit_id; stage = (one i).stage }
 
-pub one_stage : (a b : Event) → home_key_of a ≡ home_key_of b → AreOfOneStage a b
+pub one_stage : (a b : Event) → identity_of a ≡ identity_of b → AreOfOneStage a b
 one_stage a b same = λ i. record { audit_id = (same i).audit_id; stage = (same i).stage }
 
 -- the kept event that is found under an identity
-pub record IsFound (log : List ℕ) (kept : List Event) (identity : HomeKey) (home : Home) : Type 0 where
+pub record IsFound (log : List ℕ) (kept : List Event) (identity : EventIdentity) (home : Home) : Type 0 where
   pub event : Event
   pub among : Contains kept event
-  pub is : identity ≡ home_key_of event
+  pub is : identity ≡ identity_of event
   pub at : IsAt log home event
 
-pub found : (eq : HomeKey → HomeKey → Bool) → ((x y : HomeKey) → eq x y ≡ true → x ≡ y)
-    → (log : List ℕ) (identity : HomeKey) (home : Home) (entries : List (HomeKey × Home)) (kept : List Event)
+pub found : (eq : EventIdentity → EventIdentity → Bool) → ((x y : EventIdentity) → eq x y ≡ true → x ≡ y)
+    → (log : List ℕ) (identity : EventIdentity) (home : Home) (entries : List (EventIdentity × Home)) (kept : List Event)
     → lookup (eq identity) entries ≡ Some home → AreHomes log entries kept → IsFound log kept identity home
 found eq means log identity home [] kept is homes = absurd (cc)
 found eq means log identity home (entry ∷ entries) [] is homes = absurd homes
@@ -48,26 +48,26 @@ found eq means log identity home (entry ∷ entries) (event ∷ kept) is homes =
         }
 
 -- an event of whose identity none is found is new
-pub absent : (eq : HomeKey → HomeKey → Bool) → ((x y : HomeKey) → x ≡ y → eq x y ≡ true)
-    → (log : List ℕ) (event : Event) (entries : List (HomeKey × Home)) (kept : List Event)
-    → lookup (eq (home_key_of event)) entries ≡ None → AreHomes log entries kept → IsNew kept event
+pub absent : (eq : EventIdentity → EventIdentity → Bool) → ((x y : EventIdentity) → x ≡ y → eq x y ≡ true)
+    → (log : List ℕ) (event : Event) (entries : List (EventIdentity × Home)) (kept : List Event)
+    → lookup (eq (identity_of event)) entries ≡ None → AreHomes log entries kept → IsNew kept event
 absent eq tells log event [] [] is homes = All-nil (λ other. ¬ AreOfOneStage other event)
 absent eq tells log event [] (other ∷ kept) is homes = absurd homes
 absent eq tells log event (entry ∷ entries) [] is homes = absurd homes
 absent eq tells log event (entry ∷ entries) (other ∷ kept) is homes =
-    go (eq (home_key_of event) entry.0) refl is (λ rest. absent eq tells log event entries kept rest homes.2)
+    go (eq (identity_of event) entry.0) refl is (λ rest. absent eq tells log event entries kept rest homes.2)
   where
-    go : (test : Bool) → eq (home_key_of event) entry.0 ≡ test → cond test (Some entry.1) (lookup (eq (home_key_of event)) entries) ≡ None
-        → (lookup (eq (home_key_of event)) entries ≡ None → IsNew kept event) → IsNew (other ∷ kept) event
+    go : (test : Bool) → eq (identity_of event) entry.0 ≡ test → cond test (Some entry.1) (lookup (eq (identity_of event)) entries) ≡ None
+        → (lookup (eq (identity_of event)) entries ≡ None → IsNew kept event) → IsNew (other ∷ kept) event
     go true same now later = absurd (cc)
     go false same now later =
         All-cons (λ (o : Event). ¬ AreOfOneStage o event) other kept
-        (λ one. true≢false (sym (tells (home_key_of event) entry.0 (sym (homes.0 ∙ one_identity other event one))) ∙ same))
+        (λ one. true≢false (sym (tells (identity_of event) entry.0 (sym (homes.0 ∙ one_identity other event one))) ∙ same))
         (later now)
 
 -- an event more, where it stands
-pub homes_push : (log : List ℕ) (entries : List (HomeKey × Home)) (kept : List Event) (identity : HomeKey) (home : Home) (event : Event)
-    → AreHomes log entries kept → identity ≡ home_key_of event → IsAt log home event → AreHomes log (entries ++ (identity, home) ∷ []) (kept ++ event ∷ [])
+pub homes_push : (log : List ℕ) (entries : List (EventIdentity × Home)) (kept : List Event) (identity : EventIdentity) (home : Home) (event : Event)
+    → AreHomes log entries kept → identity ≡ identity_of event → IsAt log home event → AreHomes log (entries ++ (identity, home) ∷ []) (kept ++ event ∷ [])
 homes_push log [] [] identity home event homes is at = (is, at, tt)
 homes_push log [] (other ∷ kept) identity home event homes is at = absurd homes
 homes_push log (entry ∷ entries) [] identity home event homes is at = absurd homes

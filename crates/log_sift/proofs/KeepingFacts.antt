@@ -10,22 +10,22 @@ use Rattle.batch_decode.specs.Batches.{IsDecoded}
 use Rattle.log_intake.specs.Steps.{InOrder}
 use Rattle.log_intake.proofs.StepFacts.{in_order_push, in_order_stopped}
 use Rattle.log_sift.specs.declared.answer.LeftCause.{LeftCause}
-use Rattle.log_sift.specs.declared.recalling.HomeKey.{HomeKey}
+use Rattle.log_sift.specs.declared.recalling.EventIdentity.{EventIdentity}
 use Rattle.log_sift.specs.declared.recalling.Home.{Home}
-use Rattle.log_sift.specs.Recalling.{AreHomes, Compares, IsAt, Moves, Steps, home_key_of}
+use Rattle.log_sift.specs.Recalling.{AreHomes, Compares, IsAt, Moves, Steps, identity_of}
 use Rattle.log_sift.specs.Sift.{KeepsDecoded, KeepsEvent, KeepsLine}
 use Rattle.log_sift.proofs.HomeFacts.{IsFound, absent, found, homes_push, one_stage}
 
 abbrev Entry : Type 0
-Entry = HomeKey × Home
+Entry = EventIdentity × Home
 
 pub if_ok : {T E : Type 0} (answer : Result T E) (P Q : T → Type 0) → ((value : T) → P value → Q value) → IfOk answer P → IfOk answer Q
 if_ok {T} {E} (Ok value) P Q then p = then value p
 if_ok {T} {E} (Err fault) P Q then p = tt
 
 -- an event whose identity is found, as it compares with the event that stands there
-pub compared : (eq : HomeKey → HomeKey → Bool) → ((x y : HomeKey) → eq x y ≡ true → x ≡ y) → (log : List ℕ) (entries : List Entry) (identity : HomeKey) (home : Home) (event : Event) (cause : Option LeftCause)
-    → lookup (eq identity) entries ≡ Some home → identity ≡ home_key_of event → ((earlier : Event) → IsAt log home earlier → AreOfOneStage earlier event → Compares earlier event cause)
+pub compared : (eq : EventIdentity → EventIdentity → Bool) → ((x y : EventIdentity) → eq x y ≡ true → x ≡ y) → (log : List ℕ) (entries : List Entry) (identity : EventIdentity) (home : Home) (event : Event) (cause : Option LeftCause)
+    → lookup (eq identity) entries ≡ Some home → identity ≡ identity_of event → ((earlier : Event) → IsAt log home earlier → AreOfOneStage earlier event → Compares earlier event cause)
     → Moves log entries entries (λ kept. KeepsEvent kept event) cause
 compared eq means log entries identity home event cause there is compares = record {
   more = [];
@@ -46,8 +46,8 @@ compared eq means log entries identity home event cause there is compares = reco
         ((at.event, was, differs.0), differs.1)
 
 -- an event whose identity isn't found
-pub kept_new : (eq : HomeKey → HomeKey → Bool) → ((x y : HomeKey) → x ≡ y → eq x y ≡ true) → (log : List ℕ) (entries after : List Entry) (identity : HomeKey) (home : Home) (event : Event)
-    → lookup (eq identity) entries ≡ None → identity ≡ home_key_of event → IsAt log home event → after ≡ entries ++ (identity, home) ∷ [] → Moves log entries after (λ kept. KeepsEvent kept event) None
+pub kept_new : (eq : EventIdentity → EventIdentity → Bool) → ((x y : EventIdentity) → x ≡ y → eq x y ≡ true) → (log : List ℕ) (entries after : List Entry) (identity : EventIdentity) (home : Home) (event : Event)
+    → lookup (eq identity) entries ≡ None → identity ≡ identity_of event → IsAt log home event → after ≡ entries ++ (identity, home) ∷ [] → Moves log entries after (λ kept. KeepsEvent kept event) None
 kept_new eq tells log entries after identity home event none is at grows = record {
   more = (identity, home) ∷ [];
   grows = grows;

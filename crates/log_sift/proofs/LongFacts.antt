@@ -14,7 +14,7 @@ use Rattle.log_sift.specs.declared.answer.Fate.{Fate}
 use Rattle.log_sift.specs.declared.answer.Fate.TheVariants.{Blank, Stays, Left}
 use Rattle.log_sift.specs.Sift.{IsSifted, SiftsLine, SiftsLines}
 use Rattle.log_sift.specs.Sifted.{kept_text}
-use Rattle.log_sift.specs.Taken.{AreSame, ReadsKept}
+use Rattle.log_sift.specs.Taken.{AreSameButLine, ReadsKept}
 use Rattle.log_sift.proofs.DistinctFacts.{IsDistinct}
 use Rattle.log_sift.proofs.FrontFacts.{BeginsLong, begun_long, split_lines}
 use Rattle.log_sift.proofs.OneFacts.{line_keeps, line_once, none_distinct}
@@ -76,24 +76,24 @@ fine_end rest more fates number state ys after found none sifts stay takes = go 
         let over : longest_line < length rest = is_long rest long in
         absurd (begins_short (lines_of (rest ++ more)) fates ys after (length rest) over (begun_long rest more none (omega (arith, over))) sifts stay)
 
-front_reads : (xs : List (List ℕ)) (rest more : List ℕ) (fates : List Fate) (number : ℕ) (state : LogState) (ys after : List Event) (found : Result LogState LogStop) → IsDistinct ys → AreSame state.kept ys → HasNoNewline rest
+front_reads : (xs : List (List ℕ)) (rest more : List ℕ) (fates : List Fate) (number : ℕ) (state : LogState) (ys after : List Event) (found : Result LogState LogStop) → IsDistinct ys → AreSameButLine state.kept ys → HasNoNewline rest
     → SiftsLines ys (xs ++ lines_of (rest ++ more)) fates after → AllStay fates → InOrder TakesLine state (numbered number (xs ++ cut_line rest)) found → IsFine found
 front_reads [] rest more fates number state ys after found distinct are none sifts stay takes = fine_end rest more fates number state ys after found none sifts stay takes
 front_reads (line ∷ xs) rest more [] number state ys after found distinct are none sifts stay takes = absurd sifts
 front_reads (line ∷ xs) rest more (Left cause ∷ fates) number state ys after found distinct are none sifts stay takes = absurd stay
 front_reads (line ∷ xs) rest more (Blank ∷ fates) number state ys after found distinct are none (next, here, later) stay takes =
-    front_reads xs rest more fates (number_after number) state next after found (subst IsDistinct (sym here.1) distinct) (subst (AreSame state.kept) (sym here.1) are) none later stay
+    front_reads xs rest more fates (number_after number) state next after found (subst IsDistinct (sym here.1) distinct) (subst (AreSameButLine state.kept) (sym here.1) are) none later stay
     (subst (λ test. InOrder TakesLine state (number_line test (number_after number) line (numbered (number_after number) (xs ++ cut_line rest))) found) here.0 takes)
 front_reads (line ∷ xs) rest more (Stays ∷ fates) number state ys after found distinct are none (next, here, later) stay takes =
     go (subst (λ test. InOrder TakesLine state (number_line test (number_after number) line (numbered (number_after number) (xs ++ cut_line rest))) found) here.0 takes)
     (λ middle same taken. front_reads xs rest more fates (number_after number) middle next after found (line_keeps ys next line distinct here.1) same none later stay taken)
   where
     go : InOrder TakesLine state (record { number = number_after number; bytes = line } ∷ numbered (number_after number) (xs ++ cut_line rest)) found
-        → ((middle : LogState) → AreSame middle.kept next → InOrder TakesLine middle (numbered (number_after number) (xs ++ cut_line rest)) found → IsFine found) → IsFine found
+        → ((middle : LogState) → AreSameButLine middle.kept next → InOrder TakesLine middle (numbered (number_after number) (xs ++ cut_line rest)) found → IsFine found) → IsFine found
     go (inl (middle, step, taken)) again =
         let kept = line_same state middle ys (record { number = number_after number; bytes = line }) are step in
         let same : kept.0 ≡ next = (let e = line_once ys line (Ok kept.0) (Ok next) distinct kept.1 here.1 in cc) in
-        again middle (subst (AreSame middle.kept) same kept.2) taken
+        again middle (subst (AreSameButLine middle.kept) same kept.2) taken
     go (inr (stop, step, is)) again =
         subst IsFine (sym is) (line_stop state ys next (record { number = number_after number; bytes = line }) stop distinct are here.1 step)
 

@@ -14,28 +14,28 @@ use Rattle.log_sift.specs.declared.answer.Fate.TheVariants.{Blank, Stays, Left}
 use Rattle.log_sift.specs.declared.answer.LeftLine.{LeftLine}
 use Rattle.log_sift.specs.declared.answer.Stretch.{Stretch}
 use Rattle.log_sift.specs.declared.answer.Sifting.{Sifting}
-use Rattle.log_sift.specs.declared.recalling.HomeKey.{HomeKey}
+use Rattle.log_sift.specs.declared.recalling.EventIdentity.{EventIdentity}
 use Rattle.log_sift.specs.declared.recalling.Home.{Home}
-use Rattle.log_sift.specs.Cutting.{BeginsWith, texts_of}
+use Rattle.log_sift.specs.Cutting.{BeginsWith, line_texts}
 use Rattle.log_sift.specs.Recalling.{AreHomes, SiftsAt}
 use Rattle.log_sift.specs.Sift.{SiftsLines}
-use Rattle.log_sift.specs.Sifted.{IsSifting, IsWithin, count_of, count_stays, kept_text, left_line, left_lines, noted, staying, stays_from, stays_of, stretches_text, with_stretch}
+use Rattle.log_sift.specs.Sifted.{IsSifting, LiesInLog, count_of, count_stays, kept_text, left_line, left_lines, noted, staying, stays_from, stays_of, stretches_text, with_stretch}
 
 -- where the lines to come become these, what becomes of the whole log
 pub record GoesOn (log : List ℕ) (sifting : Sifting) (number from start : ℕ) (fates : List Fate) (after : List Event) : Type 0 where
   pub all : List Fate
   pub sifts : SiftsLines [] (lines_of log) all after
-  pub stays : kept_text log all ≡ (stretches_text log sifting.stays ++ slice_range log from start) ++ staying (texts_of (drop start log)) fates
+  pub stays : kept_text log all ≡ (stretches_text log sifting.stays ++ slice_range log from start) ++ staying (line_texts (drop start log)) fates
   pub left : left_lines 0 all ≡ sifting.left ++ left_lines number fates
   pub kept : count_stays all ≡ sifting.kept + count_stays fates
 
 -- the lines before an index were sifted, and from another on all of them stay
-pub record HasSifted (log : List ℕ) (entries : List (HomeKey × Home)) (sifting : Sifting) (number from start : ℕ) : Type 0 where
+pub record HasSifted (log : List ℕ) (entries : List (EventIdentity × Home)) (sifting : Sifting) (number from start : ℕ) : Type 0 where
   pub first : from ≤ start
   pub last : start ≤ length log
   pub few : number ≤ start
   pub fewer : sifting.kept ≤ number
-  pub within : All (IsWithin log) sifting.stays
+  pub within : All (LiesInLog log) sifting.stays
   pub events : List Event
   pub homes : AreHomes log entries events
   pub goes_on : (fates : List Fate) (after : List Event) → SiftsLines events (lines_of (drop start log)) fates after → GoesOn log sifting number from start fates after
@@ -63,9 +63,9 @@ stretch_text log stays start end first = elim (cases_lt start end) [
       rw (lt_false start end above) (sym (append-nil (stretches_text log stays)) ∙ ap (λ rest. stretches_text log stays ++ rest) (sym (nothing_between log start) ∙ ap (λ e. slice_range log start e) (sym same))))
 ]
 
-pub stretch_within : (log : List ℕ) (stays : List Stretch) (start end : ℕ) → All (IsWithin log) stays → start ≤ end → end ≤ length log → All (IsWithin log) (with_stretch stays start end)
+pub stretch_within : (log : List ℕ) (stays : List Stretch) (start end : ℕ) → All (LiesInLog log) stays → start ≤ end → end ≤ length log → All (LiesInLog log) (with_stretch stays start end)
 stretch_within log stays start end within first last = elim (cases_lt start end) [
-  | inl below ↦ rw (lt_true start end below) (All-push (IsWithin log) stays record { start = start; end = end } within record { first = first; last = last })
+  | inl below ↦ rw (lt_true start end below) (All-push (LiesInLog log) stays record { start = start; end = end } within record { first = first; last = last })
   | inr above ↦ rw (lt_false start end above) within
 ]
 
@@ -112,7 +112,7 @@ from_first from start next Blank first second = omega (arith, first, second)
 from_first from start next Stays first second = omega (arith, first, second)
 from_first from start next (Left cause) first second = omega arith
 
-noted_within : (log : List ℕ) (sifting : Sifting) (from start number : ℕ) (fate : Fate) → All (IsWithin log) sifting.stays → from ≤ start → start ≤ length log → All (IsWithin log) (noted sifting from start number fate).stays
+noted_within : (log : List ℕ) (sifting : Sifting) (from start number : ℕ) (fate : Fate) → All (LiesInLog log) sifting.stays → from ≤ start → start ≤ length log → All (LiesInLog log) (noted sifting from start number fate).stays
 noted_within log sifting from start number Blank within first last = within
 noted_within log sifting from start number Stays within first last = within
 noted_within log sifting from start number (Left cause) within first last = stretch_within log sifting.stays from start within first last
@@ -126,13 +126,13 @@ goes_on_before log line sifting number from start next fate fates after first se
   sifts = on.sifts;
   stays = on.stays
       ∙ ap (λ texts. (stretches_text log sifting.stays ++ slice_range log from start) ++ staying texts (fate ∷ fates)) begins.texts
-      ∙ texts_join log (staying (texts_of (drop next log)) fates) sifting from start next (number + 1) fate first second;
+      ∙ texts_join log (staying (line_texts (drop next log)) fates) sifting from start next (number + 1) fate first second;
   left = on.left ∙ left_join sifting from start (number + 1) fate (left_lines (number + 1) fates);
   kept = on.kept ∙ kept_join sifting from start (number + 1) fate (count_stays fates);
 }
 
 -- a line more is sifted
-pub has_sifted : (log line : List ℕ) (entries after : List (HomeKey × Home)) (sifting : Sifting) (number from start next : ℕ) (fate : Fate) → HasSifted log entries sifting number from start
+pub has_sifted : (log line : List ℕ) (entries after : List (EventIdentity × Home)) (sifting : Sifting) (number from start next : ℕ) (fate : Fate) → HasSifted log entries sifting number from start
     → start < next → next ≤ length log → BeginsWith (drop start log) line (slice_range log start next) (drop next log) → SiftsAt log entries after line fate
     → HasSifted log after (noted sifting from start (number + 1) fate) (number + 1) (stays_from from next fate) next
 has_sifted log line entries after sifting number from start next fate has further last begins sifts =
@@ -153,7 +153,7 @@ has_sifted log line entries after sifting number from start next fate has furthe
     }
 
 -- all lines are sifted
-pub all_sifted : (log : List ℕ) (entries : List (HomeKey × Home)) (sifting told : Sifting) (number from start : ℕ) → HasSifted log entries sifting number from start → length log ≤ start
+pub all_sifted : (log : List ℕ) (entries : List (EventIdentity × Home)) (sifting told : Sifting) (number from start : ℕ) → HasSifted log entries sifting number from start → length log ≤ start
     → told ≡ record sifting { stays = with_stretch sifting.stays from start } → (fates : List Fate) × IsSifting log fates told
 all_sifted log entries sifting told number from start has past is =
     let over : drop start log ≡ [] = drop_all start log past in

@@ -10,7 +10,7 @@ use Rattle.batch_decode.specs.declared.decoded.ItemFault.{ItemFault}
 use Rattle.log_intake.specs.Log.{IsNew, LogState, TakesDecoded, TakesEvent, TakesLine, numbered_events, unless_fault as state_unless}
 use Rattle.log_intake.specs.Steps.{InOrder}
 use Rattle.log_sift.specs.Sift.{KeepsDecoded, KeepsEvent, KeepsLine, behind_events}
-use Rattle.log_sift.specs.Taken.{AreSame}
+use Rattle.log_sift.specs.Taken.{AreSameButLine}
 
 -- an event is equal to itself on another line
 pub same_line : (event : Event) (number : ℕ) → SameButLine record event { line = number } event
@@ -77,13 +77,13 @@ same_both a b c s t = record {
 pub same_stage : (a b : Event) → SameButLine a b → AreOfOneStage a b
 same_stage a b same = λ i. record { audit_id = same.origin.audit_id i; stage = same.origin.stage i }
 
-same_push : (xs ys : List Event) (x y : Event) → AreSame xs ys → SameButLine x y → AreSame (xs ++ x ∷ []) (ys ++ y ∷ [])
+same_push : (xs ys : List Event) (x y : Event) → AreSameButLine xs ys → SameButLine x y → AreSameButLine (xs ++ x ∷ []) (ys ++ y ∷ [])
 same_push [] [] x y are same = (same, tt)
 same_push [] (b ∷ ys) x y are same = absurd are
 same_push (a ∷ xs) [] x y are same = absurd are
 same_push (a ∷ xs) (b ∷ ys) x y are same = (are.0, same_push xs ys x y are.1 same)
 
-pub partner : (xs ys : List Event) (x : Event) → AreSame xs ys → Contains xs x → (y : Event) × Contains ys y × SameButLine x y
+pub partner : (xs ys : List Event) (x : Event) → AreSameButLine xs ys → Contains xs x → (y : Event) × Contains ys y × SameButLine x y
 partner [] ys x are (i, within, is) = absurd (omega (arith, within))
 partner (a ∷ xs) [] x are among = absurd are
 partner (a ∷ xs) (b ∷ ys) x are (zero, within, is) = (b, Contains-get_or (b ∷ ys) 0 b (omega arith), subst (λ e. SameButLine e b) is are.0)
@@ -91,7 +91,7 @@ partner (a ∷ xs) (b ∷ ys) x are (suc i, within, is) =
     let there = partner xs ys x are.1 (i, omega (arith, within), is) in
     (there.0, Contains-append_right (b ∷ []) ys there.0 there.1, there.2)
 
-new_same : (xs ys : List Event) (e f : Event) → AreSame xs ys → SameButLine e f → IsNew xs e → IsNew ys f
+new_same : (xs ys : List Event) (e f : Event) → AreSameButLine xs ys → SameButLine e f → IsNew xs e → IsNew ys f
 new_same [] [] e f are same new = All-nil (λ other. ¬ AreOfOneStage other f)
 new_same [] (b ∷ ys) e f are same new = absurd are
 new_same (a ∷ xs) [] e f are same new = absurd are
@@ -100,22 +100,22 @@ new_same (a ∷ xs) (b ∷ ys) e f are same new =
     (λ one. All-head (λ (other : Event). ¬ AreOfOneStage other e) a xs new (same_stage a b are.0 ∙ one ∙ sym (same_stage e f same)))
     (new_same xs ys e f are.1 same (All-tail (λ (other : Event). ¬ AreOfOneStage other e) a xs new))
 
-pub event_same : (xs ys next : List Event) (event : Event) (number : ℕ) → AreSame xs ys → TakesEvent xs record event { line = number } (Ok next)
-    → (after : List Event) × KeepsEvent ys event (Ok after) × AreSame next after
+pub event_same : (xs ys next : List Event) (event : Event) (number : ℕ) → AreSameButLine xs ys → TakesEvent xs record event { line = number } (Ok next)
+    → (after : List Event) × KeepsEvent ys event (Ok after) × AreSameButLine next after
 event_same xs ys next event number are (inl (new, few, is)) =
     let now : Event = record event { line = number } in
     let moved : SameButLine now event = same_line event number in
-    (ys ++ event ∷ [], inl (new_same xs ys now event are moved new, refl), subst (λ kept. AreSame kept (ys ++ event ∷ [])) (sym is) (same_push xs ys now event are moved))
+    (ys ++ event ∷ [], inl (new_same xs ys now event are moved new, refl), subst (λ kept. AreSameButLine kept (ys ++ event ∷ [])) (sym is) (same_push xs ys now event are moved))
 event_same xs ys next event number are (inr ((earlier, was, same), is)) =
     let now : Event = record event { line = number } in
     let there = partner xs ys earlier are was.among in
     let other : SameButLine there.0 event = same_both there.0 earlier event (same_back earlier there.0 there.2) (same_both earlier now event same (same_line event number)) in
     let found : WasKept ys event there.0 = record { among = there.1; one = same_stage there.0 event other } in
-    (ys, inr ((there.0, found, other), refl), subst (λ kept. AreSame kept ys) (sym is) are)
+    (ys, inr ((there.0, found, other), refl), subst (λ kept. AreSameButLine kept ys) (sym is) are)
 
-events_same : (events : List Event) (xs ys next : List Event) (number : ℕ) → AreSame xs ys → InOrder TakesEvent xs (numbered_events number events) (Ok next)
-    → (after : List Event) × InOrder KeepsEvent ys events (Ok after) × AreSame next after
-events_same [] xs ys next number are is = let same : next ≡ xs = cc in (ys, refl, subst (λ kept. AreSame kept ys) (sym same) are)
+events_same : (events : List Event) (xs ys next : List Event) (number : ℕ) → AreSameButLine xs ys → InOrder TakesEvent xs (numbered_events number events) (Ok next)
+    → (after : List Event) × InOrder KeepsEvent ys events (Ok after) × AreSameButLine next after
+events_same [] xs ys next number are is = let same : next ≡ xs = cc in (ys, refl, subst (λ kept. AreSameButLine kept ys) (sym same) are)
 events_same (event ∷ events) xs ys next number are (inl (middle, step, rest)) =
     let first = event_same xs ys middle event number are step in
     let last = events_same events middle first.0 next (number + 1) first.2 rest in
@@ -123,15 +123,15 @@ events_same (event ∷ events) xs ys next number are (inl (middle, step, rest)) 
 events_same (event ∷ events) xs ys next number are (inr (stop, step, is)) = absurd (let no : Ok next ≡ Err stop = is in cc)
 
 whole_same : (decoded : Decoded) (fault : Option ItemFault) (first extra : ℕ) (xs ys after : List Event) (next : LogState) → decoded.fault ≡ fault → Ok next ≡ state_unless first fault (record { extra = extra; kept = xs })
-    → InOrder KeepsEvent ys decoded.events (Ok after) → AreSame xs after → KeepsDecoded ys decoded (Ok after) × AreSame next.kept after
+    → InOrder KeepsEvent ys decoded.events (Ok after) → AreSameButLine xs after → KeepsDecoded ys decoded (Ok after) × AreSameButLine next.kept after
 whole_same decoded None first extra xs ys after next none is keeps are =
     let state : LogState = record { extra = extra; kept = xs } in
     let same : next ≡ state = cc in
-    ((Ok after, keeps, ap (λ fault. behind_events fault (Ok after)) (sym none)), subst (λ (s : LogState). AreSame s.kept after) (sym same) are)
+    ((Ok after, keeps, ap (λ fault. behind_events fault (Ok after)) (sym none)), subst (λ (s : LogState). AreSameButLine s.kept after) (sym same) are)
 whole_same decoded (Some fault) first extra xs ys after next some is keeps are = absurd cc
 
-decoded_same : (state next : LogState) (ys : List Event) (decoded : Decoded) (first : ℕ) → AreSame state.kept ys → TakesDecoded state first decoded (Ok next)
-    → (after : List Event) × KeepsDecoded ys decoded (Ok after) × AreSame next.kept after
+decoded_same : (state next : LogState) (ys : List Event) (decoded : Decoded) (first : ℕ) → AreSameButLine state.kept ys → TakesDecoded state first decoded (Ok next)
+    → (after : List Event) × KeepsDecoded ys decoded (Ok after) × AreSameButLine next.kept after
 decoded_same state next ys decoded first are (Ok kept, takes, is) =
     let events = events_same decoded.events state.kept ys kept first are takes in
     let whole = whole_same decoded decoded.fault first _ kept ys events.0 next refl is events.1 events.2 in
@@ -139,8 +139,8 @@ decoded_same state next ys decoded first are (Ok kept, takes, is) =
 decoded_same state next ys decoded first are (Err stop, takes, is) = absurd cc
 
 -- what a judge keeps of a line is what is kept of it here
-pub line_same : (state next : LogState) (ys : List Event) (line : NumberedLine) → AreSame state.kept ys → TakesLine state line (Ok next)
-    → (after : List Event) × KeepsLine ys line.bytes (Ok after) × AreSame next.kept after
+pub line_same : (state next : LogState) (ys : List Event) (line : NumberedLine) → AreSameButLine state.kept ys → TakesLine state line (Ok next)
+    → (after : List Event) × KeepsLine ys line.bytes (Ok after) × AreSameButLine next.kept after
 line_same state next ys line are (inl (long, is)) = absurd cc
 line_same state next ys line are (inr (short, (decoded, is, takes))) =
     let keeps = decoded_same state next ys decoded (line.number + state.extra) are takes in

@@ -9,11 +9,11 @@ use Rattle.log_intake.specs.Log.{IsLogRead, LogState, TakesLine, nothing_read}
 use Rattle.log_intake.specs.Steps.{InOrder}
 use Rattle.log_sift.specs.declared.answer.Fate.{Fate}
 use Rattle.log_sift.specs.declared.answer.Fate.TheVariants.{Blank, Stays, Left}
-use Rattle.log_sift.specs.Cutting.{closed, texts_of}
+use Rattle.log_sift.specs.Cutting.{closed, line_texts}
 use Rattle.log_sift.specs.Sift.{IsSifted, SiftsLines}
 use Rattle.log_sift.specs.Sifted.{kept_text, left_lines, staying}
 use Rattle.log_sift.proofs.OneFacts.{lines_once, none_distinct}
-use Rattle.log_sift.specs.Taken.{AreSame}
+use Rattle.log_sift.specs.Taken.{AreSameButLine}
 use Rattle.log_sift.proofs.SameFacts.{line_same}
 
 -- no line is left out
@@ -30,12 +30,12 @@ pub record SiftsWhole (kept : List Event) (lines : List (List ℕ)) : Type 0 whe
   pub stay : AllStay fates
 
 -- lines that a judge takes stay
-taken_whole : (lines : List (List ℕ)) (number : ℕ) (state final : LogState) (kept : List Event) → AreSame state.kept kept → InOrder TakesLine state (numbered number lines) (Ok final) → SiftsWhole kept lines
+taken_whole : (lines : List (List ℕ)) (number : ℕ) (state final : LogState) (kept : List Event) → AreSameButLine state.kept kept → InOrder TakesLine state (numbered number lines) (Ok final) → SiftsWhole kept lines
 taken_whole [] number state final kept are takes = record { fates = []; after = kept; sifts = refl; stay = tt }
 taken_whole (line ∷ lines) number state final kept are takes = go (is_dropped line) refl takes (λ next ys. taken_whole lines (number_after number) next final ys)
   where
     go : (test : Bool) → is_dropped line ≡ test → InOrder TakesLine state (number_line test (number_after number) line (numbered (number_after number) lines)) (Ok final)
-        → ((next : LogState) (ys : List Event) → AreSame next.kept ys → InOrder TakesLine next (numbered (number_after number) lines) (Ok final) → SiftsWhole ys lines) → SiftsWhole kept (line ∷ lines)
+        → ((next : LogState) (ys : List Event) → AreSameButLine next.kept ys → InOrder TakesLine next (numbered (number_after number) lines) (Ok final) → SiftsWhole ys lines) → SiftsWhole kept (line ∷ lines)
     go true dropped taken again =
         let rest = again state kept are taken in
         record { fates = Blank ∷ rest.fates; after = rest.after; sifts = (kept, (dropped, refl), rest.sifts); stay = rest.stay }
@@ -85,7 +85,7 @@ cut_text (byte ∷ bytes) = go (nat_eq byte newline) refl (cut_text bytes)
     go true is rest = ap (λ more. newline ∷ more) rest ∙ ap (λ b. b ∷ bytes) (sym (eqb-true byte newline is))
     go false is rest = begun_text byte (whole_lines bytes) (rest_of bytes) bytes rest
 
-whole_text : (log : List ℕ) → joined (texts_of log) ≡ log
+whole_text : (log : List ℕ) → joined (line_texts log) ≡ log
 whole_text log =
     joined-append (map closed (whole_lines log)) (last_line (rest_of log))
     ∙ ap (λ rest. joined (map closed (whole_lines log)) ++ rest) (last_text (rest_of log))
@@ -95,7 +95,7 @@ length-map : (lines : List (List ℕ)) → length (map closed lines) ≡ length 
 length-map [] = refl
 length-map (line ∷ lines) = ap (λ n. suc n) (length-map lines)
 
-as_many : (log : List ℕ) → length (texts_of log) ≡ length (lines_of log)
+as_many : (log : List ℕ) → length (line_texts log) ≡ length (lines_of log)
 as_many log =
     length-append (map closed (whole_lines log)) (last_line (rest_of log))
     ∙ ap (λ n. n + length (last_line (rest_of log))) (length-map (whole_lines log))
@@ -112,8 +112,8 @@ of_taken log state fates takes sifted =
     let whole = taken_whole (lines_of log) 0 nothing_read state [] tt takes in
     let same : fates ≡ whole.fates = (lines_once (lines_of log) [] sifted.kept whole.after fates whole.fates none_distinct sifted.sifts whole.sifts).0 in
     let stay : AllStay fates = subst AllStay (sym same) whole.stay in
-    let long : length fates ≡ length (texts_of log) = a_fate_each (lines_of log) [] sifted.kept fates sifted.sifts ∙ sym (as_many log) in
-    (all_stays (texts_of log) fates stay long ∙ whole_text log, none_left 0 fates stay)
+    let long : length fates ≡ length (line_texts log) = a_fate_each (lines_of log) [] sifted.kept fates sifted.sifts ∙ sym (as_many log) in
+    (all_stays (line_texts log) fates stay long ∙ whole_text log, none_left 0 fates stay)
 
 pub nothing_left : (log : List ℕ) (events : List Event) (fates : List Fate) → IsLogRead log (Ok events) → IsSifted log fates → (kept_text log fates ≡ log) × (left_lines 0 fates ≡ [])
 nothing_left log events fates (inl (short, (Ok state, takes, is))) sifted = of_taken log state fates takes sifted

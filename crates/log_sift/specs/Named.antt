@@ -2,12 +2,12 @@
 use Rattle.std.specs.Prelude.{◌≡◌, ⊤, ◌<◌, ◌≤◌, ℕ, Bool, true, false, List, All, Result, Ok, Err, length}
 use Rattle.edge_io.specs.declared.whole.WholeStop.{WholeStop}
 use Rattle.edge_io.specs.declared.whole.WholeStop.TheVariants.{TooLong, ReadFault, OutOfMemory}
-use Rattle.log_sift.specs.Sifted.{IsSifting, IsWithin, stretches_text}
+use Rattle.log_sift.specs.Sifted.{IsSifting, LiesInLog, stretches_text}
 use Rattle.log_sift.specs.Telling.{left_text}
 use Rattle.log_sift.specs.declared.answer.Fate.{Fate}
 use Rattle.log_sift.specs.declared.answer.Sifting.{Sifting}
 use Rattle.log_sift.specs.declared.named.SiftText.{SiftText}
-use Rattle.log_sift.specs.declared.named.SiftText.TheVariants.{Told, Cut}
+use Rattle.log_sift.specs.declared.named.SiftText.TheVariants.{LeftOut, KeptLines}
 
 -- a log has at most so many bytes
 abbrev pub most_log : ℕ
@@ -19,13 +19,13 @@ sifted_text true log sifting = left_text sifting
 sifted_text false log sifting = stretches_text log sifting.stays
 
 abbrev pub shown_text : SiftText → List ℕ
-shown_text (Told text) = text
-shown_text (Cut log stays) = stretches_text log stays
+shown_text (LeftOut text) = text
+shown_text (KeptLines log stays) = stretches_text log stays
 
 -- the stretches lie in the log
-abbrev pub IsCutWithin : SiftText → Type 0
-IsCutWithin (Told text) = ⊤
-IsCutWithin (Cut log stays) = All (IsWithin log) stays
+abbrev pub AreStretchesWithin : SiftText → Type 0
+AreStretchesWithin (LeftOut text) = ⊤
+AreStretchesWithin (KeptLines log stays) = All (LiesInLog log) stays
 
 -- what the lines of a log come to
 abbrev pub IsSiftText : Bool → List ℕ → List ℕ → Type 0

@@ -8,13 +8,13 @@ use Rattle.batch_decode.specs.Batches.{IsDecoded}
 use Rattle.log_sift.specs.declared.answer.LeftCause.{LeftCause}
 use Rattle.log_sift.specs.declared.answer.LeftCause.TheVariants.{Rule}
 use Rattle.log_sift.specs.declared.answer.Fate.{Fate}
-use Rattle.log_sift.specs.declared.recalling.HomeKey.{HomeKey}
+use Rattle.log_sift.specs.declared.recalling.EventIdentity.{EventIdentity}
 use Rattle.log_sift.specs.declared.recalling.Home.{Home}
 use Rattle.log_sift.specs.Sift.{SiftsLine}
 
 -- what the home of an event is kept under: one stage of one request
-abbrev pub home_key_of : Event → HomeKey
-home_key_of event = record { audit_id = event.audit_id; stage = event.stage }
+abbrev pub identity_of : Event → EventIdentity
+identity_of event = record { audit_id = event.audit_id; stage = event.stage }
 
 abbrev pub home_at : ℕ → ℕ → ℕ → Home
 home_at start end item = record { start = start; end = end; item = item }
@@ -32,13 +32,13 @@ abbrev pub AreItemsAt : List ℕ → ℕ → ℕ → List Event → Type 0
 AreItemsAt log start end events = (item : ℕ) (event : Event) → slice_get events item ≡ Some event → IsAt log (home_at start end item) event
 
 -- under the identity of each event is where it stands
-abbrev pub AreHomes : List ℕ → List (HomeKey × Home) → List Event → Type 0
+abbrev pub AreHomes : List ℕ → List (EventIdentity × Home) → List Event → Type 0
 AreHomes log [] [] = ⊤
 AreHomes log [] (event ∷ events) = ⊥
 AreHomes log (entry ∷ entries) [] = ⊥
-AreHomes log (entry ∷ entries) (event ∷ events) = (entry.0 ≡ home_key_of event) × IsAt log entry.1 event × AreHomes log entries events
+AreHomes log (entry ∷ entries) (event ∷ events) = (entry.0 ≡ identity_of event) × IsAt log entry.1 event × AreHomes log entries events
 
-abbrev pub AreHomed : List ℕ → List (HomeKey × Home) → Type 0
+abbrev pub AreHomed : List ℕ → List (EventIdentity × Home) → Type 0
 AreHomed log entries = (kept : List Event) × AreHomes log entries kept
 
 -- why an event isn't kept behind an earlier one of its request and stage
@@ -47,17 +47,17 @@ Compares earlier event None = SameButLine earlier event
 Compares earlier event (Some cause) = (¬ SameButLine earlier event) × (cause ≡ Rule M12)
 
 -- the events that a step keeps stand at these homes
-abbrev pub Steps : List ℕ → List (HomeKey × Home) → (Result (List Event) LeftCause → Type 0) → Option LeftCause → Type 0
+abbrev pub Steps : List ℕ → List (EventIdentity × Home) → (Result (List Event) LeftCause → Type 0) → Option LeftCause → Type 0
 Steps log after Step None = (next : List Event) × AreHomes log after next × Step (Ok next)
 Steps log after Step (Some cause) = Step (Err cause)
 
 -- a step from the events that stand at some homes to those that stand at others, or why it isn't made
-pub record Moves (log : List ℕ) (before after : List (HomeKey × Home)) (Step : List Event → Result (List Event) LeftCause → Type 0) (cause : Option LeftCause) : Type 0 where
-  pub more : List (HomeKey × Home)
+pub record Moves (log : List ℕ) (before after : List (EventIdentity × Home)) (Step : List Event → Result (List Event) LeftCause → Type 0) (cause : Option LeftCause) : Type 0 where
+  pub more : List (EventIdentity × Home)
   pub grows : after ≡ before ++ more
   pub steps : (kept : List Event) → AreHomes log before kept → Steps log after (Step kept) cause
 
 -- what becomes of a line behind the events that stand at some homes; those that are kept then stand at others
-abbrev pub SiftsAt : List ℕ → List (HomeKey × Home) → List (HomeKey × Home) → List ℕ → Fate → Type 0
+abbrev pub SiftsAt : List ℕ → List (EventIdentity × Home) → List (EventIdentity × Home) → List ℕ → Fate → Type 0
 SiftsAt log before after line fate =
     (kept : List Event) → AreHomes log before kept → (next : List Event) × AreHomes log after next × SiftsLine kept line fate next

@@ -6,7 +6,7 @@ use Rattle.log_sift.specs.declared.answer.Fate.TheVariants.{Blank, Stays, Left}
 use Rattle.log_sift.specs.declared.answer.LeftLine.{LeftLine}
 use Rattle.log_sift.specs.declared.answer.Stretch.{Stretch}
 use Rattle.log_sift.specs.declared.answer.Sifting.{Sifting}
-use Rattle.log_sift.specs.Cutting.{texts_of}
+use Rattle.log_sift.specs.Cutting.{line_texts}
 use Rattle.log_sift.specs.Sift.{IsSifted}
 
 -- what stays of a line's text
@@ -22,7 +22,7 @@ staying (text ∷ texts) (fate ∷ fates) = stays_of fate text ++ staying texts 
 
 -- the lines that stay, as they stand in the log
 abbrev pub kept_text : List ℕ → List Fate → List ℕ
-kept_text log fates = staying (texts_of log) fates
+kept_text log fates = staying (line_texts log) fates
 
 -- the line of this number, where it is left out, before others
 abbrev pub left_line : Fate → ℕ → List LeftLine → List LeftLine
@@ -45,7 +45,7 @@ abbrev pub count_stays : List Fate → ℕ
 count_stays [] = 0
 count_stays (fate ∷ fates) = count_of fate + count_stays fates
 
-pub record IsWithin (log : List ℕ) (stretch : Stretch) : Type 0 where
+pub record LiesInLog (log : List ℕ) (stretch : Stretch) : Type 0 where
   pub first : stretch.start ≤ stretch.end
   pub last : stretch.end ≤ length log
 
@@ -54,7 +54,7 @@ stretches_text log stretches = flat_map (λ stretch. slice_range log stretch.sta
 
 pub record IsSifting (log : List ℕ) (fates : List Fate) (sifting : Sifting) : Type 0 where
   pub sifted : IsSifted log fates
-  pub within : All (IsWithin log) sifting.stays
+  pub within : All (LiesInLog log) sifting.stays
   pub stays : stretches_text log sifting.stays ≡ kept_text log fates
   pub left : sifting.left ≡ left_lines 0 fates
   pub kept : sifting.kept ≡ count_stays fates

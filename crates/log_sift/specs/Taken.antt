@@ -10,15 +10,15 @@ use Rattle.log_sift.specs.Sift.{IsSifted}
 use Rattle.log_sift.specs.Sifted.{kept_text}
 
 -- each event is equal to the other list's in all but the line
-abbrev pub AreSame : List Event → List Event → Type 0
-AreSame [] [] = ⊤
-AreSame [] (y ∷ ys) = ⊥
-AreSame (x ∷ xs) [] = ⊥
-AreSame (x ∷ xs) (y ∷ ys) = SameButLine x y × AreSame xs ys
+abbrev pub AreSameButLine : List Event → List Event → Type 0
+AreSameButLine [] [] = ⊤
+AreSameButLine [] (y ∷ ys) = ⊥
+AreSameButLine (x ∷ xs) [] = ⊥
+AreSameButLine (x ∷ xs) (y ∷ ys) = SameButLine x y × AreSameButLine xs ys
 
 -- the kept events are read, unless there are too many or the text is too long
 abbrev pub ReadsKept : List Event → Result (List Event) LogStop → Type 0
-ReadsKept kept (Ok events) = AreSame events kept
+ReadsKept kept (Ok events) = AreSameButLine events kept
 ReadsKept kept (Err stop) = (stop ≡ TooManyEvents) ⊎ (stop ≡ TooLong)
 
 abbrev pub KeptIsTaken : Type 0

@@ -5,7 +5,7 @@ ghost use Rattle.log_sift.specs.Recalling.{AreHomed, AreItemsAt, IsAt, Moves, Si
 ghost use Rattle.log_sift.specs.Sift.{KeepsDecoded, KeepsEvent, KeepsLine};
 
 use crate::answer::{Fate, LeftCause};
-use crate::recalling::{Home, HomeKey, Homes, compare_at, decode_at, home_of};
+use crate::recalling::{EventIdentity, Home, Homes, compare_at, decode_at, home_of};
 use audit_event::{Event, Events};
 use base_types::OutOfMemory;
 use batch_decode::Decoded;
@@ -22,10 +22,11 @@ fn keep_event(
 ) -> Result<Option<LeftCause>, OutOfMemory>
     requires stands { IsAt log.now home event }
     requires homed { AreHomed log.now homes.old.entries }
-    ensures { IfOk result (Moves log.now homes.old.entries homes.new.entries (λ kept. KeepsEvent kept event)) }
+    ensures { IfOk result (Moves log.now homes.old.entries homes.new.entries
+        (λ kept. KeepsEvent kept event)) }
 {
     let audit_id = event.audit_id.clone()?;
-    let identity = HomeKey {
+    let identity = EventIdentity {
         audit_id,
         stage: event.stage,
     };
@@ -49,7 +50,8 @@ fn keep_events(
 ) -> Result<Option<LeftCause>, OutOfMemory>
     requires stand { AreItemsAt log.now start end events }
     requires homed { AreHomed log.now homes.old.entries }
-    ensures { IfOk result (Moves log.now homes.old.entries homes.new.entries (λ kept. InOrder KeepsEvent kept events)) }
+    ensures { IfOk result (Moves log.now homes.old.entries homes.new.entries
+        (λ kept. InOrder KeepsEvent kept events)) }
 {
     let mut item = 0;
     for event in events.into_vec() {
@@ -74,7 +76,8 @@ fn keep_decoded(
     requires last { end ≤ length log.now }
     requires decoded { IsDecoded (slice_range log.now start end) decoded }
     requires homed { AreHomed log.now homes.old.entries }
-    ensures { IfOk result (Moves log.now homes.old.entries homes.new.entries (λ kept. KeepsDecoded kept decoded)) }
+    ensures { IfOk result (Moves log.now homes.old.entries homes.new.entries
+        (λ kept. KeepsDecoded kept decoded)) }
 {
     let Decoded {
         events,
@@ -122,7 +125,8 @@ pub fn sift_line(
     requires first { start ≤ end }
     requires last { end ≤ length log.now }
     requires homed { AreHomed log.now homes.old.entries }
-    ensures { IfOk result (SiftsAt log.now homes.old.entries homes.new.entries (slice_range log.now start end)) }
+    ensures { IfOk result (SiftsAt log.now homes.old.entries homes.new.entries
+        (slice_range log.now start end)) }
 {
     if is_dropped_line(&log[start..end]) {
         return Ok(Fate::Blank);

@@ -2,8 +2,8 @@ ghost use Rattle.std.specs.Prelude.{◌≡◌, ◌≢◌, ◌≤◌, ℕ, List, 
 ghost use Rattle.std.specs.Io.KnownBytes.{Appends};
 ghost use Rattle.edge_io.specs.Endings.{AppendsPart};
 ghost use Rattle.edge_io.specs.Faults.{HasCause, Rose};
-ghost use Rattle.log_sift.specs.Named.{AnswersSift, IsCutWithin, IsSiftText, most_log, shown_text};
-ghost use Rattle.log_sift.specs.Sifted.{IsWithin, stretches_text};
+ghost use Rattle.log_sift.specs.Named.{AnswersSift, AreStretchesWithin, IsSiftText, most_log, shown_text};
+ghost use Rattle.log_sift.specs.Sifted.{LiesInLog, stretches_text};
 
 use crate::answer::{Stretch, Stretches};
 use crate::telling::left_text;
@@ -19,9 +19,9 @@ const MOST_LOG: usize = 1_099_511_627_776;
 #[derive(Drop)]
 pub enum SiftText {
     /// Which lines are left out, and why.
-    Told(Bytes),
+    LeftOut(Bytes),
     /// The stretches of the log that stay, one behind another.
-    Cut { log: Bytes, stays: Stretches },
+    KeptLines { log: Bytes, stays: Stretches },
 }
 
 /// Reads a log from a desk by its name, and gives the lines that a judge takes, or says which are left out and why.
@@ -31,10 +31,13 @@ pub fn sift_named<D: Desk>(
     log: &str,
     left: bool,
 ) -> Result<SiftText, WholeStop>
-    ensures answered { (bytes : List ℕ) → D.left desk.old log.now ≡ Some bytes → AnswersSift left bytes result }
-    ensures within { IfOk result IsCutWithin }
-    ensures fault { IsErrOf result WholeStop.ReadFault → Rose (D.faults desk.old) (D.faults desk.new) }
-    ensures others { (other : List ℕ) → other ≢ log.now → D.left desk.new other ≡ D.left desk.old other }
+    ensures answered { (bytes : List ℕ) → D.left desk.old log.now ≡ Some bytes
+        → AnswersSift left bytes result }
+    ensures within { IfOk result AreStretchesWithin }
+    ensures fault { IsErrOf result WholeStop.ReadFault
+        → Rose (D.faults desk.old) (D.faults desk.new) }
+    ensures others { (other : List ℕ) → other ≢ log.now
+        → D.left desk.new other ≡ D.left desk.old other }
 {
     match read_input(alloc, desk, log, MOST_LOG) {
         Ok(bytes) => match sift_text(alloc, bytes, left) {
@@ -49,14 +52,14 @@ pub fn sift_named<D: Desk>(
 fn sift_text(alloc: Global, log: Bytes, left: bool) -> Result<SiftText, OutOfMemory>
     requires { length log ≤ most_log }
     ensures text { IfOk result (λ found. IsSiftText left log (shown_text found)) }
-    ensures within { IfOk result IsCutWithin }
+    ensures within { IfOk result AreStretchesWithin }
 {
     let sifting = sift(alloc, log.as_slice())?;
     if left {
         let text = left_text(alloc, &sifting)?;
-        return Ok(SiftText::Told(Bytes::from_vec(text.into_bytes())));
+        return Ok(SiftText::LeftOut(Bytes::from_vec(text.into_bytes())));
     }
-    Ok(SiftText::Cut {
+    Ok(SiftText::KeptLines {
         log,
         stays: sifting.stays,
     })
@@ -64,8 +67,9 @@ fn sift_text(alloc: Global, log: Bytes, left: bool) -> Result<SiftText, OutOfMem
 
 // Writes stretches of a log one behind another.
 fn write_stretches<K: Sink>(out: &mut K, log: &[u8], stays: &[Stretch]) -> Result<(), SinkFailed>
-    requires { All (IsWithin log.now) stays.now }
-    ensures whole { OnOk result (Appends (K.written out.old) (K.written out.new) (stretches_text log.now stays.now)) }
+    requires { All (LiesInLog log.now) stays.now }
+    ensures whole { OnOk result (Appends (K.written out.old) (K.written out.new)
+        (stretches_text log.now stays.now)) }
     ensures part { OnErr result (AppendsPart (K.written out.old) (K.written out.new)
         (stretches_text log.now stays.now)) }
     ensures cause { HasCause (K.faults out.old) (K.faults out.new) result }
@@ -78,13 +82,19 @@ fn write_stretches<K: Sink>(out: &mut K, log: &[u8], stays: &[Stretch]) -> Resul
 
 /// Writes what a log comes to.
 pub fn write_sifted<K: Sink>(out: &mut K, text: &SiftText) -> Result<(), SinkFailed>
-    requires { IsCutWithin text.now }
-    ensures whole { OnOk result (Appends (K.written out.old) (K.written out.new) (shown_text text.now)) }
-    ensures part { OnErr result (AppendsPart (K.written out.old) (K.written out.new) (shown_text text.now)) }
+    requires { AreStretchesWithin text.now }
+    ensures whole { OnOk result (Appends (K.written out.old) (K.written out.new)
+        (shown_text text.now)) }
+    ensures part { OnErr result (AppendsPart (K.written out.old) (K.written out.new)
+        (shown_text text.now)) }
     ensures cause { HasCause (K.faults out.old) (K.faults out.new) result }
 {
     match text {
-        SiftText::Told(text) => write_whole(out, text.as_slice()),
-        SiftText::Cut { log, stays } => write_stretches(out, log.as_slice(), stays.as_slice()),
+        SiftText::LeftOut(text) => write_whole(out, text.as_slice()),
+        SiftText::KeptLines { log, stays } => write_stretches(
+            out,
+            log.as_slice(),
+            stays.as_slice(),
+        ),
     }
 }

@@ -16,7 +16,7 @@ use std::alloc::Global;
 
 /// What the home of an event is kept under: one stage of one request.
 #[derive(Drop, PartialEq, Eq, Hash)]
-pub struct HomeKey {
+pub struct EventIdentity {
     pub audit_id: Text,
     pub stage: Stage,
 }
@@ -33,11 +33,11 @@ pub struct Home {
 }
 
 /// Where the kept events stand, in the order in which they were kept.
-pub type Homes = IndexMap<HomeKey, Home, Seeded>;
+pub type Homes = IndexMap<EventIdentity, Home, Seeded>;
 
 /// Where the event of an identity stands.
-pub fn home_of(homes: &Homes, identity: &HomeKey) -> Option<Home>
-    ensures { result ≡ get (⟦<HomeKey as PartialEq>⟧.eq) homes.now identity.now }
+pub fn home_of(homes: &Homes, identity: &EventIdentity) -> Option<Home>
+    ensures { result ≡ get (⟦<EventIdentity as PartialEq>⟧.eq) homes.now identity.now }
 {
     homes.get(identity).copied()
 }
@@ -114,8 +114,8 @@ pub fn compare_at(
     event: Event,
 ) -> Result<Option<LeftCause>, OutOfMemory>
     requires { (earlier : Kept) × IsAt log.now home earlier }
-    ensures { IfOk result (λ cause. (earlier : Kept) → IsAt log.now home earlier → AreOfOneStage earlier event
-        → Compares earlier event cause) }
+    ensures { IfOk result (λ cause. (earlier : Kept) → IsAt log.now home earlier
+        → AreOfOneStage earlier event → Compares earlier event cause) }
 {
     let earlier = event_at(alloc, log, home)?;
     compare(alloc, earlier, event)

@@ -7,7 +7,8 @@ use base_types::OutOfMemory;
 use std::alloc::Global;
 
 fn append_left_line(text: &mut String, left: &LeftLine) -> Result<(), OutOfMemory>
-    ensures { OnOk result (string_bytes text.new ≡ string_bytes text.old ++ ended (left_line_text left.now)) }
+    ensures { OnOk result (string_bytes text.new ≡ string_bytes text.old
+        ++ ended (left_line_text left.now)) }
 {
     let line = left.line;
     match left.cause {
@@ -21,7 +22,8 @@ fn append_left_line(text: &mut String, left: &LeftLine) -> Result<(), OutOfMemor
 }
 
 fn append_left_lines(text: &mut String, lines: &[LeftLine]) -> Result<(), OutOfMemory>
-    ensures { OnOk result (string_bytes text.new ≡ string_bytes text.old ++ left_lines_text lines.now) }
+    ensures { OnOk result (string_bytes text.new ≡ string_bytes text.old
+        ++ left_lines_text lines.now) }
 {
     for left in lines {
         append_left_line(text, left)?;

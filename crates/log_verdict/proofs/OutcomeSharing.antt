@@ -11,6 +11,7 @@ use Rattle.rbac_timeline.proofs.nameless.Nameless.TheSendSync as nameless
 use Rattle.rbac_timeline.proofs.unsure.Unsure.TheSendSync as unsure
 use Rattle.rbac_timeline.specs.contracts.timeline.Timeline as timeline
 use Rattle.rbac_timeline.specs.contracts.timeline.Timeline.TheInside as timed
+use Rattle.setup_file.proofs.tracked_list.TrackedList.TheSendSync as resources
 use Rattle.setup_file.specs.contracts.setup.Setup as setup
 use Rattle.time_windows.specs.contracts.windows.Windows as windows
 use Rattle.version_store.proofs.log.Log.TheSendSync as log
@@ -45,7 +46,7 @@ setup_shared = declared_sync setup.the_type (
             (
               search (sendable, owned.crosses) depth 60 fits 20000,
               (
-                search (sendable, owned.crosses) depth 60 fits 20000,
+                resources.the_sync,
                 (
                   search (tree_shared, sendable, owned.crosses) depth 60 fits 20000,
                   (

@@ -1,5 +1,6 @@
 pub mod Choosing
 pub mod Clouding
+pub mod Counted
 pub mod Ending
 pub mod Entries
 pub mod Faulting

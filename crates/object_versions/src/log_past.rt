@@ -1,4 +1,4 @@
-ghost use Rattle.std.specs.Prelude.{◌≡◌, ◌<◌, ◌^◌, length, map, IfOk, All, AllPairs};
+ghost use Rattle.std.specs.Prelude.{◌≡◌, ◌<◌, ◌≤◌, ◌+◌, ◌^◌, length, map, IfOk, All, AllPairs};
 ghost use Rattle.history_model.specs.Groups.{AreSpans};
 ghost use Rattle.history_model.specs.Histories.{History};
 ghost use Rattle.history_model.specs.Incarnations.{AreRemovals};
@@ -206,6 +206,8 @@ pub fn past_of<B: Bodies>(
     ensures start { IfOk result (λ past. past.windows.start ≡ start) }
     ensures past { IfOk result (λ past. (h : History) → HasFound start snapshot.now events.now
         (B.body bodies.now) past h → IsPastOf events.now past h) }
+    ensures few_versions { IfOk result (λ past. length past.versions ≤ length snapshot.now + length events.now) }
+    ensures few_removals { IfOk result (λ past. length past.removals ≤ length events.now) }
 {
     let timed = timed_of(alloc, start, events)?;
     let clouds = hidden_of(alloc, start, snapshot, events, &timed)?;

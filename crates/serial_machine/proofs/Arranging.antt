@@ -24,9 +24,9 @@ use Rattle.history_model.specs.Readable.{IsReadable}
 use Rattle.history_model.specs.Runs.{Placement, IsStep, AreSteps}
 use Rattle.write_groups.proofs.Lists.{map_from, map_has, pairs_map, pairs_unmap}
 use Rattle.serial_machine.proofs.Placing.{placed_steps, steps_apart, steps_sound, steps_full}
-use Rattle.serial_machine.specs.Ordered.{is_answer, turn_of, turn_cmp, row_step, IsInTurn, AreRowsOf, AreRows}
+use Rattle.serial_machine.specs.Ordered.{is_answer, step_turn, step_turn_cmp, row_step, IsInTurn, AreRowsOf, AreRows}
 use Rattle.serial_machine.specs.declared.rows.Row.{Row}
-use Rattle.serial_machine.specs.declared.rows.Turn.{Turn}
+use Rattle.serial_machine.specs.declared.rows.StepTurn.{StepTurn}
 
 -- an order says how two tests lie
 rank_less : (a b : Step) → step_rank a < step_rank b → bool_cmp (is_answer a) (is_answer b) ≡ Less
@@ -74,7 +74,7 @@ answer_same (Reply m g q) (Remove d) e = absurd (omega (arith, e))
 answer_same (Reply m g q) (Reply n f p) e = refl
 
 -- a step that precedes another has the lesser turn
-turn_less : (h : History) (a b : Step) → Precedes h a b → is_lt (turn_cmp (turn_of h a) (turn_of h b)) ≡ true
+turn_less : (h : History) (a b : Step) → Precedes h a b → is_lt (step_turn_cmp (step_turn h a) (step_turn h b)) ≡ true
 turn_less h a b (inl l) = then_less (nat_cmp (step_place a) (step_place b)) (ordering_then (bool_cmp (is_answer a) (is_answer b)) (nat_cmp (step_line h a) (step_line h b))) (nat_less (step_place a) (step_place b) l)
 turn_less h a b (inr (inl l)) = then_next (nat_cmp (step_place a) (step_place b)) (ordering_then (bool_cmp (is_answer a) (is_answer b)) (nat_cmp (step_line h a) (step_line h b))) (nat_equal (step_place a) (step_place b) l.0)
     (then_less (bool_cmp (is_answer a) (is_answer b)) (nat_cmp (step_line h a) (step_line h b)) (rank_less a b l.1))
@@ -103,17 +103,17 @@ in_order h (s ∷ ss) a b order c d = go (in_cons s ss a c) (in_cons s ss b d) (
     go (inr m) (inl f) rest = inr (inr (subst (λ z. Precedes h z a) f (all_at (Precedes h s) ss a order.0 m)))
     go (inr m) (inr n) rest = rest m n
 
-tied : (h : History) (n : ℕ) (p : Placement) → IsReadable h → (a b : Step) → IsStep h n p a → IsStep h n p b → turn_of h a ≡ turn_of h b → a ≡ b
+tied : (h : History) (n : ℕ) (p : Placement) → IsReadable h → (a b : Step) → IsStep h n p a → IsStep h n p b → step_turn h a ≡ step_turn h b → a ≡ b
 tied h n p r a b x y e = at (steps_of h n p r)
   where
     place : step_place a ≡ step_place b
-    place = ap (λ (t : Turn). t.place) e
+    place = ap (λ (t : StepTurn). t.place) e
 
     rank : step_rank a ≡ step_rank b
-    rank = rank_same a b (ap (λ (t : Turn). t.is_answer) e)
+    rank = rank_same a b (ap (λ (t : StepTurn). t.is_answer) e)
 
     line : step_line h a ≡ step_line h b
-    line = ap (λ (t : Turn). t.line) e
+    line = ap (λ (t : StepTurn). t.line) e
 
     at : (steps : List Step) × AreSteps h n p steps → a ≡ b
     at (steps, are) = go (in_order h steps a b are.order (are.full a x) (are.full b y))
@@ -135,21 +135,21 @@ rank_tells true false e = absurd (omega (arith, e))
 rank_tells false true e = absurd (omega (arith, e))
 rank_tells false false e = refl
 
-same_turn : Turn → Turn → Bool
+same_turn : StepTurn → StepTurn → Bool
 same_turn a b = eqb a.place b.place && (eqb (rank_of a.is_answer) (rank_of b.is_answer) && eqb a.line b.line)
 
-turn_decides : (a b : Turn) → Decides (same_turn a b) (a ≡ b)
+turn_decides : (a b : StepTurn) → Decides (same_turn a b) (a ≡ b)
 unfolding same_turn
 turn_decides a b = Decides-like (same_turn a b)
     (λ (e : (a.place ≡ b.place) × ((rank_of a.is_answer ≡ rank_of b.is_answer) × (a.line ≡ b.line))). whole e.0 (rank_tells a.is_answer b.is_answer e.1.0) e.1.1)
-    (λ e. (ap (λ (t : Turn). t.place) e, (ap (λ (t : Turn). rank_of t.is_answer) e, ap (λ (t : Turn). t.line) e)))
+    (λ e. (ap (λ (t : StepTurn). t.place) e, (ap (λ (t : StepTurn). rank_of t.is_answer) e, ap (λ (t : StepTurn). t.line) e)))
     (Decides-and (eqb a.place b.place) (eqb (rank_of a.is_answer) (rank_of b.is_answer) && eqb a.line b.line) (Decides-eqb a.place b.place)
     (Decides-and (eqb (rank_of a.is_answer) (rank_of b.is_answer)) (eqb a.line b.line) (Decides-eqb (rank_of a.is_answer) (rank_of b.is_answer)) (Decides-eqb a.line b.line)))
   where
     whole : a.place ≡ b.place → a.is_answer ≡ b.is_answer → a.line ≡ b.line → a ≡ b
     whole p q l = λ i. record { place = p i; is_answer = q i; line = l i }
 
-same_flips : (a b : Turn) → same_turn a b ≡ same_turn b a
+same_flips : (a b : StepTurn) → same_turn a b ≡ same_turn b a
 same_flips a b = both (same_turn a b) (same_turn b a) (λ t. (turn_decides b a).1 (sym ((turn_decides a b).0 t))) (λ t. (turn_decides a b).1 (sym ((turn_decides b a).0 t)))
   where
     both : (s t : Bool) → (s ≡ true → t ≡ true) → (t ≡ true → s ≡ true) → s ≡ t
@@ -167,11 +167,11 @@ pairs_order : (h : History) (steps : List Step) → AllPairs (Precedes h) steps 
 pairs_order h [] p = tt
 pairs_order h (s ∷ ss) p = (pairs_head (Precedes h) s ss p, pairs_order h ss (pairs_tail (Precedes h) s ss p))
 
-ranks : IsStrictWeakOrder (λ (a b : Row). is_lt (turn_cmp a.turn b.turn))
-ranks = ranks_by (then_total (on_total (λ (t : Turn). t.place) nat_cmp_total) (then_total (on_total (λ (t : Turn). t.is_answer) bool_cmp_total) (on_total (λ (t : Turn). t.line) nat_cmp_total))) (λ (row : Row). row.turn)
+ranks : IsStrictWeakOrder (λ (a b : Row). is_lt (step_turn_cmp a.turn b.turn))
+ranks = ranks_by (then_total (on_total (λ (t : StepTurn). t.place) nat_cmp_total) (then_total (on_total (λ (t : StepTurn). t.is_answer) bool_cmp_total) (on_total (λ (t : StepTurn). t.line) nat_cmp_total))) (λ (row : Row). row.turn)
 
 module _ (h : History) (r : IsReadable h) (lines : List PlacedLine) (rising : RisesByLine lines) (fit : IsFitting h lines)
-    (given sorted : List Row) (of : AreRowsOf h (placed_steps h lines) given) (same : IsPermutation given sorted) (order : IsSortedByKey (λ row. row.turn) turn_cmp sorted) where
+    (given sorted : List Row) (of : AreRowsOf h (placed_steps h lines) given) (same : IsPermutation given sorted) (order : IsSortedByKey (λ row. row.turn) step_turn_cmp sorted) where
   step_in : (row : Row) → Contains given row → Contains (placed_steps h lines) (row_step row)
   step_in row c = subst (λ l. Contains l (row_step row)) of.are (map_has row_step given row c)
 
@@ -181,7 +181,7 @@ module _ (h : History) (r : IsReadable h) (lines : List PlacedLine) (rising : Ri
   back : (row : Row) → Contains sorted row → Contains given row
   back row c = Contains-permutation sorted given row (IsPermutation-sym given sorted same) c
 
-  turn : (row : Row) → Contains given row → row.turn ≡ turn_of h (row_step row)
+  turn : (row : Row) → Contains given row → row.turn ≡ step_turn h (row_step row)
   turn row c = all_at (IsInTurn h) given row of.turns c
 
   steps_differ : AllPairs (λ (a b : Row). row_step a ≢ row_step b) given
@@ -193,7 +193,7 @@ module _ (h : History) (r : IsReadable h) (lines : List PlacedLine) (rising : Ri
       one : (a b : Row) → Contains given a → Contains given b → a.turn ≡ b.turn → row_step a ≡ row_step b
       one a b c d e = tied h (length h.order) (placement_of h lines) r (row_step a) (row_step b) (step_is a c) (step_is b d) (sym (turn a c) ∙ e ∙ turn b d)
 
-  before : (a b : Row) → Contains sorted a → Contains sorted b → a.turn ≢ b.turn → is_lt (turn_cmp b.turn a.turn) ≡ false → Precedes h (row_step a) (row_step b)
+  before : (a b : Row) → Contains sorted a → Contains sorted b → a.turn ≢ b.turn → is_lt (step_turn_cmp b.turn a.turn) ≡ false → Precedes h (row_step a) (row_step b)
   before a b c d differ not = go (precedes_cases h (row_step a) (row_step b))
     where
       go : Precedes h (row_step a) (row_step b) ⊎ Precedes h (row_step b) (row_step a)
@@ -201,15 +201,15 @@ module _ (h : History) (r : IsReadable h) (lines : List PlacedLine) (rising : Ri
       go (inl l) = l
       go (inr (inl l)) = absurd (true≢false (sym less ∙ not))
         where
-          less : is_lt (turn_cmp b.turn a.turn) ≡ true
-          less = subst (λ z. is_lt (turn_cmp z a.turn) ≡ true) (sym (turn b (back b d)))
-              (subst (λ z. is_lt (turn_cmp (turn_of h (row_step b)) z) ≡ true) (sym (turn a (back a c))) (turn_less h (row_step b) (row_step a) l))
+          less : is_lt (step_turn_cmp b.turn a.turn) ≡ true
+          less = subst (λ z. is_lt (step_turn_cmp z a.turn) ≡ true) (sym (turn b (back b d)))
+              (subst (λ z. is_lt (step_turn_cmp (step_turn h (row_step b)) z) ≡ true) (sym (turn a (back a c))) (turn_less h (row_step b) (row_step a) l))
       go (inr (inr t)) = absurd (differ (turn a (back a c) ∙ equal ∙ sym (turn b (back b d))))
         where
           answers : is_answer (row_step a) ≡ is_answer (row_step b)
           answers = answer_same (row_step a) (row_step b) t.1
 
-          equal : turn_of h (row_step a) ≡ turn_of h (row_step b)
+          equal : step_turn h (row_step a) ≡ step_turn h (row_step b)
           equal = λ i. record { place = t.0 i; is_answer = answers i; line = t.2 i }
 
   pub rows_are : AreRows h lines sorted
@@ -218,7 +218,7 @@ module _ (h : History) (r : IsReadable h) (lines : List PlacedLine) (rising : Ri
     are = record {
       order = pairs_order h (map row_step sorted) (pairs_map row_step (Precedes h) sorted
           (λ i j d l m. before (get_or sorted i d) (get_or sorted j d) (Contains-get_or sorted i d (omega (arith, l, m))) (Contains-get_or sorted j d m) (turns_moved given sorted same turns_differ i j d l m)
-          (sorted_far (λ (a b : Row). is_lt (turn_cmp a.turn b.turn)) ranks sorted order i j d (omega (arith, l)) m)));
+          (sorted_far (λ (a b : Row). is_lt (step_turn_cmp a.turn b.turn)) ranks sorted order i j d (omega (arith, l)) m)));
       sound = λ step c. sound step (map_from row_step sorted step c);
       full = λ step is. Contains-permutation (map row_step given) (map row_step sorted) step (IsPermutation-map row_step given sorted same)
           (subst (λ l. Contains l step) (sym of.are) (steps_full h r lines rising fit step is));

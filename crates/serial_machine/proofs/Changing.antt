@@ -16,7 +16,7 @@ use Rattle.history_model.specs.Machine.{Step, Put, Remove, Reply, after, after_a
 use Rattle.history_model.specs.Readable.{IsReadable}
 use Rattle.history_model.specs.States.{Cut, Map}
 use Rattle.serial_machine.proofs.Unmade.{after_append, end_append}
-use Rattle.serial_machine.specs.Held.{HasMade, HasRooms, held, objects_in, end_of}
+use Rattle.serial_machine.specs.Held.{HasMade, HasRooms, held, objects_in, end_of_steps}
 use Rattle.serial_machine.specs.declared.machine.Machine.{Machine}
 
 -- the version of a revision is found

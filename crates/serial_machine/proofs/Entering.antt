@@ -26,8 +26,8 @@ use Rattle.write_groups.proofs.Lists.{map_from, map_has}
 use Rattle.write_groups.specs.Modelled.{event_of}
 use Rattle.write_groups.specs.declared.event.LogEvent.{LogEvent}
 use Rattle.serial_machine.proofs.Unmade.{shown_upto, shown_here}
-use Rattle.serial_machine.specs.Held.{HasMade, end_of, objects_upto, unmade_puts}
-use Rattle.serial_machine.specs.Made.{IsAstray, IsLineOf, IsMade, IsRightLine, IsStepAs, IsStepOf, IsWrong, map_before, forbidden, nowhere, stands}
+use Rattle.serial_machine.specs.Held.{HasMade, end_of_steps, objects_upto, unmade_puts}
+use Rattle.serial_machine.specs.Made.{IsAstray, IsLineOf, IsLineMade, IsRightLine, IsStepAs, IsStepOf, IsWrong, map_before, forbidden, nowhere, stands}
 use Rattle.serial_machine.specs.Stepping.{IsOfHistory, IsVerdictOn}
 use Rattle.serial_machine.specs.declared.machine.Machine.{Machine}
 
@@ -45,7 +45,7 @@ event_there (x ∷ xs) (suc number) l = event_there xs number (omega arith)
 -- what a scene shows is what the steps left
 pub scene_is : (h : History) (machine : Machine) (done : List Step) (step : Step) (place : ℕ) → place ≡ step_place step → HasMade h machine done → objects_upto h machine place ≡ map_before h done step
 scene_is h machine done step place e made = fun_ext (λ key. shown_upto h machine done place key made)
-    ∙ ap (λ z. after_all (snapshot_map h) (done ++ unmade_puts h (end_of h.start done) z)) e
+    ∙ ap (λ z. after_all (snapshot_map h) (done ++ unmade_puts h (end_of_steps h.start done) z)) e
 
 pub scene_here : (h : History) (machine : Machine) (done : List Step) → HasMade h machine done → objects_upto h machine machine.place ≡ after_all (snapshot_map h) done
 scene_here h machine done made = fun_ext (λ key. shown_here h machine done key made)
@@ -179,11 +179,11 @@ module _ (h : History) (done : List Step) (placed : PlacedLine) (number : ℕ) (
 
 -- a right line, once its step is made
 pub line_made : (h : History) (done : List Step) (placed : PlacedLine) (old mid new : Machine) (step : Step) (upto : ℕ) → IsRightLine h done placed (Some step) → upto ≡ step_place step
-    → HasMade h mid (done ++ unmade_puts h (end_of h.start done) upto)
-    → (IsOfHistory h step → HasMade h mid (done ++ unmade_puts h (end_of h.start done) upto) → HasMade h new (done ++ unmade_puts h (end_of h.start done) upto ++ step ∷ []))
-    → IsMade h done placed old new
+    → HasMade h mid (done ++ unmade_puts h (end_of_steps h.start done) upto)
+    → (IsOfHistory h step → HasMade h mid (done ++ unmade_puts h (end_of_steps h.start done) upto) → HasMade h new (done ++ unmade_puts h (end_of_steps h.start done) upto ++ step ∷ []))
+    → IsLineMade h done placed old new
 line_made h done placed old mid new step upto (number, event, of, allowed) e put make = stands number event step of allowed
-    (subst (λ p. HasMade h new (done ++ unmade_puts h (end_of h.start done) p ++ step ∷ [])) e (make (step_known h number event (answer_place placed.answer) step of.line.known of.as_word) put))
+    (subst (λ p. HasMade h new (done ++ unmade_puts h (end_of_steps h.start done) p ++ step ∷ [])) e (make (step_known h number event (answer_place placed.answer) step of.line.known of.as_word) put))
 
-pub line_nowhere : (h : History) (done : List Step) (placed : PlacedLine) (old : Machine) → IsRightLine h done placed None → IsMade h done placed old old
+pub line_nowhere : (h : History) (done : List Step) (placed : PlacedLine) (old : Machine) → IsRightLine h done placed None → IsLineMade h done placed old old
 line_nowhere h done placed old (number, event, line, inside, none) = nowhere number event line inside none refl

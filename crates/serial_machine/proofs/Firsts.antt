@@ -11,7 +11,7 @@ use Rattle.history_model.specs.Histories.{History, IsEvent}
 use Rattle.history_model.specs.Readable.{IsReadable}
 use Rattle.serial_machine.proofs.Leasts.{HoldsAt, below_or_not, first_is_least, one_event}
 use Rattle.serial_machine.specs.Places.{IsMisplaced, IsUndecided}
-use Rattle.serial_machine.specs.Standing.{IsLeastOf}
+use Rattle.serial_machine.specs.Standing.{IsLeastCode}
 
 -- it holds of no event before the number
 abbrev pub NoneBefore : History → (ℕ → Event → Type 0) → ℕ → Type 0
@@ -79,7 +79,7 @@ module _ (h : History) (r : IsReadable h) where
   none_standing number all before at c = none_anywhere h (Stands h) number at all before (standing_at at c)
 
   -- the least code of an event is that of its line
-  pub least_at : (number : ℕ) (event : Event) (code : Reason) → IsEvent h number event → IsLeastOf (HasStandingCode h number event) (Some code)
+  pub least_at : (number : ℕ) (event : Event) (code : Reason) → IsEvent h number event → IsLeastCode (HasStandingCode h number event) (Some code)
       → (other : Reason) → HasCodeAt h event.line other → code_number code ≤ code_number other
   least_at number event code known least other c = least.1 other (subst (λ (e : Event). HasStandingCode h number e other) same_events (subst (λ n. HasStandingCode h n c.event other) (sym same) c.has))
     where

@@ -12,7 +12,7 @@ use Rattle.history_model.specs.Machine.{Step, Put}
 use Rattle.object_past.specs.Modelled.{version_of}
 use Rattle.object_past.specs.declared.version.Version.{Version}
 use Rattle.serial_machine.proofs.Unmade.{not_unmade, above_unmade}
-use Rattle.serial_machine.specs.Held.{HasMade, is_unmade, unmade_puts, end_of}
+use Rattle.serial_machine.specs.Held.{HasMade, is_unmade, unmade_puts, end_of_steps}
 use Rattle.serial_machine.specs.declared.machine.Machine.{Machine}
 
 pub skip_front : (place high : ℕ) (versions : List Version) (n : ℕ) → ((v : Version) → Contains (take n versions) v → v.revision ≤ place)
@@ -83,6 +83,6 @@ item_in versions i v within is = subst (λ w. Contains versions w) (sym is) (Con
 -- all of them, of the history
 pub late_all : (h : History) (machine : Machine) (done : List Step) (upto : ℕ) (behind all known : List Version) → h.versions ≡ map version_of known → all ≡ known
     → ((high : ℕ) → filter (is_unmade machine.place high) (map version_of behind) ≡ filter (is_unmade machine.place high) (map version_of all)) → HasMade h machine done
-    → late_in machine.place upto behind ≡ unmade_puts h (end_of h.start done) upto
+    → late_in machine.place upto behind ≡ unmade_puts h (end_of_steps h.start done) upto
 late_all h machine done upto behind all known past e same made = ap (map Put) (same upto) ∙ ap (λ l. map Put (filter (is_unmade machine.place upto) (map version_of l))) e
     ∙ ap (λ l. map Put (filter (is_unmade machine.place upto) l)) (sym past) ∙ ap (λ z. unmade_puts h z upto) made.place

@@ -22,7 +22,7 @@ use Rattle.serial_machine.specs.Running.{IsFirstForbidden}
 use Rattle.serial_machine.specs.Stepping.{IsOfHistory, IsVerdictOn}
 use Rattle.serial_machine.specs.declared.machine.Machine.{Machine}
 use Rattle.serial_machine.specs.declared.rows.Row.{Row}
-use Rattle.serial_machine.specs.declared.rows.Turn.{Turn}
+use Rattle.serial_machine.specs.declared.rows.StepTurn.{StepTurn}
 
 -- the machine made these rows, and each was allowed
 pub record HasRun (h : History) (machine : Machine) (rows : List Row) : Type 0 where
@@ -86,7 +86,7 @@ module _ (h : History) (lines : List PlacedLine) (rows : List Row) (are : AreRow
     rest = map row_step f.rest;
     whole = ap (map row_step) f.whole ∙ map-append row_step f.done (f.row ∷ f.rest);
     before = f.before;
-    of_line = sym (ap (λ (t : Turn). t.line) turn) ∙ f.of_line;
+    of_line = sym (ap (λ (t : StepTurn). t.line) turn) ∙ f.of_line;
     has = f.has;
     least = f.least;
   }

@@ -13,7 +13,7 @@ use Rattle.history_model.specs.Histories.{History, Version}
 use Rattle.history_model.specs.Machine.{Step, Put, put_at, after, after_all, snapshot_map, step_place}
 use Rattle.history_model.specs.Readable.{IsReadable}
 use Rattle.history_model.specs.States.{Map, latest, newer, IsLatest}
-use Rattle.serial_machine.specs.Held.{HasMade, has_no_maker, is_unmade, unmade, unmade_puts, or_else, objects_of, objects_upto, end_of}
+use Rattle.serial_machine.specs.Held.{HasMade, has_no_maker, is_unmade, unmade, unmade_puts, or_else, objects_of, objects_upto, end_of_steps}
 use Rattle.serial_machine.specs.declared.machine.Machine.{Machine}
 
 pub and_parts : (a b : Bool) → (a && b) ≡ true → (a ≡ true) × (b ≡ true)
@@ -84,18 +84,18 @@ pub after_append : (xs ys : List Step) (objects : Map) → after_all objects (xs
 after_append [] ys objects = refl
 after_append (x ∷ xs) ys objects = after_append xs ys (after objects x)
 
-pub end_append : (start : ℕ) (xs ys : List Step) → end_of start (xs ++ ys) ≡ end_of (end_of start xs) ys
+pub end_append : (start : ℕ) (xs ys : List Step) → end_of_steps start (xs ++ ys) ≡ end_of_steps (end_of_steps start xs) ys
 end_append start [] ys = refl
 end_append start (x ∷ xs) ys = end_append (step_place x) xs ys
 
 -- what a machine shows up to a place is what its steps left, and behind them the versions without a maker
 pub shown_upto : (h : History) (machine : Machine) (done : List Step) (place : ℕ) (key : ObjectKey) → HasMade h machine done
-    → objects_upto h machine place key ≡ after_all (snapshot_map h) (done ++ unmade_puts h (end_of h.start done) place) key
+    → objects_upto h machine place key ≡ after_all (snapshot_map h) (done ++ unmade_puts h (end_of_steps h.start done) place) key
 shown_upto h machine done place key made =
     ap (or_else (latest (unmade h machine.place place) key place)) (made.objects key)
     ∙ sym (unmade_after h (after_all (snapshot_map h) done) machine.place place key made.readable)
     ∙ ap (λ z. after_all (after_all (snapshot_map h) done) (unmade_puts h z place) key) made.place
-    ∙ ap (λ (m : Map). m key) (sym (after_append done (unmade_puts h (end_of h.start done) place) (snapshot_map h)))
+    ∙ ap (λ (m : Map). m key) (sym (after_append done (unmade_puts h (end_of_steps h.start done) place) (snapshot_map h)))
 
 -- none lie between a place and itself
 none_between : (low : ℕ) (versions : List Version) → filter (is_unmade low low) versions ≡ []

@@ -17,9 +17,9 @@ check_code wrong.V2 = model.V2
 check_code (wrong.Judged reason) = model.Judged reason
 
 -- a wrong line is the placement's first fault; want of memory says nothing
-abbrev pub IsFaultOf : History → List PlacedLine → CheckFault → Type 0
-IsFaultOf h lines (fault.Wrong line code) = IsFirstFault h lines line (check_code code)
-IsFaultOf h lines fault.OutOfMemory = Unit {0}
+abbrev pub IsPlacementFault : History → List PlacedLine → CheckFault → Type 0
+IsPlacementFault h lines (fault.Wrong line code) = IsFirstFault h lines line (check_code code)
+IsPlacementFault h lines fault.OutOfMemory = Unit {0}
 
 -- the placement is verified, or this is its first fault
 abbrev pub IsChecked : History → List PlacedLine → Checked → Type 0

@@ -51,13 +51,13 @@ abbrev pub objects_upto : History → Machine → ℕ → Map
 objects_upto h machine place key = or_else (latest (unmade h machine.place place) key place) (objects_of h machine key)
 
 -- where the last of the steps is
-abbrev pub end_of : ℕ → List Step → ℕ
-end_of start [] = start
-end_of start (step ∷ steps) = end_of (step_place step) steps
+abbrev pub end_of_steps : ℕ → List Step → ℕ
+end_of_steps start [] = start
+end_of_steps start (step ∷ steps) = end_of_steps (step_place step) steps
 
 -- the machine began with the snapshot and made these steps, one after the other
 pub record HasMade (h : History) (machine : Machine) (done : List Step) : Type 0 where
   pub readable : IsReadable h
   pub objects : (key : ObjectKey) → objects_of h machine key ≡ after_all (snapshot_map h) done key
   pub rooms : HasRooms h machine.objects
-  pub place : machine.place ≡ end_of h.start done
+  pub place : machine.place ≡ end_of_steps h.start done

@@ -13,7 +13,7 @@ use Rattle.history_model.specs.Placed.{answer_place, decision_places}
 use Rattle.history_model.specs.States.{Map}
 use Rattle.history_model.specs.Words.{Word, Makes, Removes, At, Strays, Nothing, word}
 use Rattle.serial_machine.specs.Checks.{check_code}
-use Rattle.serial_machine.specs.Held.{HasMade, end_of, unmade_puts}
+use Rattle.serial_machine.specs.Held.{HasMade, end_of_steps, unmade_puts}
 use Rattle.serial_machine.specs.Places.{AreOutOfCaches}
 use Rattle.serial_machine.specs.declared.entry.StepFault.{StepFault}
 use Rattle.serial_machine.specs.declared.entry.StepFault.TheVariants as fault
@@ -45,7 +45,7 @@ pub record IsStepOf (h : History) (placed : PlacedLine) (number : ℕ) (event : 
 
 -- what the steps left, and behind them the versions without a maker up to the place of this one
 abbrev pub map_before : History → List Step → Step → Map
-map_before h done step = after_all (snapshot_map h) (done ++ unmade_puts h (end_of h.start done) (step_place step))
+map_before h done step = after_all (snapshot_map h) (done ++ unmade_puts h (end_of_steps h.start done) (step_place step))
 
 -- the line doesn't stand before a step that was made
 abbrev pub StandsBehind : History → List Step → PlacedLine → Type 0
@@ -53,11 +53,11 @@ StandsBehind h done placed = (number : ℕ) (event : Event) (step : Step) → Is
 
 -- The line is right: its step is allowed and was made behind the versions without a maker up to its place. A line
 -- whose event says nothing makes nothing.
-pub data IsMade (h : History) (done : List Step) (placed : PlacedLine) (old new : Machine) : Type 0 where
+pub data IsLineMade (h : History) (done : List Step) (placed : PlacedLine) (old new : Machine) : Type 0 where
   stands : (number : ℕ) → (event : Event) → (step : Step) → IsStepOf h placed number event step → IsAllowed h (map_before h done step) step
-      → HasMade h new (done ++ unmade_puts h (end_of h.start done) (step_place step) ++ step ∷ []) → IsMade h done placed old new
+      → HasMade h new (done ++ unmade_puts h (end_of_steps h.start done) (step_place step) ++ step ∷ []) → IsLineMade h done placed old new
   nowhere : (number : ℕ) → (event : Event) → IsLineOf h placed number event → (IsAstray h placed number event → ⊥) → word h number event ≡ Nothing
-      → new ≡ old → IsMade h done placed old new
+      → new ≡ old → IsLineMade h done placed old new
 
 -- why the line is wrong
 pub data IsWrong (h : History) (done : List Step) (placed : PlacedLine) (code : CheckCode) : Type 0 where
@@ -70,9 +70,9 @@ pub data IsWrong (h : History) (done : List Step) (placed : PlacedLine) (code : 
       → ((other : Reason) → HasStepCode h (map_before h done step) step other → code_number reason ≤ code_number other) → IsWrong h done placed code
 
 -- the fault is that of the line; want of memory says nothing
-abbrev pub IsStepFault : History → List Step → PlacedLine → StepFault → Type 0
-IsStepFault h done placed (fault.Wrong line code) = (line ≡ placed.line) × IsWrong h done placed (check_code code)
-IsStepFault h done placed fault.OutOfMemory = Unit {0}
+abbrev pub IsFaultOfLine : History → List Step → PlacedLine → StepFault → Type 0
+IsFaultOfLine h done placed (fault.Wrong line code) = (line ≡ placed.line) × IsWrong h done placed (check_code code)
+IsFaultOfLine h done placed fault.OutOfMemory = Unit {0}
 
 -- The line is right and has this step, or none, as its event says nothing.
 abbrev pub IsRightLine : History → List Step → PlacedLine → Option Step → Type 0

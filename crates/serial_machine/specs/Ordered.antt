@@ -12,7 +12,7 @@ use Rattle.history_model.specs.Placed.{line_place, placement_of}
 use Rattle.history_model.specs.Runs.{AreSteps}
 use Rattle.serial_machine.specs.Stepping.{step_of}
 use Rattle.serial_machine.specs.declared.rows.Row.{Row}
-use Rattle.serial_machine.specs.declared.rows.Turn.{Turn}
+use Rattle.serial_machine.specs.declared.rows.StepTurn.{StepTurn}
 
 -- the writes of all versions above the start
 abbrev pub puts_above : ℕ → List Version → List Step
@@ -55,19 +55,19 @@ is_answer (Remove cut) = false
 is_answer (Reply number event place) = true
 
 -- when a step is made
-abbrev pub turn_of : History → Step → Turn
-turn_of h step = record { place = step_place step; is_answer = is_answer step; line = step_line h step }
+abbrev pub step_turn : History → Step → StepTurn
+step_turn h step = record { place = step_place step; is_answer = is_answer step; line = step_line h step }
 
 -- by place, writes before answers, then by line
-abbrev pub turn_cmp : Turn → Turn → Ordering
-turn_cmp a b = ordering_then (nat_cmp a.place b.place) (ordering_then (bool_cmp a.is_answer b.is_answer) (nat_cmp a.line b.line))
+abbrev pub step_turn_cmp : StepTurn → StepTurn → Ordering
+step_turn_cmp a b = ordering_then (nat_cmp a.place b.place) (ordering_then (bool_cmp a.is_answer b.is_answer) (nat_cmp a.line b.line))
 
 abbrev pub row_step : Row → Step
 row_step row = step_of row.step
 
 -- the row has its step's turn
 abbrev pub IsInTurn : History → Row → Type 0
-IsInTurn h row = row.turn ≡ turn_of h (row_step row)
+IsInTurn h row = row.turn ≡ step_turn h (row_step row)
 
 -- the rows of these steps
 pub record AreRowsOf (h : History) (steps : List Step) (rows : List Row) : Type 0 where

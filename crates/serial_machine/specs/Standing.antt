@@ -4,6 +4,6 @@ use Rattle.base_types.specs.Reasons.{code_number}
 use Rattle.base_types.specs.declared.claim.Reason.{Reason}
 
 -- the least code that it has, or none where it has none
-abbrev pub IsLeastOf : (Reason → Type 0) → Option Reason → Type 0
-IsLeastOf Has None = (code : Reason) → Has code → ⊥
-IsLeastOf Has (Some code) = Has code × ((other : Reason) → Has other → code_number code ≤ code_number other)
+abbrev pub IsLeastCode : (Reason → Type 0) → Option Reason → Type 0
+IsLeastCode Has None = (code : Reason) → Has code → ⊥
+IsLeastCode Has (Some code) = Has code × ((other : Reason) → Has other → code_number code ≤ code_number other)

@@ -52,7 +52,8 @@ fn code_text(alloc: Global, code: WrongCode) -> Result<String, OutOfMemory>
 }
 
 fn wrong_text(alloc: Global, line: u64, code: WrongCode) -> Result<String, OutOfMemory>
-    ensures { IfOk result (λ text. string_bytes text ≡ ended (spaced (codes "wrong" ∷ decimal line ∷ code_text code ∷ []))) }
+    ensures { IfOk result (λ text. string_bytes text
+        ≡ ended (spaced (codes "wrong" ∷ decimal line ∷ code_text code ∷ []))) }
 {
     let name = code_text(alloc, code)?;
     let text = format!(in alloc; "wrong {line} {}\n", name.as_str())?;

@@ -1,6 +1,6 @@
 ghost use Rattle.std.specs.Prelude.{IfErr, IfOk};
 ghost use Rattle.history_model.specs.Checking.{IsVerified};
-ghost use Rattle.serial_machine.specs.Checks.{IsFaultOf};
+ghost use Rattle.serial_machine.specs.Checks.{IsPlacementFault};
 ghost use Rattle.version_store.specs.Histories.{history_of};
 
 use crate::decisions::first_undecided;
@@ -18,7 +18,7 @@ use version_store::Context;
 /// that its event can't have; the first step that isn't allowed; the least line whose decision isn't given.
 pub fn check(alloc: Global, context: &Context, placement: &Placement) -> Result<(), CheckFault>
     ensures verified { IfOk result (λ done. IsVerified (history_of context.now) placement.now) }
-    ensures wrong { IfErr result (IsFaultOf (history_of context.now) placement.now) }
+    ensures wrong { IfErr result (IsPlacementFault (history_of context.now) placement.now) }
 {
     let lines = placement.as_slice();
     if let Some(line) = first_difference(context, lines) {

@@ -13,8 +13,8 @@ use version_store::Context;
 // Whether the decision of the event of this number isn't given at its line's places.
 fn is_undecided(context: &Context, lines: &[PlacedLine], number: u32) -> bool
     requires { number < length context.now.log }
-    ensures { (event : Event) → IsEvent (history_of context.now) number event → IsTrue result ↔ IsUndecided
-        (history_of context.now) lines.now number event }
+    ensures { (event : Event) → IsEvent (history_of context.now) number event → IsTrue result
+        ↔ IsUndecided (history_of context.now) lines.now number event }
 {
     let judged = context.log()[number as usize].decision.is_some();
     let given = context.is_given(number, &line_places(lines, number));

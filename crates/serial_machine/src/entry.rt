@@ -6,8 +6,8 @@ ghost use Rattle.history_model.specs.Histories.{IsEvent, Version as Recorded};
 ghost use Rattle.history_model.specs.Machine as model;
 ghost use Rattle.history_model.specs.Words.{Strays, word};
 ghost use Rattle.object_past.specs.Modelled.{version_of};
-ghost use Rattle.serial_machine.specs.Held.{HasMade, HasRooms, end_of, is_unmade, unmade_puts};
-ghost use Rattle.serial_machine.specs.Made.{IsAstray, IsLineOf, IsMade, IsRightLine, IsStepAs, IsStepFault};
+ghost use Rattle.serial_machine.specs.Held.{HasMade, HasRooms, end_of_steps, is_unmade, unmade_puts};
+ghost use Rattle.serial_machine.specs.Made.{IsAstray, IsLineOf, IsLineMade, IsRightLine, IsStepAs, IsFaultOfLine};
 ghost use Rattle.serial_machine.specs.Made.{StandsBehind};
 ghost use Rattle.serial_machine.specs.Stepping.{step_of};
 ghost use Rattle.version_store.specs.Histories.{history_of};
@@ -20,7 +20,7 @@ use crate::places::{answer_place, decision_places, is_out_of_caches, is_outside}
 use crate::scene::{Scene, has_no_maker};
 use crate::step::Step;
 use crate::verdicts::verdict;
-use crate::words::{Word, removal_by, word_at};
+use crate::words::{PlacementWord, removal_by, word_at};
 use base_types::{OutOfMemory, PlacedLine, Reason};
 use object_past::Version;
 use std::alloc::Global;
@@ -52,8 +52,8 @@ fn number_at(log: &[LogEvent], line: u64) -> Option<u32>
     requires rising { AllPairs (λ a b. a.line < b.line) log.now }
     requires few { length log.now < 2 ^ 32 }
     ensures within { IfSome result (λ number. number < length log.now) }
-    ensures some { IfSome result (λ number. (event : LogEvent) → slice_get log.now number ≡ Some event
-        → event.line ≡ line) }
+    ensures some { IfSome result (λ number. (event : LogEvent)
+        → slice_get log.now number ≡ Some event → event.line ≡ line) }
     ensures none { IfNone result ((event : LogEvent) → Contains log.now event → event.line ≢ line) }
 {
     let upto = log.partition_point(|event| event.line <= line);
@@ -69,7 +69,8 @@ fn number_at(log: &[LogEvent], line: u64) -> Option<u32>
 // The number of the event of which this is the line, with its words.
 fn event_of_line(context: &Context, placed: &PlacedLine) -> Option<u32>
     ensures within { IfSome result (λ number. number < length context.now.log) }
-    ensures some { IfSome result (λ number. (event : Event) → IsEvent (history_of context.now) number event
+    ensures some { IfSome result (λ number. (event : Event)
+        → IsEvent (history_of context.now) number event
         → IsLineOf (history_of context.now) placed.now number event) }
     ensures none { IfNone result ((number : ℕ) (event : Event)
         → IsLineOf (history_of context.now) placed.now number event → ⊥) }
@@ -109,27 +110,30 @@ fn reply_at(context: &Context, number: u32, place: u64) -> Step<'_>
 // The step of the event of this number at the place; strays, and events that say nothing, have none.
 fn step_at(context: &Context, number: u32, place: u64) -> Option<Step<'_>>
     requires { number < length context.now.log }
-    ensures some { IfSome result (λ step. (event : Event) → IsEvent (history_of context.now) number event
-        → IsStepAs (history_of context.now) number event place (word (history_of context.now) number event)
-        (step_of step)) }
-    ensures none { IfNone result ((event : Event) (step : model.Step) → IsEvent (history_of context.now) number event
-        → IsStepAs (history_of context.now) number event place (word (history_of context.now) number event) step → ⊥) }
+    ensures some { IfSome result (λ step. (event : Event)
+        → IsEvent (history_of context.now) number event
+        → IsStepAs (history_of context.now) number event place
+        (word (history_of context.now) number event) (step_of step)) }
+    ensures none { IfNone result ((event : Event) (step : model.Step)
+        → IsEvent (history_of context.now) number event
+        → IsStepAs (history_of context.now) number event place
+        (word (history_of context.now) number event) step → ⊥) }
 {
     // For the proof alone, as for a machine's start.
     let _log = context.log();
     let past = context.past();
     match word_at(context, number) {
-        Word::Makes(revision) => match past.at(revision) {
+        PlacementWord::Makes(revision) => match past.at(revision) {
             Some(version) => Some(Step::Put(version)),
             None => None,
         },
-        Word::Removes(_) => match removal_by(past, number) {
+        PlacementWord::Removes(_) => match removal_by(past, number) {
             Some(removal) => Some(Step::Remove { removal, place }),
             None => None,
         },
-        Word::At => Some(reply_at(context, number, place)),
-        Word::Strays => None,
-        Word::Nothing => None,
+        PlacementWord::At => Some(reply_at(context, number, place)),
+        PlacementWord::Strays => None,
+        PlacementWord::Nothing => None,
     }
 }
 
@@ -139,7 +143,7 @@ fn strays(context: &Context, number: u32) -> bool
     ensures { (event : Event) → IsEvent (history_of context.now) number event → IsTrue result
         ↔ (word (history_of context.now) number event ≡ Strays) }
 {
-    matches!(word_at(context, number), Word::Strays)
+    matches!(word_at(context, number), PlacementWord::Strays)
 }
 
 // The line's step, where the line is right; none where its event says nothing.
@@ -150,10 +154,12 @@ fn right_step<'a>(
     placed: &PlacedLine,
 ) -> Result<Option<Step<'a>>, StepFault>
     requires { HasRooms (history_of context.now) machine.now.objects }
-    ensures right { IfOk result (λ found. (done : List model.Step) → HasMade (history_of context.now) machine.now done
+    ensures right { IfOk result (λ found. (done : List model.Step)
+        → HasMade (history_of context.now) machine.now done
         → IsRightLine (history_of context.now) done placed.now (option_map step_of found)) }
-    ensures wrong { IfErr result (λ fault. (done : List model.Step) → HasMade (history_of context.now) machine.now done
-        → IsStepFault (history_of context.now) done placed.now fault) }
+    ensures wrong { IfErr result (λ fault. (done : List model.Step)
+        → HasMade (history_of context.now) machine.now done
+        → IsFaultOfLine (history_of context.now) done placed.now fault) }
 {
     let line = placed.line;
     let Some(number) = event_of_line(context, placed) else {
@@ -202,7 +208,8 @@ fn is_unmade(version: &Version, low: u64, high: u64) -> bool
 // Those of the versions that come behind the place.
 fn versions_behind(versions: &[Version], place: u64) -> &[Version]
     requires { AllPairs (λ a b. a.revision < b.revision) versions.now }
-    ensures among { (v : Recorded) → Contains (map version_of result.now) v → Contains (map version_of versions.now) v }
+    ensures among { (v : Recorded) → Contains (map version_of result.now) v
+        → Contains (map version_of versions.now) v }
     ensures rising { AllPairs (λ a b. a.revision < b.revision) result.now }
     ensures unmade { (high : ℕ) → filter (is_unmade place high) (map version_of result.now) ≡ filter
         (is_unmade place high) (map version_of versions.now) }
@@ -216,8 +223,9 @@ impl Machine {
     // Puts the versions without a maker that come behind the last step, up to the place.
     fn put_unmade(&mut self, context: &Context, upto: u64)
         ensures { (done : List model.Step) → HasMade (history_of context.now) self.old done
-            → HasMade (history_of context.now) self.new (done ++ unmade_puts (history_of context.now)
-            (end_of (history_of context.now).start done) upto) }
+            → HasMade (history_of context.now) self.new (done
+            ++ unmade_puts (history_of context.now)
+            (end_of_steps (history_of context.now).start done) upto) }
     {
         let place = self.place;
         let versions = versions_behind(context.past().versions(), place);
@@ -239,12 +247,14 @@ impl Machine {
         context: &Context,
         placed: &PlacedLine,
     ) -> Result<(), StepFault>
-        requires { (done : List model.Step) × HasMade (history_of context.now) self.old done × StandsBehind
-            (history_of context.now) done placed.now }
-        ensures made { OnOk result ((done : List model.Step) → HasMade (history_of context.now) self.old done
-            → IsMade (history_of context.now) done placed.now self.old self.new) }
-        ensures wrong { IfErr result (λ fault. (done : List model.Step) → HasMade (history_of context.now) self.old done
-            → IsStepFault (history_of context.now) done placed.now fault) }
+        requires { (done : List model.Step) × HasMade (history_of context.now) self.old done
+            × StandsBehind (history_of context.now) done placed.now }
+        ensures made { OnOk result ((done : List model.Step)
+            → HasMade (history_of context.now) self.old done
+            → IsLineMade (history_of context.now) done placed.now self.old self.new) }
+        ensures wrong { IfErr result (λ fault. (done : List model.Step)
+            → HasMade (history_of context.now) self.old done
+            → IsFaultOfLine (history_of context.now) done placed.now fault) }
         ensures as_before { OnErr result (self.new ≡ self.old) }
     {
         if let Some(step) = right_step(alloc, context, self, placed)? {

@@ -7,22 +7,22 @@ ghost use Rattle.history_model.specs.Histories.{IsEvent};
 ghost use Rattle.history_model.specs.Readable.{IsReadable};
 ghost use Rattle.history_model.specs.Words as model;
 ghost use Rattle.serial_machine.specs.Lines.{IsAlike, IsUnlike};
-ghost use Rattle.serial_machine.specs.Words.{IsSaid};
+ghost use Rattle.serial_machine.specs.Words.{SaysWord};
 ghost use Rattle.version_store.specs.Histories.{history_of};
 
-use crate::words::{Word, event_count, word_at};
+use crate::words::{PlacementWord, event_count, word_at};
 use base_types::{Decision, PlacedAnswer, PlacedDecision, PlacedLine};
 use version_store::Context;
 
-fn has_answer_word(word: Word, answer: PlacedAnswer) -> bool
-    ensures { (said : model.Word) → IsSaid said word → IsTrue result ↔ HasAnswerWord said answer }
+fn has_answer_word(word: PlacementWord, answer: PlacedAnswer) -> bool
+    ensures { (said : model.Word) → SaysWord said word → IsTrue result ↔ HasAnswerWord said answer }
 {
     match word {
-        Word::Makes(_) => matches!(answer, PlacedAnswer::Made(_)),
-        Word::Removes(_) => matches!(answer, PlacedAnswer::Removed(_)),
-        Word::At => matches!(answer, PlacedAnswer::At(_)),
-        Word::Strays => matches!(answer, PlacedAnswer::Nowhere),
-        Word::Nothing => matches!(answer, PlacedAnswer::Nowhere),
+        PlacementWord::Makes(_) => matches!(answer, PlacedAnswer::Made(_)),
+        PlacementWord::Removes(_) => matches!(answer, PlacedAnswer::Removed(_)),
+        PlacementWord::At => matches!(answer, PlacedAnswer::At(_)),
+        PlacementWord::Strays => matches!(answer, PlacedAnswer::Nowhere),
+        PlacementWord::Nothing => matches!(answer, PlacedAnswer::Nowhere),
     }
 }
 
@@ -66,7 +66,8 @@ pub fn has_words(context: &Context, number: u32, line: &PlacedLine) -> bool
 // Where the placement differs from the event of this number, by the line of that number.
 fn difference_at(context: &Context, lines: &[PlacedLine], number: u32) -> Option<u64>
     requires { number < length context.now.log }
-    ensures some { IfSome result (λ at. (event : Event) → IsEvent (history_of context.now) number event
+    ensures some { IfSome result (λ at. (event : Event)
+        → IsEvent (history_of context.now) number event
         → IsUnlike (history_of context.now) lines.now number event at) }
     ensures none { IfNone result ((event : Event) → IsEvent (history_of context.now) number event
         → IsAlike (history_of context.now) lines.now number event) }

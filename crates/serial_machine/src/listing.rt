@@ -15,7 +15,8 @@ use write_groups::{Item, Listing};
 // Whether the list of this number rightly shows the item.
 fn is_listed(scene: Scene<'_>, number: u32, place: u64, item: &Item) -> Result<bool, OutOfMemory>
     ensures { IfOk result (λ right. IsTrue right
-        ↔ IsListed (history_of scene.entry.context.now) number place (item_of item.now) (scene_objects scene.entry item.now.key)) }
+        ↔ IsListed (history_of scene.entry.context.now) number place (item_of item.now)
+        (scene_objects scene.entry item.now.key)) }
 {
     if scene.is_clouded(&item.key, place) {
         return Ok(true);
@@ -34,7 +35,8 @@ fn is_lacked(
     key: &ObjectKey,
 ) -> Result<bool, OutOfMemory>
     ensures { IfOk result (λ right. IsTrue right
-        ↔ IsLacked (history_of scene.entry.context.now) number place key.now (scene_objects scene.entry key.now)) }
+        ↔ IsLacked (history_of scene.entry.context.now) number place key.now
+        (scene_objects scene.entry key.now)) }
 {
     if scene.is_clouded(key, place) {
         return Ok(true);
@@ -53,7 +55,8 @@ fn are_listed(
     items: &[Item],
 ) -> Result<bool, OutOfMemory>
     ensures { IfOk result (λ right. IsTrue right
-        ↔ All (λ item. IsListed (history_of scene.entry.context.now) number place (item_of item) (scene_objects scene.entry item.key)) items.now) }
+        ↔ All (λ item. IsListed (history_of scene.entry.context.now) number place (item_of item)
+        (scene_objects scene.entry item.key)) items.now) }
 {
     for item in items {
         if !is_listed(scene, number, place, item)? {
@@ -71,7 +74,8 @@ fn are_lacked(
     keys: &[&ObjectKey],
 ) -> Result<bool, OutOfMemory>
     ensures { IfOk result (λ right. IsTrue right
-        ↔ All (λ key. IsLacked (history_of scene.entry.context.now) number place key.now (scene_objects scene.entry key.now)) keys.now) }
+        ↔ All (λ key. IsLacked (history_of scene.entry.context.now) number place key.now
+        (scene_objects scene.entry key.now)) keys.now) }
 {
     for key in keys {
         if !is_lacked(scene, number, place, *key)? {
@@ -91,7 +95,8 @@ pub fn is_list_right(
 ) -> Result<bool, OutOfMemory>
     requires { HasRooms (history_of scene.context.now) scene.machine.now.objects }
     ensures { IfOk result (λ right. IsTrue right
-        ↔ IsListRight (history_of scene.entry.context.now) number (listing_of listing.now) place (scene_objects scene.entry)) }
+        ↔ IsListRight (history_of scene.entry.context.now) number (listing_of listing.now) place
+        (scene_objects scene.entry)) }
 {
     if place != listing.revision.get() {
         return Ok(false);

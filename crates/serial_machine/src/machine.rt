@@ -46,8 +46,8 @@ fn held_at(objects: &Objects, key: &ObjectKey) -> Option<u64>
 
 // Holds another revision under a key that is there.
 fn hold(objects: &mut Objects, key: &ObjectKey, revision: Option<u64>)
-    ensures { IsSome (get key_order objects.old key.now) → Updates key_order objects.old objects.new key.now
-        (Some revision) }
+    ensures { IsSome (get key_order objects.old key.now)
+        → Updates key_order objects.old objects.new key.now (Some revision) }
 {
     let Some(held) = objects.get_mut(key) else {
         return;
@@ -57,11 +57,11 @@ fn hold(objects: &mut Objects, key: &ObjectKey, revision: Option<u64>)
 
 // What the step leaves of the objects.
 fn change(objects: &mut Objects, step: Step<'_>)
-    ensures rooms { (h : History) → IsOfHistory h (step_of step.entry) → IsReadable h → HasRooms h objects.old
-        → HasRooms h objects.new }
+    ensures rooms { (h : History) → IsOfHistory h (step_of step.entry) → IsReadable h
+        → HasRooms h objects.old → HasRooms h objects.new }
     ensures objects { (h : History) (key : Key) → IsOfHistory h (step_of step.entry) → IsReadable h
-        → HasRooms h objects.old
-        → objects_in h objects.new key ≡ model.after (objects_in h objects.old) (step_of step.entry) key }
+        → HasRooms h objects.old → objects_in h objects.new key
+        ≡ model.after (objects_in h objects.old) (step_of step.entry) key }
 {
     match step {
         Step::Put(version) => hold(objects, &version.key, Some(version.revision.get())),
@@ -96,7 +96,8 @@ impl Machine {
 
     /// The version of the key that is there.
     pub(crate) fn object<'a>(&self, context: &'a Context, key: &ObjectKey) -> Option<&'a Version>
-        ensures { option_map (λ v. version_of v.now) result ≡ objects_of (history_of context.now) self.now key.now }
+        ensures { option_map (λ v. version_of v.now) result
+            ≡ objects_of (history_of context.now) self.now key.now }
     {
         let Some(revision) = held_at(&self.objects, key) else {
             return None;
@@ -106,8 +107,8 @@ impl Machine {
 
     /// Makes a step.
     pub(crate) fn make(&mut self, step: Step<'_>)
-        ensures { (h : History) (done : List model.Step) → IsOfHistory h (step_of step.entry) → HasMade h self.old done
-            → HasMade h self.new (done ++ step_of step.entry ∷ []) }
+        ensures { (h : History) (done : List model.Step) → IsOfHistory h (step_of step.entry)
+            → HasMade h self.old done → HasMade h self.new (done ++ step_of step.entry ∷ []) }
     {
         change(&mut self.objects, step);
         self.place = step.place();

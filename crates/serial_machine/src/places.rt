@@ -10,7 +10,7 @@ ghost use Rattle.history_model.specs.Words as model;
 ghost use Rattle.serial_machine.specs.Places.{AreOutOfCaches, IsMisplaced};
 ghost use Rattle.version_store.specs.Histories.{history_of};
 
-use crate::words::{Word, event_count, word_at};
+use crate::words::{PlacementWord, event_count, word_at};
 use base_types::{Moment, PlacedAnswer, PlacedDecision, PlacedLine, Places};
 use version_store::Context;
 use write_groups::{Window, highest, lowest};
@@ -71,19 +71,19 @@ fn lies_within(low: u64, high: u64, place: u64) -> bool
 /// Whether the answer of the event of this number can't stand at the place.
 pub fn is_outside(context: &Context, number: u32, place: u64) -> bool
     requires { number < length context.now.log }
-    ensures { (event : Event) → IsEvent (history_of context.now) number event
-        → IsTrue result ↔ IsOutside (history_of context.now) event (model.word (history_of context.now) number
-        event) place }
+    ensures { (event : Event) → IsEvent (history_of context.now) number event → IsTrue result
+        ↔ IsOutside (history_of context.now) event
+        (model.word (history_of context.now) number event) place }
 {
     match word_at(context, number) {
-        Word::Makes(revision) => place != revision,
-        Word::Removes(range) => !lies_within(range.low, range.high, place),
-        Word::At => {
+        PlacementWord::Makes(revision) => place != revision,
+        PlacementWord::Removes(range) => !lies_within(range.low, range.high, place),
+        PlacementWord::At => {
             let window = context.window(number);
             !lies_within(window.low, window.high, place)
         }
-        Word::Strays => false,
-        Word::Nothing => false,
+        PlacementWord::Strays => false,
+        PlacementWord::Nothing => false,
     }
 }
 
@@ -95,11 +95,11 @@ fn before(at: Moment, nanos: u64) -> Moment
     Moment(at.0 - i128::from(nanos))
 }
 
-// The places at which the caches of the event's authoriser may have been.
+// The places at which the caches of the event's authorizer may have been.
 fn cache_window(context: &Context, number: u32) -> Window
     requires { number < length context.now.log }
-    ensures low { (event : Event) → IsEvent (history_of context.now) number event → result.low ≡ decision_low
-        (history_of context.now) event }
+    ensures low { (event : Event) → IsEvent (history_of context.now) number event
+        → result.low ≡ decision_low (history_of context.now) event }
     ensures high { (event : Event) → IsEvent (history_of context.now) number event
         → result.high ≡ decision_high (history_of context.now) event }
 {
@@ -114,8 +114,8 @@ fn cache_window(context: &Context, number: u32) -> Window
 // Whether caches may have been at these places when the event of this number was decided.
 fn are_cache_places(context: &Context, number: u32, places: &Places) -> bool
     requires { number < length context.now.log }
-    ensures { (event : Event) → IsEvent (history_of context.now) number event → IsTrue result ↔ AreCachePlaces
-        (history_of context.now) event places.now }
+    ensures { (event : Event) → IsEvent (history_of context.now) number event → IsTrue result
+        ↔ AreCachePlaces (history_of context.now) event places.now }
 {
     let window = cache_window(context, number);
     lies_within(window.low, window.high, places.roles)
@@ -137,8 +137,8 @@ pub fn is_out_of_caches(context: &Context, number: u32, places: &Places) -> bool
 // Whether the line of this number has a place that its event can't have.
 fn is_misplaced(context: &Context, lines: &[PlacedLine], number: u32) -> bool
     requires { number < length context.now.log }
-    ensures { (event : Event) → IsEvent (history_of context.now) number event → IsTrue result ↔ IsMisplaced
-        (history_of context.now) lines.now number event }
+    ensures { (event : Event) → IsEvent (history_of context.now) number event → IsTrue result
+        ↔ IsMisplaced (history_of context.now) lines.now number event }
 {
     let outside = is_outside(context, number, line_place(lines, number));
     let out_of_caches = is_out_of_caches(context, number, &line_places(lines, number));

@@ -29,7 +29,8 @@ fn is_item(item: &Item, version: &Version) -> bool
 
 /// Whether the object is the item.
 pub fn is_shown(item: &Item, found: Option<&Version>) -> bool
-    ensures { IsTrue result ↔ IsShown (item_of item.now) (option_map (λ v. version_of v.now) found.entry) }
+    ensures { IsTrue result ↔ IsShown (item_of item.now)
+        (option_map (λ v. version_of v.now) found.entry) }
 {
     match found {
         Some(version) => is_item(item, version),
@@ -39,14 +40,16 @@ pub fn is_shown(item: &Item, found: Option<&Version>) -> bool
 
 // Whether the version meets the preconditions.
 fn is_met(asked: &Preconditions, version: &Version) -> bool
-    ensures { IsTrue result ↔ MeetsConditions (conditions_of asked.now) (Some (version_of version.now)) }
+    ensures { IsTrue result ↔ MeetsConditions (conditions_of asked.now)
+        (Some (version_of version.now)) }
 {
     asked.are_met(version.revision, &version.uid)
 }
 
 // Whether the request was rightly refused for the object.
 fn is_refused(asked: &Preconditions, found: Option<&Version>) -> bool
-    ensures { IsTrue result ↔ IsRefused (conditions_of asked.now) (option_map (λ v. version_of v.now) found.entry) }
+    ensures { IsTrue result ↔ IsRefused (conditions_of asked.now)
+        (option_map (λ v. version_of v.now) found.entry) }
 {
     match found {
         Some(version) => !is_met(asked, version),
@@ -123,8 +126,9 @@ fn is_right(
     requires known { IsEvent (history_of scene.context.now) number (event_of event.now) }
     requires placed { word (history_of scene.context.now) number (event_of event.now) ≡ At }
     requires rooms { HasRooms (history_of scene.context.now) scene.machine.now.objects }
-    ensures { IfOk result (λ right. IsTrue right ↔ IsRight (history_of scene.entry.context.now) number
-        (event_of event.now) place (scene_objects scene.entry)) }
+    ensures { IfOk result (λ right. IsTrue right
+        ↔ IsRight (history_of scene.entry.context.now) number (event_of event.now) place
+        (scene_objects scene.entry)) }
 {
     match &event.answer {
         Shown::Made { item, created: _ } => {
@@ -168,8 +172,10 @@ fn code_of(answer: &Shown) -> Reason
 fn wrong_code(context: &Context, number: u32, event: &LogEvent) -> Reason
     requires known { IsEvent (history_of context.now) number (event_of event.now) }
     requires placed { word (history_of context.now) number (event_of event.now) ≡ At }
-    ensures { (place : ℕ) (map : Map) → (IsRight (history_of context.now) number (event_of event.now) place map → ⊥)
-        → IsVerdictOn (history_of context.now) map (model.Reply number (event_of event.now) place) (Some result) }
+    ensures { (place : ℕ) (map : Map) → (IsRight (history_of context.now) number
+        (event_of event.now) place map → ⊥)
+        → IsVerdictOn (history_of context.now) map (model.Reply number (event_of event.now) place)
+        (Some result) }
 {
     match context.fault(number) {
         Some(code) => code,
@@ -188,8 +194,8 @@ pub fn reply_verdict(
     requires known { IsEvent (history_of scene.context.now) number (event_of event.now) }
     requires placed { word (history_of scene.context.now) number (event_of event.now) ≡ At }
     requires rooms { HasRooms (history_of scene.context.now) scene.machine.now.objects }
-    ensures { IfOk result (IsVerdictOn (history_of scene.entry.context.now) (scene_objects scene.entry)
-        (model.Reply number (event_of event.now) place)) }
+    ensures { IfOk result (IsVerdictOn (history_of scene.entry.context.now)
+        (scene_objects scene.entry) (model.Reply number (event_of event.now) place)) }
 {
     if is_right(alloc, scene, number, event, place)? {
         return Ok(None);

@@ -7,7 +7,7 @@ ghost use Rattle.history_model.specs.Machine as model;
 ghost use Rattle.history_model.specs.Machine.{event_line, maker_line};
 ghost use Rattle.object_past.specs.Modelled.{maker_of, recorded, version_of};
 ghost use Rattle.serial_machine.specs.Ordered.{AreRows, AreRowsOf, IsInTurn, placed_at, placed_puts};
-ghost use Rattle.serial_machine.specs.Ordered.{placed_removals, placed_replies, row_step, turn_cmp};
+ghost use Rattle.serial_machine.specs.Ordered.{placed_removals, placed_replies, row_step, step_turn_cmp};
 ghost use Rattle.version_store.specs.Histories.{history_of};
 ghost use Rattle.write_groups.specs.Modelled.{HasEvents, event_of};
 
@@ -21,7 +21,7 @@ use write_groups::LogEvent;
 
 /// When a step is made: by place, writes before answers, then by line.
 #[derive(Clone, Copy, PartialEq, Eq, PartialOrd, Ord)]
-pub struct Turn {
+pub struct StepTurn {
     pub place: u64,
     pub is_answer: bool,
     pub line: u64,
@@ -30,7 +30,7 @@ pub struct Turn {
 /// A step and its turn.
 #[derive(Clone, Copy)]
 pub struct Row<'a> {
-    pub turn: Turn,
+    pub turn: StepTurn,
     pub step: Step<'a>,
 }
 
@@ -39,7 +39,8 @@ pub type Rows<'a> = Vec<Row<'a>>;
 
 // The line of the event of this number.
 fn line_of(log: &[LogEvent], number: u32) -> u64
-    ensures { (h : History) → HasEvents log.now h → result ≡ event_line (slice_get h.events number) }
+    ensures { (h : History) → HasEvents log.now h
+        → result ≡ event_line (slice_get h.events number) }
 {
     match event_at(log, number) {
         Some(event) => event.line,
@@ -62,7 +63,7 @@ fn put_row<'a>(log: &[LogEvent], version: &'a Version) -> Row<'a>
     ensures turn { (h : History) → HasEvents log.now h → IsInTurn h result }
 {
     Row {
-        turn: Turn {
+        turn: StepTurn {
             place: version.revision.get(),
             is_answer: false,
             line: maker_line(log, version.maker),
@@ -72,11 +73,12 @@ fn put_row<'a>(log: &[LogEvent], version: &'a Version) -> Row<'a>
 }
 
 fn removal_row<'a>(log: &[LogEvent], removal: &'a Removal, place: u64) -> Row<'a>
-    ensures step { row_step result ≡ model.Remove (record { removal = recorded removal.now; place = place }) }
+    ensures step { row_step result ≡ model.Remove
+        (record { removal = recorded removal.now; place = place }) }
     ensures turn { (h : History) → HasEvents log.now h → IsInTurn h result }
 {
     Row {
-        turn: Turn {
+        turn: StepTurn {
             place,
             is_answer: false,
             line: line_of(log, removal.range.event),
@@ -90,7 +92,7 @@ fn reply_row(number: u32, event: &LogEvent, place: u64) -> Row<'_>
     ensures turn { (h : History) → IsInTurn h result }
 {
     Row {
-        turn: Turn {
+        turn: StepTurn {
             place,
             is_answer: true,
             line: event.line,
@@ -105,8 +107,8 @@ fn reply_row(number: u32, event: &LogEvent, place: u64) -> Row<'_>
 
 // All versions above the start are written.
 fn put_rows(alloc: Global, context: &Context) -> Result<Rows<'_>, OutOfMemory>
-    ensures { IfOk result (λ rows. AreRowsOf (history_of context.now) (placed_puts (history_of context.now))
-        rows.items) }
+    ensures { IfOk result (λ rows. AreRowsOf (history_of context.now)
+        (placed_puts (history_of context.now)) rows.items) }
 {
     let log = context.log();
     let start = context.setup().start.get();
@@ -141,7 +143,8 @@ fn removal_rows<'a>(
 
 // Where the line of this number puts an answer.
 fn answer_at(lines: &[PlacedLine], number: u32) -> Option<u64>
-    ensures { result ≡ option_and_then (λ line. placed_at line.answer) (slice_get lines.now number) }
+    ensures { result ≡ option_and_then (λ line. placed_at line.answer)
+        (slice_get lines.now number) }
 {
     match lines.get(number as usize)?.answer {
         PlacedAnswer::Made(_) => None,
@@ -157,8 +160,8 @@ fn reply_rows<'a>(
     context: &'a Context,
     lines: &[PlacedLine],
 ) -> Result<Rows<'a>, OutOfMemory>
-    ensures { IfOk result (λ rows. AreRowsOf (history_of context.now) (placed_replies (history_of context.now)
-        lines.now) rows.items) }
+    ensures { IfOk result (λ rows. AreRowsOf (history_of context.now)
+        (placed_replies (history_of context.now) lines.now) rows.items) }
 {
     let log = context.log();
     let mut rows = Vec::new(alloc);
@@ -172,7 +175,8 @@ fn reply_rows<'a>(
 
 fn sorted(mut rows: Rows<'_>) -> Result<Rows<'_>, OutOfMemory>
     ensures same { IfOk result (λ sorted. IsPermutation rows.entry.items sorted.items) }
-    ensures sorted { IfOk result (λ sorted. IsSortedByKey (λ row. row.turn) turn_cmp sorted.items) }
+    ensures sorted { IfOk result (λ sorted. IsSortedByKey (λ row. row.turn) step_turn_cmp
+        sorted.items) }
 {
     rows.sort_by_key(|row| row.turn)?;
     Ok(rows)

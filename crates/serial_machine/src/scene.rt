@@ -38,8 +38,8 @@ fn last_unmade<'a>(
     low: u64,
     high: u64,
 ) -> Option<&'a Version>
-    ensures { option_map (λ v. version_of v.now) result ≡ latest (unmade (history_of context.now) low high)
-        key.now high }
+    ensures { option_map (λ v. version_of v.now) result
+        ≡ latest (unmade (history_of context.now) low high) key.now high }
 {
     // For the proof alone, as for a machine's start.
     let _log = context.log();

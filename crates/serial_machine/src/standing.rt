@@ -4,20 +4,20 @@ ghost use Rattle.history_model.specs.Checking.{HasCodeAt, HasSomeCodeAt, HasStan
 ghost use Rattle.history_model.specs.Events.{Event};
 ghost use Rattle.history_model.specs.Histories.{History, IsEvent};
 ghost use Rattle.history_model.specs.Words.{word as event_word};
-ghost use Rattle.serial_machine.specs.Standing.{IsLeastOf};
-ghost use Rattle.serial_machine.specs.Words.{IsSaid};
+ghost use Rattle.serial_machine.specs.Standing.{IsLeastCode};
+ghost use Rattle.serial_machine.specs.Words.{SaysWord};
 ghost use Rattle.version_store.specs.Histories.{history_of};
 ghost use Rattle.write_groups.specs.Modelled.{event_of};
 
-use crate::words::{Word, event_count, word_at};
+use crate::words::{PlacementWord, event_count, word_at};
 use base_types::Reason;
 use version_store::Context;
 use write_groups::LogEvent;
 
 // The least code of an event that no placement mends: it isn't logged as the policy says, or it strays.
-fn standing_code(event: &LogEvent, word: Word) -> Option<Reason>
-    ensures { (h : History) (number : ℕ) → IsSaid (event_word h number (event_of event.now)) word
-        → IsLeastOf (HasStandingCode h number (event_of event.now)) result }
+fn standing_code(event: &LogEvent, word: PlacementWord) -> Option<Reason>
+    ensures { (h : History) (number : ℕ) → SaysWord (event_word h number (event_of event.now)) word
+        → IsLeastCode (HasStandingCode h number (event_of event.now)) result }
 {
     if event.other_level {
         return Some(Reason::U1);
@@ -26,11 +26,11 @@ fn standing_code(event: &LogEvent, word: Word) -> Option<Reason>
         return Some(Reason::U2);
     }
     match word {
-        Word::Strays => Some(Reason::U3),
-        Word::Makes(_) => None,
-        Word::Removes(_) => None,
-        Word::At => None,
-        Word::Nothing => None,
+        PlacementWord::Strays => Some(Reason::U3),
+        PlacementWord::Makes(_) => None,
+        PlacementWord::Removes(_) => None,
+        PlacementWord::At => None,
+        PlacementWord::Nothing => None,
     }
 }
 
@@ -38,7 +38,7 @@ fn standing_code(event: &LogEvent, word: Word) -> Option<Reason>
 fn code_at(context: &Context, number: u32) -> Option<Reason>
     requires { number < length context.now.log }
     ensures { (event : Event) → IsEvent (history_of context.now) number event
-        → IsLeastOf (HasStandingCode (history_of context.now) number event) result }
+        → IsLeastCode (HasStandingCode (history_of context.now) number event) result }
 {
     let event = &context.log()[number as usize];
     standing_code(event, word_at(context, number))
@@ -46,10 +46,12 @@ fn code_at(context: &Context, number: u32) -> Option<Reason>
 
 /// The least line whose event has a code that no placement mends, and the least of its codes.
 pub fn first_standing(context: &Context) -> Option<(u64, Reason)>
-    ensures line { IfSome result (λ found. IsLeastLine (HasSomeCodeAt (history_of context.now)) found.0) }
+    ensures line { IfSome result (λ found. IsLeastLine (HasSomeCodeAt (history_of context.now))
+        found.0) }
     ensures code { IfSome result (λ found. HasCodeAt (history_of context.now) found.0 found.1) }
     ensures least { IfSome result (λ found. (other : Reason)
-        → HasCodeAt (history_of context.now) found.0 other → code_number found.1 ≤ code_number other) }
+        → HasCodeAt (history_of context.now) found.0 other
+        → code_number found.1 ≤ code_number other) }
     ensures none { IfNone result (NoLine (HasSomeCodeAt (history_of context.now))) }
 {
     for number in 0..event_count(context) {

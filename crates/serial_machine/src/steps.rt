@@ -27,9 +27,10 @@ fn step_verdict(
 ) -> Result<Option<Reason>, OutOfMemory>
     requires known { IsOfHistory (history_of context.now) (step_of step) }
     requires rooms { HasRooms (history_of context.now) machine.now.objects }
-    ensures { IfOk result (λ found. (done : List model.Step) → HasMade (history_of context.now) machine.now done
-        → IsVerdictOn (history_of context.now) (after_all (snapshot_map (history_of context.now)) done)
-        (step_of step.entry) found) }
+    ensures { IfOk result (λ found. (done : List model.Step)
+        → HasMade (history_of context.now) machine.now done
+        → IsVerdictOn (history_of context.now)
+        (after_all (snapshot_map (history_of context.now)) done) (step_of step.entry) found) }
 {
     let scene = Scene {
         context,
@@ -48,10 +49,11 @@ fn run(
 ) -> Result<Option<(u64, Reason)>, OutOfMemory>
     requires made { HasMade (history_of context.now) machine [] }
     requires known { All (λ row. IsOfHistory (history_of context.now) (row_step row)) rows.now }
-    ensures some { IfOk result (λ found. IfSome found (λ fault. IsFirstForbidden (history_of context.now)
-        rows.now fault.0 fault.1)) }
-    ensures none { IfOk result (λ found. IfNone found (Runs (history_of context.now) EachStep (snapshot_map
-        (history_of context.now)) (map row_step rows.now))) }
+    ensures some { IfOk result (λ found. IfSome found
+        (λ fault. IsFirstForbidden (history_of context.now) rows.now fault.0 fault.1)) }
+    ensures none { IfOk result (λ found. IfNone found
+        (Runs (history_of context.now) EachStep (snapshot_map (history_of context.now))
+        (map row_step rows.now))) }
 {
     let mut machine = machine;
     for row in rows {
@@ -71,9 +73,10 @@ pub fn steps_fault(
 ) -> Result<Option<(u64, Reason)>, OutOfMemory>
     requires rising { RisesByLine lines.now }
     requires fitting { IsFitting (history_of context.now) lines.now }
-    ensures some { IfOk result (λ found. IfSome found (λ fault. IsStepFault (history_of context.now) lines.now
-        fault.0 fault.1)) }
-    ensures none { IfOk result (λ found. IfNone found (AreAllowed (history_of context.now) lines.now)) }
+    ensures some { IfOk result (λ found. IfSome found
+        (λ fault. IsStepFault (history_of context.now) lines.now fault.0 fault.1)) }
+    ensures none { IfOk result (λ found. IfNone found
+        (AreAllowed (history_of context.now) lines.now)) }
 {
     let rows = rows_of(alloc, context, lines)?;
     let machine = Machine::start(alloc, context)?;

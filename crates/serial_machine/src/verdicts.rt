@@ -25,8 +25,8 @@ fn put_verdict(
     version: &Version,
 ) -> Result<Option<Reason>, OutOfMemory>
     requires { Contains (history_of scene.context.now).versions (version_of version.now) }
-    ensures { IfOk result (IsVerdictOn (history_of scene.entry.context.now) (scene_objects scene.entry)
-        (model.Put (version_of version.now))) }
+    ensures { IfOk result (IsVerdictOn (history_of scene.entry.context.now)
+        (scene_objects scene.entry) (model.Put (version_of version.now))) }
 {
     // For the proof alone, as for a machine's start.
     let _log = scene.context.log();
@@ -51,7 +51,8 @@ fn is_wanted_uid(wanted: &Option<Text>, uid: &Text) -> bool
 
 // Whether the key is clouded from the place before the range to its end.
 fn is_clouded_about(context: &Context, key: &ObjectKey, range: Range) -> bool
-    ensures { IsTrue result ↔ IsCloudedWithin (history_of context.now) key.now (range.low - 1) range.high }
+    ensures { IsTrue result ↔ IsCloudedWithin (history_of context.now) key.now (range.low - 1)
+        range.high }
 {
     let low = range.low.saturating_sub(1);
     context.clouds().meets(key, low, range.high).is_some()
@@ -92,8 +93,9 @@ fn may_remove(scene: Scene<'_>, event: &LogEvent, removal: &Removal) -> bool
 
 // Why the removal doesn't have the object of the key to remove.
 fn remove_verdict(scene: Scene<'_>, removal: &Removal) -> Option<Reason>
-    ensures { (place : ℕ) → IsVerdictOn (history_of scene.entry.context.now) (scene_objects scene.entry)
-        (model.Remove (record { removal = recorded removal.now; place = place })) result }
+    ensures { (place : ℕ) → IsVerdictOn (history_of scene.entry.context.now)
+        (scene_objects scene.entry) (model.Remove
+        (record { removal = recorded removal.now; place = place })) result }
 {
     let Some(event) = event_at(scene.context.log(), removal.range.event) else {
         return None;
@@ -112,8 +114,8 @@ pub fn verdict(
 ) -> Result<Option<Reason>, OutOfMemory>
     requires known { IsOfHistory (history_of scene.context.now) (step_of step) }
     requires rooms { HasRooms (history_of scene.context.now) scene.machine.now.objects }
-    ensures { IfOk result (IsVerdictOn (history_of scene.entry.context.now) (scene_objects scene.entry)
-        (step_of step.entry)) }
+    ensures { IfOk result (IsVerdictOn (history_of scene.entry.context.now)
+        (scene_objects scene.entry) (step_of step.entry)) }
 {
     match step {
         Step::Put(version) => put_verdict(alloc, scene, version),

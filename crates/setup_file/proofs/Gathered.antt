@@ -1,5 +1,5 @@
 -- What is made of the items of a list, one after another, where each can be made.
-use Rattle.std.proofs.Common.{◌≡◌, ℕ, ◌+◌, ◌<◌, List, [], ◌∷◌, ◌++◌, length, get_or, drop, Option, Some, None, refl, sym, ap, subst, ◌∙◌, append_assoc}
+use Rattle.std.proofs.Common.{◌≡◌, ℕ, suc, ◌+◌, ◌<◌, List, [], ◌∷◌, ◌++◌, length, get_or, drop, Option, Some, None, refl, sym, ap, subst, ◌∙◌, append_assoc}
 use Rattle.std.specs.Prelude.{option_map, option_and_then}
 use Rattle.std.specs.List.{All}
 use Rattle.std.proofs.lemmas.List.Elements.{All-nil, All-cons, All-head, All-tail}
@@ -52,3 +52,11 @@ gathered_all f many none unfolds P Q each (x ∷ xs) bs all e =
     subst (All Q) made.4
     (All-cons Q made.0 made.1 (each x made.0 (All-head P x xs all) made.2)
     (gathered_all f many none unfolds P Q each xs made.1 (All-tail P x xs all) made.3))
+
+-- each item makes one
+pub gathered_length : {A B : Type 0} (f : A → Option B) (many : List A → Option (List B)) → many [] ≡ Some [] → ((x : A) (xs : List A) → many (x ∷ xs) ≡ before_rest (many xs) (f x))
+    → (xs : List A) (bs : List B) → many xs ≡ Some bs → length bs ≡ length xs
+gathered_length f many none unfolds [] bs e = ap length (sym (same_some [] bs (sym none ∙ e)))
+gathered_length f many none unfolds (x ∷ xs) bs e =
+    let made = taken (f x) (many xs) bs (sym (unfolds x xs) ∙ e) in
+    ap length (sym made.4) ∙ ap suc (gathered_length f many none unfolds xs made.1 made.3)

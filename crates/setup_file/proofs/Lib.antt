@@ -2,6 +2,7 @@ pub mod Apart
 pub mod Chains
 pub mod Gathered
 pub mod InRange
+pub mod Indexing
 pub mod Mapped
 pub mod Seen
 pub mod SoundClocks
@@ -9,3 +10,4 @@ pub mod SoundLists
 pub mod SoundObjects
 pub mod SoundResources
 pub mod SoundSetup
+pub mod TextLists

@@ -1,5 +1,5 @@
 -- The objects of a snapshot and of lists are sound.
-use Rattle.std.proofs.Common.{◌≡◌, ◌≢◌, ◌↔◌, ℕ, ◌≤◌, nat_le, Bool, true, false, ◌&&◌, ◌==◌, List, [], ◌∷◌, map, Some, None, Ok, refl, sym, subst, ◌∙◌, cond, inl, inr, bytes_eq, is_some, codes, true≢false}
+use Rattle.std.proofs.Common.{◌≡◌, ◌≢◌, ◌↔◌, ℕ, ◌≤◌, nat_le, Bool, true, false, ◌&&◌, ◌==◌, List, [], ◌∷◌, length, map, Some, None, Ok, refl, sym, subst, ◌∙◌, cond, inl, inr, bytes_eq, is_some, codes, true≢false}
 use Rattle.std.specs.List.{All, list_all}
 use Rattle.std.proofs.lemmas.Bool.{and_parts, leb-true}
 use Rattle.std.proofs.lemmas.List.Elements.{All-nil, All-cons}
@@ -21,7 +21,7 @@ use Rattle.setup_file.specs.Steps.{or_breaks}
 use Rattle.setup_file.proofs.Apart.{bytes_tell, numbers_tell, keys_tell, distinct_apart}
 use Rattle.base_types.proofs.Found.{same_some, found_both, where_true, either}
 use Rattle.setup_file.proofs.Chains.{same_kept, chained_both, kept_both, not_broken, test_kept}
-use Rattle.setup_file.proofs.Gathered.{gathered_all}
+use Rattle.setup_file.proofs.Gathered.{gathered_all, gathered_length}
 use Rattle.setup_file.proofs.InRange.{member_in_range, items_in_range, stored_in_range}
 use Rattle.setup_file.proofs.SoundResources.{tracked_as_itself}
 
@@ -133,3 +133,16 @@ snapshot_is_sound start resources tree objects range e =
       there = at_start start resources found.0 all apart.0;
       range = λ i d within. (all i d within).range;
     })
+
+-- the snapshot has as many objects as its list has items
+pub snapshot_is_few : (start : ℕ) (resources : List Tracked) (tree : Meaning) (objects : List SnapshotObject) (most : ℕ)
+    → ((list : Meaning) (trees : List Meaning) → member_of (codes "snapshot") tree ≡ Some list → items_of list ≡ Some trees → length trees ≤ most)
+    → snapshot_at start resources tree ≡ Ok objects → length objects ≤ most
+snapshot_is_few start resources tree objects most few e =
+    let trees = kept_both (or_breaks S12 (chained (member_of (codes "snapshot") tree) items_of)) _ objects e in
+    let found = kept_both (or_breaks S12 (snapshot_in resources trees.0)) _ objects trees.2 in
+    let apart = test_kept S13 (are_at_start start found.0) (Ok found.0) objects found.2 in
+    let list = chained_both (member_of (codes "snapshot") tree) items_of trees.0 (not_broken S12 _ trees.0 trees.1) in
+    let long = gathered_length (snapshot_entry_of resources) (snapshot_in resources) refl (λ x xs. refl) trees.0 found.0 (not_broken S12 _ found.0 found.1) in
+    subst (λ (all : List SnapshotObject). length all ≤ most) (same_kept found.0 objects apart.1)
+    (subst (λ n. n ≤ most) (sym long) (few list.0 trees.0 list.1 list.2))

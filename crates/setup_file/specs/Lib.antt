@@ -3,6 +3,7 @@ pub mod Checkpoints
 pub mod Clocks
 pub mod Distinct
 pub mod Forms
+pub mod Indexed
 pub mod Lists
 pub mod Objects
 pub mod Reading

@@ -1,5 +1,5 @@
 -- What those who take a setup may rest on.
-use Rattle.std.specs.Prelude.{◌≡◌, ◌≢◌, ◌≤◌, ◌↔◌, ◌^◌, ℕ, true, IfSome, List, [], Some, All, AllPairs}
+use Rattle.std.specs.Prelude.{◌≡◌, ◌≢◌, ◌≤◌, ◌↔◌, ◌^◌, ℕ, true, IfSome, List, [], Some, All, AllPairs, length}
 use Rattle.base_types.specs.Moments.{IsMoment}
 use Rattle.base_types.specs.Values.{InRange}
 use Rattle.setup_file.specs.declared.setup.Setup.{Setup}
@@ -47,4 +47,6 @@ pub record IsSound (setup : Setup) : Type 0 where
   pub resources : AreApart setup.resources
   pub snapshot : AreAtStart setup.start setup.resources setup.snapshot
   pub trees : AreInRange setup.snapshot
+  -- no more than a text of so many bytes lists
+  pub few : length setup.snapshot ≤ 2 ^ 28
   pub checkpoints : All (IsLaterList setup.start setup.resources) setup.checkpoints

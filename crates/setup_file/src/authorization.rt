@@ -5,8 +5,8 @@ ghost use Rattle.setup_file.specs.Authorization.{authorize_of, groups_or, author
 ghost use Rattle.setup_file.specs.Authorization.{is_readable, has_rbac, is_authorized, rbac_resources};
 ghost use Rattle.setup_file.specs.Resources.{tracked_as};
 
-use crate::resources::tracked_as;
-use crate::setup::{SnapshotObject, Tracked};
+use crate::setup::SnapshotObject;
+use crate::tracked_list::TrackedList;
 use base_types::json::Tree;
 use base_types::{OutOfMemory, Text, Texts};
 use rbac_rules::{RbacFault, read_binding, read_role};
@@ -116,26 +116,35 @@ fn are_readable(alloc: Global, objects: &[SnapshotObject]) -> Result<bool, OutOf
     Ok(true)
 }
 
-fn has_rbac_resource(resources: &[Tracked], resource: &str) -> bool
-    ensures { result ≡ is_some (tracked_as resources.now rbac_group resource.now) }
+fn has_rbac_resource(
+    alloc: Global,
+    resources: &TrackedList,
+    resource: &str,
+) -> Result<bool, OutOfMemory>
+    ensures { IfOk result (λ has. has ≡ is_some (tracked_as resources.now rbac_group resource.now)) }
 {
-    tracked_as(resources, RBAC_GROUP, resource).is_some()
+    let group = Text::from_str(alloc, RBAC_GROUP)?;
+    let resource = Text::from_str(alloc, resource)?;
+    Ok(resources.find(&group, &resource).is_some())
 }
 
-fn has_rbac_resources(resources: &[Tracked]) -> bool
-    ensures { result ≡ list_all (λ resource. is_some (tracked_as resources.now rbac_group resource)) rbac_resources }
+fn has_rbac_resources(alloc: Global, resources: &TrackedList) -> Result<bool, OutOfMemory>
+    ensures { IfOk result (λ has. has ≡ list_all (λ resource. is_some (tracked_as resources.now rbac_group resource))
+        rbac_resources) }
 {
-    has_rbac_resource(resources, "roles")
-        && has_rbac_resource(resources, "clusterroles")
-        && has_rbac_resource(resources, "rolebindings")
-        && has_rbac_resource(resources, "clusterrolebindings")
+    Ok(
+        has_rbac_resource(alloc, resources, "roles")?
+            && has_rbac_resource(alloc, resources, "clusterroles")?
+            && has_rbac_resource(alloc, resources, "rolebindings")?
+            && has_rbac_resource(alloc, resources, "clusterrolebindings")?,
+    )
 }
 
 /// Whether what RBAC needs is there, where decisions are judged: its four resources are tracked, and the
 /// roles and bindings of the snapshot are readable.
 pub fn is_authorized(
     alloc: Global,
-    resources: &[Tracked],
+    resources: &TrackedList,
     snapshot: &[SnapshotObject],
     authorization: &Authorization,
 ) -> Result<bool, OutOfMemory>
@@ -144,7 +153,7 @@ pub fn is_authorized(
     if !authorization.authorize {
         return Ok(true);
     }
-    if !has_rbac_resources(resources) {
+    if !has_rbac_resources(alloc, resources)? {
         return Ok(false);
     }
     are_readable(alloc, snapshot)

@@ -4,8 +4,8 @@ ghost use Rattle.setup_file.specs.Checkpoints.{few_checkpoints, checkpoints_of};
 
 use crate::form::is_form;
 use crate::lists::{ListRead, read_list};
-use crate::resources::tracked_as;
 use crate::setup::{Checkpoint, Checkpoints, Tracked};
+use crate::tracked_list::TrackedList;
 use base_types::json::Tree;
 use base_types::{OutOfMemory, Revision, Text};
 use std::alloc::Global;
@@ -36,7 +36,7 @@ fn name_of(alloc: Global, number: usize) -> Result<Text, OutOfMemory>
 fn read_checkpoint(
     alloc: Global,
     start: Revision,
-    resources: &[Tracked],
+    resources: &TrackedList,
     number: usize,
     tree: &Tree,
 ) -> Result<Option<Checkpoint>, OutOfMemory>
@@ -54,7 +54,7 @@ fn read_checkpoint(
     let Some(namespace) = tree.text_at("namespace") else {
         return Ok(None);
     };
-    let Some(tracked) = tracked_as(resources, group.as_str(), resource.as_str()) else {
+    let Some(tracked) = resources.find(group, resource) else {
         return Ok(None);
     };
     let Some(value) = tree.member("list") else {
@@ -79,7 +79,7 @@ fn read_checkpoint(
 fn read_entries(
     alloc: Global,
     start: Revision,
-    resources: &[Tracked],
+    resources: &TrackedList,
     trees: &[Tree],
 ) -> Result<Option<Checkpoints>, OutOfMemory>
     requires { length trees.now ≤ 10_000 }
@@ -100,7 +100,7 @@ fn read_entries(
 pub fn read_checkpoints(
     alloc: Global,
     start: Revision,
-    resources: &[Tracked],
+    resources: &TrackedList,
     member: Option<&Tree>,
 ) -> Result<Option<Checkpoints>, OutOfMemory>
     ensures { IfOk result (λ found. found ≡ checkpoints_of start resources.now

@@ -14,6 +14,7 @@ mod requests;
 mod resources;
 mod setup;
 mod snapshot;
+mod tracked_list;
 
 pub use fault::{SetupFault, SetupRule};
 pub use lists::{ListRead, read_list};
@@ -22,5 +23,5 @@ pub use reading::read_setup;
 pub use requests::{is_merge_patch, subresource_named, tracked_of};
 pub use setup::{
     Checkpoint, Checkpoints, Setup, Snapshot, SnapshotObject, Subresource, Subresources, Tracked,
-    TrackedList,
 };
+pub use tracked_list::TrackedList;

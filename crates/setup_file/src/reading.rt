@@ -1,4 +1,4 @@
-ghost use Rattle.std.specs.Prelude.{◌≡◌, Ok, Err, IfOk, IfErr, map, is_some};
+ghost use Rattle.std.specs.Prelude.{◌≡◌, ◌≤◌, ◌^◌, Ok, Err, IfOk, IfErr, length, map, is_some};
 ghost use Rattle.std.specs.List.{list_all};
 ghost use Rattle.base_types.specs.Parts.{member_of};
 ghost use Rattle.setup_file.specs.declared.fault.SetupRule.{SetupRule};
@@ -138,21 +138,15 @@ fn setup_with(alloc: Global, tree: &Tree, seed: Seed) -> Result<Setup, SetupFaul
     let clocks = read_clocks(tree)?;
     let policy = policy_at(alloc, tree)?;
     let resources = read_resources(alloc, tree)?;
-    let snapshot = read_snapshot(alloc, clocks.start, resources.as_slice(), tree, seed)?;
+    let snapshot = read_snapshot(alloc, clocks.start, &resources, tree, seed)?;
     let Some(authorization) = read_authorization(alloc, tree)? else {
         return Err(SetupFault::Rule(SetupRule::S14));
     };
-    if !is_authorized(
-        alloc,
-        resources.as_slice(),
-        snapshot.as_slice(),
-        &authorization,
-    )? {
+    if !is_authorized(alloc, &resources, snapshot.as_slice(), &authorization)? {
         return Err(SetupFault::Rule(SetupRule::S14));
     }
     let given = tree.member("checkpoints");
-    let Some(checkpoints) = read_checkpoints(alloc, clocks.start, resources.as_slice(), given)?
-    else {
+    let Some(checkpoints) = read_checkpoints(alloc, clocks.start, &resources, given)? else {
         return Err(SetupFault::Rule(SetupRule::S15));
     };
     Ok(Setup {
@@ -207,7 +201,7 @@ fn tree_of(alloc: Global, bytes: &[u8]) -> Result<Tree, SetupFault>
 /// keys begin with the seed.
 pub fn read_setup(alloc: Global, bytes: &[u8], seed: Seed) -> Result<Setup, SetupFault>
     ensures setup { IfOk result (λ setup. ReadsAs bytes.now (Ok setup)) }
-    ensures sound { IfOk result IsSound }
+    ensures sound { length bytes.now ≤ 2 ^ 28 → IfOk result IsSound }
     ensures cause { (rule : SetupRule) → result ≡ Err (Rule rule) → ReadsAs bytes.now (Err rule) }
 {
     let tree = tree_of(alloc, bytes)?;

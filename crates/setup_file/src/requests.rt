@@ -1,7 +1,6 @@
 ghost use Rattle.std.specs.Prelude.{◌≡◌, option_map};
 ghost use Rattle.setup_file.specs.Requests.{tracked_of, subresource_named, has_query, is_apply, is_merge_patch};
 
-use crate::resources::tracked_as;
 use crate::setup::{Setup, Subresource, Tracked};
 use base_types::{RequestAttrs, Text};
 use packed_tree::PackedRef;
@@ -11,11 +10,7 @@ pub fn tracked_of<'a>(setup: &'a Setup, attrs: &RequestAttrs) -> Option<&'a Trac
     ensures { option_map (λ tracked. tracked.now) result ≡ tracked_of setup.now attrs.now }
 {
     if attrs.is_resource {
-        tracked_as(
-            setup.resources.as_slice(),
-            attrs.group.as_str(),
-            attrs.resource.as_str(),
-        )
+        setup.resources.find(&attrs.group, &attrs.resource)
     } else {
         None
     }

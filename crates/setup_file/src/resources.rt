@@ -4,16 +4,16 @@ ghost use Rattle.base_types.specs.Parts.{member_of, flag_of};
 ghost use Rattle.setup_file.specs.Resources.{merges_as, merges_of, entry_of, entries_in, are_apart, shape_or_root};
 ghost use Rattle.setup_file.specs.Resources.{shape_at, has_shape, effect_as, subresource_of, subresources_in};
 ghost use Rattle.setup_file.specs.Resources.{are_named_apart, subresources_or_none, tracked_of, tracked_in};
-ghost use Rattle.setup_file.specs.Resources.{tracked_as};
 ghost use Rattle.setup_file.specs.Reading.{resources_at};
 ghost use Rattle.setup_file.specs.Steps.{IsCause};
 
 use crate::distinct::{are_pairs_distinct, are_texts_distinct};
 use crate::fault::{SetupFault, SetupRule};
 use crate::form::is_form;
-use crate::setup::{Subresource, Subresources, Tracked, TrackedList};
+use crate::setup::{Subresource, Subresources, Tracked};
+use crate::tracked_list::TrackedList;
 use base_types::json::Tree;
-use base_types::{OutOfMemory, Text};
+use base_types::{Listed, OutOfMemory, Text};
 use path_shape::{FieldClass, Shape, ShapeEntries, ShapeFault};
 use std::alloc::Global;
 
@@ -333,10 +333,10 @@ fn read_tracked(alloc: Global, tree: &Tree) -> Result<Option<Tracked>, OutOfMemo
     Ok(Some(entry.into_tracked(shape, subresources)))
 }
 
-fn read_all_tracked(alloc: Global, trees: &[Tree]) -> Result<Option<TrackedList>, OutOfMemory>
+fn read_all_tracked(alloc: Global, trees: &[Tree]) -> Result<Option<Listed<Tracked>>, OutOfMemory>
     ensures { IfOk result (λ found. found ≡ tracked_in trees.now) }
 {
-    let mut resources = TrackedList::new(alloc);
+    let mut resources = Listed::new(alloc);
     for tree in trees {
         let Some(tracked) = read_tracked(alloc, tree)? else {
             return Ok(None);
@@ -365,15 +365,7 @@ pub fn read_resources(alloc: Global, tree: &Tree) -> Result<TrackedList, SetupFa
         return Err(SetupFault::Rule(SetupRule::S10));
     }
     match read_all_tracked(alloc, trees)? {
-        Some(resources) => Ok(resources),
+        Some(resources) => Ok(TrackedList::of(alloc, resources.into_vec())?),
         None => Err(SetupFault::Rule(SetupRule::S11)),
     }
-}
-
-/// The tracked resource of this group and resource type.
-pub fn tracked_as<'a>(resources: &'a [Tracked], group: &str, resource: &str) -> Option<&'a Tracked>
-    ensures { option_map (λ tracked. tracked.now) result ≡ tracked_as resources.now group.now resource.now }
-{
-    resources.iter().find(|tracked| tracked.group.as_str() == group
-        && tracked.resource.as_str() == resource)
 }

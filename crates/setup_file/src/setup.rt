@@ -1,3 +1,4 @@
+use crate::tracked_list::TrackedList;
 use audit_policy::Policy;
 use base_types::json::Tree;
 use base_types::{Listed, Moment, ObjectKey, Revision, Text, Texts};
@@ -28,8 +29,6 @@ pub struct Setup {
     pub skip: Texts,
     pub checkpoints: Checkpoints,
 }
-
-pub type TrackedList = Listed<Tracked>;
 
 /// A resource that is judged (Kubernetes API concepts, "Standard API terminology").
 #[derive(Drop)]

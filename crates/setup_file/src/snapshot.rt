@@ -10,8 +10,8 @@ use crate::distinct::{are_keys_distinct, are_revisions_distinct, are_texts_disti
 use crate::fault::{SetupFault, SetupRule};
 use crate::form::is_form;
 use crate::objects::{has_no, has_text_at, object_with};
-use crate::resources::tracked_as;
 use crate::setup::{Snapshot, SnapshotObject, Tracked};
+use crate::tracked_list::TrackedList;
 use base_types::json::Tree;
 use base_types::{OutOfMemory, Revision};
 use hash_seed::Seed;
@@ -68,7 +68,7 @@ fn read_object(
 
 fn read_entry(
     alloc: Global,
-    resources: &[Tracked],
+    resources: &TrackedList,
     tree: &Tree,
 ) -> Result<Option<SnapshotObject>, OutOfMemory>
     ensures { IfOk result (λ found. found ≡ snapshot_entry_of resources.now tree.now) }
@@ -82,7 +82,7 @@ fn read_entry(
     let Some(resource) = tree.text_at("resource") else {
         return Ok(None);
     };
-    let Some(tracked) = tracked_as(resources, group.as_str(), resource.as_str()) else {
+    let Some(tracked) = resources.find(group, resource) else {
         return Ok(None);
     };
     let Some(object) = tree.member("object") else {
@@ -93,7 +93,7 @@ fn read_entry(
 
 fn read_entries(
     alloc: Global,
-    resources: &[Tracked],
+    resources: &TrackedList,
     trees: &[Tree],
 ) -> Result<Option<Snapshot>, OutOfMemory>
     ensures { IfOk result (λ found. found ≡ snapshot_in resources.now trees.now) }
@@ -169,7 +169,7 @@ fn are_at_start(
 pub fn read_snapshot(
     alloc: Global,
     start: Revision,
-    resources: &[Tracked],
+    resources: &TrackedList,
     tree: &Tree,
     seed: Seed,
 ) -> Result<Snapshot, SetupFault>

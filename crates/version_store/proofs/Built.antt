@@ -5,6 +5,7 @@ use Rattle.std.proofs.lemmas.Int.{ints}
 use Rattle.std.proofs.lemmas.List.{length-map}
 use Rattle.std.proofs.lemmas.List.Elements.{Contains-get_or}
 use Rattle.std.proofs.lemmas.Option.{same_Some, slice_get_within}
+use Rattle.std.proofs.lemmas.Slice.Zip.{AllZip-long}
 use Rattle.base_types.proofs.Quantifiers.{Any-contains}
 use Rattle.answer_class.specs.Classes.{class_of}
 use Rattle.answer_class.specs.declared.answer.Answer.{Answer}
@@ -207,7 +208,16 @@ known_of setup events trees log found kept roles = record {
 abbrev pub kept_of : LogPast → Recorded
 kept_of found = record { versions = found.versions; removals = found.removals }
 
-pub few_logged : (setup : Setup) (events : List Event) (trees : List Meaning) (log : Log) → IsLogOf setup events trees log → length events + length setup.checkpoints < 2 ^ 32 → length log.events < 2 ^ 32
+-- all objects of the snapshot and all events can be numbered
+pub few_in_log : (setup : Setup) (events : List Event) (trees : List Meaning) (log : Log) → IsLogOf setup events trees log
+    → length setup.snapshot + length events + length setup.checkpoints < 2 ^ 32 → length log.snapshot + length log.events < 2 ^ 32
+few_in_log setup events trees log logged few =
+    let items = AllZip-long (IsItemOf trees) setup.snapshot log.snapshot logged.snapshot in
+    let long = logged_length setup trees events log.events logged.logged in
+    omega (arith, items, long, few)
+
+pub few_logged : (setup : Setup) (events : List Event) (trees : List Meaning) (log : Log) → IsLogOf setup events trees log
+    → length setup.snapshot + length events + length setup.checkpoints < 2 ^ 32 → length log.events < 2 ^ 32
 few_logged setup events trees log logged few = let long = logged_length setup trees events log.events logged.logged in omega (arith, long, few)
 
 not_older : (start : ℕ) (event : LogEvent) (revision : ℕ) → IsNotOlder start event.reading → (event_of event).reading ≡ model.Checkpoint revision → start ≤ revision

@@ -1,14 +1,19 @@
--- Threads may share a setup and events, and send what they say of an event.
+-- Threads may share a setup and events, those of a log and a pool, and send what they say of an event.
 use Rattle.std.proofs.Crossing as owned
+use Rattle.std.proofs.MapsCrossing as mapped
 use Rattle.answer_class.specs.contracts.answer.Answer as answer
 use Rattle.audit_event.specs.contracts.event.Event as event
 use Rattle.base_types.specs.contracts.text.Text as text
 use Rattle.base_types.proofs.json.tree.Member.TheLaws.TheKnot as knot
 use Rattle.base_types.specs.contracts.json.tree.Tree as tree
 use Rattle.label_select.specs.contracts.selector.Requirement as requirement
+use Rattle.node_pool.specs.contracts.pool.Pool as pool
+use Rattle.setup_file.proofs.tracked_list.TrackedList.TheSendSync as resources
 use Rattle.setup_file.specs.contracts.setup.Setup as setup
 use Rattle.setup_file.specs.contracts.setup.SnapshotObject as object
 use Rattle.version_store.specs.contracts.log.classifying.Classified as classified
+use Rattle.write_groups.proofs.event.LogEvent.TheSendSync as sharing
+use Rattle.write_groups.specs.contracts.event.LogEvent as logged
 use denote.Param.Send.{IsSend, IsSync, sendable}
 use denote.Param.SendFields.{declared_send, declared_sync}
 
@@ -35,7 +40,7 @@ setup_shared = declared_sync setup.the_type (
             (
               search (sendable, owned.crosses) depth 60 fits 20000,
               (
-                search (sendable, owned.crosses) depth 60 fits 20000,
+                resources.the_sync,
                 (
                   search (tree_shared, sendable, owned.crosses) depth 60 fits 20000,
                   (
@@ -57,6 +62,12 @@ setup_shared = declared_sync setup.the_type (
     ),
   ),
 )
+
+pub logged_shared : IsSync logged.the_row
+logged_shared = search sharing.the_sync depth 20
+
+pub pool_shared : IsSync pool.the_row
+pool_shared = search (sendable, owned.crosses, mapped.crosses) depth 60 fits 20000
 
 text_sent : IsSend text.the_row
 text_sent = search (sendable, owned.crosses) depth 60 fits 20000

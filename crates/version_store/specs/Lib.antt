@@ -20,3 +20,4 @@ pub mod Roles
 pub mod Shown
 pub mod Told
 pub mod Uses
+pub mod Verdicts

@@ -1,5 +1,5 @@
 ghost use Rattle.std.specs.Prelude.{◌≡◌, ◌<◌, ℕ, Bool, Option, IfOk, option_map, option_and_then, length, slice_get};
-ghost use Rattle.version_store.specs.Histories.{body_test, made_node, made_tree};
+ghost use Rattle.version_store.specs.Histories.{body_test, made_node};
 
 use audit_event::Event;
 use base_types::OutOfMemory;
@@ -43,13 +43,12 @@ fn tree_at(pool: &Pool, node: Option<NodeId>) -> Result<Option<Tree>, OutOfMemor
     Ok(Some(pool.tree(node)?))
 }
 
-fn made_tree(pool: &Pool, log: &[LogEvent], number: u32) -> Result<Option<Tree>, OutOfMemory>
-    ensures { IfOk result (λ tree. tree ≡ made_tree log.now pool.now.trees number) }
+// The tree that the write of this number was answered with, by its number.
+fn made_at(log: &[LogEvent], number: u32) -> Option<NodeId>
+    ensures { option_map (λ node. node.0) result ≡ option_and_then (λ event. made_node event.answer)
+        (slice_get log.now number) }
 {
-    match log.get(number as usize) {
-        Some(event) => tree_at(pool, made_node(event)),
-        None => Ok(None),
-    }
+    made_node(log.get(number as usize)?)
 }
 
 impl<'a> Bodies for RequestBodies<'a> {
@@ -64,9 +63,13 @@ impl<'a> Bodies for RequestBodies<'a> {
         let Some(recorded) = self.events.get(event as usize) else {
             return Ok(true);
         };
-        let Some(answered) = made_tree(self.pool, self.log, event)? else {
+        let made = made_at(self.log, event);
+        let Some(answered) = tree_at(self.pool, made)? else {
             return Ok(true);
         };
+        if before == made {
+            return is_body_right(alloc, self.setup, recorded, &answered, Some(&answered));
+        }
         let before = tree_at(self.pool, before)?;
         is_body_right(alloc, self.setup, recorded, &answered, before.as_ref())
     }

@@ -22,6 +22,7 @@ ghost use Rattle.version_store.specs.Uses.{AreUses};
 use crate::bodies::RequestBodies;
 use crate::context::Context;
 use crate::faults::{faults_of, makings_of};
+use crate::foreseen::past_foreseen;
 use crate::keys::keys_of;
 use crate::log::{BuildFault, Log, log_of};
 use crate::roles::timeline_of;
@@ -31,8 +32,8 @@ use base_types::{ObjectKey, OutOfMemory, Reason};
 use clouds::Clouds;
 use hash_seed::Seed;
 use node_pool::{Interner, Pool};
-use object_past::{Past, Removals, Versions};
-use object_versions::{Judged, LogPast, past_of};
+use object_past::Past;
+use object_versions::{Judged, LogPast};
 use rbac_timeline::Timeline;
 use setup_file::Setup;
 use std::alloc::Global;
@@ -43,27 +44,6 @@ use write_groups::Groups;
 
 /// So many distinct values the objects of a log may have.
 const MOST_NODES: u32 = 50_000_000;
-
-/// Versions are numbered by 32 bits.
-const MOST_VERSIONS: usize = 4_294_967_296;
-
-// The past, where its versions can be numbered. So many more would take more memory than there is.
-fn past_within(alloc: Global, versions: Versions, removals: Removals) -> Result<Past, OutOfMemory>
-    requires rising { AllPairs (λ a b. a.revision < b.revision) versions }
-    requires ends { AreEnds versions removals }
-    ensures versions { IfOk result (λ past. past.versions ≡ versions) }
-    ensures removals { IfOk result (λ past. past.removals ≡ removals) }
-    ensures few { IfOk result (λ past. length past.versions < 2 ^ 32) }
-{
-    if versions.len() >= MOST_VERSIONS {
-        return Err(OutOfMemory);
-    }
-    if removals.len() >= MOST_VERSIONS {
-        return Err(OutOfMemory);
-    }
-    let past = Past::build(alloc, versions, removals)?;
-    Ok(past)
-}
 
 /// What is found of the writes of a log.
 #[derive(Drop)]
@@ -103,6 +83,8 @@ struct Gathered {
 fn parts_of(alloc: Global, found: LogPast) -> Result<Parts, OutOfMemory>
     requires rising { AllPairs (λ a b. a.revision < b.revision) found.versions }
     requires ends { AreEnds found.versions found.removals }
+    requires few_versions { length found.versions < 2 ^ 32 }
+    requires few_removals { length found.removals < 2 ^ 32 }
     ensures same { IfOk result (λ parts. found ≡ past_with parts) }
     ensures few { IfOk result (λ parts. length parts.past.versions < 2 ^ 32) }
 {
@@ -115,7 +97,7 @@ fn parts_of(alloc: Global, found: LogPast) -> Result<Parts, OutOfMemory>
         judged,
         removals,
     } = found;
-    let past = past_within(alloc, versions, removals)?;
+    let past = Past::build(alloc, versions, removals)?;
     Ok(Parts {
         order,
         windows,
@@ -181,7 +163,8 @@ fn told_of(alloc: Global, bodies: &RequestBodies<'_>, parts: &Parts) -> Result<T
 }
 
 // What a setup and its log say, once the log is in the terms of the model of history.
-fn found_of(
+fn found_of<R: Threads + Sync>(
+    rt: &R,
     alloc: Global,
     setup: &Setup,
     events: &Events,
@@ -191,7 +174,7 @@ fn found_of(
     requires setup { IsSound setup.now }
     requires events { All IsSoundEvent events.now }
     requires lines { AreLines events.now }
-    requires few { length events.now + length setup.now.checkpoints < 2 ^ 32 }
+    requires few { length setup.now.snapshot + length events.now + length setup.now.checkpoints < 2 ^ 32 }
     requires trees { pool.now.trees ≡ pooled setup.now events.now }
     requires log { IsLogOf setup.now events.now pool.now.trees log.now }
     requires rising { RiseByLine log.now.events }
@@ -206,7 +189,7 @@ fn found_of(
         log: logged,
         pool,
     };
-    let found = past_of(alloc, &bodies, setup.start, snapshot, logged)?;
+    let found = past_foreseen(rt, alloc, &bodies, setup.start, snapshot, logged)?;
     let parts = parts_of(alloc, found)?;
     let told = told_of(alloc, &bodies, &parts)?;
     Ok(Found { parts, told })
@@ -224,7 +207,7 @@ fn gather<R: Threads + Sync>(
     requires setup { IsSound setup.now }
     requires events { All IsSoundEvent events.now }
     requires lines { AreLines events.now }
-    requires few { length events.now + length setup.now.checkpoints < 2 ^ 32 }
+    requires few { length setup.now.snapshot + length events.now + length setup.now.checkpoints < 2 ^ 32 }
     ensures found { IfOk result (λ gathered. IsFound setup.now events.now gathered.pool.trees gathered.log
         gathered.found) }
     ensures full { result ≡ Err BuildFault.PoolFull → limit < length (pooled setup.now events.now) }
@@ -233,7 +216,7 @@ fn gather<R: Threads + Sync>(
     let mut interner = Interner::new(alloc, limit, seed)?;
     let log = log_of(rt, alloc, &mut interner, setup, events)?;
     let pool = interner.into_pool()?;
-    let found = found_of(alloc, setup, events, &pool, &log)?;
+    let found = found_of(rt, alloc, setup, events, &pool, &log)?;
     Ok(Gathered { pool, log, found })
 }
 
@@ -279,7 +262,8 @@ fn joined(setup: Setup, events: Events, gathered: Gathered) -> Context
 
 impl Context {
     /// What a setup and the events of a log say together. The objects may have 50,000,000 distinct values, lists and
-    /// members among them. Several threads classify the events. The hashes of what the pool holds begin with the seed.
+    /// members among them. Several threads classify the events and judge the bodies of writes. The hashes of what the
+    /// pool holds begin with the seed.
     pub fn build<R: Threads + Sync>(
         rt: &R,
         alloc: Global,
@@ -290,7 +274,7 @@ impl Context {
         requires setup { IsSound setup }
         requires events { All IsSoundEvent events }
         requires lines { AreLines events }
-        requires few { length events + length setup.checkpoints < 2 ^ 32 }
+        requires few { length setup.snapshot + length events + length setup.checkpoints < 2 ^ 32 }
         ensures setup { IfOk result (λ context. context.setup ≡ setup) }
         ensures events { IfOk result (λ context. context.events ≡ events) }
         ensures told { IfOk result IsTold }
@@ -312,7 +296,7 @@ impl Context {
         requires setup { IsSound setup }
         requires events { All IsSoundEvent events }
         requires lines { AreLines events }
-        requires few { length events + length setup.checkpoints < 2 ^ 32 }
+        requires few { length setup.snapshot + length events + length setup.checkpoints < 2 ^ 32 }
         ensures setup { IfOk result (λ context. context.setup ≡ setup) }
         ensures events { IfOk result (λ context. context.events ≡ events) }
         ensures told { IfOk result IsTold }

@@ -7,6 +7,7 @@ mod build;
 mod context;
 mod deciding;
 mod faults;
+mod foreseen;
 mod keys;
 mod law;
 mod listing;
@@ -15,6 +16,7 @@ mod making;
 mod readers;
 mod roles;
 mod uses;
+mod verdicts;
 
 pub use bodies::RequestBodies;
 pub use context::Context;

@@ -6,7 +6,7 @@ use Rattle.history_model.specs.Outcomes.{Write}
 use Rattle.version_store.specs.Known.{Known}
 use Rattle.write_groups.proofs.Lists.{made_one}
 use Rattle.window_writes.specs.Turns.{made_write, removed_write, write_of_turn}
-use Rattle.window_writes.specs.declared.writes.Turn.{Turn}
+use Rattle.window_writes.specs.declared.writes.WriteTurn.{WriteTurn}
 
 -- one turn more has its line
 pub lines_more : {X Y Z : Type 0} (f : X → Option Y) (g : Y → Z) (xs : List X) (i : ℕ) (d : X) (z : Z) (lines : List Z) → i < length xs → option_map g (f (get_or xs i d)) ≡ Some z
@@ -29,7 +29,7 @@ some_there {X} g xs i some = go (slice_get xs i) refl some
     go None e some = absurd (true≢false (sym some))
     go (Some x) e some = slice_get_within xs i x e
 
-module _ (known : Known) (turn : Turn) where
+module _ (known : Known) (turn : WriteTurn) where
   abbrev by_kind : Bool → Option Write
   by_kind removes = if removes then option_map (removed_write turn) (slice_get known.removals turn.position) else option_map (made_write turn) (slice_get known.versions turn.position)
 

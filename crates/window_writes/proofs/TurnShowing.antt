@@ -28,7 +28,7 @@ use Rattle.write_groups.proofs.Lists.{map_has}
 use Rattle.write_groups.specs.Members.{IsGroupOf}
 use Rattle.write_groups.specs.Modelled.{event_of}
 use Rattle.write_groups.specs.declared.groups.Group.{Group}
-use Rattle.window_writes.specs.Turns.{IsFirstWriter, IsLineOf, IsShownBy}
+use Rattle.window_writes.specs.Turns.{IsFirstWriter, IsShownLine, IsShownBy}
 
 -- the first of numbers that are in order stands before each other one
 first_before : (R : ℕ → ℕ → Type 0) (numbers : List ℕ) (first number : ℕ) → AllPairs R numbers → slice_get numbers 0 ≡ Some first → Contains numbers number → (first ≡ number) ⊎ R first number
@@ -157,5 +157,5 @@ module _ (known : Known) (r : IsReadable (history_of known)) (version : Version)
   pub shown_known : (number : ℕ) → IsShownBy known version number → number < length known.log
   shown_known number s = known_event known number s.m.event (shown_event number s)
 
-  pub shown_line : (number line : ℕ) → IsShownBy known version number → ((event : Event) → IsEvent (history_of known) number event → line ≡ event.line) → IsLineOf known version line
+  pub shown_line : (number line : ℕ) → IsShownBy known version number → ((event : Event) → IsEvent (history_of known) number event → line ≡ event.line) → IsShownLine known version line
   shown_line number line s told = record { m = s.m; shown = s.shown; of_line = told s.m.event (shown_event number s) }

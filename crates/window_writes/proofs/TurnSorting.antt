@@ -32,17 +32,17 @@ use Rattle.write_groups.proofs.Lists.{made_from, made_has, made_pairs, map_from,
 use Rattle.window_writes.proofs.TurnShowing.{event_here, removal_known, showing_line, version_made}
 use Rattle.window_writes.specs.Lines.{AreWriteLines}
 use Rattle.window_writes.specs.Lines.{write_line}
-use Rattle.window_writes.specs.Turns.{made_write, removed_write, turn_order, write_of_turn, AreTurns, IsMadeTurn, IsMadeWithin, IsRemovedTurn, IsRemovedWithin, IsTurnOf}
-use Rattle.window_writes.specs.declared.writes.Turn.{Turn}
+use Rattle.window_writes.specs.Turns.{made_write, removed_write, write_turn_order, write_of_turn, AreTurns, IsMadeTurn, IsMadeWithin, IsRemovedTurn, IsRemovedWithin, IsTurnOf}
+use Rattle.window_writes.specs.declared.writes.WriteTurn.{WriteTurn}
 
 -- a turn's position, with what stands there
-abbrev turn_code : Turn → ℕ
+abbrev turn_code : WriteTurn → ℕ
 turn_code turn = if turn.removes then turn.position + turn.position + 1 else turn.position + turn.position
 
-code_of_made : (turn : Turn) → turn.removes ≡ false → turn_code turn ≡ turn.position + turn.position
+code_of_made : (turn : WriteTurn) → turn.removes ≡ false → turn_code turn ≡ turn.position + turn.position
 code_of_made turn e = ap (λ b. if b then turn.position + turn.position + 1 else turn.position + turn.position) e
 
-code_of_removed : (turn : Turn) → turn.removes ≡ true → turn_code turn ≡ turn.position + turn.position + 1
+code_of_removed : (turn : WriteTurn) → turn.removes ≡ true → turn_code turn ≡ turn.position + turn.position + 1
 code_of_removed turn e = ap (λ b. if b then turn.position + turn.position + 1 else turn.position + turn.position) e
 
 bool_less : (a b : Bool) → a ≡ false → b ≡ true → bool_cmp a b ≡ Less
@@ -57,7 +57,7 @@ bool_equal true false e = absurd (true≢false e)
 bool_equal true true e = refl
 
 -- the turn doesn't come before the other
-module _ (a b : Turn) (not : is_lt (turn_order a b) ≡ false) where
+module _ (a b : WriteTurn) (not : is_lt (write_turn_order a b) ≡ false) where
   abbrev rest : Ordering
   rest = ordering_then (bool_cmp a.removes b.removes) (ordering_then (nat_cmp a.line b.line) (nat_cmp a.position b.position))
 
@@ -73,38 +73,38 @@ module _ (a b : Turn) (not : is_lt (turn_order a b) ≡ false) where
       (then_next (bool_cmp a.removes b.removes) (ordering_then (nat_cmp a.line b.line) (nat_cmp a.position b.position)) (bool_equal a.removes b.removes p)
       (then_less (nat_cmp a.line b.line) (nat_cmp a.position b.position) (nat_less a.line b.line l)))) ∙ not)
 
-module _ (known : Known) (r : IsReadable (history_of known)) (low high : ℕ) (turns : List Turn) (are : AreTurns known low high turns) where
+module _ (known : Known) (r : IsReadable (history_of known)) (low high : ℕ) (turns : List WriteTurn) (are : AreTurns known low high turns) where
   abbrev h : past.History
   h = history_of known
 
-  abbrev f : Turn → Option Write
+  abbrev f : WriteTurn → Option Write
   f turn = write_of_turn known turn
 
-  abbrev IsMade : Turn → Type 0
+  abbrev IsMade : WriteTurn → Type 0
   IsMade turn = IsTurnOf (IsMadeWithin known.setup.start low high) (IsMadeTurn known) known.versions (length known.versions) turn
 
-  abbrev IsRemoved : Turn → Type 0
+  abbrev IsRemoved : WriteTurn → Type 0
   IsRemoved turn = IsTurnOf (IsRemovedWithin low high) (IsRemovedTurn known) known.removals (length known.removals) turn
 
-  kind : (turn : Turn) → Contains turns turn → IsMade turn ⊎ IsRemoved turn
+  kind : (turn : WriteTurn) → Contains turns turn → IsMade turn ⊎ IsRemoved turn
   kind turn c = go (Contains-append_cases are.made are.removed turn (Contains-permutation turns (are.made ++ are.removed) turn (IsPermutation-sym (are.made ++ are.removed) turns are.same) c))
     where
       go : Contains are.made turn ⊎ Contains are.removed turn → IsMade turn ⊎ IsRemoved turn
       go (inl d) = inl (are.of_made.sound turn d)
       go (inr d) = inr (are.of_removed.sound turn d)
 
-  made_is : (turn : Turn) (t : IsMade turn) → f turn ≡ Some (made_write turn t.item)
+  made_is : (turn : WriteTurn) (t : IsMade turn) → f turn ≡ Some (made_write turn t.item)
   made_is turn t = ap (λ b. if b then option_map (removed_write turn) (slice_get known.removals turn.position) else option_map (made_write turn) (slice_get known.versions turn.position)) t.turns.made
       ∙ ap (option_map (made_write turn)) t.at
 
-  removed_is : (turn : Turn) (t : IsRemoved turn) → f turn ≡ Some (removed_write turn t.item)
+  removed_is : (turn : WriteTurn) (t : IsRemoved turn) → f turn ≡ Some (removed_write turn t.item)
   removed_is turn t = ap (λ b. if b then option_map (removed_write turn) (slice_get known.removals turn.position) else option_map (made_write turn) (slice_get known.versions turn.position)) t.turns.removed
       ∙ ap (option_map (removed_write turn)) t.at
 
   pub turns_written : All (λ turn. IsSome (write_of_turn known turn)) turns
   turns_written = all_from (λ turn. IsSome (write_of_turn known turn)) turns (λ turn c. go turn (kind turn c))
     where
-      go : (turn : Turn) → IsMade turn ⊎ IsRemoved turn → IsSome (write_of_turn known turn)
+      go : (turn : WriteTurn) → IsMade turn ⊎ IsRemoved turn → IsSome (write_of_turn known turn)
       go turn (inl t) = subst IsSome (sym (made_is turn t)) refl
       go turn (inr t) = subst IsSome (sym (removed_is turn t)) refl
 
@@ -115,7 +115,7 @@ module _ (known : Known) (r : IsReadable (history_of known)) (low high : ℕ) (t
   removals_rising = pairs_unmap recorded (λ a b. a.range.event < b.range.event) known.removals r.removals.rising
 
   -- the writes are of the window
-  made_sound : (turn : Turn) (t : IsMade turn) → IsWriteIn h low high (made_write turn t.item)
+  made_sound : (turn : WriteTurn) (t : IsMade turn) → IsWriteIn h low high (made_write turn t.item)
   made_sound turn t = record {
     version = version_of t.item;
     known = map_has version_of known.versions t.item (at_in known.versions turn.position t.item t.at);
@@ -128,7 +128,7 @@ module _ (known : Known) (r : IsReadable (history_of known)) (low high : ℕ) (t
     of_line = t.turns.line.of_line;
   }
 
-  removed_sound : (turn : Turn) (t : IsRemoved turn) → IsWriteIn h low high (removed_write turn t.item)
+  removed_sound : (turn : WriteTurn) (t : IsRemoved turn) → IsWriteIn h low high (removed_write turn t.item)
   removed_sound turn t = record {
     removal = recorded t.item;
     known = map_has recorded known.removals t.item (at_in known.removals turn.position t.item t.at);
@@ -142,7 +142,7 @@ module _ (known : Known) (r : IsReadable (history_of known)) (low high : ℕ) (t
   sound : (write : Write) → Contains (filter_map f turns) write → IsWriteIn h low high write
   sound write c = go (made_from f turns write c)
     where
-      go : (turn : Turn) × Contains turns turn × (f turn ≡ Some write) → IsWriteIn h low high write
+      go : (turn : WriteTurn) × Contains turns turn × (f turn ≡ Some write) → IsWriteIn h low high write
       go (turn, d, e) = by (kind turn d)
         where
           by : IsMade turn ⊎ IsRemoved turn → IsWriteIn h low high write
@@ -165,7 +165,7 @@ module _ (known : Known) (r : IsReadable (history_of known)) (low high : ℕ) (t
           at : (i : ℕ) × (slice_get known.versions i ≡ Some v) → Contains (filter_map f turns) (MadeAt revision line key)
           at (i, p) = by (are.of_made.full i v (slice_get_within known.versions i v p) p counts)
             where
-              by : (turn : Turn) × Contains are.made turn × (turn.position ≡ i) → Contains (filter_map f turns) (MadeAt revision line key)
+              by : (turn : WriteTurn) × Contains are.made turn × (turn.position ≡ i) → Contains (filter_map f turns) (MadeAt revision line key)
               by (turn, d, q) = made_has f turns turn (MadeAt revision line key) (Contains-permutation (are.made ++ are.removed) turns turn are.same (Contains-append_left are.made are.removed turn d))
                   (made_is turn t ∙ (λ j. Some (MadeAt (places j) (lines j) (keys j))))
                 where
@@ -210,7 +210,7 @@ module _ (known : Known) (r : IsReadable (history_of known)) (low high : ℕ) (t
           at : (i : ℕ) × (slice_get known.removals i ≡ Some w) → Contains (filter_map f turns) (RemovedIn first last line key)
           at (i, p) = by (are.of_removed.full i w (slice_get_within known.removals i w p) p counts)
             where
-              by : (turn : Turn) × Contains are.removed turn × (turn.position ≡ i) → Contains (filter_map f turns) (RemovedIn first last line key)
+              by : (turn : WriteTurn) × Contains are.removed turn × (turn.position ≡ i) → Contains (filter_map f turns) (RemovedIn first last line key)
               by (turn, d, q) = made_has f turns turn (RemovedIn first last line key) (Contains-permutation (are.made ++ are.removed) turns turn are.same (Contains-append_right are.made are.removed turn d))
                   (removed_is turn t ∙ (λ j. Some (RemovedIn (places j) (ends j) (lines j) (keys j))))
                 where
@@ -237,16 +237,16 @@ module _ (known : Known) (r : IsReadable (history_of known)) (low high : ℕ) (t
   full (RemovedIn first last line key) x = removed_full first last line key x
 
   -- no two turns are of one version or of one removal
-  abbrev IsOther : Turn → Turn → Type 0
+  abbrev IsOther : WriteTurn → WriteTurn → Type 0
   IsOther a b = turn_code a ≢ turn_code b
 
-  made_apart : (a b : Turn) → IsMade a → IsMade b → a.position < b.position → IsOther a b
+  made_apart : (a b : WriteTurn) → IsMade a → IsMade b → a.position < b.position → IsOther a b
   made_apart a b s t l e = omega (arith, l, e, code_of_made a s.turns.made, code_of_made b t.turns.made)
 
-  removed_apart : (a b : Turn) → IsRemoved a → IsRemoved b → a.position < b.position → IsOther a b
+  removed_apart : (a b : WriteTurn) → IsRemoved a → IsRemoved b → a.position < b.position → IsOther a b
   removed_apart a b s t l e = omega (arith, l, e, code_of_removed a s.turns.removed, code_of_removed b t.turns.removed)
 
-  kinds_apart : (a b : Turn) → IsMade a → IsRemoved b → IsOther a b
+  kinds_apart : (a b : WriteTurn) → IsMade a → IsRemoved b → IsOther a b
   kinds_apart a b s t e = omega (arith, e, code_of_made a s.turns.made, code_of_removed b t.turns.removed)
 
   apart : AllPairs IsOther turns
@@ -261,25 +261,25 @@ module _ (known : Known) (r : IsReadable (history_of known)) (low high : ℕ) (t
       among_removed = λ i j d l m. removed_apart (get_or are.removed i d) (get_or are.removed j d)
           (are.of_removed.sound _ (Contains-get_or are.removed i d (omega (arith, l, m)))) (are.of_removed.sound _ (Contains-get_or are.removed j d m)) (are.of_removed.rising i j d l m)
 
-  one_version : (a b : Turn) (s : IsMade a) (t : IsMade b) → a.place ≡ b.place → a.position ≡ b.position
+  one_version : (a b : WriteTurn) (s : IsMade a) (t : IsMade b) → a.place ≡ b.place → a.position ≡ b.position
   one_version a b s t e = at_apart (λ (v : Version). v.revision) known.versions a.position b.position s.item t.item versions_rising s.at t.at (sym s.turns.of_place ∙ e ∙ t.turns.of_place)
 
-  one_removal : (a b : Turn) (s : IsRemoved a) (t : IsRemoved b) → a.line ≡ b.line → a.position ≡ b.position
+  one_removal : (a b : WriteTurn) (s : IsRemoved a) (t : IsRemoved b) → a.line ≡ b.line → a.position ≡ b.position
   one_removal a b s t e = go (event_here known s.item.range.event (removal_known known a.position s.item r s.at)) (event_here known t.item.range.event (removal_known known b.position t.item r t.at))
     where
       go : (x : Event) × IsEvent h s.item.range.event x → (y : Event) × IsEvent h t.item.range.event y → a.position ≡ b.position
       go (x, k) (y, l) = at_apart (λ (w : Removal). w.range.event) known.removals a.position b.position s.item t.item removals_rising s.at t.at
           (at_apart (λ (z : Event). z.line) h.events s.item.range.event t.item.range.event x y r.lines k l (sym (ap event_line k) ∙ sym s.turns.of_line ∙ e ∙ t.turns.of_line ∙ ap event_line l))
 
-  module _ (sorted : IsSorted turn_order turns) where
-    ranks : IsStrictWeakOrder (λ a b. is_lt (turn_order a b))
-    ranks = ranks_by (then_total (on_total (λ (t : Turn). t.place) nat_cmp_total) (then_total (on_total (λ (t : Turn). t.removes) bool_cmp_total) (then_total (on_total (λ (t : Turn). t.line) nat_cmp_total) (on_total (λ (t : Turn). t.position) nat_cmp_total)))) (λ t. t)
+  module _ (sorted : IsSorted write_turn_order turns) where
+    ranks : IsStrictWeakOrder (λ a b. is_lt (write_turn_order a b))
+    ranks = ranks_by (then_total (on_total (λ (t : WriteTurn). t.place) nat_cmp_total) (then_total (on_total (λ (t : WriteTurn). t.removes) bool_cmp_total) (then_total (on_total (λ (t : WriteTurn). t.line) nat_cmp_total) (on_total (λ (t : WriteTurn). t.position) nat_cmp_total)))) (λ t. t)
 
-    far : AllPairs (λ a b. is_lt (turn_order b a) ≡ false) turns
-    far = λ i j d l m. sorted_far (λ a b. is_lt (turn_order a b)) ranks turns sorted i j d (omega arith) m
+    far : AllPairs (λ a b. is_lt (write_turn_order b a) ≡ false) turns
+    far = λ i j d l m. sorted_far (λ a b. is_lt (write_turn_order a b)) ranks turns sorted i j d (omega arith) m
 
     -- the places, ranks and lines of two writes
-    listed : (a b : Turn) → (IsMade a ⊎ IsRemoved a) → (IsMade b ⊎ IsRemoved b) → IsOther a b → is_lt (turn_order b a) ≡ false → (x y : Write) → f a ≡ Some x → f b ≡ Some y → IsListedBefore x y
+    listed : (a b : WriteTurn) → (IsMade a ⊎ IsRemoved a) → (IsMade b ⊎ IsRemoved b) → IsOther a b → is_lt (write_turn_order b a) ≡ false → (x y : Write) → f a ≡ Some x → f b ≡ Some y → IsListedBefore x y
     listed a b (inl s) (inl t) other not x y ex ey =
         subst (λ w. IsListedBefore w y) (same_Some (made_write a s.item) x (sym (made_is a s) ∙ ex))
         (subst (λ w. IsListedBefore (made_write a s.item) w) (same_Some (made_write b t.item) y (sym (made_is b t) ∙ ey)) (go (numbers a.place b.place)))
@@ -320,7 +320,7 @@ module _ (known : Known) (r : IsReadable (history_of known)) (low high : ℕ) (t
 
     writes_are : AreWrites h low high (filter_map f turns)
     writes_are = record {
-      sorted = made_pairs f (λ a b. IsOther a b × (is_lt (turn_order b a) ≡ false)) IsListedBefore turns (λ i j d l m. (apart i j d l m, far i j d l m))
+      sorted = made_pairs f (λ a b. IsOther a b × (is_lt (write_turn_order b a) ≡ false)) IsListedBefore turns (λ i j d l m. (apart i j d l m, far i j d l m))
           (λ a b x y c d e p q. listed a b (kind a c) (kind b d) e.0 e.1 x y p q);
       sound = sound;
       full = full;

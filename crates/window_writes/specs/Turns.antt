@@ -11,21 +11,21 @@ use Rattle.object_past.specs.declared.removal.Removal.{Removal}
 use Rattle.object_past.specs.declared.version.Version.{Version}
 use Rattle.version_store.specs.Histories.{history_of}
 use Rattle.version_store.specs.Known.{Known}
-use Rattle.window_writes.specs.contracts.writes.TurnOrd.TheImpl as turn_ord
-use Rattle.window_writes.specs.declared.writes.Turn.{Turn}
+use Rattle.window_writes.specs.contracts.writes.WriteTurnOrd.TheImpl as turn_ord
+use Rattle.window_writes.specs.declared.writes.WriteTurn.{WriteTurn}
 
 -- by place, those that made a revision before removals, and then by line
-abbrev pub turn_order : Turn → Turn → Ordering
-turn_order = (turn_ord.ghosts).cmp
+abbrev pub write_turn_order : WriteTurn → WriteTurn → Ordering
+write_turn_order = (turn_ord.ghosts).cmp
 
-abbrev pub made_write : Turn → Version → Write
+abbrev pub made_write : WriteTurn → Version → Write
 made_write turn version = MadeAt turn.place turn.line version.key
 
-abbrev pub removed_write : Turn → Removal → Write
+abbrev pub removed_write : WriteTurn → Removal → Write
 removed_write turn removal = RemovedIn turn.place removal.range.high turn.line removal.key
 
 -- the write that has the turn
-abbrev pub write_of_turn : Known → Turn → Option Write
+abbrev pub write_of_turn : Known → WriteTurn → Option Write
 write_of_turn known turn =
     if turn.removes then option_map (removed_write turn) (slice_get known.removals turn.position)
     else option_map (made_write turn) (slice_get known.versions turn.position)
@@ -43,17 +43,17 @@ pub record IsFirstWriter (known : Known) (version : Version) (number : ℕ) : Ty
   pub of_number : m.number ≡ number
 
 -- the line is that of the write whose answer shows the version
-pub record IsLineOf (known : Known) (version : Version) (line : ℕ) : Type 0 where
+pub record IsShownLine (known : Known) (version : Version) (line : ℕ) : Type 0 where
   pub m : Making
   pub shown : IsShowing (history_of known) version.key version.revision (maker_of version.maker) m
   pub of_line : line ≡ m.event.line
 
-pub record IsMadeTurn (known : Known) (version : Version) (turn : Turn) : Type 0 where
+pub record IsMadeTurn (known : Known) (version : Version) (turn : WriteTurn) : Type 0 where
   pub made : turn.removes ≡ false
   pub of_place : turn.place ≡ version.revision
-  pub line : IsLineOf known version turn.line
+  pub line : IsShownLine known version turn.line
 
-pub record IsRemovedTurn (known : Known) (removal : Removal) (turn : Turn) : Type 0 where
+pub record IsRemovedTurn (known : Known) (removal : Removal) (turn : WriteTurn) : Type 0 where
   pub removed : turn.removes ≡ true
   pub of_place : turn.place ≡ removal.range.low
   pub of_line : turn.line ≡ event_line (slice_get (history_of known).events removal.range.event)
@@ -67,7 +67,7 @@ abbrev pub IsRemovedWithin : (low high : ℕ) → Removal → Type 0
 IsRemovedWithin low high removal = (low ≤ high) × (removal.range.low ≤ high) × (low ≤ removal.range.high)
 
 -- the turn of one of the first n items, which counts
-pub record IsTurnOf {X : Type 0} (Counts : X → Type 0) (IsTurn : X → Turn → Type 0) (items : List X) (n : ℕ) (turn : Turn) : Type 0 where
+pub record IsTurnOf {X : Type 0} (Counts : X → Type 0) (IsTurn : X → WriteTurn → Type 0) (items : List X) (n : ℕ) (turn : WriteTurn) : Type 0 where
   pub item : X
   pub at : slice_get items turn.position ≡ Some item
   pub below : turn.position < n
@@ -75,23 +75,23 @@ pub record IsTurnOf {X : Type 0} (Counts : X → Type 0) (IsTurn : X → Turn �
   pub turns : IsTurn item turn
 
 -- one turn for each of the first n items that counts, in their order
-pub record AreTurnsOf {X : Type 0} (Counts : X → Type 0) (IsTurn : X → Turn → Type 0) (items : List X) (n : ℕ) (turns : List Turn) : Type 0 where
+pub record AreTurnsOf {X : Type 0} (Counts : X → Type 0) (IsTurn : X → WriteTurn → Type 0) (items : List X) (n : ℕ) (turns : List WriteTurn) : Type 0 where
   pub rising : AllPairs (λ a b. a.position < b.position) turns
-  pub sound : (turn : Turn) → Contains turns turn → IsTurnOf Counts IsTurn items n turn
-  pub full : (position : ℕ) (item : X) → position < n → slice_get items position ≡ Some item → Counts item → (turn : Turn) × Contains turns turn × (turn.position ≡ position)
+  pub sound : (turn : WriteTurn) → Contains turns turn → IsTurnOf Counts IsTurn items n turn
+  pub full : (position : ℕ) (item : X) → position < n → slice_get items position ≡ Some item → Counts item → (turn : WriteTurn) × Contains turns turn × (turn.position ≡ position)
 
 -- of the first n versions, those that were made in the window
-abbrev pub AreMadeTurns : Known → (low high n : ℕ) → List Turn → Type 0
+abbrev pub AreMadeTurns : Known → (low high n : ℕ) → List WriteTurn → Type 0
 AreMadeTurns known low high n turns = AreTurnsOf (IsMadeWithin known.setup.start low high) (IsMadeTurn known) known.versions n turns
 
 -- of the first n removals, those that may be in the window
-abbrev pub AreRemovedTurns : Known → (low high n : ℕ) → List Turn → Type 0
+abbrev pub AreRemovedTurns : Known → (low high n : ℕ) → List WriteTurn → Type 0
 AreRemovedTurns known low high n turns = AreTurnsOf (IsRemovedWithin low high) (IsRemovedTurn known) known.removals n turns
 
 -- the turns of all writes in the window, each once
-pub record AreTurns (known : Known) (low high : ℕ) (turns : List Turn) : Type 0 where
-  pub made : List Turn
-  pub removed : List Turn
+pub record AreTurns (known : Known) (low high : ℕ) (turns : List WriteTurn) : Type 0 where
+  pub made : List WriteTurn
+  pub removed : List WriteTurn
   pub of_made : AreMadeTurns known low high (length known.versions) made
   pub of_removed : AreRemovedTurns known low high (length known.removals) removed
   pub same : IsPermutation (made ++ removed) turns

@@ -7,8 +7,8 @@ ghost use Rattle.object_past.specs.Modelled.{version_of};
 ghost use Rattle.version_store.specs.Histories.{history_of};
 ghost use Rattle.window_writes.specs.Lines.{AreWriteLines};
 ghost use Rattle.window_writes.specs.Lines.{write_line};
-ghost use Rattle.window_writes.specs.Turns.{made_write, removed_write, turn_order, write_of_turn, AreMadeTurns};
-ghost use Rattle.window_writes.specs.Turns.{AreRemovedTurns, AreTurns, IsFirstWriter, IsLineOf, IsMadeTurn};
+ghost use Rattle.window_writes.specs.Turns.{made_write, removed_write, write_turn_order, write_of_turn, AreMadeTurns};
+ghost use Rattle.window_writes.specs.Turns.{AreRemovedTurns, AreTurns, IsFirstWriter, IsShownLine, IsMadeTurn};
 ghost use Rattle.window_writes.specs.Turns.{IsMadeWithin, IsRemovedTurn, IsRemovedWithin, IsShownBy};
 
 use base_types::{OutOfMemory, WriteLine, WriteLines, key_text};
@@ -20,7 +20,7 @@ use write_groups::Window;
 /// What a write is listed by among those of a window: they come by place, those that made a revision before removals,
 /// and then by line.
 #[derive(PartialEq, Eq, PartialOrd, Ord, Drop)]
-pub struct Turn {
+pub struct WriteTurn {
     // The revision, or the least place of the removal.
     place: u64,
     removes: bool,
@@ -43,10 +43,14 @@ pub fn writes_within(
 }
 
 // The turns of all writes in a window, in order.
-fn turns_within(alloc: Global, context: &Context, window: Window) -> Result<Vec<Turn>, OutOfMemory>
+fn turns_within(
+    alloc: Global,
+    context: &Context,
+    window: Window,
+) -> Result<Vec<WriteTurn>, OutOfMemory>
     requires { IsReadable (history_of context.now) }
     ensures all { IfOk result (λ turns. AreTurns context.now window.low window.high turns.items) }
-    ensures sorted { IfOk result (λ turns. IsSorted turn_order turns.items) }
+    ensures sorted { IfOk result (λ turns. IsSorted write_turn_order turns.items) }
 {
     let mut turns = made_within(alloc, context, window)?;
     let mut removed = removed_within(alloc, context, window)?;
@@ -56,7 +60,11 @@ fn turns_within(alloc: Global, context: &Context, window: Window) -> Result<Vec<
 }
 
 // The turns of the revisions above the start in a window.
-fn made_within(alloc: Global, context: &Context, window: Window) -> Result<Vec<Turn>, OutOfMemory>
+fn made_within(
+    alloc: Global,
+    context: &Context,
+    window: Window,
+) -> Result<Vec<WriteTurn>, OutOfMemory>
     requires { IsReadable (history_of context.now) }
     ensures { IfOk result (λ turns. AreMadeTurns context.now window.low window.high
         (length context.now.versions) turns.items) }
@@ -79,13 +87,13 @@ fn is_made_within(start: u64, window: Window, version: &Version) -> bool
     start < revision && window.low <= revision && revision <= window.high
 }
 
-fn made_turn(context: &Context, position: usize, version: &Version) -> Turn
+fn made_turn(context: &Context, position: usize, version: &Version) -> WriteTurn
     requires readable { IsReadable (history_of context.now) }
     requires made { IsMadeVersion (history_of context.now) (version_of version.now) }
     ensures position { result.position ≡ position }
     ensures turn { IsMadeTurn context.now version.now result }
 {
-    Turn {
+    WriteTurn {
         place: version.revision.get(),
         removes: false,
         line: shown_line(context, version),
@@ -97,7 +105,7 @@ fn made_turn(context: &Context, position: usize, version: &Version) -> Turn
 fn shown_line(context: &Context, version: &Version) -> u64
     requires readable { IsReadable (history_of context.now) }
     requires made { IsMadeVersion (history_of context.now) (version_of version.now) }
-    ensures { IsLineOf context.now version.now result }
+    ensures { IsShownLine context.now version.now result }
 {
     context.line_of(shown_by(context, version))
 }
@@ -129,7 +137,7 @@ fn removed_within(
     alloc: Global,
     context: &Context,
     window: Window,
-) -> Result<Vec<Turn>, OutOfMemory>
+) -> Result<Vec<WriteTurn>, OutOfMemory>
     requires { IsReadable (history_of context.now) }
     ensures { IfOk result (λ turns. AreRemovedTurns context.now window.low window.high
         (length context.now.removals) turns.items) }
@@ -151,12 +159,12 @@ fn is_removed_within(window: Window, removal: &Removal) -> bool
     window.low <= window.high && range.low <= window.high && window.low <= range.high
 }
 
-fn removed_turn(context: &Context, position: usize, removal: &Removal) -> Turn
+fn removed_turn(context: &Context, position: usize, removal: &Removal) -> WriteTurn
     requires { removal.now.range.event < length context.now.log }
     ensures position { result.position ≡ position }
     ensures turn { IsRemovedTurn context.now removal.now result }
 {
-    Turn {
+    WriteTurn {
         place: removal.range.low,
         removes: true,
         line: context.line_of(removal.range.event),
@@ -164,9 +172,14 @@ fn removed_turn(context: &Context, position: usize, removal: &Removal) -> Turn
     }
 }
 
-fn lines_of(alloc: Global, context: &Context, turns: &[Turn]) -> Result<WriteLines, OutOfMemory>
+fn lines_of(
+    alloc: Global,
+    context: &Context,
+    turns: &[WriteTurn],
+) -> Result<WriteLines, OutOfMemory>
     requires { All (λ turn. IsSome (write_of_turn context.now turn)) turns.now }
-    ensures { IfOk result (λ lines. lines ≡ map write_line (filter_map (write_of_turn context.now) turns.now)) }
+    ensures { IfOk result (λ lines. lines
+        ≡ map write_line (filter_map (write_of_turn context.now) turns.now)) }
 {
     let mut lines = WriteLines::new(alloc);
     for turn in turns {
@@ -175,9 +188,10 @@ fn lines_of(alloc: Global, context: &Context, turns: &[Turn]) -> Result<WriteLin
     Ok(lines)
 }
 
-fn line_of(alloc: Global, context: &Context, turn: &Turn) -> Result<WriteLine, OutOfMemory>
+fn line_of(alloc: Global, context: &Context, turn: &WriteTurn) -> Result<WriteLine, OutOfMemory>
     requires { IsSome (write_of_turn context.now turn.now) }
-    ensures { IfOk result (λ line. option_map write_line (write_of_turn context.now turn.now) ≡ Some line) }
+    ensures { IfOk result (λ line. option_map write_line (write_of_turn context.now turn.now)
+        ≡ Some line) }
 {
     if turn.removes {
         let removals = context.past().removals();
@@ -187,7 +201,7 @@ fn line_of(alloc: Global, context: &Context, turn: &Turn) -> Result<WriteLine, O
     made_line(alloc, turn, &versions[turn.position])
 }
 
-fn made_line(alloc: Global, turn: &Turn, version: &Version) -> Result<WriteLine, OutOfMemory>
+fn made_line(alloc: Global, turn: &WriteTurn, version: &Version) -> Result<WriteLine, OutOfMemory>
     ensures { IfOk result (λ line. line ≡ write_line (made_write turn.now version.now)) }
 {
     Ok(WriteLine::Made {
@@ -197,7 +211,11 @@ fn made_line(alloc: Global, turn: &Turn, version: &Version) -> Result<WriteLine,
     })
 }
 
-fn removed_line(alloc: Global, turn: &Turn, removal: &Removal) -> Result<WriteLine, OutOfMemory>
+fn removed_line(
+    alloc: Global,
+    turn: &WriteTurn,
+    removal: &Removal,
+) -> Result<WriteLine, OutOfMemory>
     ensures { IfOk result (λ line. line ≡ write_line (removed_write turn.now removal.now)) }
 {
     Ok(WriteLine::Removed {

@@ -24,7 +24,7 @@ static USUAL: [(&str, &str); 6] = [
 ];
 
 // One member of a setup with its value, which is missing where that is empty, and the first rule that is broken then.
-static CASES: [(&str, &str, Option<SetupRule>); 45] = [
+static CASES: [(&str, &str, Option<SetupRule>); 47] = [
     ("x", "", None),
     ("version", "1.0", Some(S1)),
     ("kind", r#""Setup""#, Some(S2)),
@@ -93,6 +93,16 @@ static CASES: [(&str, &str, Option<SetupRule>); 45] = [
         "resources",
         r#"[{"group":"","version":"v1","resource":"a","kind":"A","listKind":"L","namespaced":true,"objectPatch":"merge","shapes":[{"path":"/spec","class":"Defaulted"}],"subresources":[{"name":"","effect":"none","shapes":[]}]}]"#,
         None,
+    ),
+    (
+        "resources",
+        r#"[{"group":"y","version":"v1","resource":"bs","kind":"B","listKind":"BList","namespaced":true},{"group":"x","version":"v1","resource":"cs","kind":"C","listKind":"CList","namespaced":false},{"group":"x","version":"v1","resource":"bs","kind":"B","listKind":"BList","namespaced":false}],"snapshot":[{"group":"x","resource":"bs","object":{"metadata":{"name":"a","uid":"A","resourceVersion":"9"}}},{"group":"y","resource":"bs","object":{"metadata":{"name":"a","namespace":"d","uid":"B","resourceVersion":"8"}}},{"group":"x","resource":"cs","object":{"metadata":{"name":"a","uid":"C","resourceVersion":"7"}}}]"#,
+        None,
+    ),
+    (
+        "resources",
+        r#"[{"group":"y","version":"v1","resource":"bs","kind":"B","listKind":"BList","namespaced":true},{"group":"x","version":"v1","resource":"cs","kind":"C","listKind":"CList","namespaced":false},{"group":"x","version":"v1","resource":"bs","kind":"B","listKind":"BList","namespaced":false}],"snapshot":[{"group":"y","resource":"cs","object":{"metadata":{"name":"a","uid":"A","resourceVersion":"9"}}}]"#,
+        Some(S12),
     ),
     ("snapshot", "{}", Some(S12)),
     (

@@ -32,7 +32,7 @@ const AUTHORIZED: &str =
     {"group":"rbac.authorization.k8s.io","version":"v1","resource":"clusterrolebindings","kind":"ClusterRoleBinding","listKind":"ClusterRoleBindingList","namespaced":false}],
     "snapshot":[]}"#;
 
-pub static ROWS: [Row; 7] = [
+pub static ROWS: [Row; 8] = [
     Row {
         name: "one removal for all readers",
         setup: EMPTY,
@@ -96,6 +96,15 @@ pub static ROWS: [Row; 7] = [
 03 20 "verb":"delete","requestURI":"/api/v1/namespaces/d/configmaps/a","responseStatus":{"code":200},"responseObject":{"kind":"Status","apiVersion":"v1","status":"Success","details":{"name":"a","kind":"configmaps","uid":"A"}}"#,
         place: 21,
         found: "None Some(Made(14)); None Some(Removed(21)); None 0 from 15 to 16 None; None 0 from 21 to 18446744073709551615 Some(At(20)); ",
+    },
+    Row {
+        name: "writes whose lines stand in the other order",
+        setup: ONE_OBJECT,
+        log: r#"
+01 05 "verb":"patch","requestURI":"/api/v1/namespaces/d/configmaps/a","responseStatus":{"code":200},"requestObject":[{"op":"test","path":"/data/k","value":"y"},{"op":"replace","path":"/data/k","value":"z"}],"responseObject":{"metadata":{"name":"a","namespace":"d","uid":"A","resourceVersion":"14"},"data":{"k":"z"}}
+02 06 "verb":"update","requestURI":"/api/v1/namespaces/d/configmaps/a","responseStatus":{"code":200},"requestObject":{"metadata":{"name":"a","namespace":"d"},"data":{"k":"y"}},"responseObject":{"metadata":{"name":"a","namespace":"d","uid":"A","resourceVersion":"12"},"data":{"k":"y"}}"#,
+        place: 0,
+        found: "None Some(Made(14)); None Some(Made(12)); ",
     },
     Row {
         name: "decisions",

@@ -4,11 +4,11 @@
 ghost use Rattle.std.specs.Prelude.{◌≡◌, length, All, IfOk};
 ghost use Rattle.audit_event.specs.Events.{IsSound};
 
+use crate::reading::setup_of;
 use audit_event::{Event, Events, read_item};
 use hash_seed::Seed;
 use node_pool::Interner;
 use serde_json::Value;
-use setup_file::read_setup;
 use std::alloc::Global;
 use std::marker::Sync;
 use std::test::Fail;
@@ -159,7 +159,7 @@ fn tell<R: Threads + Sync>(
     stage: &str,
     times: (&str, &str),
 ) -> Result<Told, Fail> {
-    let setup = read_setup(alloc, SETUP.as_bytes(), Seed::of(b""))?;
+    let setup = setup_of(alloc, SETUP, Seed::of(b""))?;
     if !setup.checkpoints.is_empty() {
         return Ok(nothing());
     }

@@ -1,16 +1,30 @@
 ghost use Rattle.std.specs.Prelude.{◌≡◌, ◌<◌, ◌≤◌, length, All, IfOk};
 ghost use Rattle.audit_event.specs.Events.{IsSound};
+ghost use Rattle.setup_file.specs.Sound.{IsSound as IsSoundSetup};
 ghost use Rattle.version_store.specs.Log.{AreLines};
 
 use audit_event::{Event, Events, read_item};
 use hash_seed::Seed;
 use serde_json::Value;
-use setup_file::read_setup;
+use setup_file::{Setup, read_setup};
 use std::alloc::Global;
 use std::marker::Sync;
 use std::test::Fail;
 use std::thread::Threads;
 use version_store::{BuildFault, Context};
+
+// A setup of these tests has no more bytes.
+const LONGEST_SETUP: usize = 1_000_000;
+
+// The setup of a text.
+pub(crate) fn setup_of(alloc: Global, text: &str, seed: Seed) -> Result<Setup, Fail>
+    ensures { IfOk result IsSoundSetup }
+{
+    if text.len() > LONGEST_SETUP {
+        return Err("too long a setup".into());
+    }
+    Ok(read_setup(alloc, text.as_bytes(), seed)?)
+}
 
 // The event that a line tells of: the seconds of its receipt and of its answer, and further members.
 fn event(alloc: Global, told: &str, line: u64) -> Result<Event, Fail>
@@ -54,9 +68,12 @@ pub(crate) fn context<R: Threads + Sync>(
     limit: u32,
 ) -> Result<Option<Context>, Fail> {
     let seed = Seed::of(setup.as_bytes());
-    let setup = read_setup(alloc, setup.as_bytes(), seed)?;
+    let setup = setup_of(alloc, setup, seed)?;
     if setup.checkpoints.len() > 100 {
         return Err("too many checkpoints".into());
+    }
+    if setup.snapshot.len() > 100 {
+        return Err("too many objects".into());
     }
     let events = events(alloc, log)?;
     match Context::build_within(rt, alloc, setup, events, limit, seed) {

@@ -236,7 +236,7 @@ tells 1 made 11 none
 tells 2 none none
 status 0"#;
 
-/// Decisions of the authoriser, over one role and one binding of it.
+/// Decisions of the authorizer, over one role and one binding of it.
 pub const DECISIONS: &str = r#"row a decision while a cache may be behind
 rbac
 event a1 delete /apis/rbac.authorization.k8s.io/v1/namespaces/d/rolebindings/b 01 02 200 - {"kind":"Status","apiVersion":"v1","status":"Success","details":{"name":"b","kind":"rolebindings","uid":"RB"}} admin allow

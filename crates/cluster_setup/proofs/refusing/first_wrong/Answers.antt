@@ -13,7 +13,7 @@ loop-at-preserved-then-is_wrong c =
     let within : at < length trees = search (rules, arith) in
     let more : at + 1 ≡ c.loop-at.at = omega (arith, c.loop-at-test.true) in
     let held = subst (λ n. AreListed c.loop-at.behind (drop n trees)) (sym more) c.loop-at.invariant.0 in
-    let wrong = subst (λ all. c.is_wrong.result ≡ is_some (file_fault all (drop (at + 1) trees) tree)) c.in_ok-sources.ensures
+    let wrong = subst (λ all. c.is_wrong.result ≡ is_some (file_fault all (drop (at + 1) trees) tree)) (c.in_ok-sources.ensures ∙ c.as_slice.ensures.value ∙ c.in_ok-documents.ensures)
     (c.is_wrong.ensures (drop (at + 1) trees) (c.in_ok-again.ensures.again (drop (at + 1) trees) held)) in (
       listed_more c.add_listed.new.behind trees at tree within c.index-trees-at.is (c.in_ok-again.ensures.listed (drop (at + 1) trees) held),
       wrong_here trees at tree within c.index-trees-at.is (sym wrong ∙ c.if-is_wrong.true),
@@ -27,7 +27,7 @@ loop-at-preserved c =
     let within : at < length trees = search (rules, arith) in
     let more : at + 1 ≡ c.loop-at.at = omega (arith, c.loop-at-test.true) in
     let held = subst (λ n. AreListed c.loop-at.behind (drop n trees)) (sym more) c.loop-at.invariant.0 in
-    let wrong = subst (λ all. c.is_wrong.result ≡ is_some (file_fault all (drop (at + 1) trees) tree)) c.in_ok-sources.ensures
+    let wrong = subst (λ all. c.is_wrong.result ≡ is_some (file_fault all (drop (at + 1) trees) tree)) (c.in_ok-sources.ensures ∙ c.as_slice.ensures.value ∙ c.in_ok-documents.ensures)
     (c.is_wrong.ensures (drop (at + 1) trees) (c.in_ok-again.ensures.again (drop (at + 1) trees) held)) in (
       listed_more c.add_listed.new.behind trees at tree within c.index-trees-at.is (c.in_ok-again.ensures.listed (drop (at + 1) trees) held),
       wrong_later trees at tree c.loop-at.first within c.index-trees-at.is (sym wrong ∙ c.if-is_wrong.false)

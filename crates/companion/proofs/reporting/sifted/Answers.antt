@@ -1,7 +1,7 @@
 use Rattle.std.proofs.Common.{Err, ap, refl}
 use Rattle.edge_io.specs.declared.whole.WholeStop.{WholeStop}
-use Rattle.companion.specs.declared.report.Body.TheVariants.{Sifted}
-use Rattle.companion.specs.declared.report.Status.TheVariants.{Done}
+use Rattle.companion.specs.declared.report.ReportText.TheVariants.{Sifted}
+use Rattle.companion.specs.declared.report.ExitStatus.TheVariants.{Done}
 use Rattle.companion.proofs.ReportedFacts.{sift_reported, sift_stopped}
 use Rattle.companion.proofs.reporting.sifted.Goals as goal
 

@@ -1,12 +1,18 @@
 use Rattle.std.proofs.Common.{◌≡◌, None, map, string_bytes, Global, inl, refl}
 use Rattle.companion_words.specs.Command.{command_asked}
 use Rattle.companion.specs.Program.{usage_answer}
-use Rattle.companion.proofs.RunFacts.{HasRun, run_answer, run_desk_left, run_memory, run_others_left, run_read_fault, run_usage, run_usage_only, run_write_fault}
+use Rattle.companion.proofs.RunFacts.{HasRun, run_answer, run_read, run_status, usage_read, usage_status}
 use Rattle.companion.proofs.running.run.Given.{Over}
 use Rattle.companion.proofs.running.run.Goals as goal
 
 pub returns-in-None-clause-answer : goal.returns-in-None-clause-answer
 returns-in-None-clause-answer g c = λ files tells. inl (usage_answer, (None, c.in-None.ensures, refl), c.end_with.ensures.ends)
+
+pub returns-in-None-clause-status : goal.returns-in-None-clause-status
+returns-in-None-clause-status g c = usage_status c.in-None.ensures c.end_with.ensures.ends
+
+pub returns-in-None-clause-read : goal.returns-in-None-clause-read
+returns-in-None-clause-read g c = usage_read refl
 
 -- words that are a command
 ran : (g : Over) (c : goal.After-conclude g)
@@ -22,23 +28,8 @@ ran g c = record {
 pub returns-in-Some-clause-answer : goal.returns-in-Some-clause-answer
 returns-in-Some-clause-answer g c = run_answer (ran g c)
 
-pub returns-in-Some-clause-usage : goal.returns-in-Some-clause-usage
-returns-in-Some-clause-usage g c = run_usage (ran g c)
+pub returns-in-Some-clause-status : goal.returns-in-Some-clause-status
+returns-in-Some-clause-status g c = run_status (ran g c)
 
-pub returns-in-Some-clause-usage_only : goal.returns-in-Some-clause-usage_only
-returns-in-Some-clause-usage_only g c = run_usage_only (ran g c)
-
-pub returns-in-Some-clause-read_fault : goal.returns-in-Some-clause-read_fault
-returns-in-Some-clause-read_fault g c = run_read_fault (ran g c)
-
-pub returns-in-Some-clause-write_fault : goal.returns-in-Some-clause-write_fault
-returns-in-Some-clause-write_fault g c = run_write_fault (ran g c)
-
-pub returns-in-Some-clause-memory : goal.returns-in-Some-clause-memory
-returns-in-Some-clause-memory g c = run_memory (ran g c)
-
-pub returns-in-Some-clause-desk_left : goal.returns-in-Some-clause-desk_left
-returns-in-Some-clause-desk_left g c = run_desk_left (ran g c)
-
-pub returns-in-Some-clause-others_left : goal.returns-in-Some-clause-others_left
-returns-in-Some-clause-others_left g c = run_others_left (ran g c)
+pub returns-in-Some-clause-read : goal.returns-in-Some-clause-read
+returns-in-Some-clause-read g c = run_read (ran g c)

@@ -4,7 +4,7 @@ use Rattle.verdict_text.specs.Words.{ended}
 use Rattle.history_query.proofs.CanFacts.{decision_told, judged_told, unjudged_told}
 use Rattle.history_query.specs.Deciding.{possible_word}
 use Rattle.history_query.specs.Telling.{unknown_text}
-use Rattle.history_query.specs.Telling.IsTold.{nothing, something}
+use Rattle.history_query.specs.Telling.IsToldText.{nothing, something}
 use Rattle.history_query.proofs.deciding.can.Goals as goal
 use Rattle.history_query.proofs.deciding.can.Goals.{then-not-setup+in_ok-push_str, else-not-setup+then-is_below_start+in_ok-push_str-2, else-not-setup+else-is_below_start+in_ok-writeln}
 

@@ -8,7 +8,7 @@ use Rattle.log_moments.proofs.Counting.{clouded_ends, in_turn, shows, unknown_ha
 use Rattle.log_moments.specs.Nexts.{AreNexts}
 use Rattle.log_moments.specs.Things.{ShowsVersion, greatest_for}
 use Rattle.log_moments.specs.Views.{AreNumbers}
-use Rattle.log_moments.specs.declared.numbers.Numbers.{Numbers}
+use Rattle.log_moments.specs.declared.numbers.NumberRange.{NumberRange}
 use Rattle.log_moments.proofs.numbers.shown_numbers.Goals as goal
 
 pub returns-then-is_clouded_within : goal.returns-then-is_clouded_within
@@ -33,7 +33,7 @@ returns c = λ h v.
     let nexts = subst (λ l. AreNexts l c.args.view.now.nexts.now) (sym c.versions-versions.ensures.versions) v.nexts in
     let found = c.in_ok-position.ensures.some in
     let after = option_map (λ w. w.now) c.next_of-next.result in
-    let numbers : Numbers = record { least = c.gap_number.result; greatest = c.greatest_for.result } in
+    let numbers : NumberRange = record { least = c.gap_number.result; greatest = c.greatest_for.result } in
     let greatest = c.greatest_for.ensures ∙ ap (greatest_for (reading_of c.args.event.now.reading)) c.number_before.ensures in
     let clear = λ (clouded : IsCloudedWithin h item.key (low_end h e) (high_end h e)).
     true≢false (sym ((c.is_clouded_within.ensures h v.clouds).1

@@ -2,7 +2,7 @@ use Rattle.std.proofs.Common.{find, ◌==◌}
 use Rattle.history_model.specs.Histories.{Removal}
 use Rattle.write_groups.specs.Modelled.{event_of}
 use Rattle.log_moments.proofs.Placing.{listed_is, removed_has_none, saw_is, standing_is}
-use Rattle.log_moments.specs.declared.standing.Standing.TheVariants.{Nowhere}
+use Rattle.log_moments.specs.declared.standing.RevisionStanding.TheVariants.{Nowhere}
 use Rattle.log_moments.proofs.standing.standing_of.Goals as goal
 
 pub returns-in-Made : goal.returns-in-Made

@@ -6,7 +6,7 @@ use Rattle.log_picture.proofs.revised.append_history_marks.Goals as goal
 pub returns : goal.returns
 unfolding history_marks
 returns c = rw (
-  c.in_ok-append_gap_marks.ensures,
+  c.in_ok-append_unrecorded_marks.ensures,
   c.in_ok-append_removal_marks.ensures,
   c.in_ok-append_version_marks.ensures,
   c.as_slice.ensures.value,
@@ -14,7 +14,7 @@ returns c = rw (
   c.as_slice-3.ensures.value,
   c.in_ok-versions.ensures,
   c.in_ok-removals.ensures,
-  c.in_ok-gaps.ensures,
+  c.in_ok-unrecorded_writes.ensures,
   spread-map (λ one. one.now) 600 c.args.drawn.now.versions.now,
   spread-map (λ one. one.now) 200 c.args.drawn.now.removals.now,
 ) (simp append_assoc)

@@ -1,6 +1,7 @@
 use Rattle.std.proofs.Common.{sym, ap, ◌∙◌, subst}
 use Rattle.history_model.specs.Histories.{History}
 use Rattle.write_groups.specs.Modelled.{HasTimes}
+use Rattle.object_versions.proofs.Counted.{few_removals, few_versions}
 use Rattle.object_versions.proofs.Growth.{has_slots}
 use Rattle.object_versions.specs.Found.{HasFound, IsPastOf}
 use Rattle.object_versions.specs.Hidden.{slots_of}
@@ -24,3 +25,9 @@ returns-clause-past g c =
     let judged : IsJudgedBy c.in_ok-clouds.clouds body h = record { clouds = clouds; bodies = found.bodies } in
     let ended = c.in_ok-ended.ensures.ended h times found.all found.order timed.0 judged timed.1 found.begins found.listed found.versions found.removals in
     record { order = timed.0; spans = timed.2; clouds = clouds; groups = timed.1; versions = ended.0; judged = ended.1; removals = ended.2 })
+
+pub returns-clause-few_versions : goal.returns-clause-few_versions
+returns-clause-few_versions g c = few_versions c.args.start c.args.snapshot.now c.args.events.now (g.B.Bodies.body c.args.bodies.now) c.joined.result (returns-clause-past g c)
+
+pub returns-clause-few_removals : goal.returns-clause-few_removals
+returns-clause-few_removals g c = few_removals c.args.start c.args.snapshot.now c.args.events.now (g.B.Bodies.body c.args.bodies.now) c.joined.result (returns-clause-past g c)

@@ -1,39 +1,46 @@
-use Rattle.std.proofs.Common.{◌≡◌, ◌<◌, ◌^◌, List, length, map, refl, sym, ap, ◌∙◌, subst}
+use Rattle.std.proofs.Common.{◌≡◌, ◌<◌, ◌^◌, List, length, map, refl, sym, ap, ◌∙◌, subst, arith}
 use Rattle.std.specs.Prelude.{AllPairs}
 use Rattle.history_model.specs.Histories.{History}
 use Rattle.object_versions.specs.Found.{HasFound, IsPastOf}
 use Rattle.object_versions.specs.Written.{IsSnapshot}
 use Rattle.object_versions.specs.declared.log_past.LogPast.{LogPast}
 use Rattle.write_groups.specs.Modelled.{event_of}
+use Rattle.write_groups.specs.declared.event.Item.{Item}
 use Rattle.write_groups.specs.declared.event.LogEvent.{LogEvent}
 use Rattle.object_versions.specs.Hidden.{unrecorded_in}
 use Rattle.rbac_timeline.specs.Known.{known_of as roles_of}
 use Rattle.base_types.specs.Meaning.{Meaning}
 use Rattle.base_types.specs.Values.{InRange}
 use Rattle.std.specs.Prelude.{[], All}
-use Rattle.version_store.proofs.Built.{are_rising, few_logged, has_bodies, has_times, have_codes, have_ends, have_nodes, is_past, is_readable, is_snapshot, kept_of, known_of, moments_are}
+use Rattle.version_store.proofs.Built.{are_rising, few_in_log, few_logged, has_bodies, has_times, have_codes, have_ends, have_nodes, is_past, is_readable, is_snapshot, kept_of, known_of, moments_are}
 use Rattle.version_store.proofs.Ranging.{numbers_are}
+use Rattle.version_store.proofs.Sharing.{event_shared, logged_shared, pool_shared, setup_shared}
 use Rattle.version_store.specs.Gathering.{past_with}
 use Rattle.version_store.specs.Histories.{body_test, history_of}
 use Rattle.version_store.specs.Keyed.{AreKeys}
+use Rattle.std.proofs.Crossing as owned
+use denote.Param.Send.{sendable}
 use Rattle.version_store.proofs.build.found_of.Goals as goal
 
-pub past_of-requires-clause-few : goal.past_of-requires-clause-few
-past_of-requires-clause-few c = subst (λ (l : List LogEvent). length l < 2 ^ 32) (sym c.as_slice-logged.ensures)
+pub past_foreseen-requires-sync-B : goal.past_foreseen-requires-sync-B
+past_foreseen-requires-sync-B g c = λ κs lives. search (setup_shared, event_shared, logged_shared, pool_shared, sendable, owned.crosses) depth 60 fits 20000
+
+pub past_foreseen-requires-clause-few : goal.past_foreseen-requires-clause-few
+past_foreseen-requires-clause-few g c κs _ = subst (λ (l : List LogEvent). length l < 2 ^ 32) (sym c.as_slice-logged.ensures)
     (few_logged c.args.setup.now c.args.events.now c.args.pool.now.trees c.args.log.now c.requires.log c.requires.few)
 
-pub past_of-requires-clause-lines : goal.past_of-requires-clause-lines
-past_of-requires-clause-lines c = subst (λ (l : List LogEvent). AllPairs (λ (a b : LogEvent). a.line < b.line) l) (sym c.as_slice-logged.ensures) c.requires.rising.rising
+pub past_foreseen-requires-clause-lines : goal.past_foreseen-requires-clause-lines
+past_foreseen-requires-clause-lines g c κs _ = subst (λ (l : List LogEvent). AllPairs (λ (a b : LogEvent). a.line < b.line) l) (sym c.as_slice-logged.ensures) c.requires.rising.rising
 
-pub past_of-requires-clause-snapshot : goal.past_of-requires-clause-snapshot
-past_of-requires-clause-snapshot c =
+pub past_foreseen-requires-clause-snapshot : goal.past_foreseen-requires-clause-snapshot
+past_foreseen-requires-clause-snapshot g c κs _ =
     let setup = c.args.setup.now in
     let start = c.requires.setup.snapshot in
     subst (IsSnapshot setup.start) (sym c.as_slice-snapshot.ensures)
     (is_snapshot setup.start c.args.pool.now.trees setup.snapshot c.args.log.now.snapshot c.requires.log.snapshot start.revisions start.begun)
 
 pub parts_of-requires-clause-rising : goal.parts_of-requires-clause-rising
-parts_of-requires-clause-rising c =
+parts_of-requires-clause-rising g c =
     let setup = c.args.setup.now in
     let events = c.args.events.now in
     let trees = c.args.pool.now.trees in
@@ -45,7 +52,7 @@ parts_of-requires-clause-rising c =
     are_rising setup events trees log found (kept_of found) roles refl refl right
 
 pub parts_of-requires-clause-ends : goal.parts_of-requires-clause-ends
-parts_of-requires-clause-ends c =
+parts_of-requires-clause-ends g c =
     let setup = c.args.setup.now in
     let events = c.args.events.now in
     let trees = c.args.pool.now.trees in
@@ -56,15 +63,30 @@ parts_of-requires-clause-ends c =
     c.as_slice-snapshot.ensures c.as_slice-recorded.ensures c.as_slice-logged.ensures c.in_ok-found.ensures.past in
     have_ends setup events trees log found (kept_of found) roles refl refl right
 
+pub parts_of-requires-clause-few_versions : goal.parts_of-requires-clause-few_versions
+parts_of-requires-clause-few_versions g c =
+    let room = few_in_log c.args.setup.now c.args.events.now c.args.pool.now.trees c.args.log.now c.requires.log c.requires.few in
+    let bound = c.in_ok-found.ensures.few_versions in
+    let items = ap (λ (l : List Item). length l) c.as_slice-snapshot.ensures in
+    let logged = ap (λ (l : List LogEvent). length l) c.as_slice-logged.ensures in
+    omega (arith, room, bound, items, logged)
+
+pub parts_of-requires-clause-few_removals : goal.parts_of-requires-clause-few_removals
+parts_of-requires-clause-few_removals g c =
+    let room = few_logged c.args.setup.now c.args.events.now c.args.pool.now.trees c.args.log.now c.requires.log c.requires.few in
+    let bound = c.in_ok-found.ensures.few_removals in
+    let logged = ap (λ (l : List LogEvent). length l) c.as_slice-logged.ensures in
+    omega (arith, room, bound, logged)
+
 pub told_of-requires-clause-start : goal.told_of-requires-clause-start
-told_of-requires-clause-start c = sym (ap (λ (past : LogPast). past.windows.start) (sym c.in_ok-parts.ensures.same) ∙ c.in_ok-found.ensures.start)
+told_of-requires-clause-start g c = sym (ap (λ (past : LogPast). past.windows.start) (sym c.in_ok-parts.ensures.same) ∙ c.in_ok-found.ensures.start)
 
 pub told_of-requires-clause-few : goal.told_of-requires-clause-few
-told_of-requires-clause-few c = subst (λ (l : List LogEvent). length l < 2 ^ 32) (sym c.as_slice-logged.ensures)
+told_of-requires-clause-few g c = subst (λ (l : List LogEvent). length l < 2 ^ 32) (sym c.as_slice-logged.ensures)
     (few_logged c.args.setup.now c.args.events.now c.args.pool.now.trees c.args.log.now c.requires.log c.requires.few)
 
 pub told_of-requires-clause-nodes : goal.told_of-requires-clause-nodes
-told_of-requires-clause-nodes c =
+told_of-requires-clause-nodes g c =
     let setup = c.args.setup.now in
     let events = c.args.events.now in
     let trees = c.args.pool.now.trees in
@@ -81,7 +103,7 @@ told_of-requires-clause-nodes c =
     have_nodes setup events trees log found kept roles refl refl right c.requires.rising c.requires.log
 
 pub returns : goal.returns
-returns c =
+returns g c =
     let setup = c.args.setup.now in
     let events = c.args.events.now in
     let trees = c.args.pool.now.trees in

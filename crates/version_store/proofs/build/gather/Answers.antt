@@ -7,10 +7,10 @@ use Rattle.version_store.proofs.PoolLemmas.{passed_on}
 use Rattle.version_store.proofs.build.gather.Goals as goal
 
 pub found_of-requires-clause-trees : goal.found_of-requires-clause-trees
-found_of-requires-clause-trees g c = ap (λ (p : Pooled). p.trees) c.in_ok-pool.ensures.same ∙ c.in_ok-log.ensures.pooled
+found_of-requires-clause-trees g c κs _ = ap (λ (p : Pooled). p.trees) c.in_ok-pool.ensures.same ∙ c.in_ok-log.ensures.pooled
 
 pub found_of-requires-clause-log : goal.found_of-requires-clause-log
-found_of-requires-clause-log g c =
+found_of-requires-clause-log g c κs _ =
     subst (λ (p : Pooled). IsLogOf c.args.setup.now c.args.events.now p.trees c.in_ok-log.log) (sym c.in_ok-pool.ensures.same) c.in_ok-log.ensures.log
 
 pub returns-in_err-log-clause-full : goal.returns-in_err-log-clause-full

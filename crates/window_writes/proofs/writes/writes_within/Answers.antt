@@ -4,12 +4,12 @@ use Rattle.window_writes.proofs.TurnSorting.{lines_are, turns_written}
 use Rattle.window_writes.specs.Lines.{AreWriteLines}
 use Rattle.window_writes.specs.Lines.{write_line}
 use Rattle.window_writes.specs.Turns.{write_of_turn}
-use Rattle.window_writes.specs.declared.writes.Turn.{Turn}
+use Rattle.window_writes.specs.declared.writes.WriteTurn.{WriteTurn}
 use Rattle.window_writes.proofs.writes.writes_within.Goals as goal
 
 pub lines_of-requires : goal.lines_of-requires
 lines_of-requires c =
-    subst (All (λ (turn : Turn). IsSome (write_of_turn c.args.context.now turn))) (sym c.deref.ensures.value)
+    subst (All (λ (turn : WriteTurn). IsSome (write_of_turn c.args.context.now turn))) (sym c.deref.ensures.value)
     (turns_written c.args.context.now c.requires c.args.window.low c.args.window.high c.in_ok-turns.turns.items c.in_ok-turns.ensures.all)
 
 pub returns : goal.returns

@@ -1,6 +1,6 @@
 use Rattle.claims.proofs.Giving.{least_given, none_given}
 use Rattle.claims.specs.Judging.{gives}
-use Rattle.claims.proofs.judge.JudgeDecisions.find.Goals as goal
+use Rattle.claims.proofs.judge.ContextJudgeDecisions.find.Goals as goal
 
 pub returns-clause-some : goal.returns-clause-some
 returns-clause-some c = least_given (gives c.args.self.now c.args.event) c.args.low c.args.high c.find_decision.result c.find_decision.ensures.some

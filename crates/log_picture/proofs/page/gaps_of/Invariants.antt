@@ -1,8 +1,0 @@
-use Rattle.std.proofs.Common.{◌≡◌, take}
-use Rattle.log_picture.specs.Page.{gaps_in}
-use Rattle.log_picture.proofs.page.gaps_of.Given as goal
-use Rattle.version_store.specs.Histories.{history_of}
-
--- the unrecorded writes so far
-abbrev pub invariant-loop-number : goal.invariant-loop-number
-invariant-loop-number l = l.gaps.items ≡ gaps_in (history_of l.context) (take l.number l.context.log)

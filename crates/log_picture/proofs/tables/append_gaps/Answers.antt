@@ -1,7 +1,0 @@
-use Rattle.std.proofs.Common.{append_assoc}
-use Rattle.log_picture.specs.Revised.{gaps_table}
-use Rattle.log_picture.proofs.tables.append_gaps.Goals as goal
-
-pub returns : goal.returns
-unfolding gaps_table
-returns c = rw (c.in_ok-push_str-2.ensures.bytes, c.in_ok-append_gap_rows.ensures, c.as_slice.ensures.value, c.in_ok-listed.ensures, c.in_ok-push_str.ensures.bytes) (simp append_assoc)
