@@ -16,6 +16,7 @@ times the size. A kind stops where a run takes longer than --most seconds (by de
   decisions  roles and bindings that come and go within the lag, and refused requests
   pages      first pages of one list that all have one token
   inserts    JSON Patches that insert at the front of a list, ten to an object
+  members    JSON Patches that remove the first members of a large object and add them again
   spans      writes one behind the other, each with a read whose window ends there
   absent     reads answered 404 in windows that stay open, among creates and deletes
   resources  hundreds of tracked resources
@@ -166,6 +167,20 @@ def inserts(log, size):
         log.event("patch", COLLECTION + "/" + name, 200, patch, patched)
 
 
+def members(log, size):
+    body = {**config_map("c", "a"), "binaryData": {"m%06d" % number: "x" for number in range(size)}}
+    paths = ["/binaryData/m%06d" % number for number in range(size // 20)]
+    patch = [{"op": "remove", "path": path} for path in paths]
+    patch += [{"op": "add", "path": path, "value": "x"} for path in reversed(paths)]
+    for number in range(11):
+        log.revision += 1
+        made = {**body, "metadata": {**body["metadata"], "uid": "u-c", "resourceVersion": str(log.revision)}}
+        if number == 0:
+            log.event("create", COLLECTION, 201, body, made)
+        else:
+            log.event("patch", COLLECTION + "/c", 200, patch, made)
+
+
 def spans(log, size):
     log.write("a", "0")
     for number in range(size // 2):
@@ -250,8 +265,8 @@ def bindings(log, size):
     log.setup["policy"]["rules"] = [{"level": "Request", "users": ["p"]}, {"level": "RequestResponse"}]
 
 
-KINDS = {it.__name__: it for it in (plain, prefixes, nested, namespaces, decisions, bindings, pages, inserts, spans, absent,
-                                    resources, clouded, names, subjects)}
+KINDS = {it.__name__: it for it in (plain, prefixes, nested, namespaces, decisions, bindings, pages, inserts, members, spans,
+                                    absent, resources, clouded, names, subjects)}
 
 
 def judged(program, folder):

@@ -206,6 +206,29 @@ depth_more parts i part all d size new lt is whole size_is new_is =
     let next = ap (λ l. kids_depth (kids_of l)) (joined_drop parts i part lt is) ∙ kids_depth-append part (joined (drop (i + 1) parts)) in
     omega arith
 
+-- a walk over the chunks of an object
+fields_values-append : (a b : List (List ℕ × Meaning)) → fields_values (fields_of (a ++ b)) ≡ fields_values (fields_of a) + fields_values (fields_of b)
+fields_values-append [] b = omega arith
+fields_values-append (m ∷ a) b = let rest = fields_values-append a b in omega arith
+
+fields_depth-append : (a b : List (List ℕ × Meaning)) → fields_depth (fields_of (a ++ b)) ≡ max (fields_depth (fields_of a)) (fields_depth (fields_of b))
+fields_depth-append [] b = omega arith
+fields_depth-append (m ∷ a) b = let rest = fields_depth-append a b in omega arith
+
+pub fields_values_more : (parts : List (List (List ℕ × Meaning))) (i : ℕ) (part : List (List ℕ × Meaning)) (all v size new : ℕ) → i < length parts → part ≡ get_or parts i part
+    → min all (2 ^ 64 - 1) ≡ min (v + fields_values (fields_of (joined (drop i parts)))) (2 ^ 64 - 1) → size ≡ min (fields_values (fields_of part)) (2 ^ 64 - 1) → new ≡ min (v + size) (2 ^ 64 - 1)
+    → min all (2 ^ 64 - 1) ≡ min (new + fields_values (fields_of (joined (drop (i + 1) parts)))) (2 ^ 64 - 1)
+fields_values_more parts i part all v size new lt is whole size_is new_is =
+    let next = ap (λ l. fields_values (fields_of l)) (joined_drop parts i part lt is) ∙ fields_values-append part (joined (drop (i + 1) parts)) in
+    omega arith
+
+pub fields_depth_more : (parts : List (List (List ℕ × Meaning))) (i : ℕ) (part : List (List ℕ × Meaning)) (all d size new : ℕ) → i < length parts → part ≡ get_or parts i part
+    → min all (2 ^ 64 - 1) ≡ min (max d (fields_depth (fields_of (joined (drop i parts))))) (2 ^ 64 - 1) → size ≡ min (fields_depth (fields_of part)) (2 ^ 64 - 1) → new ≡ max d size
+    → min all (2 ^ 64 - 1) ≡ min (max new (fields_depth (fields_of (joined (drop (i + 1) parts))))) (2 ^ 64 - 1)
+fields_depth_more parts i part all d size new lt is whole size_is new_is =
+    let next = ap (λ l. fields_depth (fields_of l)) (joined_drop parts i part lt is) ∙ fields_depth-append part (joined (drop (i + 1) parts)) in
+    omega arith
+
 -- an edit below an item or a member is one of the container, one level up
 pub edited_items : (edit : Edit) (level : ℕ) (ts : List Meaning) (n : ℕ) (t u : Meaning) (left : Option Meaning) → n < length ts → t ≡ get_or ts n t → IsEdited edit level t u left
     → IsEdited edit (1 + level) (items (kids_of ts)) (items (kids_of (set ts n u))) left

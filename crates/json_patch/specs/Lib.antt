@@ -2,6 +2,7 @@ pub mod Changes
 pub mod Drafts
 pub mod Edits
 pub mod Effects
+pub mod Gaps
 pub mod Joined
 pub mod Limits
 pub mod Patches

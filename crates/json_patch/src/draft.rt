@@ -1,8 +1,8 @@
 use base_types::Text;
 use std::marker::Model;
 
-/// A document while a patch works on it: a tree whose arrays are kept in chunks, so that an item comes and
-/// goes at any place of a long array without moving all that stand behind it.
+/// A document while a patch works on it: a tree whose arrays and objects are kept in chunks, so that an item or a
+/// member comes and goes at any place of a long one without moving all that stand behind it.
 #[cycle(draft)]
 #[derive(Drop)]
 pub struct Draft {
@@ -35,10 +35,19 @@ pub struct Chunk {
     pub all: Vec<Draft>,
 }
 
-/// The members of an object, in the order of the bytes of their names, which are distinct.
+/// The members of an object, in the order of the bytes of their names, which are distinct: those of the
+/// chunks, one chunk after another.
 #[cycle(draft)]
 #[derive(Drop)]
 pub struct DraftMembers {
+    pub parts: Vec<MemberChunk>,
+}
+
+/// Members of an object that stand one after another. There is at least one, by which a search knows where
+/// the chunk begins.
+#[cycle(draft)]
+#[derive(Drop)]
+pub struct MemberChunk {
     pub all: Vec<DraftMember>,
 }
 
@@ -122,19 +131,44 @@ impl Model for DraftMembers {
     ghost coded = { coded_list (coded× coded_bytes coded_meaning) };
 
     ghost use Rattle.json_patch.specs.Weights.{members_weight};
+    ghost use Rattle.json_patch.specs.Joined.{joined};
 
-    ghost view = { λ ms. ms.all.items };
+    ghost view = { λ ms. joined ms.parts.items };
 
     ghost use Rattle.base_types.specs.Names.{AreSorted};
 
-    ghost invariant = { λ ms. AreSorted ms.all.items };
+    ghost invariant = { λ ms. AreSorted (joined ms.parts.items) };
 
     ghost size = { members_weight };
 
     ghost use Rattle.std.proofs.Common.{arith};
     ghost use Rattle.json_patch.specs.Weights.{most_le-members};
 
-    ghost size_decreases = { λ a h. omega (arith, most_le-members a.all.items) };
+    ghost size_decreases = { λ a h. omega (arith, most_le-members a.parts.items) };
+}
+
+impl Model for MemberChunk {
+    ghost use Rattle.std.specs.Prelude.{ℕ, List, ◌<◌, length};
+    ghost use Rattle.base_types.specs.Meaning.{Meaning};
+    ghost use Rattle.base_types.specs.Code.{coded_meaning, coded_bytes};
+    ghost use Rattle.std.specs.Coded.{coded_list, coded×};
+
+    ghost Value = { List (List ℕ × Meaning) };
+
+    ghost coded = { coded_list (coded× coded_bytes coded_meaning) };
+
+    ghost use Rattle.json_patch.specs.Weights.{member_chunk_weight};
+
+    ghost view = { λ ms. ms.all.items };
+
+    ghost invariant = { λ ms. 0 < length ms.all.items };
+
+    ghost size = { member_chunk_weight };
+
+    ghost use Rattle.std.proofs.Common.{arith};
+    ghost use Rattle.json_patch.specs.Weights.{most_le-member_chunk};
+
+    ghost size_decreases = { λ a h. omega (arith, most_le-member_chunk a.all.items) };
 }
 
 impl Model for DraftMember {

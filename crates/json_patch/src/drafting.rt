@@ -1,6 +1,7 @@
 ghost use Rattle.std.specs.Prelude.{◌≡◌, ◌++◌, IfOk, OnOk};
 
-use crate::draft::{Chunk, Chunks, Draft, DraftMember, DraftMembers, DraftNode};
+use crate::draft::{Chunk, Chunks, Draft, DraftMember, DraftMembers, DraftNode, MemberChunk};
+use crate::members::push;
 use base_types::OutOfMemory;
 use base_types::json::{Member, MemberList, Node, Tree, Trees};
 use std::alloc::Global;
@@ -36,13 +37,13 @@ fn draft_items(alloc: Global, list: &Trees) -> Result<Chunks, OutOfMemory>
 fn draft_members(alloc: Global, list: &MemberList) -> Result<DraftMembers, OutOfMemory>
     ensures { IfOk result (λ made. made ≡ list.now) }
 {
-    let mut all = Vec::with_capacity(alloc, list.all.len())?;
+    let mut parts = Vec::new(alloc);
     for member in &list.all {
         let name = member.name.clone()?;
         let value = draft_of(alloc, &member.value)?;
-        all.push(DraftMember { name, value })?;
+        push(alloc, &mut parts, DraftMember { name, value })?;
     }
-    Ok(DraftMembers { all })
+    Ok(DraftMembers { parts })
 }
 
 /// The tree of a draft, which stays as it is.
@@ -86,13 +87,27 @@ fn append_part(alloc: Global, part: &Chunk, all: &mut Vec<Tree>) -> Result<(), O
 fn tree_members(alloc: Global, list: &DraftMembers) -> Result<MemberList, OutOfMemory>
     ensures { IfOk result (λ made. made ≡ list.now) }
 {
-    let mut all = Vec::with_capacity(alloc, list.all.len())?;
-    for member in &list.all {
+    let mut all = Vec::new(alloc);
+    for part in &list.parts {
+        append_members(alloc, part, &mut all)?;
+    }
+    Ok(MemberList { all })
+}
+
+#[cycle(tree_of)]
+fn append_members(
+    alloc: Global,
+    part: &MemberChunk,
+    all: &mut Vec<Member>,
+) -> Result<(), OutOfMemory>
+    ensures { OnOk result (all.new.items ≡ all.old.items ++ part.now) }
+{
+    for member in &part.all {
         let name = member.name.clone()?;
         let value = tree_of(alloc, &member.value)?;
         all.push(Member { name, value })?;
     }
-    Ok(MemberList { all })
+    Ok(())
 }
 
 /// The same draft once more.

@@ -10,6 +10,7 @@ ghost use Rattle.json_patch.specs.Effects.{place_of};
 use crate::chunks::{find, remove_at, replace_at};
 use crate::draft::{Chunks, Draft, DraftMembers, DraftNode};
 use crate::fault::ApplyCause;
+use crate::members::find as find_member;
 use base_types::json::read_index;
 use base_types::{OutOfMemory, Text};
 use std::alloc::{AllocFailed, Global};
@@ -171,9 +172,10 @@ fn edit_below_members(
     ensures refused { IfErr result
         (RefusedBy (edited first.now (next.now ∷ after.now) edit (members (fields_of list.old)))) }
 {
-    match list.find(first.as_str()) {
-        Ok(at) => {
-            let member = &mut list.all[at];
+    match find_member(&list.parts, first.as_str()) {
+        Ok(place) => {
+            let part = &mut list.parts[place.part];
+            let member = &mut part.all[place.offset];
             edit_at(alloc, &mut member.value, next, after, edit)
         }
         Err(_) => Err(Refusal::Cause(edit.missing())),
@@ -258,7 +260,7 @@ fn put_member(
         drop(value);
         return Err(OutOfMemory);
     };
-    list.put(name, value)
+    list.put(alloc, name, value)
 }
 
 fn edit_member(

@@ -7,6 +7,7 @@ mod draft;
 mod drafting;
 mod edit;
 mod fault;
+mod members;
 mod named;
 mod op;
 mod reading;

@@ -1,57 +1,54 @@
-ghost use Rattle.std.specs.Prelude.{◌≡◌, IfOk, IfErr, OnOk, OnErr, option_map};
-ghost use Rattle.std.specs.Ordering.{nat_cmp};
-ghost use Rattle.std.specs.Cmp.Lexicographic.{slice_cmp};
+ghost use Rattle.std.specs.Prelude.{◌≡◌, IfOk, OnOk, option_map};
 ghost use Rattle.base_types.specs.Edits.{put};
 ghost use Rattle.base_types.specs.Meaning.{fields_of};
 ghost use Rattle.base_types.specs.Names.{AreSorted};
 ghost use Rattle.base_types.specs.Parts.{lookup};
-ghost use Rattle.base_types.specs.Search.{IsNamedAt, IsPlaceFor};
 ghost use Rattle.base_types.specs.Stored.{fields_without};
 
 use crate::draft::{Draft, DraftMember, DraftMembers};
+use crate::members::{find, insert, remove_at};
 use base_types::{OutOfMemory, Text};
-use std::cmp::Ordering;
+use std::alloc::Global;
 use std::mem;
 
 impl DraftMembers {
-    /// The position of the member of a name, or else the position at which it would stand.
-    pub fn find(&self, name: &str) -> Result<usize, usize>
-        ensures found { IfOk result (IsNamedAt name.now self.now) }
-        ensures place { IfErr result (IsPlaceFor name.now self.now) }
-        ensures sorted { AreSorted self.now }
-    {
-        self.all.binary_search_by(
-            |member: &DraftMember| -> Ordering
-                ensures { result ≡ slice_cmp nat_cmp member.now.0 name.entry.now }
-            { member.name.as_str().cmp(name) },
-        )
-    }
-
     /// The value of the member of a name.
     pub fn get(&self, name: &str) -> Option<&Draft>
         ensures { option_map (λ t. t.now) result ≡ lookup name.now (fields_of self.now) }
     {
-        match self.find(name) {
-            Ok(at) => Some(&self.all[at].value),
+        match find(&self.parts, name) {
+            Ok(place) => {
+                let part = &self.parts[place.part];
+                let member = &part.all[place.offset];
+                Some(&member.value)
+            }
             Err(_) => None,
         }
     }
 
-    /// Puts a value at a name and answers the value that it takes the place of. Without memory the list
-    /// stays as it was, and name and value are dropped.
-    pub fn put(&mut self, name: Text, value: Draft) -> Result<Option<Draft>, OutOfMemory>
+    /// Puts a value at a name and answers the value that it takes the place of. Without memory the members may
+    /// be lost, and name and value are dropped.
+    pub fn put(
+        &mut self,
+        alloc: Global,
+        name: Text,
+        value: Draft,
+    ) -> Result<Option<Draft>, OutOfMemory>
         ensures put { OnOk result (fields_of self.new ≡ put name value (fields_of self.old)) }
         ensures old { IfOk result (λ old. old ≡ lookup name (fields_of self.old)) }
-        ensures err { OnErr result (self.new ≡ self.old) }
         ensures sorted { AreSorted self.old }
     {
-        match self.find(name.as_str()) {
-            Ok(at) => {
-                let member = &mut self.all[at];
+        match find(&self.parts, name.as_str()) {
+            Ok(place) => {
+                let part = &mut self.parts[place.part];
+                let member = &mut part.all[place.offset];
                 Ok(Some(mem::replace(&mut member.value, value)))
             }
-            Err(at) => {
-                self.all.insert(at, DraftMember { name, value })?;
+            Err(place) => {
+                // without chunks while they change, the members are in order also where there is no memory
+                let mut parts = mem::replace(&mut self.parts, Vec::new(alloc));
+                insert(alloc, &mut parts, place, DraftMember { name, value })?;
+                self.parts = parts;
                 Ok(None)
             }
         }
@@ -63,9 +60,9 @@ impl DraftMembers {
         ensures taken { result ≡ lookup name.now (fields_of self.old) }
         ensures sorted { AreSorted self.old }
     {
-        match self.find(name) {
-            Ok(at) => {
-                let DraftMember { name: _, value } = self.all.remove(at);
+        match find(&self.parts, name) {
+            Ok(place) => {
+                let DraftMember { name: _, value } = remove_at(&mut self.parts, place);
                 Some(value)
             }
             Err(_) => None,

@@ -1,7 +1,7 @@
 ghost use Rattle.std.specs.Prelude.{◌≡◌, ◌↔◌, IsTrue};
 ghost use Rattle.base_types.specs.Same.{same};
 
-use crate::draft::{Chunk, Chunks, Draft, DraftMember, DraftMembers, DraftNode};
+use crate::draft::{Chunk, Chunks, Draft, DraftMember, DraftMembers, DraftNode, MemberChunk};
 use base_types::json::{Member, MemberList, Node, Tree, Trees};
 
 /// Whether a draft and a tree are the same JSON value. It looks no further than to the first difference.
@@ -63,11 +63,29 @@ fn equal_part(a: &Chunk, b: &[Tree]) -> bool
 fn equal_members(a: &DraftMembers, b: &MemberList) -> bool
     ensures { IsTrue result ↔ (a.now ≡ b.now) }
 {
-    if a.all.len() != b.all.len() {
+    let mut rest = b.all.as_slice();
+    for part in &a.parts {
+        if part.len() > rest.len() {
+            return false;
+        }
+        let (here, behind) = rest.split_at(part.len());
+        if !equal_member_part(part, here) {
+            return false;
+        }
+        rest = behind;
+    }
+    rest.is_empty()
+}
+
+#[cycle(equal)]
+fn equal_member_part(a: &MemberChunk, b: &[Member]) -> bool
+    ensures { IsTrue result ↔ (a.now ≡ b.now) }
+{
+    if a.all.len() != b.len() {
         return false;
     }
     for i in 0..a.all.len() {
-        if !equal_member(&a.all[i], &b.all[i]) {
+        if !equal_member(&a.all[i], &b[i]) {
             return false;
         }
     }

@@ -2,7 +2,7 @@ ghost use Rattle.std.specs.Prelude.{◌≡◌, ◌-◌, ◌^◌, min};
 ghost use Rattle.base_types.specs.Meaning.{kids_of, fields_of};
 ghost use Rattle.json_patch.specs.Limits.{depth, kids_depth, fields_depth, values, kids_values, fields_values};
 
-use crate::draft::{Chunk, Chunks, Draft, DraftMembers, DraftNode};
+use crate::draft::{Chunk, Chunks, Draft, DraftMembers, DraftNode, MemberChunk};
 
 /// How large a document is. The numbers stop at 2^64 - 1.
 #[derive(Clone, Copy)]
@@ -71,7 +71,22 @@ fn size_of_members(list: &DraftMembers) -> Size
 {
     let mut values = 0u64;
     let mut depth = 0u64;
-    for member in &list.all {
+    for part in &list.parts {
+        let size = size_of_member_part(part);
+        values = values.saturating_add(size.values);
+        depth = depth.max(size.depth);
+    }
+    Size { values, depth }
+}
+
+#[cycle(size_of)]
+fn size_of_member_part(part: &MemberChunk) -> Size
+    ensures values { result.values ≡ min (fields_values (fields_of part.now)) (2 ^ 64 - 1) }
+    ensures depth { result.depth ≡ min (fields_depth (fields_of part.now)) (2 ^ 64 - 1) }
+{
+    let mut values = 0u64;
+    let mut depth = 0u64;
+    for member in &part.all {
         let size = size_of(&member.value);
         values = values.saturating_add(size.values);
         depth = depth.max(size.depth);

@@ -6,6 +6,8 @@ mod json_patch_limits;
 #[cfg(test)]
 mod json_patch_lists;
 #[cfg(test)]
+mod json_patch_members;
+#[cfg(test)]
 mod json_patch_refusals;
 #[cfg(test)]
 mod json_patch_rows;

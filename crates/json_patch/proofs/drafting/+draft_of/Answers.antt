@@ -4,6 +4,7 @@ use Rattle.base_types.specs.Names.{AreSorted}
 use Rattle.base_types.specs.Node.{meaning_of}
 use Rattle.base_types.proofs.Prefixes.{copied-more, copied-whole}
 use Rattle.json_patch.specs.Drafts.{drafted}
+use Rattle.json_patch.specs.Joined.{joined}
 use Rattle.json_patch.proofs.drafting.+draft_of.Goals.{draft_of-in-Null, draft_of-in-Flag, draft_of-in-Whole, draft_of-in-Words+in_ok-clone-in-Words, draft_of-in-Items+in_ok-draft_items-in-Items, draft_of-in-Members+in_ok-draft_members-in-Members}
 use Rattle.json_patch.proofs.drafting.+draft_of.Goals as goal
 
@@ -34,16 +35,16 @@ draft_members-loop-member-preserved t c =
     let valued = c.in_ok-value.ensures in
     let pair : List ℕ × Meaning = (c.in_ok-name.name, c.in_ok-value.value) in
     let copied : pair ≡ c.member-item.result = (λ j. (named j, valued j)) ∙ c.member.view_is in
-    copied-more c.push.new.self.items l.all.items c.deref-member-items.result.now l.member-index c.member-item.result pair c.in_ok-push.ensures.items l.invariant copied c.loop-member-test.true c.member-item.is
+    copied-more (joined c.push.new.parts.items) (joined l.parts.items) c.deref-member-items.result.now l.member-index c.member-item.result pair c.in_ok-push.ensures l.invariant copied c.loop-member-test.true c.member-item.is
 
 pub draft_members-returns : goal.draft_members-returns
 draft_members-returns t c =
     let l = c.loop-member in
-    let all : l.all.items ≡ c.list.inside.all.items = copied-whole l.all.items c.deref-member-items.result.now c.list.inside.all.items l.member-index l.invariant c.loop-member-test.false c.deref-member-items.ensures.value in
-    subst (λ xs. l.all.items ≡ xs) c.list.view_is all
+    let all : joined l.parts.items ≡ c.list.inside.all.items = copied-whole (joined l.parts.items) c.deref-member-items.result.now c.list.inside.all.items l.member-index l.invariant c.loop-member-test.false c.deref-member-items.ensures.value in
+    subst (λ xs. joined l.parts.items ≡ xs) c.list.view_is all
 
 pub draft_members-invariant_of-result : goal.draft_members-invariant_of-result
 draft_members-invariant_of-result t c =
     let l = c.loop-member in
-    let all : l.all.items ≡ c.list.inside.all.items = copied-whole l.all.items c.deref-member-items.result.now c.list.inside.all.items l.member-index l.invariant c.loop-member-test.false c.deref-member-items.ensures.value in
+    let all : joined l.parts.items ≡ c.list.inside.all.items = copied-whole (joined l.parts.items) c.deref-member-items.result.now c.list.inside.all.items l.member-index l.invariant c.loop-member-test.false c.deref-member-items.ensures.value in
     subst AreSorted (sym all) c.list.invariant

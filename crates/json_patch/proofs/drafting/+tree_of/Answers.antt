@@ -1,9 +1,11 @@
 use Rattle.std.proofs.Common.{◌≡◌, List, ℕ, sym, ap, subst, ◌∙◌, rules}
+use Rattle.std.proofs.lemmas.List.{take_all}
 use Rattle.base_types.specs.Meaning.{Meaning, items, members, kids_of, fields_of}
 use Rattle.base_types.specs.Names.{AreSorted}
 use Rattle.base_types.specs.Node.{meaning_of}
-use Rattle.base_types.proofs.Prefixes.{copied-more, copied-whole}
 use Rattle.json_patch.specs.Drafts.{drafted}
+use Rattle.json_patch.specs.Joined.{joined}
+use Rattle.json_patch.proofs.Joins.{appended_more}
 use Rattle.json_patch.proofs.drafting.+tree_of.Goals.{tree_of-in-Null, tree_of-in-Flag, tree_of-in-Whole, tree_of-in-Words+in_ok-clone-in-Words, tree_of-in-Items+in_ok-tree_items-in-Items, tree_of-in-Members+in_ok-tree_members-in-Members}
 use Rattle.json_patch.proofs.drafting.+tree_of.Goals as goal
 
@@ -18,23 +20,18 @@ tree_of-returns t c =
       | tree_of-in-Members+in_ok-tree_members-in-Members w ↦ ap meaning_of w.node-is ∙ ap (λ xs. members (fields_of xs)) w.in_ok-tree_members-in-Members.ensures ∙ sym (ap drafted w.in-Members.is) ∙ c.draft.view_is
     ]
 
-pub tree_members-loop-member-preserved : goal.tree_members-loop-member-preserved
-tree_members-loop-member-preserved t c =
+pub append_members-loop-member-preserved : goal.append_members-loop-member-preserved
+append_members-loop-member-preserved t c =
     let l = c.loop-member in
     let named : c.in_ok-name.name ≡ c.member.inside.name = search rules in
     let valued = c.in_ok-value.ensures in
     let pair : List ℕ × Meaning = (c.in_ok-name.name, c.in_ok-value.value) in
     let copied : pair ≡ c.member-item.result = (λ j. (named j, valued j)) ∙ c.member.view_is in
-    copied-more c.push.new.self.items l.all.items c.deref-member-items.result.now l.member-index c.member-item.result pair c.in_ok-push.ensures.items l.invariant copied c.loop-member-test.true c.member-item.is
-
-pub tree_members-returns : goal.tree_members-returns
-tree_members-returns t c =
-    let l = c.loop-member in
-    let all : l.all.items ≡ c.list.inside.all.items = copied-whole l.all.items c.deref-member-items.result.now c.list.inside.all.items l.member-index l.invariant c.loop-member-test.false c.deref-member-items.ensures.value in
-    subst (λ xs. l.all.items ≡ xs) c.list.view_is all
+    appended_more c.push.new.self.items l.all.items c.args.all.now.items c.deref-member-items.result.now l.member-index c.member-item.result pair c.in_ok-push.ensures.items l.invariant copied c.loop-member-test.true
+    c.member-item.is
 
 pub tree_members-invariant_of-result : goal.tree_members-invariant_of-result
 tree_members-invariant_of-result t c =
-    let l = c.loop-member in
-    let all : l.all.items ≡ c.list.inside.all.items = copied-whole l.all.items c.deref-member-items.result.now c.list.inside.all.items l.member-index l.invariant c.loop-member-test.false c.deref-member-items.ensures.value in
+    let l = c.loop-part in
+    let all : l.all.items ≡ joined c.list.inside.parts.items = l.invariant ∙ ap joined (take_all l.part-index c.deref-part-items.result.now c.loop-part-test.false) ∙ ap joined c.deref-part-items.ensures.value in
     subst AreSorted (sym all) c.list.invariant

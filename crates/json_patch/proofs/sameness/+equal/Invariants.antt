@@ -8,5 +8,8 @@ invariant-equal_items-loop-part l = joined (take l.part-index l.part-items) ++ l
 abbrev pub invariant-equal_part-loop-i : goal.invariant-equal_part-loop-i
 invariant-equal_part-loop-i l = take l.i l.a-inside.all.items ≡ take l.i l.b
 
-abbrev pub invariant-equal_members-loop-i : goal.invariant-equal_members-loop-i
-invariant-equal_members-loop-i l = take l.i l.a-inside.all.items ≡ take l.i l.b-inside.all.items
+abbrev pub invariant-equal_members-loop-part : goal.invariant-equal_members-loop-part
+invariant-equal_members-loop-part l = joined (take l.part-index l.part-items) ++ l.rest ≡ l.b
+
+abbrev pub invariant-equal_member_part-loop-i : goal.invariant-equal_member_part-loop-i
+invariant-equal_member_part-loop-i l = take l.i l.a-inside.all.items ≡ take l.i l.b

@@ -20,8 +20,16 @@ invariant-size_of_part-loop-item l = record {
   depth : min (kids_depth (kids_of l.item-items)) (2 ^ 64 - 1) ≡ min (max l.depth (kids_depth (kids_of (drop l.item-index l.item-items)))) (2 ^ 64 - 1);
 }
 
-abbrev pub invariant-size_of_members-loop-member : goal.invariant-size_of_members-loop-member
-invariant-size_of_members-loop-member l = record {
+abbrev pub invariant-size_of_members-loop-part : goal.invariant-size_of_members-loop-part
+invariant-size_of_members-loop-part l = record {
+  values_fit : l.values ≤ 2 ^ 64 - 1;
+  depth_fits : l.depth ≤ 2 ^ 64 - 1;
+  values : min (fields_values (fields_of (joined l.part-items))) (2 ^ 64 - 1) ≡ min (l.values + fields_values (fields_of (joined (drop l.part-index l.part-items)))) (2 ^ 64 - 1);
+  depth : min (fields_depth (fields_of (joined l.part-items))) (2 ^ 64 - 1) ≡ min (max l.depth (fields_depth (fields_of (joined (drop l.part-index l.part-items))))) (2 ^ 64 - 1);
+}
+
+abbrev pub invariant-size_of_member_part-loop-member : goal.invariant-size_of_member_part-loop-member
+invariant-size_of_member_part-loop-member l = record {
   values_fit : l.values ≤ 2 ^ 64 - 1;
   depth_fits : l.depth ≤ 2 ^ 64 - 1;
   values : min (fields_values (fields_of l.member-items)) (2 ^ 64 - 1) ≡ min (l.values + fields_values (fields_of (drop l.member-index l.member-items))) (2 ^ 64 - 1);

@@ -1,20 +1,23 @@
-use Rattle.std.proofs.Common.{◌≡◌, ◌<◌, length, get_or, Some, sym, ap, subst, ◌∙◌, arith}
-use Rattle.base_types.specs.Names.{AreSorted}
-use Rattle.base_types.proofs.Ordered.{lookup_found, lookup_absent, named_within}
+use Rattle.std.proofs.Common.{◌≡◌, ℕ, List, get_or, refl, sym, subst}
+use Rattle.base_types.specs.Meaning.{Meaning}
+use Rattle.base_types.proofs.Ordered.{lookup_absent}
+use Rattle.json_patch.specs.Joined.{IsPlaceIn, number_of}
+use Rattle.json_patch.proofs.Finding.{named_there, found_named, found_absent}
 use Rattle.json_patch.proofs.draft.DraftMembers.get.Goals as goal
-
-pub index-requires : goal.index-requires
-index-requires c =
-    let lt : c.in-Ok.at < length c.args.self.now = named_within c.args.self.now c.args.name.now c.in-Ok.at c.in-Ok.ensures.found in
-    let same : length c.self.inside.all.items ≡ length c.args.self.now = ap length c.self.view_is in
-    grind arith
 
 pub returns-in-Ok : goal.returns-in-Ok
 returns-in-Ok c =
-    let all = c.args.self.now in
-    let found = lookup_found all c.args.name.now c.in-Ok.at c.index.result.now (subst AreSorted c.self.view_is c.self.invariant) c.in-Ok.ensures.found in
-    let read : c.index.result.now ≡ get_or all c.in-Ok.at c.index.result.now = c.index.ensures ∙ ap (λ ms. get_or ms c.in-Ok.at c.index.result.now) c.self.view_is in
-    sym (found ∙ ap (λ m. Some m.1) (sym read ∙ sym c.behind-self.view_is))
+    let parts = c.self.inside.parts.items in
+    let place = c.in-Ok.place in
+    let part = c.part.inside.all.items in
+    let m : List ℕ × Meaning = (c.member.inside.name, c.member.inside.value) in
+    let here = subst (λ ps. IsPlaceIn ps place) c.deref.ensures.value c.in-Ok.ensures.place in
+    let named = found_named c.args.name.now c.args.name.now c.deref.result.now parts place c.deref.ensures.value refl c.in-Ok.ensures.named in
+    let is = subst (λ p. p ≡ get_or parts place.part p) (sym c.part.view_is) c.index-part.ensures in
+    let read : m ≡ get_or part place.offset m = subst (λ x. x ≡ get_or part place.offset x) (sym c.member.view_is) c.index-member.ensures in
+    sym (named_there c.args.name.now parts c.args.self.now place part m c.self.view_is c.self.invariant here named is read)
 
 pub returns-in-Err : goal.returns-in-Err
-returns-in-Err c = sym (lookup_absent c.args.self.now c.args.name.now c.in-Err.field-0 c.in-Err.ensures.place)
+returns-in-Err c =
+    let absent = found_absent c.args.name.now c.args.name.now c.deref.result.now c.self.inside.parts.items c.args.self.now c.in-Err.field-0 c.deref.ensures.value c.self.view_is refl c.in-Err.ensures.absent in
+    sym (lookup_absent c.args.self.now c.args.name.now (number_of c.deref.result.now c.in-Err.field-0) absent)
