@@ -26,7 +26,7 @@ settle-requires-clause-bounds g c =
     (named c.args.context.now c.in_ok-claims.claims c.in_ok-claims.ensures c.ranges-2.result.now c.ranges-2.ensures)
 
 pub placed-requires-clause-explains : goal.placed-requires-clause-explains
-placed-requires-clause-explains g c =
+placed-requires-clause-explains g c κs within =
     let known = c.args.context.now in
     let least = least_of known c.in_ok-claims.claims c.in_ok-claims.ensures c.ranges-2.result.now c.order.result.now c.as_slice.result.now c.in_ok-settled.settled c.in-Fits.choice c.ranges-2.ensures c.as_slice.ensures c.in-Fits.is c.in_ok-settled.ensures.settled in
     subst (ExplainsEach known) (sym c.as_slice-in-Fits.ensures) (explains known c.in_ok-claims.claims c.in_ok-claims.ensures c.in-Fits.choice least)
@@ -35,8 +35,8 @@ pub returns-in-Fits : goal.returns-in-Fits
 returns-in-Fits g c =
     let known = c.args.context.now in
     let least = least_of known c.in_ok-claims.claims c.in_ok-claims.ensures c.ranges-2.result.now c.order.result.now c.as_slice.result.now c.in_ok-settled.settled c.in-Fits.choice c.ranges-2.ensures c.as_slice.ensures c.in-Fits.is c.in_ok-settled.ensures.settled in
-    explained_is known c.in_ok-claims.claims c.in_ok-claims.ensures c.in-Fits.choice c.in_ok-lines.lines c.order.ensures.readable least
-    (subst (λ choice. ArePlacedLines (history_of known) choice c.in_ok-lines.lines) c.as_slice-in-Fits.ensures c.in_ok-lines.ensures)
+    explained_is known c.in_ok-claims.claims c.in_ok-claims.ensures c.in-Fits.choice c.in_ok-lines-in-Fits.lines c.order.ensures.readable least
+    (subst (λ choice. ArePlacedLines (history_of known) choice c.in_ok-lines-in-Fits.lines) c.as_slice-in-Fits.ensures c.in_ok-lines-in-Fits.ensures)
 
 pub unexplained-requires-clause-known : goal.unexplained-requires-clause-known
 unexplained-requires-clause-known g c =
