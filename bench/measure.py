@@ -9,9 +9,9 @@ threads were at work in it on average, and the peak of memory up to its end. The
 what the system counts of the process 50 times a second: bytes read and written, threads, memory.
 
   reading   until the log is read to its end
-  building  until several threads work for the last time: what setup and log tell
-  claims    until one thread works again
-  placing   until the text is written: settling, places, text
+  building  what setup and log tell
+  judging   the last stretch in which several threads work: claims, settling, places
+  writing   until the text is written
   ending    until the process is gone
 
 The last line has the whole, and the time that `parsefloor` takes for the same log in the same run: serde_json of
@@ -28,6 +28,8 @@ import time
 
 HERE = os.path.dirname(os.path.abspath(__file__))
 TICKS = os.sysconf("SC_CLK_TCK")
+# So many samples long one thread may settle between claims and places.
+SETTLING = 5
 
 
 def made(folder, events, size):
@@ -68,16 +70,16 @@ def watched(words, size):
 
 
 def phases(samples, size):
-    """Puts a phase to each sample: the claims are the last stretch in which several threads work."""
+    """Puts a phase to each sample: events are judged in the last stretch in which several threads work, but for settling."""
     read = next((i for i, sample in enumerate(samples) if sample[1] >= size), len(samples))
     last = max((i for i, sample in enumerate(samples) if i > read and sample[3] > 1), default=read)
     first = last
-    while first > read and samples[first - 1][3] > 1:
+    while first > read and any(sample[3] > 1 for sample in samples[max(read, first - SETTLING):first]):
         first -= 1
     marks = []
     for i, (at, _, written, _, processor, memory) in enumerate(samples):
-        name = "reading" if i < read else "building" if i < first else "claims" if i <= last else "placing"
-        if name == "placing" and written > samples[0][2]:
+        name = "reading" if i < read else "building" if i < first else "judging" if i <= last else "writing"
+        if name == "writing" and written > samples[0][2]:
             name = "ending"
         marks.append((name, at, processor, memory))
     return marks
@@ -85,7 +87,7 @@ def phases(samples, size):
 
 def told(marks, ended):
     before, spent, peak = 0.0, 0.0, 0
-    for phase in ("reading", "building", "claims", "placing", "ending"):
+    for phase in ("reading", "building", "judging", "writing", "ending"):
         own = [mark for mark in marks if mark[0] == phase]
         if not own:
             continue
