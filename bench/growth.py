@@ -5,8 +5,8 @@ growth.py PROGRAM [--sizes LIST] [--kinds LIST] [--most SECONDS] [--keep FOLDER]
 
 A writer of requests chooses much of an audit log. Each kind of log below leans on one search of the program. For each
 kind and each size (by default 1000,10000,100000) a setup and a log are made and judged; a line tells the bytes, the
-wall time, the peak of memory, and by how much the time grew since the size before. n log n grows by 13 at most for ten
-times the size. A kind stops where a run takes longer than --most seconds (by default 120).
+processor time of all threads, the peak of memory, and by how much the time grew since the size before. n log n grows by
+13 at most for ten times the size. A kind stops where a run takes longer than --most seconds (by default 120).
 
   plain      creates, updates and reads, for comparison
   prefixes   unrecorded creates, each with another generateName
@@ -30,7 +30,6 @@ import shutil
 import subprocess
 import sys
 import tempfile
-import time
 
 from make_log import COLLECTION, RESOURCE, compact, config_map, moment, status
 
@@ -270,14 +269,13 @@ KINDS = {it.__name__: it for it in (plain, prefixes, nested, namespaces, decisio
 
 
 def judged(program, folder):
-    """Wall seconds, peak kilobytes, and the first words of the answer."""
-    begun = time.monotonic()
+    """Processor seconds of all threads, peak kilobytes, and the first words of the answer."""
     ran = subprocess.Popen([program, "judge", "setup.json", "log.json"], cwd=folder, stdout=subprocess.PIPE)
     text = ran.stdout.read(80)
     while ran.stdout.read(1 << 20):
         pass
     _, _, used = os.wait4(ran.pid, 0)
-    return time.monotonic() - begun, used.ru_maxrss, text.decode("utf-8", "replace").split("\n")[0]
+    return used.ru_utime + used.ru_stime, used.ru_maxrss, text.decode("utf-8", "replace").split("\n")[0]
 
 
 def main():

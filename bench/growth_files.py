@@ -5,7 +5,7 @@ growth_files.py --companion PROGRAM [--sizes LIST] [--kinds LIST] [--objects N] 
 
 For each kind and each size (by default 1000,10000) as many lists are made, each of another resource and of --objects
 objects (by default 1), with the `APIResourceList` files that have these resources, and `setup` is run over all of
-them. A line tells the bytes, the wall time, the peak of memory, by how much the time grew since the size before, and
+them. A line tells the bytes, the processor time, the peak of memory, by how much the time grew since the size before, and
 how the run ended. n log n grows by 13 at most for ten times the size. A kind stops where a run takes longer than
 --most seconds (by default 120).
 
@@ -20,7 +20,6 @@ import os
 import shutil
 import subprocess
 import tempfile
-import time
 
 from make_log import compact, moment
 
@@ -54,15 +53,14 @@ def files(kind, size, objects):
 
 
 def made(program, folder, names):
-    """Wall seconds, peak kilobytes, and how the run ended."""
-    begun = time.monotonic()
+    """Processor seconds of all threads, peak kilobytes, and how the run ended."""
     ran = subprocess.Popen([program, "setup", moment(0), "policy.json", *names], cwd=folder, stdout=subprocess.PIPE)
     text = ran.stdout.read(80)
     while ran.stdout.read(1 << 20):
         pass
     _, status, used = os.wait4(ran.pid, 0)
     words = text.decode("utf-8", "replace").split("\n")[0]
-    return time.monotonic() - begun, used.ru_maxrss, f"{os.waitstatus_to_exitcode(status)} {words[:40]}"
+    return used.ru_utime + used.ru_stime, used.ru_maxrss, f"{os.waitstatus_to_exitcode(status)} {words[:40]}"
 
 
 def main():
