@@ -89,7 +89,7 @@ judged_end : (Q : Type 0) (judged : Judged) (report : Report) → report_answer 
 judged_end Q (Refused refusal) report told ends verdict = absurd (no_verdict refusal report told verdict)
 judged_end Q (Verdict outcome) report told ends verdict = ends outcome refl
 
-strictly_end : (Q : Type 0) (found : StrictlyJudged) (report : Report) → report_answer report ≡ strictly_answer found → (strict.HasVerdictStatus found → Q) → HasVerdictStatus report → Q
+strictly_end : (Q : Type 0) (found : StrictlyJudged) (report : Report) → report_answer report ≡ strictly_answer found → (strict.IsVerdict found → Q) → HasVerdictStatus report → Q
 strictly_end Q (Plain (Refused refusal)) report told ends verdict = absurd (no_verdict refusal report told verdict)
 strictly_end Q (Plain (Verdict outcome)) report told ends verdict = ends tt
 strictly_end Q (Settled outcome answer) report told ends verdict = ends tt
@@ -141,7 +141,7 @@ module _ (old now : List ℕ → Option (List ℕ)) (untouched : Type 0) (before
 
   pub strictly_reported : (inner : Result StrictlyJudged Stop) → IsPassed strictly_answer inner result
       → IfOk inner (λ found. (s l : List ℕ) → old setup ≡ Some s → old log ≡ Some l → IsStrictlyJudged s l found)
-      → IfOk inner (λ found. strict.HasVerdictStatus found → IsAtEnd (now setup) × IsAtEnd (now log))
+      → IfOk inner (λ found. strict.IsVerdict found → IsAtEnd (now setup) × IsAtEnd (now log))
       → (IsErrOf inner ReadFault → Rose before after) → TakesSetup (old setup) (now setup) (IsErrOf inner ReadFault) → TakesLog (old log) (now log) (IsErrOf inner ReadFault)
       → ((s : List ℕ) (refusal : Refusal) → old setup ≡ Some s → IsSetupRefused s refusal → now log ≡ old log) → ((name : List ℕ) → name ≢ setup → name ≢ log → now name ≡ old name)
       → IsReported (Strict setup log) old now untouched before after result
