@@ -9,7 +9,7 @@ struct Numbered {
     count: u32,
 }
 
-fn numbered(event: u32) -> Option<PlacedLine> {
+fn line_at(event: u32) -> Option<PlacedLine> {
     if event % 2 == 1 {
         return None;
     }
@@ -32,14 +32,14 @@ impl LineSource for Numbered {
     }
 
     fn line(&self, _alloc: Global, event: u32) -> Result<Option<PlacedLine>, OutOfMemory> {
-        Ok(numbered(event))
+        Ok(line_at(event))
     }
 }
 
 /// Whether each line is that of its place.
 fn are_in_order(lines: &[Option<PlacedLine>]) -> bool {
     for (line, event) in lines.iter().zip(0..u32::MAX) {
-        if *line != numbered(event) {
+        if *line != line_at(event) {
             return false;
         }
     }
