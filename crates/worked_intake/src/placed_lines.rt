@@ -21,8 +21,6 @@ fn line_at(event: u32) -> Option<PlacedLine> {
 }
 
 impl LineSource for Numbered {
-    ghost use Rattle.std.specs.Prelude.{Unit};
-
     ghost events = { λ s. s.count };
 
     ghost is_line = { λ s event line. Unit {0} };
