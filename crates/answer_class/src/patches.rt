@@ -16,7 +16,7 @@ fn is_merge_body(tracked: &Tracked, attrs: &RequestAttrs, body: Option<PackedRef
     }
 }
 
-/// Whether the body of a patch is a merge patch (RFC 7386).
+/// Whether the body of a patch is a merge patch (RFC 7386, now RFC 7396).
 pub fn is_merge(tracked: &Tracked, event: &Event) -> bool
     ensures { result ≡ is_merge tracked.now event.now }
 {

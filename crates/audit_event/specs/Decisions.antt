@@ -1,4 +1,4 @@
--- What an authoriser decided, as the annotation `authorization.k8s.io/decision` records it.
+-- What an authorizer decided, as the annotation `authorization.k8s.io/decision` records it.
 use Rattle.std.specs.Prelude.{ℕ, List, Option, Some, None, option_and_then, bytes_eq, codes, if◌then◌else◌}
 use Rattle.serde_json.specs.Data.{Data}
 use Rattle.serde_json.specs.Find.{get}

@@ -16,7 +16,7 @@ fn decision_named(name: &str) -> Option<Decision>
     }
 }
 
-/// What an authoriser decided, where the event records it.
+/// What an authorizer decided, where the event records it.
 pub(crate) fn decision_of(value: &Value) -> Option<Decision>
     ensures { result ≡ decision_in (view value.now) }
 {

@@ -1,3 +1,4 @@
+-- A choice of one place for each removal of a log, and the bounds that it meets.
 use Rattle.std.specs.Prelude.{ℕ, ◌≤◌, List, All, slice_index}
 use Rattle.std.specs.List.{AllZip}
 use Rattle.base_types.specs.declared.claim.Bound.{Bound}

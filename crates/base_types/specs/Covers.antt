@@ -1,3 +1,4 @@
+-- Which objects an unrecorded write may have changed, as far as its request tells.
 use Rattle.std.specs.Prelude.{◌≡◌, ℕ, ⊤, List, ◌++◌, Some, MatchOption}
 use Rattle.base_types.specs.declared.key.ObjectKey.{ObjectKey}
 use Rattle.base_types.specs.declared.key.Cover.{Cover}

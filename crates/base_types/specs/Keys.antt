@@ -1,3 +1,4 @@
+-- The key of an object and its one spelling, GROUP/RESOURCE/NAMESPACE/NAME.
 use Rattle.std.specs.Prelude.{◌≡◌, ◌≢◌, ℕ, Bool, ◌&&◌, List, [], ◌∷◌, ◌++◌, map, All, IsUtf8, bytes_eq}
 use Rattle.std.specs.List.{join_with_byte}
 use Rattle.base_types.specs.declared.key.ObjectKey.{ObjectKey}

@@ -1,3 +1,4 @@
+-- The lines of a placement, in the order of the log.
 use Rattle.std.specs.Prelude.{List, ◌<◌, AllPairs}
 use Rattle.base_types.specs.declared.placed.PlacedLine.{PlacedLine}
 

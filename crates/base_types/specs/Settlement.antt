@@ -1,3 +1,4 @@
+-- What it is to settle the claims of all events: the least choice that explains all, or the first event that breaks.
 use Rattle.std.specs.Prelude.{◌≡◌, ℕ, ◌+◌, ◌≤◌, ◌⊎◌, List, Some, None, IfSome, All, slice_get, take}
 use Rattle.std.specs.List.{AllZip}
 use Rattle.base_types.specs.declared.claim.Claim.{Claim}

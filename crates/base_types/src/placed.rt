@@ -20,7 +20,7 @@ pub enum PlacedAnswer {
     Nowhere,
 }
 
-/// The places of an authoriser's four caches.
+/// The places of an authorizer's four caches.
 #[derive(Clone, Copy, PartialEq, Eq, PartialOrd, Ord)]
 pub struct Places {
     pub roles: u64,

@@ -45,14 +45,14 @@ pub struct StageSet {
     pub panic: bool,
 }
 
-/// What an authoriser decided (the annotation `authorization.k8s.io/decision`).
+/// What an authorizer decided (the annotation `authorization.k8s.io/decision`).
 #[derive(Clone, Copy, Debug, PartialEq, Eq)]
 pub enum Decision {
     Allow,
     Forbid,
 }
 
-/// Which decisions an authoriser could have given.
+/// Which decisions an authorizer could have given.
 #[derive(Clone, Copy, PartialEq, Eq)]
 pub struct Possible {
     pub allow: bool,

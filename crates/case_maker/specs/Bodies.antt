@@ -1,3 +1,4 @@
+-- The JSON bodies of a made case: objects as asked for and as stored, and the other answers.
 use Rattle.std.specs.Prelude.{ℕ, List, [], ◌∷◌, ◌++◌, Option, codes, decimal}
 use Rattle.std.specs.List.{concat, join_with_byte, filter_map, enumerate_from}
 use Rattle.std.specs.Option.{option_map}

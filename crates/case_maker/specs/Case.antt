@@ -1,3 +1,4 @@
+-- A made case: its setup and its log, as bytes, from a number.
 use Rattle.std.specs.Prelude.{ℕ, ◌-◌, List, codes}
 use Rattle.std.specs.List.{flat_map, range_with_len}
 use Rattle.case_maker.specs.Cluster.{state_after, line_at}

@@ -1,3 +1,4 @@
+-- The cluster that a case is made of: its state, and what each event does to it.
 use Rattle.std.specs.Prelude.{ℕ, zero, suc, List, None, replicate, slice_index_or, slice_set}
 use Rattle.case_maker.specs.declared.cluster.Cluster.{Cluster}
 use Rattle.case_maker.specs.declared.exchange.Exchange.{Exchange}

@@ -1,3 +1,4 @@
+-- What the line of an event says that was drawn.
 use Rattle.case_maker.specs.declared.event.Event.{Event}
 use Rattle.case_maker.specs.Event.{Wording, wording_of}
 

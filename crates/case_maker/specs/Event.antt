@@ -1,3 +1,4 @@
+-- The line of a made event: its request and its answer.
 use Rattle.std.specs.Prelude.{ℕ, ◌+◌, ◌/◌, ◌%◌, List, [], ◌∷◌, ◌++◌, Option, Some, None, codes, decimal}
 use Rattle.std.specs.List.{concat}
 use Rattle.case_maker.specs.declared.exchange.Held.{Held}

@@ -1,3 +1,4 @@
+-- What an event does by what was drawn: a request and its answer, and what is there behind it.
 use Rattle.std.specs.Prelude.{ℕ, ◌+◌, nat_le, if◌then◌else◌, Option, Some, None}
 use Rattle.case_maker.specs.declared.exchange.Held.{Held}
 use Rattle.case_maker.specs.declared.exchange.Exchange.{Exchange}

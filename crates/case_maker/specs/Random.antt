@@ -1,3 +1,4 @@
+-- The random numbers of a case: a linear congruential generator.
 use Rattle.std.specs.Prelude.{ℕ, ◌+◌, ◌*◌, ◌/◌, ◌%◌, ◌^◌}
 
 -- what the state is after one draw

@@ -1,3 +1,4 @@
+-- Those of some lengths that are up to a most.
 use Rattle.std.specs.Prelude.{◌≤◌, ◌↔◌, ℕ, List, Contains}
 
 -- those of the lengths that are up to the most

@@ -1,3 +1,4 @@
+-- What clouds are made of: unrecorded writes, and the revisions of recorded ones.
 use Rattle.std.specs.Prelude.{List}
 use Rattle.clouds.specs.declared.span.KeyRevision.{KeyRevision}
 use Rattle.clouds.specs.declared.span.OpaqueSpan.{OpaqueSpan}

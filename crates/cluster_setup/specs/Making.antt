@@ -152,7 +152,7 @@ objects_of trees list = objects_from list (found_for trees list)
 abbrev pub start_tree : List ℕ → List ℕ → Meaning
 start_tree revision time = members (say (codes "time") time (say (codes "revision") revision no_fields))
 
--- by how many nanoseconds an authoriser's caches may be behind, where decisions are judged: a second
+-- by how many nanoseconds an authorizer's caches may be behind, where decisions are judged: a second
 abbrev pub lag_of : Bool → ℕ
 lag_of true = 1000000000
 lag_of false = 0

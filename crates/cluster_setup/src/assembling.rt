@@ -13,7 +13,7 @@ use base_types::OutOfMemory;
 use base_types::json::{MemberList, Tree, copy};
 use std::alloc::Global;
 
-/// By how many nanoseconds an authoriser's caches may be behind (`lagNanos`): a second.
+/// By how many nanoseconds an authorizer's caches may be behind (`lagNanos`): a second.
 const LAG: i128 = 1_000_000_000;
 
 /// What a setup is made of.
@@ -34,7 +34,7 @@ fn start_tree(alloc: Global, revision: &str, time: &str) -> Result<Tree, OutOfMe
     Ok(object(fields))
 }
 
-// Says how far an authoriser's caches may be behind, where decisions are judged.
+// Says how far an authorizer's caches may be behind, where decisions are judged.
 fn add_lag(alloc: Global, fields: &mut MemberList, authorize: bool) -> Result<(), OutOfMemory>
     ensures { OnOk result (fields_of fields.new ≡ with_lag authorize (fields_of fields.old)) }
 {

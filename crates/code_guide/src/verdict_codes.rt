@@ -174,13 +174,13 @@ What to do: Look for the missing write of that object. Else the list was changed
 pub const U14: &str =
     "U14: the event records a decision that no state of the roles and bindings gives.
 
-How it comes about: The authoriser's caches were behind by some milliseconds and `lagNanos`
-is smaller; or another authoriser than RBAC decided, as that for nodes does.
+How it comes about: The authorizer's caches were behind by some milliseconds and `lagNanos`
+is smaller; or another authorizer than RBAC decided, as that for nodes does.
 
 Look at: the event's annotation `authorization.k8s.io/reason`, and what `can` prints for its
 user and request at places near it.
 
-What to do: Set `lagNanos` to a second, and name the groups that another authoriser serves
+What to do: Set `lagNanos` to a second, and name the groups that another authorizer serves
 in `skipGroups`. Else a binding isn't in the log, or a decision was changed.
 ";
 

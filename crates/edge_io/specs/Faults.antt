@@ -1,3 +1,4 @@
+-- The count of faults of a desk or a sink, and that a call fails only where it rose.
 use Rattle.std.specs.Prelude.{ℕ, ◌+◌, ◌-◌, ◌^◌, ◌≤◌, min, Result, OnErr}
 
 -- a count of faults rose, or stands at its last value

@@ -1,3 +1,4 @@
+-- The files of a desk in memory, and what is left of each.
 use Rattle.std.specs.Prelude.{ℕ, List, [], ◌∷◌, bytes_eq, if◌then◌else◌}
 
 -- a file of a desk in memory: its name, and the bytes that were not read yet

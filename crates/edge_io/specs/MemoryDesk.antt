@@ -1,3 +1,4 @@
+-- Desks in memory: what they hold, and which of their reads fail.
 use Rattle.std.specs.Prelude.{ℕ, List, map}
 use Rattle.edge_io.specs.Files.{HeldFile}
 use Rattle.edge_io.specs.declared.files.InputFile.{InputFile}

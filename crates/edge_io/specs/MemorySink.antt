@@ -1,3 +1,4 @@
+-- A sink in memory: what was written, and which of its writes fail.
 use Rattle.std.specs.Prelude.{ℕ, List, []}
 
 -- a sink in memory: what was written, the calls so far, those that fail, and how many of them did

@@ -37,7 +37,7 @@ fn earlier(at: Moment, nanos: u64) -> Moment
     }
 }
 
-/// The places at which the caches of the event's authoriser may be, both ends among them: as far behind the event's
+/// The places at which the caches of the event's authorizer may be, both ends among them: as far behind the event's
 /// start as the lag says, up to its end.
 pub fn decision_window_of<L: Listable, D: Decisions>(
     view: &View<'_, L, D>,

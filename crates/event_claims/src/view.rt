@@ -6,7 +6,7 @@ use object_past::Past;
 use time_windows::Windows;
 use write_groups::LogEvent;
 
-/// The decisions of a log's authoriser. They are judged by roles and bindings, which claims don't look into.
+/// The decisions of a log's authorizer. They are judged by roles and bindings, which claims don't look into.
 pub trait Decisions {
     ghost use Rattle.std.specs.Prelude.{ℕ, Bool, IfSome, IfNone};
     ghost use Rattle.base_types.specs.PlaceOrder.{AreLeastPlaces};
@@ -15,7 +15,7 @@ pub trait Decisions {
 
     ghost decides: { Self → ℕ → Places → Bool };
 
-    /// The least four places from `low` to `high` at which the authoriser could give the judged decision of the event
+    /// The least four places from `low` to `high` at which the authorizer could give the judged decision of the event
     /// of this number.
     fn find(&self, event: u32, low: u64, high: u64) -> Option<Places>
         ensures some { IfSome result (AreLeastPlaces (IsGivenAt (decides self.now event) low high)) }
@@ -27,7 +27,7 @@ pub trait Decisions {
 pub struct View<'a, L, D> {
     /// The revision of the snapshot.
     pub start: Revision,
-    /// How far an authoriser's caches may be behind, in nanoseconds.
+    /// How far an authorizer's caches may be behind, in nanoseconds.
     pub lag: u64,
     /// The events by line, and the checkpoints behind them.
     pub log: &'a [LogEvent],

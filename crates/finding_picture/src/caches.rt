@@ -15,7 +15,7 @@ use version_store::Context;
 use write_groups::{LogEvent, line_at};
 
 /// What stands before the range of the caches' places.
-pub const BEFORE_CACHES: &str = "<h2>The authoriser's caches</h2>
+pub const BEFORE_CACHES: &str = "<h2>The authorizer's caches</h2>
 <p>The four caches (roles, cluster roles, and the bindings of each) may have been at places from ";
 
 /// What stands behind it.

@@ -1,4 +1,4 @@
--- An authoriser keeps roles, cluster roles, role bindings and cluster role bindings in four caches
+-- An authorizer keeps roles, cluster roles, role bindings and cluster role bindings in four caches
 -- (Kubernetes "Using RBAC Authorization", API objects), and each may be behind by itself.
 use Rattle.std.specs.Prelude.{◌≡◌, ◌≤◌, ℕ, true}
 use Rattle.base_types.specs.declared.placed.Places.{Places}

@@ -35,7 +35,7 @@ pub record Removal : Type 0 where
   pub range : Range
 
 pub record History : Type 0 where
-  -- the setup: the revision of the snapshot, the lag of an authoriser's caches, and the snapshot
+  -- the setup: the revision of the snapshot, the lag of an authorizer's caches, and the snapshot
   pub start : ℕ
   pub lag : ℕ
   pub snapshot : List Item

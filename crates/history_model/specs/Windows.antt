@@ -50,7 +50,7 @@ high_end h event = high_end_of h event event.reading
 abbrev pub InWindow : History → Event → ℕ → Type 0
 InWindow h event place = (low_end h event ≤ place) × (place ≤ high_end h event)
 
--- the ends of the places at which the caches of an authoriser may be
+-- the ends of the places at which the caches of an authorizer may be
 abbrev pub decision_low : History → Event → ℕ
 decision_low h event = lowest h (event.lo -ℤ pos h.lag)
 

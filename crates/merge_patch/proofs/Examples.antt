@@ -1,4 +1,4 @@
--- The table of RFC 7386 appendix A, and its section 3.
+-- The table of RFC 7386, now RFC 7396, appendix A, and its section 3.
 use Rattle.std.proofs.Common.{◌≡◌, ℕ, List, Some, None, codes, refl, pos}
 use Rattle.base_types.specs.Meaning.{Meaning, null, whole, words, items, members, no_kids, kid, no_fields, field}
 use Rattle.merge_patch.specs.Merging.{merged}

@@ -1,4 +1,4 @@
--- JSON Merge Patch: the function `MergePatch(Target, Patch)` of RFC 7386 section 2.
+-- JSON Merge Patch: the function `MergePatch(Target, Patch)` of RFC 7386, now RFC 7396, section 2.
 use Rattle.std.specs.Prelude.{ℕ, List, Option, Some, None, if◌then◌else◌}
 use Rattle.base_types.specs.Edits.{put}
 use Rattle.base_types.specs.Meaning.{Meaning, null, flag, whole, words, items, members, Fields, no_fields, field}

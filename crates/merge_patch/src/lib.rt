@@ -1,4 +1,4 @@
-//! JSON Merge Patch (RFC 7386).
+//! JSON Merge Patch (RFC 7386, now RFC 7396).
 #![tactic(auto)]
 
 mod merging;

@@ -11,7 +11,7 @@ use base_types::json::{Member, MemberList, Node, Tree, copy};
 use base_types::{OutOfMemory, Text};
 use std::alloc::Global;
 
-/// The target after a merge patch (RFC 7386 section 2). It costs one walk over target and patch.
+/// The target after a merge patch (RFC 7386, now RFC 7396, section 2). It costs one walk over target and patch.
 #[cycle(merge)]
 pub fn merge(alloc: Global, target: Option<&Tree>, patch: &Tree) -> Result<Tree, OutOfMemory>
     ensures { IfOk result (λ made. made ≡ merged (option_map (λ t. t.now) target.entry) patch.now) }

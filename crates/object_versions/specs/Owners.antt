@@ -1,3 +1,4 @@
+-- Whose a version is: an object by its key and its uid.
 use Rattle.std.specs.declared.cmp.Ordering.{Ordering}
 use Rattle.object_versions.specs.contracts.owner.OwnerOrd.TheImpl as owner_ord
 use Rattle.object_versions.specs.declared.owner.Owner.{Owner}

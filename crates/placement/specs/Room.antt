@@ -1,3 +1,4 @@
+-- The ranges that bounds leave to the places of removals.
 use Rattle.std.specs.Prelude.{ℕ, List, ◌↔◌}
 use Rattle.base_types.specs.declared.claim.Bound.{Bound}
 use Rattle.base_types.specs.declared.claim.Range.{Range}

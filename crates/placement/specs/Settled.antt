@@ -1,3 +1,4 @@
+-- What settling comes to: the least choice, or the first event that breaks.
 use Rattle.std.specs.Prelude.{ℕ, List}
 use Rattle.base_types.specs.declared.claim.Claim.{Claim}
 use Rattle.base_types.specs.declared.claim.Range.{Range}

@@ -1,3 +1,4 @@
+-- What a timeline is built of.
 use Rattle.std.specs.Prelude.{ℕ, List, [], map}
 use Rattle.clouds.specs.Writes.{Writes}
 use Rattle.clouds.specs.declared.span.KeyRevision.{KeyRevision}

@@ -40,7 +40,7 @@ abbrev pub asked_by_json_patch : Tracked → Result (List Op) PatchFault → Opt
 asked_by_json_patch tracked (Err fault) old = Wrong
 asked_by_json_patch tracked (Ok ops) old = if list_any touches_managed ops then NotJudged else asked_by_operations tracked ops old
 
--- a merge patch (RFC 7386)
+-- a merge patch (RFC 7386, now RFC 7396)
 abbrev pub asked_by_merge_patch : Tracked → Meaning → Option Meaning → Asking
 asked_by_merge_patch tracked body None = Wrong
 asked_by_merge_patch tracked body (Some old) = Whole (untyped (merged (Some (typed tracked old)) body))

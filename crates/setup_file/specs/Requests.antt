@@ -27,7 +27,7 @@ has_query name attrs = list_any (λ (p : Pair). bytes_eq p.name name) attrs.quer
 abbrev pub is_apply : RequestAttrs → Meaning → Bool
 is_apply attrs body = is_some (text_at (codes "apiVersion") body) && is_some (text_at (codes "kind") body) && has_query (codes "fieldManager") attrs
 
--- a patch's body is a merge patch (RFC 7386): an object that is no apply configuration, where the resource's patches
--- that are objects are merge patches
+-- a patch's body is a merge patch (RFC 7386, now RFC 7396): an object that is no apply configuration, where
+-- the resource's patches that are objects are merge patches
 abbrev pub is_merge_patch : Tracked → RequestAttrs → Meaning → Bool
 is_merge_patch tracked attrs body = is_some (members_of body) && not (is_apply attrs body) && tracked.merges

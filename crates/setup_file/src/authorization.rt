@@ -47,7 +47,7 @@ fn groups_or(
     tree.to_texts(alloc)
 }
 
-/// Reads what a setup says of authorisation.
+/// Reads what a setup says of authorization.
 pub fn read_authorization(alloc: Global, tree: &Tree) -> Result<Option<Authorization>, OutOfMemory>
     ensures { IfOk result (λ found. found ≡ authorization_of tree.now) }
 {

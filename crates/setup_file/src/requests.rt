@@ -41,8 +41,8 @@ fn is_apply(attrs: &RequestAttrs, body: &PackedRef<'_>) -> bool
         && has_query(attrs, "fieldManager")
 }
 
-/// Whether the body of a patch is a merge patch (RFC 7386): an object that is no apply configuration, where the
-/// resource's patches that are objects are merge patches.
+/// Whether the body of a patch is a merge patch (RFC 7386, now RFC 7396): an object that is no apply
+/// configuration, where the resource's patches that are objects are merge patches.
 pub fn is_merge_patch(tracked: &Tracked, attrs: &RequestAttrs, body: &PackedRef<'_>) -> bool
     ensures { result ≡ is_merge_patch tracked.now attrs.now body.now }
 {

@@ -16,7 +16,7 @@ pub struct Setup {
     pub until: Option<Moment>,
     /// By how many nanoseconds the times of an event may be off, at most 10^18.
     pub slack: u64,
-    /// How many nanoseconds an authoriser's caches may be behind, at most 10^18.
+    /// How many nanoseconds an authorizer's caches may be behind, at most 10^18.
     pub lag: u64,
     pub policy: Policy,
     /// Whether the recorded decisions are judged.
@@ -43,7 +43,7 @@ pub struct Tracked {
     /// The kind of a list of its objects.
     pub list_kind: Text,
     pub namespaced: bool,
-    /// Whether a patch that is an object is a merge patch (RFC 7386).
+    /// Whether a patch that is an object is a merge patch (RFC 7386, now RFC 7396).
     pub merges: bool,
     pub shape: Shape,
     pub subresources: Subresources,

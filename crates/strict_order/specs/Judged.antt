@@ -1,3 +1,4 @@
+-- The first of some things in the order of judgement.
 use Rattle.std.specs.Prelude.{◌≡◌, ◌⊎◌, List, Option, All, Contains, MatchOption}
 use Rattle.strict_order.specs.declared.thing.Thing.{Thing}
 use Rattle.strict_order.specs.Things.{IsJudgedNoLater}

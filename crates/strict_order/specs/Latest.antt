@@ -1,3 +1,4 @@
+-- The latest first moment of all things up to a number, for each number.
 use Rattle.std.specs.Prelude.{◌≡◌, ℕ, ◌+◌, ◌<◌, ◌≤◌, ◌≤ℤ◌, List, length, map, take, slice_index_or, All, Any}
 use Rattle.std.specs.List.Sorted.{IsPermutation}
 use Rattle.base_types.specs.declared.revision.Moment.{Moment}

@@ -1,3 +1,4 @@
+-- What ordering comes to: a moment for each thing, or the first two that cross.
 use Rattle.std.specs.Prelude.{◌≡◌, ℕ, List, All, Any, Contains}
 use Rattle.std.specs.List.{AllZip}
 use Rattle.strict_order.specs.declared.moments.Moments.{Moments}

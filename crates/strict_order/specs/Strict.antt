@@ -1,3 +1,4 @@
+-- The strict order: all things in one list, along which neither moments nor numbers fall.
 use Rattle.std.specs.Prelude.{◌≡◌, ℕ, ◌≤◌, ◌≤ℤ◌, List, length, map, All, AllPairs}
 use Rattle.std.specs.List.{zip}
 use Rattle.std.specs.List.Sorted.{IsPermutation}

@@ -1,3 +1,4 @@
+-- When one thing comes before another, and when two of them cross.
 use Rattle.std.specs.Prelude.{◌≡◌, ◌<◌, ◌≤◌, ◌<ℤ◌, ◌⊎◌}
 use Rattle.strict_order.specs.declared.thing.Thing.{Thing}
 

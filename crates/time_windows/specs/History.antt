@@ -1,3 +1,4 @@
+-- What windows are made of: the start, and the spans of the writes behind it.
 use Rattle.std.specs.Prelude.{ℕ, List}
 use Rattle.time_windows.specs.declared.span.Span.{Span}
 

@@ -1,3 +1,4 @@
+-- How spans are kept: their ends and their starts, each in order of time.
 use Rattle.std.specs.Prelude.{ℕ, ◌<◌, List, [], ◌∷◌, All}
 use Rattle.time_windows.specs.declared.mark.Mark.{Mark}
 use Rattle.time_windows.specs.declared.span.Span.{Span}

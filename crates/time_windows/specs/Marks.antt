@@ -1,3 +1,4 @@
+-- Moments with revisions in order of time, with the greatest and the least revision so far.
 use Rattle.std.specs.Prelude.{◌≡◌, ℕ, ◌+◌, ◌<◌, ◌≤◌, ◌<ℤ◌, ◌⊎◌, List, length, map, take, drop, slice_index_or, All, Any}
 use Rattle.std.specs.List.Sorted.{IsPermutation}
 use Rattle.time_windows.specs.declared.mark.Mark.{Mark}

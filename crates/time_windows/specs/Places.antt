@@ -1,3 +1,4 @@
+-- The places of a window: the greatest revision that had ended, and the place before the least that hadn't begun.
 use Rattle.std.specs.Prelude.{◌≡◌, ℕ, ◌+◌, ◌-◌, ◌^◌, ◌<◌, ◌≤◌, ℤ, ◌<ℤ◌, ◌⊎◌, List, Any}
 use Rattle.time_windows.specs.declared.span.Span.{Span}
 

@@ -1,3 +1,4 @@
+-- The text of an outcome: `explained` with its lines, or `unexplained` with its writes.
 use Rattle.std.specs.Prelude.{ℕ, List, [], ◌∷◌, ◌++◌, length, codes, decimal}
 use Rattle.std.specs.List.{flat_map}
 use Rattle.base_types.specs.declared.claim.Reason.{Reason}

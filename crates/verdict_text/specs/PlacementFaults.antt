@@ -1,3 +1,4 @@
+-- The faults of a text that isn't a placement.
 use Rattle.std.specs.Prelude.{ℕ, List}
 use Rattle.verdict_text.specs.declared.reading.PlacementFault.{PlacementFault}
 use Rattle.verdict_text.specs.declared.reading.PlacementFault.TheVariants.{Line, OutOfMemory}

@@ -1,3 +1,4 @@
+-- Words, lines and numbers of the texts that are printed and read.
 use Rattle.std.specs.Prelude.{◌≡◌, ◌≢◌, ℕ, ◌<◌, ◌≤◌, ◌^◌, List, [], ◌∷◌, ◌++◌, length, slice_index, All}
 use Rattle.std.specs.List.{join_with_byte}
 

@@ -22,7 +22,7 @@ judged_user event = user_or event.impersonated event.user
 abbrev pub is_skipped : Setup → User → Bool
 is_skipped setup user = list_any (has_text setup.skip) user.groups
 
--- an authoriser may have known less at the moment than the log does
+-- an authorizer may have known less at the moment than the log does
 abbrev pub is_behind : Setup → ℤ → Bool
 is_behind setup at = int_lt (at -ℤ pos setup.lag) setup.start_time.0
 

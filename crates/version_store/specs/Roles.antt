@@ -34,7 +34,7 @@ role_content tree = rules_content (role_of tree)
 abbrev pub binding_content : Meaning → RbacContent
 binding_content tree = bound_content (binding_of tree)
 
--- what an object of the kind holds, as the authoriser reads it
+-- what an object of the kind holds, as the authorizer reads it
 abbrev pub content_by : Option Kind → Meaning → RbacContent
 content_by None tree = Unreadable
 content_by (Some kind.Role) tree = role_content tree

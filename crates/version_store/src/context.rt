@@ -225,7 +225,7 @@ impl Context {
         &self.clouds
     }
 
-    /// The roles and bindings among the versions, as authorisers may have known them.
+    /// The roles and bindings among the versions, as authorizers may have known them.
     pub fn timeline(&self) -> &Timeline
         ensures timeline { result.now ≡ self.now.rbac }
         ensures roles { AreRoles self.now.trees self.now.versions self.now.rbac.versions }

@@ -60,7 +60,7 @@ fn is_role(key: &ObjectKey) -> bool
     kind_of_key(key).is_some()
 }
 
-// The role or binding that a version is, as the authoriser reads it.
+// The role or binding that a version is, as the authorizer reads it.
 fn rbac_version(
     alloc: Global,
     pool: &Pool,

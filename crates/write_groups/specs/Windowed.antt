@@ -1,3 +1,4 @@
+-- The window of an answer that names its revision exactly.
 use Rattle.std.specs.Prelude.{ℕ, ◌&&◌, nat_le, if◌then◌else◌}
 use Rattle.write_groups.specs.declared.window.Window.{Window}
 

@@ -53,7 +53,7 @@ fn is_before(start: i128, lag: u64, at: i128) -> bool
     }
 }
 
-// Whether an authoriser may have known less at the moment than the log does.
+// Whether an authorizer may have known less at the moment than the log does.
 fn is_behind(setup: &Setup, at: Moment) -> bool
     ensures { result ≡ is_behind setup.now at.0 }
 {
