@@ -12,7 +12,7 @@ How it comes about: It has no zone, or the words stand in another order.
 Look at: the word behind `setup`, or behind `--authorize`.
 
 What to do: Write it as `2026-02-11T14:20:07Z`: a moment just behind the answer of the
-lists.
+first list.
 ";
 
 /// `setup policy`
