@@ -1,5 +1,5 @@
 -- What holds up to places of caches.
-use Rattle.std.proofs.Common.{◌≡◌, ℕ, ◌+◌, ◌<◌, ◌≤◌, ◌↔◌, ◌⊎◌, ⊎_elim, inl, inr, min, true, Option, Some, None, List, length, get_or, take, refl, sym, ◌∙◌, subst, ap, arith}
+use Rattle.std.proofs.Common.{◌≡◌, ℕ, ◌+◌, ◌<◌, ◌≤◌, ◌↔◌, ◌⊎◌, ⊎_elim, inl, inr, min, true, Option, Some, None, List, length, get_or, take, sym, subst, ap, arith}
 use Rattle.std.specs.BTreeMap.{BTreeMap}
 use Rattle.std.specs.List.{AllPairs, Any, Contains}
 use Rattle.std.specs.Option.{IfNone, IfSome, MatchOption}
@@ -25,9 +25,9 @@ use Rattle.rbac_timeline.specs.declared.version.RbacVersion.{RbacVersion}
 use Rattle.rbac_timeline.specs.declared.way.Way.{Way}
 use Rattle.rbac_timeline.specs.declared.way.Way.TheVariants.{ClusterRoles, Roles}
 use Rattle.rbac_timeline.specs.Extents.{MustGrantInWay}
-use Rattle.rbac_timeline.specs.Kept.{AreStored, IsRemovalOf, MustGrantByListed, MustGrantOf, NamesAccount, NamesGroup, NamesUser, NamesWho, stored_of}
+use Rattle.rbac_timeline.specs.Kept.{AreStored, IsRemovalOf, MustGrantByListed, MustGrantOf, NamesAccount, NamesGroup, NamesUser, stored_of}
 use Rattle.rbac_timeline.specs.Known.{Known}
-use Rattle.rbac_timeline.specs.Lasting.{HoldsUntil, IsBlock, IsLast, LastsUntil, NoneBegins, NoneRemoved, cluster_role_block, farther, farther_block, is_farther, lasts_throughout, role_block}
+use Rattle.rbac_timeline.specs.Lasting.{HoldsUntil, IsBlock, IsLast, LastsUntil, NoneBegins, cluster_role_block, farther, farther_block, is_farther, lasts_throughout, role_block}
 use Rattle.rbac_timeline.specs.Searched.{IsFreePlain}
 use Rattle.rbac_timeline.specs.Sound.{AreSound}
 use Rattle.rbac_timeline.specs.States.{IsEndOf, IsLatestVersion}

@@ -1,7 +1,6 @@
-use Rattle.std.proofs.Common.{ℕ, sym, ◌∙◌, subst}
-use Rattle.rbac_timeline.specs.Kept.{MustGrantOf, NamesAccount, NamesUser}
-use Rattle.rbac_timeline.specs.Lasting.{LastsUntil, lasts_throughout}
-use Rattle.rbac_timeline.proofs.Throughout.{LastsUntil-map, of_keys, of_names, of_who}
+use Rattle.std.proofs.Common.{sym, ◌∙◌}
+use Rattle.rbac_timeline.specs.Kept.{NamesAccount, NamesUser}
+use Rattle.rbac_timeline.proofs.Throughout.{of_keys, of_names, of_who}
 use Rattle.rbac_timeline.proofs.search.Asked.granted_until.Goals as goal
 
 pub returns-then-lasts_throughout : goal.returns-then-lasts_throughout
