@@ -14,12 +14,14 @@ processor time of all threads, the peak of memory, and by how much the time grew
   namespaces unrecorded removals of whole collections, each in another namespace
   bindings   unrecorded creates of role bindings, each with another generateName, and refused requests
   decisions  roles and bindings that come and go within the lag, and refused requests
+  ends       the same, all there where the ranges of the refused requests begin, to end one behind the other in them
+  product    the same with one binding more that stays, its role the last to end
   pages      first pages of one list that all have one token
   inserts    JSON Patches that insert at the front of a list, ten to an object
   members    JSON Patches that remove the first members of a large object and add them again
   spans      writes one behind the other, each with a read whose window ends there
   absent     reads answered 404 in windows that stay open, among creates and deletes
-  resources  hundreds of tracked resources
+  resources  hundreds of tracked resources, the used one the last of them
   clouded    unrecorded writes that changed nothing, each with a revision right behind, and reads whose windows stay open
   names      one object, written over and over
   subjects   bindings that all name one group
@@ -100,6 +102,16 @@ class Log:
         self.event("delete", (ROLES if plural == "roles" else BINDINGS) + "/" + name, 200, None,
                    status(name, status="Success", details=details))
 
+    def grant(self, name):
+        rule = {"verbs": ["get"], "apiGroups": [""], "resources": ["configmaps"]}
+        self.role_object("roles", name, rules=[rule])
+        self.role_object("rolebindings", name, subjects=[{"kind": "User", "name": "anna", "apiGroup": RBAC}],
+                         roleRef={"apiGroup": RBAC, "kind": "Role", "name": name})
+
+    def refuse(self, **user):
+        self.event("get", COLLECTION + "/c", 403, None, status("c", status="Failure", reason="Forbidden", code=403),
+                   user={"username": "anna", **user}, annotations={"authorization.k8s.io/decision": "forbid"})
+
     def authorize(self, lag):
         self.setup.update(authorize=True, lagNanos=lag)
         self.setup["resources"] += [resource("roles", "Role", group=RBAC), resource("clusterroles", "ClusterRole", False, RBAC),
@@ -126,17 +138,35 @@ def prefixes(log, size):
 
 
 def decisions(log, size):
-    log.authorize(10 ** 12)
-    rule = [{"verbs": ["get"], "apiGroups": [""], "resources": ["configmaps"]}]
-    subject = [{"kind": "User", "name": "anna", "apiGroup": RBAC}]
+    log.authorize(size * 10 ** 6)
+    log.now += size * 1000
     for number in range(size // 5):
         name = "r%d" % number
-        log.role_object("roles", name, rules=rule)
-        log.role_object("rolebindings", name, subjects=subject, roleRef={"apiGroup": RBAC, "kind": "Role", "name": name})
-        log.event("get", COLLECTION + "/c", 403, None, status("c", status="Failure", reason="Forbidden", code=403),
-                  user={"username": "anna"}, annotations={"authorization.k8s.io/decision": "forbid"})
+        log.grant(name)
+        log.refuse()
         log.remove_role_object("rolebindings", name)
         log.remove_role_object("roles", name)
+
+
+def ends(log, size, stays=False):
+    log.authorize(size * 10 ** 6)
+    log.write("w", "")
+    names = ["r%06d" % number for number in range(size // 7)]
+    for name in names + ["z"] * stays:
+        log.grant(name)
+    log.now += size * 1000  # the caches may still be here when the refusals come
+    for name in names:
+        for plural in ("rolebindings", "roles"):
+            log.remove_role_object(plural, name)
+            log.write("w", plural + name, "update")  # the removal was before this revision
+    if stays:
+        log.remove_role_object("roles", "z")
+    for _ in names:
+        log.refuse()
+
+
+def product(log, size):
+    ends(log, size, stays=True)
 
 
 def pages(log, size):
@@ -199,7 +229,8 @@ def absent(log, size):
 
 def resources(log, size):
     for number in range(400):
-        log.setup["resources"].append(resource("things%d" % number, "Thing%d" % number, group="g%d.example" % (number % 7)))
+        thing = resource("things%d" % number, "Thing%d" % number, group="g%d.example" % (number % 7))
+        log.setup["resources"].insert(0, thing)
     plain(log, size)
 
 
@@ -216,8 +247,7 @@ def subjects(log, size):
     for number in range(size // 2):
         log.role_object("rolebindings", "b%d" % number, subjects=[{"kind": "Group", "name": "g", "apiGroup": RBAC}],
                         roleRef={"apiGroup": RBAC, "kind": "Role", "name": "r"})
-        log.event("get", COLLECTION + "/c", 403, None, status("c", status="Failure", reason="Forbidden", code=403),
-                  user={"username": "anna", "groups": ["g"]}, annotations={"authorization.k8s.io/decision": "forbid"})
+        log.refuse(groups=["g"])
 
 
 def namespaces(log, size):
@@ -259,13 +289,12 @@ def bindings(log, size):
                 "roleRef": {"apiGroup": RBAC, "kind": "Role", "name": "r"}}
         log.revision += 1
         log.event("create", BINDINGS, 201, body, None, level="Request", user={"username": "p"})
-        log.event("get", COLLECTION + "/c", 403, None, status("c", status="Failure", reason="Forbidden", code=403),
-                  user={"username": "anna"}, annotations={"authorization.k8s.io/decision": "forbid"})
+        log.refuse()
     log.setup["policy"]["rules"] = [{"level": "Request", "users": ["p"]}, {"level": "RequestResponse"}]
 
 
-KINDS = {it.__name__: it for it in (plain, prefixes, nested, namespaces, decisions, bindings, pages, inserts, members, spans,
-                                    absent, resources, clouded, names, subjects)}
+KINDS = {it.__name__: it for it in (plain, prefixes, nested, namespaces, decisions, ends, product, bindings, pages, inserts,
+                                    members, spans, absent, resources, clouded, names, subjects)}
 
 
 def judged(program, folder):

@@ -1,5 +1,5 @@
 -- What may grant at a place may grant where the object is clouded, or where the version that counts began.
-use Rattle.std.proofs.Common.{◌≡◌, ℕ, ◌<◌, ◌≤◌, ◌↔◌, ◌⊎◌, ⊎_elim, inl, inr, Option, None, List, length, take, refl, sym, subst, arith}
+use Rattle.std.proofs.Common.{◌≡◌, ℕ, ◌<◌, ◌≤◌, ◌↔◌, ◌⊎◌, ⊎_elim, inl, inr, true, Option, None, List, length, take, refl, sym, subst, arith}
 use Rattle.std.specs.List.{Any, Contains}
 use Rattle.std.proofs.lemmas.Bool.{cases_lt}
 use Rattle.std.proofs.lemmas.List.{take_all}
@@ -18,13 +18,13 @@ use Rattle.rbac_timeline.specs.Extents.{IsSubject, MayGrant, MayGrantByRole, May
 use Rattle.rbac_timeline.specs.Kept.{IsKnownUnsure, MayGrantByListed, MayGrantOf, NamesAccount, NamesGroup, NamesUser, NamesWho, stored_of}
 use Rattle.rbac_timeline.specs.Kinds.{IsBindingOf, IsKeyOf, IsReached, role_key}
 use Rattle.rbac_timeline.specs.Searched.{IsFirstPair}
-use Rattle.rbac_timeline.specs.Pairs.{AreVersionsBetween, earlier_pair}
+use Rattle.rbac_timeline.specs.Pairs.{AreVersionsBetween, earlier_pair, is_lowest}
 use Rattle.rbac_timeline.specs.Known.{Known, writes_of}
 use Rattle.rbac_timeline.specs.States.{By, Everything, MayBeThere, Nothing, Reading, ReadsRules}
 use Rattle.rbac_timeline.specs.Unsure.{last_place}
 use Rattle.rbac_timeline.proofs.Decided.{decide_clouded}
 use Rattle.rbac_timeline.proofs.Naming.{cases_of_way, way_from_known, way_from_named}
-use Rattle.rbac_timeline.proofs.Pairing.{IsFirstPair-cover, IsFirstPair-either, IsFirstPair-same, IsFirstPlace-cover}
+use Rattle.rbac_timeline.proofs.Pairing.{IsFirstPair-cover, IsFirstPair-either, IsFirstPair-same, IsFirstPair-stop, IsFirstPlace-cover}
 
 -- a version of the key begins at the place, behind `low`
 abbrev pub BeginsBehind : Known → ObjectKey → ℕ → ℕ → Type 0
@@ -183,6 +183,24 @@ module _ (known : Known) (way : Way) (who : User) (attrs : RequestAttrs) (low hi
   cases_who r b (inl (inl of)) = (of.0, inl (inl of.1), of.2)
   cases_who r b (inl (inr of)) = (of.0, inl (inr of.1), of.2)
   cases_who r b (inr any) = (any.4.0, inr (any.0, any.1, any.2, any.3, any.4.1), any.4.2)
+
+  -- those that name the user or the account, where these suffice
+  pub of_names : (user account : Option (ℕ × ℕ)) → is_lowest low (earlier_pair user account) ≡ true → IsFirstPair (λ r b. MayGrantOf known (NamesUser known.versions who.name) way r b who attrs) low high user
+      → IsFirstPair (λ r b. MayGrantOf known (NamesAccount known.versions who.name) way r b who attrs) low high account
+      → IsFirstPair (λ r b. MayGrantOf known (NamesWho known.versions who) way r b who attrs) low high (earlier_pair user account)
+  of_names user account lowest by_user by_account =
+      IsFirstPair-stop
+      (λ r b. MayGrantOf known (NamesUser known.versions who.name) way r b who attrs ⊎ MayGrantOf known (NamesAccount known.versions who.name) way r b who attrs)
+      (λ r b. MayGrantOf known (NamesWho known.versions who) way r b who attrs) low high (earlier_pair user account) lowest (λ r b either. cases_who r b (inl either))
+      (IsFirstPair-either (λ r b. MayGrantOf known (NamesUser known.versions who.name) way r b who attrs) (λ r b. MayGrantOf known (NamesAccount known.versions who.name) way r b who attrs) low high user account
+      by_user by_account)
+
+  -- and where they do, no other way counts
+  pub of_named : (named : Option (ℕ × ℕ)) → is_lowest low named ≡ true → IsFirstPair (λ r b. MayGrantOf known (NamesWho known.versions who) way r b who attrs) low high named
+      → IsFirstPair (λ r b. MayGrantInWay known way r b who attrs) low high named
+  of_named named lowest by_name =
+      IsFirstPair-stop (λ r b. MayGrantOf known (NamesWho known.versions who) way r b who attrs) (λ r b. MayGrantInWay known way r b who attrs) low high named lowest
+      (λ r b of. way_from_named known way r b who attrs of) by_name
 
   -- those that name the user in some way
   pub of_who : (user account groups : Option (ℕ × ℕ)) → IsFirstPair (λ r b. MayGrantOf known (NamesUser known.versions who.name) way r b who attrs) low high user

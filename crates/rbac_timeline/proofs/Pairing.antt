@@ -1,14 +1,14 @@
 -- The first of places, and of pairs of places, that are found in several ways.
-use Rattle.std.proofs.Common.{◌≡◌, ℕ, ◌+◌, ◌<◌, ◌≤◌, ◌⊎◌, ⊎_elim, inl, inr, Bool, leb, Option, Some, None, List, [], ◌∷◌, length, get_or, take, refl, sym, subst, arith}
+use Rattle.std.proofs.Common.{◌≡◌, ℕ, ◌+◌, ◌<◌, ◌≤◌, ◌⊎◌, ⊎_elim, inl, inr, Bool, true, leb, Option, Some, None, List, [], ◌∷◌, length, get_or, take, refl, sym, subst, arith}
 use Rattle.std.specs.List.{Any}
-use Rattle.std.proofs.lemmas.Bool.{cases_Bool, cases_lt, cond-false, cond-true, leb-true}
+use Rattle.std.proofs.lemmas.Bool.{and_parts, cases_Bool, cases_lt, cond-false, cond-true, false≢true, leb-true}
 use Rattle.std.proofs.lemmas.List.{length-take, take_all}
 use Rattle.std.specs.Option.{IfNone, IfSome}
-use Rattle.base_types.proofs.Quantifiers.{Any-head}
+use Rattle.base_types.proofs.Quantifiers.{Any-head, Any-untake}
 use Rattle.clouds.proofs.FirstPlaces.{IsFirstPlace-either, IsFirstPlace-same}
 use Rattle.clouds.proofs.Quantified.{Any-append_cases, Any-append_left, Any-append_right, Any-cons_cases}
 use Rattle.clouds.specs.FirstPlace.{HoldsNowhere, IsFirstPlace, IsLeastPlace, lesser_place}
-use Rattle.rbac_timeline.specs.Pairs.{earlier_pair, pair_with}
+use Rattle.rbac_timeline.specs.Pairs.{earlier_pair, is_lowest, pair_with}
 use Rattle.rbac_timeline.specs.Searched.{IsFirstPair, IsLeastPair, IsPairUpTo, lesser_number}
 use Rattle.rbac_timeline.proofs.Comparing.{at_most, back_by_test, below_from_not, first_by_test, first_trans, first_weaker}
 use Rattle.rbac_timeline.proofs.Gathering.{front_more}
@@ -229,4 +229,34 @@ IsFirstPair-any P low high place range least = record {
   least = λ a b a_from a_upto b_from b_upto holds.
       let upto : place ≤ b = least.least b b_from holds in
       ⊎_elim (λ (less : low < a). inl less) (λ (more : a ≤ low). inr (omega arith, upto)) (cases_lt low a);
+}
+
+-- one that no pair of the range is before is the first of whatever else there is
+pub IsFirstPair-stop : (P Q : ℕ → ℕ → Type 0) (low high : ℕ) (best : Option (ℕ × ℕ)) → is_lowest low best ≡ true → ((a b : ℕ) → P a b → Q a b) → IsFirstPair P low high best → IsFirstPair Q low high best
+IsFirstPair-stop P Q low high None lowest forth none = absurd (false≢true lowest)
+IsFirstPair-stop P Q low high (Some pair) lowest forth first =
+    let test = and_parts (leb pair.0 low) (leb pair.1 low) lowest in
+    let at_first : pair.0 ≤ low = leb-true pair.0 low test.0 in
+    let at_second : pair.1 ≤ low = leb-true pair.1 low test.1 in
+    record {
+      first_from = first.first_from;
+      first_upto = first.first_upto;
+      second_from = first.second_from;
+      second_upto = first.second_upto;
+      here = forth pair.0 pair.1 first.here;
+      least = λ a b a_from a_upto b_from b_upto holds. ⊎_elim (λ (less : pair.0 < a). inl less) (λ (more : a ≤ pair.0). inr (omega arith, omega arith)) (cases_lt pair.0 a);
+    }
+
+pub IsFirstPair-enough : {X : Type 0} (F : X → ℕ → ℕ → Type 0) (low high : ℕ) (xs : List X) (i : ℕ) (best : Option (ℕ × ℕ)) → is_lowest low best ≡ true
+    → IsFirstPair (λ a b. Any (λ y. F y a b) (take i xs)) low high best → IsFirstPair (λ a b. Any (λ y. F y a b) xs) low high best
+IsFirstPair-enough F low high xs i best lowest first =
+    IsFirstPair-stop (λ a b. Any (λ y. F y a b) (take i xs)) (λ a b. Any (λ y. F y a b) xs) low high best lowest (λ a b any. Any-untake (λ y. F y a b) i xs any) first
+
+-- the first place of all
+pub IsLeastPlace-low : (P : ℕ → Type 0) (low high place : ℕ) → IsLeastPlace (λ n. (n ≡ low) × P n) low high place → IsLeastPlace P low high place
+IsLeastPlace-low P low high place is = record {
+  from_low = is.from_low;
+  upto_high = is.upto_high;
+  here = is.here.1;
+  least = λ other from holds. let same : place ≡ low = is.here.0 in omega arith;
 }

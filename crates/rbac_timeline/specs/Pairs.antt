@@ -1,5 +1,5 @@
 -- The first of several pairs of places, and the versions between two places.
-use Rattle.std.specs.Prelude.{◌≡◌, ◌<◌, ◌≤◌, ℕ, List, Option, Some, None, Contains, nat_le, if◌then◌else◌}
+use Rattle.std.specs.Prelude.{◌≡◌, ◌<◌, ◌≤◌, ℕ, Bool, false, ◌&&◌, List, Option, Some, None, Contains, nat_le, if◌then◌else◌}
 use Rattle.base_types.specs.declared.key.ObjectKey.{ObjectKey}
 use Rattle.rbac_timeline.specs.declared.history.Stored.{Stored}
 use Rattle.rbac_timeline.specs.declared.version.RbacVersion.{RbacVersion}
@@ -21,6 +21,11 @@ abbrev pub earlier_pair : Option (ℕ × ℕ) → Option (ℕ × ℕ) → Option
 earlier_pair None b = b
 earlier_pair (Some a) None = Some a
 earlier_pair (Some a) (Some b) = if lesser_number a.0 b.0 (nat_le a.1 b.1) then Some a else Some b
+
+-- no pair of a range that begins at `low` is before this one
+abbrev pub is_lowest : ℕ → Option (ℕ × ℕ) → Bool
+is_lowest low None = false
+is_lowest low (Some pair) = nat_le pair.0 low && nat_le pair.1 low
 
 -- a first place with this second one
 abbrev pub pair_with : ℕ → Option ℕ → Option (ℕ × ℕ)

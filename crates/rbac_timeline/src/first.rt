@@ -1,6 +1,6 @@
 ghost use Rattle.std.specs.Prelude.{◌≡◌, ◌<◌, ◌≤◌, nat_le};
 ghost use Rattle.rbac_timeline.specs.Lasting.{IsLast};
-ghost use Rattle.rbac_timeline.specs.Pairs.{earlier_pair, pair_with};
+ghost use Rattle.rbac_timeline.specs.Pairs.{earlier_pair, is_lowest, pair_with};
 ghost use Rattle.rbac_timeline.specs.Searched.{lesser_number};
 
 // Whether a pair is before another by its first number and then by its second, or the same.
@@ -18,6 +18,16 @@ pub fn earlier_pair(a: Option<(u64, u64)>, b: Option<(u64, u64)>) -> Option<(u64
         (Some(a), Some(b)) => Some(if is_upto(a, b) { a } else { b }),
         (Some(a), None) => Some(a),
         (None, b) => b,
+    }
+}
+
+/// Whether no pair of a range that begins at `low` is before this one.
+pub fn is_lowest(low: u64, pair: Option<(u64, u64)>) -> bool
+    ensures { result ≡ is_lowest low pair }
+{
+    match pair {
+        Some((first, second)) => first <= low && second <= low,
+        None => false,
     }
 }
 

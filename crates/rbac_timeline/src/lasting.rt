@@ -1,7 +1,9 @@
-ghost use Rattle.std.specs.Prelude.{◌≤◌, Any};
+ghost use Rattle.std.specs.Prelude.{◌≡◌, ◌≤◌, Any, nat_lt};
 ghost use Rattle.rbac_timeline.specs.Extents.{MustGrantByKey, MustGrantInWay};
 ghost use Rattle.rbac_timeline.specs.Kept.{MustGrantByListed, MustGrantOf, NamesGroup};
-ghost use Rattle.rbac_timeline.specs.Lasting.{IsLast, LastsUntil};
+ghost use Rattle.rbac_timeline.specs.Lasting.{IsLast, LastsUntil, cluster_role_block, farther};
+ghost use Rattle.rbac_timeline.specs.Lasting.{farther_block, is_farther, lasts_throughout, role_block};
+ghost use Rattle.rbac_timeline.specs.Searched.{lesser_number};
 
 use crate::search::Asked;
 use crate::way::Link;
@@ -19,6 +21,83 @@ pub struct Until {
 pub struct Block {
     pub until: Until,
     pub bindings: u64,
+}
+
+// Whether one lasts farther than another in the second cache, or as far there and farther in the first.
+fn is_farther(a: Until, b: Until) -> bool
+    ensures { result ≡ is_farther a b }
+{
+    b.second < a.second || (b.second == a.second && b.first < a.first)
+}
+
+// The one of two that lasts farther, where there are any.
+fn farther(a: Option<Until>, b: Option<Until>) -> Option<Until>
+    ensures { result ≡ farther a b }
+{
+    match (a, b) {
+        (Some(a), Some(b)) => Some(if is_farther(b, a) { b } else { a }),
+        (Some(a), None) => Some(a),
+        (None, b) => b,
+    }
+}
+
+// Whether it lasts up to the end of the range in both caches, so that nothing lasts farther.
+fn lasts_throughout(high: u64, until: Option<Until>) -> bool
+    ensures { result ≡ lasts_throughout high until }
+{
+    match until {
+        Some(until) => high <= until.first && high <= until.second,
+        None => false,
+    }
+}
+
+/// Where roles grant, the cluster roles may be at any place.
+pub fn role_block(high: u64, until: Option<Until>) -> Option<Block>
+    ensures { result ≡ role_block high until }
+{
+    let Until { first, second } = until?;
+    Some(Block {
+        until: Until {
+            first,
+            second: high,
+        },
+        bindings: second,
+    })
+}
+
+/// Where cluster roles grant, the roles may be at any place.
+pub fn cluster_role_block(high: u64, until: Option<Until>) -> Option<Block>
+    ensures { result ≡ cluster_role_block high until }
+{
+    let Until { first, second } = until?;
+    Some(Block {
+        until: Until {
+            first: high,
+            second: first,
+        },
+        bindings: second,
+    })
+}
+
+// Whether a block by cluster roles lasts farther than one by roles.
+fn is_past(by_roles: Block, by_cluster_roles: Block) -> bool
+    ensures { result ≡ lesser_number by_roles.bindings by_cluster_roles.bindings
+        (nat_lt by_roles.until.first by_cluster_roles.until.second) }
+{
+    by_roles.bindings < by_cluster_roles.bindings
+        || (by_roles.bindings == by_cluster_roles.bindings
+            && by_roles.until.first < by_cluster_roles.until.second)
+}
+
+/// The one that lasts farther, where there are any.
+pub fn farther_block(by_roles: Option<Block>, by_cluster_roles: Option<Block>) -> Option<Block>
+    ensures { result ≡ farther_block by_roles by_cluster_roles }
+{
+    match (by_roles, by_cluster_roles) {
+        (Some(a), Some(b)) => Some(if is_past(a, b) { b } else { a }),
+        (Some(a), None) => Some(a),
+        (None, b) => b,
+    }
 }
 
 impl<'a> Asked<'a> {
@@ -57,19 +136,22 @@ impl<'a> Asked<'a> {
         Some(Until { first, second })
     }
 
-    // Until where one of the bindings grants for certain.
+    // Until where one of the bindings grants for certain: the one that does so farthest, since the search
+    // goes on behind it.
     fn keys_until(&self, keys: &[ObjectKey], link: Link) -> Option<Until>
         requires roles { link.role_place ≤ self.now.high }
         requires bindings { link.binding_place ≤ self.now.high }
         ensures { LastsUntil (λ r b. Any (MustGrantByListed self.now.timeline.now link.way r b
             self.now.who.now self.now.attrs.now) keys.now) link.role_place link.binding_place self.now.high result }
     {
+        let mut farthest = None;
         for key in keys {
-            if let Some(until) = self.key_until(key, link) {
-                return Some(until);
+            farthest = farther(farthest, self.key_until(key, link));
+            if lasts_throughout(self.high, farthest) {
+                return farthest;
             }
         }
-        None
+        farthest
     }
 
     fn group_until(&self, group: &Text, link: Link) -> Option<Until>
@@ -89,12 +171,14 @@ impl<'a> Asked<'a> {
             (NamesGroup self.now.timeline.now.versions group) link.way r b self.now.who.now
             self.now.attrs.now) groups.now) link.role_place link.binding_place self.now.high result }
     {
+        let mut farthest = None;
         for group in groups {
-            if let Some(until) = self.group_until(group, link) {
-                return Some(until);
+            farthest = farther(farthest, self.group_until(group, link));
+            if lasts_throughout(self.high, farthest) {
+                return farthest;
             }
         }
-        None
+        farthest
     }
 
     /// Until where a binding grants for certain that names the user, the account that it is, or one of its
@@ -106,12 +190,12 @@ impl<'a> Asked<'a> {
             self.now.attrs.now) link.role_place link.binding_place self.now.high result }
     {
         self.timeline.tell_sound();
-        if let Some(until) = self.keys_until(self.timeline.named_user(&self.who.name), link) {
-            return Some(until);
+        let user = self.keys_until(self.timeline.named_user(&self.who.name), link);
+        let account = self.keys_until(self.timeline.named_account(&self.who.name), link);
+        let named = farther(user, account);
+        if lasts_throughout(self.high, named) {
+            return named;
         }
-        if let Some(until) = self.keys_until(self.timeline.named_account(&self.who.name), link) {
-            return Some(until);
-        }
-        self.groups_until(self.who.groups.as_slice(), link)
+        farther(named, self.groups_until(self.who.groups.as_slice(), link))
     }
 }

@@ -6,7 +6,7 @@ ghost use Rattle.rbac_timeline.specs.Kept.{MayGrantByContent, MayGrantByListed, 
 ghost use Rattle.rbac_timeline.specs.Known.{writes_of};
 ghost use Rattle.rbac_timeline.specs.Searched.{IsFirstPair};
 
-use crate::first::{earlier_pair, pair_with};
+use crate::first::{earlier_pair, is_lowest, pair_with};
 use crate::history::Content;
 use crate::kind::{is_kind, kind_of_key, reaches};
 use crate::search::Asked;
@@ -43,8 +43,10 @@ impl<'a> Asked<'a> {
         ensures { IsFirstPlace (λ r. MayGrantByRole self.now.timeline.now role.now r self.now.attrs.now)
             self.now.low self.now.high result }
     {
-        let clouded = self.timeline.first_clouded(role, self.low, self.high);
-        let mut first = lesser_place(self.role_at(role, self.low), clouded);
+        if let Some(place) = self.role_at(role, self.low) {
+            return Some(place);
+        }
+        let mut first = self.timeline.first_clouded(role, self.low, self.high);
         for stored in self.timeline.versions_between(role, self.low, self.high) {
             first = lesser_place(first, self.role_at(role, stored.revision));
         }
@@ -122,8 +124,11 @@ impl<'a> Asked<'a> {
         ensures { IsFirstPair (λ r b. MayGrantByListed self.now.timeline.now way r b self.now.who.now
             self.now.attrs.now key.now) self.now.low self.now.high result }
     {
-        let clouded = self.clouded_pair(key, way);
-        let mut best = earlier_pair(self.pair_at(key, way, self.low), clouded);
+        let here = self.pair_at(key, way, self.low);
+        if is_lowest(self.low, here) {
+            return here;
+        }
+        let mut best = earlier_pair(here, self.clouded_pair(key, way));
         for stored in self.timeline.versions_between(key, self.low, self.high) {
             best = earlier_pair(best, self.pair_at(key, way, stored.revision));
         }
@@ -139,6 +144,9 @@ impl<'a> Asked<'a> {
         let mut best = None;
         for key in keys {
             best = earlier_pair(best, self.key_pair(key, way));
+            if is_lowest(self.low, best) {
+                return best;
+            }
         }
         best
     }
@@ -161,6 +169,9 @@ impl<'a> Asked<'a> {
         let mut best = None;
         for group in groups {
             best = earlier_pair(best, self.group_pair(group, way));
+            if is_lowest(self.low, best) {
+                return best;
+            }
         }
         best
     }
@@ -175,8 +186,11 @@ impl<'a> Asked<'a> {
     {
         let user = self.keys_pair(self.timeline.named_user(&self.who.name), way);
         let account = self.keys_pair(self.timeline.named_account(&self.who.name), way);
-        let groups = self.groups_pair(self.who.groups.as_slice(), way);
-        earlier_pair(earlier_pair(user, account), groups)
+        let named = earlier_pair(user, account);
+        if is_lowest(self.low, named) {
+            return named;
+        }
+        earlier_pair(named, self.groups_pair(self.who.groups.as_slice(), way))
     }
 
     // The least places at which a binding may grant whose name isn't known.
@@ -203,6 +217,9 @@ impl<'a> Asked<'a> {
     {
         let _high = in_range(self.high);
         let named = self.named_pair(way);
+        if is_lowest(self.low, named) {
+            return named;
+        }
         let nameless = self.nameless_pair(way);
         let unsure = self.keys_pair(self.timeline.unsure_keys(way, self.attrs), way);
         earlier_pair(named, earlier_pair(nameless, unsure))

@@ -8,7 +8,7 @@ ghost use Rattle.rbac_timeline.specs.Searched.{IsFreePlain, MayGrantAt, MayGrant
 ghost use Rattle.rbac_timeline.specs.Searched.{all_at, lesser_places, with_cluster_bindings, with_cluster_roles};
 ghost use Rattle.rbac_timeline.specs.Searched.{with_roles};
 
-use crate::lasting::{Block, Until};
+use crate::lasting::{Block, Until, cluster_role_block, farther_block, role_block};
 use crate::timeline::Timeline;
 use crate::way::{Link, Way};
 use base_types::{Places, RequestAttrs, User};
@@ -129,7 +129,8 @@ impl<'a> Asked<'a> {
         Ok(place)
     }
 
-    // Until where the role bindings grant for certain: by one kind of roles, the others may be at any place.
+    // Until where the role bindings grant for certain, by the kind of roles that does so farther: the others may
+    // be at any place.
     fn block(&self, roles: u64, cluster_roles: u64, bindings: u64) -> Option<Block>
         requires roles { roles ≤ self.now.high }
         requires cluster_roles { cluster_roles ≤ self.now.high }
@@ -144,30 +145,15 @@ impl<'a> Asked<'a> {
             role_place: roles,
             binding_place: bindings,
         };
-        if let Some(by_role) = self.granted_until(by_roles) {
-            return Some(Block {
-                until: Until {
-                    first: by_role.first,
-                    second: self.high,
-                },
-                bindings: by_role.second,
-            });
-        }
         let by_cluster_roles = Link {
             way: Way::ClusterRoles,
             role_place: cluster_roles,
             binding_place: bindings,
         };
-        if let Some(by_cluster_role) = self.granted_until(by_cluster_roles) {
-            return Some(Block {
-                until: Until {
-                    first: self.high,
-                    second: by_cluster_role.first,
-                },
-                bindings: by_cluster_role.second,
-            });
-        }
-        None
+        farther_block(
+            role_block(self.high, self.granted_until(by_roles)),
+            cluster_role_block(self.high, self.granted_until(by_cluster_roles)),
+        )
     }
 
     // The least place of the role bindings at which they don't grant for certain, or up to which places of

@@ -1,35 +1,14 @@
-use Rattle.std.proofs.Common.{arith}
+use Rattle.rbac_timeline.proofs.Throughout.{block_there, no_block}
 use Rattle.rbac_timeline.proofs.search.Asked.block.Goals as goal
 
-pub returns-in-Some-clause-some : goal.returns-in-Some-clause-some
-returns-in-Some-clause-some c =
-    let by = c.in-Some.ensures in
-    record {
-      from = by.second_from;
-      upto = by.second_upto;
-      until = record {
-        first_from = by.first_from;
-        first_upto = by.first_upto;
-        second_from = c.requires.cluster_roles;
-        second_upto = omega arith;
-        throughout = λ r cr r_from r_upto cr_from cr_upto b b_from b_upto free. free.0 (by.throughout r b r_from r_upto b_from b_upto);
-      };
-    }
-
-pub returns-in-Some-granted_until-clause-some : goal.returns-in-Some-granted_until-clause-some
-returns-in-Some-granted_until-clause-some c =
-    let by = c.in-Some-granted_until.ensures in
-    record {
-      from = by.second_from;
-      upto = by.second_upto;
-      until = record {
-        first_from = c.requires.roles;
-        first_upto = omega arith;
-        second_from = by.first_from;
-        second_upto = by.first_upto;
-        throughout = λ r cr r_from r_upto cr_from cr_upto b b_from b_upto free. free.1 (by.throughout cr b cr_from cr_upto b_from b_upto);
-      };
-    }
+pub returns-clause-some : goal.returns-clause-some
+returns-clause-some c =
+    let s = c.args.self.now in
+    rw (c.farther_block.ensures, c.role_block.ensures, c.cluster_role_block.ensures) (block_there s.timeline.now s.who.now s.attrs.now c.args.roles c.args.cluster_roles c.args.bindings s.high c.requires.roles c.requires.cluster_roles
+    c.granted_until.result c.granted_until-2.result c.granted_until.ensures c.granted_until-2.ensures)
 
 pub returns-clause-none : goal.returns-clause-none
-returns-clause-none c = (c.in_default.ensures, c.in_default-granted_until.ensures)
+returns-clause-none c =
+    let s = c.args.self.now in
+    rw (c.farther_block.ensures, c.role_block.ensures, c.cluster_role_block.ensures) (no_block s.timeline.now s.who.now s.attrs.now c.args.roles c.args.cluster_roles c.args.bindings s.high c.requires.roles c.requires.cluster_roles
+    c.granted_until.result c.granted_until-2.result c.granted_until.ensures c.granted_until-2.ensures)

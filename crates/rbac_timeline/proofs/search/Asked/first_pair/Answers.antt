@@ -1,7 +1,12 @@
-use Rattle.std.proofs.Common.{◌≤◌, arith}
+use Rattle.std.proofs.Common.{◌≤◌, arith, sym, ◌∙◌}
 use Rattle.rbac_timeline.specs.Unsure.{last_place}
-use Rattle.rbac_timeline.proofs.Beginning.{of_way}
+use Rattle.rbac_timeline.proofs.Beginning.{of_named, of_way}
 use Rattle.rbac_timeline.proofs.search.Asked.first_pair.Goals as goal
+
+pub returns-then-is_lowest : goal.returns-then-is_lowest
+returns-then-is_lowest c =
+    let s = c.args.self.now in
+    of_named s.timeline.now c.args.way s.who.now s.attrs.now s.low s.high c.named_pair-named.result (sym c.is_lowest.ensures ∙ c.if-is_lowest.true) c.named_pair-named.ensures
 
 pub returns : goal.returns
 returns c =

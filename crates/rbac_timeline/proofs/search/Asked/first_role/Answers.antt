@@ -1,19 +1,24 @@
-use Rattle.std.proofs.Common.{◌≡◌, ℕ, ◌⊎◌, arith, sym}
+use Rattle.std.proofs.Common.{◌≡◌, ℕ, ◌⊎◌, None, arith, sym}
 use Rattle.clouds.proofs.FirstPlaces.{IsFirstPlace-either}
 use Rattle.clouds.specs.Clouds.{IsClouded}
 use Rattle.rbac_timeline.specs.declared.history.Stored.{Stored}
 use Rattle.rbac_timeline.specs.Extents.{MayGrantByRole}
 use Rattle.rbac_timeline.specs.Known.{writes_of}
 use Rattle.rbac_timeline.proofs.Beginning.{role_cover}
-use Rattle.rbac_timeline.proofs.Pairing.{IsFirstPlace-more, IsFirstPlace-start}
+use Rattle.rbac_timeline.proofs.Pairing.{IsFirstPlace-more, IsFirstPlace-start, IsLeastPlace-low}
 use Rattle.rbac_timeline.proofs.search.Asked.first_role.Goals as goal
+
+pub returns-in-Some : goal.returns-in-Some
+returns-in-Some c =
+    let s = c.args.self.now in
+    IsLeastPlace-low (λ (n : ℕ). MayGrantByRole s.timeline.now c.args.role.now n s.attrs.now) s.low s.high c.in-Some.place c.in-Some.ensures
 
 pub loop-stored-init : goal.loop-stored-init
 loop-stored-init c =
     let s = c.args.self.now in
     let P = λ (n : ℕ). MayGrantByRole s.timeline.now c.args.role.now n s.attrs.now in
-    rw c.lesser_place-first.ensures (IsFirstPlace-start (λ (n : ℕ). ((n ≡ s.low) × P n) ⊎ IsClouded (writes_of s.timeline.now) c.args.role.now n) (λ (v : Stored) (n : ℕ). (n ≡ v.revision) × P n) s.low s.high c.versions_between-stored-items.result.now _
-    (IsFirstPlace-either (λ (n : ℕ). (n ≡ s.low) × P n) (IsClouded (writes_of s.timeline.now) c.args.role.now) s.low s.high _ _ c.role_at.ensures c.first_clouded-clouded.ensures))
+    IsFirstPlace-start (λ (n : ℕ). ((n ≡ s.low) × P n) ⊎ IsClouded (writes_of s.timeline.now) c.args.role.now n) (λ (v : Stored) (n : ℕ). (n ≡ v.revision) × P n) s.low s.high c.versions_between-stored-items.result.now _
+    (IsFirstPlace-either (λ (n : ℕ). (n ≡ s.low) × P n) (IsClouded (writes_of s.timeline.now) c.args.role.now) s.low s.high None c.first_clouded-first.result c.in_default.ensures c.first_clouded-first.ensures)
 
 pub role_at-requires-in-loop-stored : goal.role_at-requires-in-loop-stored
 role_at-requires-in-loop-stored c =
@@ -25,7 +30,7 @@ pub loop-stored-preserved : goal.loop-stored-preserved
 loop-stored-preserved c =
     let s = c.args.self.now in
     let P = λ (n : ℕ). MayGrantByRole s.timeline.now c.args.role.now n s.attrs.now in
-    rw c.lesser_place-first-in-loop-stored.ensures (IsFirstPlace-more (λ (n : ℕ). ((n ≡ s.low) × P n) ⊎ IsClouded (writes_of s.timeline.now) c.args.role.now n) (λ (v : Stored) (n : ℕ). (n ≡ v.revision) × P n) s.low s.high c.versions_between-stored-items.result.now _
+    rw c.lesser_place-first.ensures (IsFirstPlace-more (λ (n : ℕ). ((n ≡ s.low) × P n) ⊎ IsClouded (writes_of s.timeline.now) c.args.role.now n) (λ (v : Stored) (n : ℕ). (n ≡ v.revision) × P n) s.low s.high c.versions_between-stored-items.result.now _
     c.stored-item.result _ _ c.loop-stored-test.true c.stored-item.is c.loop-stored.invariant c.role_at-in-loop-stored.ensures)
 
 pub returns : goal.returns

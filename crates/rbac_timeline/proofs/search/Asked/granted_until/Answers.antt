@@ -1,25 +1,18 @@
+use Rattle.std.proofs.Common.{sym, ◌∙◌}
 use Rattle.rbac_timeline.specs.Kept.{NamesAccount, NamesUser}
-use Rattle.rbac_timeline.proofs.Throughout.{HoldsUntil-map, LastsUntil-map, from_account, from_groups, from_user, groups_from, of_some_key, to_some_key}
+use Rattle.rbac_timeline.proofs.Throughout.{of_keys, of_names, of_who}
 use Rattle.rbac_timeline.proofs.search.Asked.granted_until.Goals as goal
 
-pub returns-in-Some : goal.returns-in-Some
-returns-in-Some c =
+pub returns-then-lasts_throughout : goal.returns-then-lasts_throughout
+returns-then-lasts_throughout c =
     let s = c.args.self.now in
     let known = s.timeline.now in
     let who = s.who.now in
     let link = c.args.link in
-    HoldsUntil-map _ _ link.role_place link.binding_place s.high c.in-Some.until
-    (λ r b any. from_user known link.way who s.attrs.now r b (of_some_key known link.way who s.attrs.now (NamesUser known.versions who.name) c.named_user.result.now c.named_user.ensures r b any)) c.in-Some.ensures
-
-pub returns-in-Some-keys_until : goal.returns-in-Some-keys_until
-returns-in-Some-keys_until c =
-    let s = c.args.self.now in
-    let known = s.timeline.now in
-    let who = s.who.now in
-    let link = c.args.link in
-    HoldsUntil-map _ _ link.role_place link.binding_place s.high c.in-Some-keys_until.until
-    (λ r b any. from_account known link.way who s.attrs.now r b (of_some_key known link.way who s.attrs.now (NamesAccount known.versions who.name) c.named_account.result.now c.named_account.ensures r b any))
-    c.in-Some-keys_until.ensures
+    let user = of_keys known link.way who s.attrs.now link.role_place link.binding_place s.high (NamesUser known.versions who.name) c.named_user.result.now c.keys_until-user.result c.named_user.ensures c.keys_until-user.ensures in
+    let account = of_keys known link.way who s.attrs.now link.role_place link.binding_place s.high (NamesAccount known.versions who.name) c.named_account.result.now c.keys_until-account.result c.named_account.ensures c.keys_until-account.ensures in
+    rw c.farther-named.ensures (of_names known link.way who s.attrs.now link.role_place link.binding_place s.high c.keys_until-user.result c.keys_until-account.result user account
+    (rw c.farther-named.ensures at (sym c.lasts_throughout.ensures ∙ c.if-lasts_throughout.true)))
 
 pub returns : goal.returns
 returns c =
@@ -27,10 +20,7 @@ returns c =
     let known = s.timeline.now in
     let who = s.who.now in
     let link = c.args.link in
+    let user = of_keys known link.way who s.attrs.now link.role_place link.binding_place s.high (NamesUser known.versions who.name) c.named_user.result.now c.keys_until-user.result c.named_user.ensures c.keys_until-user.ensures in
+    let account = of_keys known link.way who s.attrs.now link.role_place link.binding_place s.high (NamesAccount known.versions who.name) c.named_account.result.now c.keys_until-account.result c.named_account.ensures c.keys_until-account.ensures in
     let groups = rw c.as_slice.ensures at c.groups_until.ensures in
-    LastsUntil-map _ _ link.role_place link.binding_place s.high c.groups_until.result (λ r b any. from_groups known link.way who s.attrs.now r b any)
-    (λ must. groups_from known link.way who s.attrs.now c.tell_sound.ensures link.role_place link.binding_place
-    (λ user. c.in_default.ensures (to_some_key known link.way who s.attrs.now (NamesUser known.versions who.name) c.named_user.result.now c.named_user.ensures link.role_place link.binding_place user))
-    (λ account. c.in_default-keys_until.ensures
-    (to_some_key known link.way who s.attrs.now (NamesAccount known.versions who.name) c.named_account.result.now c.named_account.ensures link.role_place link.binding_place account))
-    must) groups
+    rw (c.farther.ensures, c.farther-named.ensures) (of_who known link.way who s.attrs.now link.role_place link.binding_place s.high c.keys_until-user.result c.keys_until-account.result user account c.tell_sound.ensures c.groups_until.result groups)
