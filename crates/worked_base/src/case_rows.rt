@@ -1,12 +1,12 @@
 use case_maker::make_case;
-use std::test::Fail;
+use std::process::Abort;
 
 // Event 1 of the number 0: its draws are 63 and 0, so `c63` is created.
 const FIRST_OF_0: &str =
     r#"{"kind":"Event","apiVersion":"audit.k8s.io/v1","level":"RequestResponse","auditID":"a1","stage":"ResponseComplete","requestURI":"/api/v1/namespaces/d/configmaps","verb":"create","user":{"username":"u"},"responseStatus":{"metadata":{},"code":201},"requestObject":{"kind":"ConfigMap","apiVersion":"v1","metadata":{"name":"c63","namespace":"d"},"data":{"k":"1"}},"responseObject":{"kind":"ConfigMap","apiVersion":"v1","metadata":{"name":"c63","namespace":"d","uid":"u1","resourceVersion":"11"},"data":{"k":"1"}},"requestReceivedTimestamp":"2024-05-01T10:00:00.001000Z","stageTimestamp":"2024-05-01T10:00:00.004000Z"}"#;
 
 // The first 20 events of the number 1, as another program makes them.
-static LINES_OF_1: [&str; 20] = [
+const LINES_OF_1: &[&str] = &[
     r#"{"kind":"Event","apiVersion":"audit.k8s.io/v1","level":"RequestResponse","auditID":"a1","stage":"ResponseComplete","requestURI":"/api/v1/namespaces/d/configmaps","verb":"create","user":{"username":"u"},"responseStatus":{"metadata":{},"code":201},"requestObject":{"kind":"ConfigMap","apiVersion":"v1","metadata":{"name":"c22","namespace":"d"},"data":{"k":"1"}},"responseObject":{"kind":"ConfigMap","apiVersion":"v1","metadata":{"name":"c22","namespace":"d","uid":"u1","resourceVersion":"11"},"data":{"k":"1"}},"requestReceivedTimestamp":"2024-05-01T10:00:00.001000Z","stageTimestamp":"2024-05-01T10:00:00.004000Z"}"#,
     r#"{"kind":"Event","apiVersion":"audit.k8s.io/v1","level":"RequestResponse","auditID":"a2","stage":"ResponseComplete","requestURI":"/api/v1/namespaces/d/configmaps/c12","verb":"get","user":{"username":"u"},"responseStatus":{"metadata":{},"code":404},"responseObject":{"kind":"Status","apiVersion":"v1","status":"Failure","reason":"NotFound","details":{"name":"c12","kind":"configmaps"},"code":404},"requestReceivedTimestamp":"2024-05-01T10:00:00.002000Z","stageTimestamp":"2024-05-01T10:00:00.005000Z"}"#,
     r#"{"kind":"Event","apiVersion":"audit.k8s.io/v1","level":"RequestResponse","auditID":"a3","stage":"ResponseComplete","requestURI":"/api/v1/namespaces/d/configmaps","verb":"create","user":{"username":"u"},"responseStatus":{"metadata":{},"code":201},"requestObject":{"kind":"ConfigMap","apiVersion":"v1","metadata":{"name":"c26","namespace":"d"},"data":{"k":"3"}},"responseObject":{"kind":"ConfigMap","apiVersion":"v1","metadata":{"name":"c26","namespace":"d","uid":"u3","resourceVersion":"12"},"data":{"k":"3"}},"requestReceivedTimestamp":"2024-05-01T10:00:00.003000Z","stageTimestamp":"2024-05-01T10:00:00.006000Z"}"#,
@@ -44,22 +44,26 @@ fn has_lines(bytes: &[u8], lines: &[&str]) -> bool {
     rest.is_empty()
 }
 
-#[test]
-fn a_case_without_events(rt: HostRuntime) -> Result<(), Fail> {
-    let case = make_case(rt.alloc(), 1, 0)?;
-    assert!(rt; has_lines(case.log.as_slice(), &[]));
-    let start =
-        br#"{"kind":"PastSetup","version":1,"start":{"revision":"10","time":"2024-05-01T10:00:00.000000Z"},"#;
-    assert!(rt; case.setup.as_slice().starts_with(start));
-    assert_eq!(rt; case.setup.len(), 373);
-    Ok(())
+// A case's number, how many events it has, and the lines of its log.
+static CASES: [(u64, u16, &[&str]); 3] = [(1, 0, &[]), (0, 1, &[FIRST_OF_0]), (1, 20, LINES_OF_1)];
+
+fn is_made(rt: &(impl Abort + AllocGlobal), number: u64, events: u16, lines: &[&str]) -> bool {
+    let case = make_case(rt.alloc(), number, u32::from(events)).expect(rt, "memory");
+    has_lines(case.log.as_slice(), lines)
+}
+
+const SETUP_START: &[u8] =
+    br#"{"kind":"PastSetup","version":1,"start":{"revision":"10","time":"2024-05-01T10:00:00.000000Z"},"#;
+
+fn has_setup(rt: &(impl Abort + AllocGlobal)) -> bool {
+    let case = make_case(rt.alloc(), 1, 0).expect(rt, "memory");
+    case.setup.as_slice().starts_with(SETUP_START) && case.setup.len() == 373
 }
 
 #[test]
-fn the_first_lines_of_a_case(rt: HostRuntime) -> Result<(), Fail> {
-    let one = make_case(rt.alloc(), 0, 1)?;
-    assert!(rt; has_lines(one.log.as_slice(), &[FIRST_OF_0]));
-    let many = make_case(rt.alloc(), 1, 20)?;
-    assert!(rt; has_lines(many.log.as_slice(), &LINES_OF_1));
-    Ok(())
+fn cases_begin_so(rt: HostRuntime) {
+    for (number, events, lines) in &CASES {
+        assert!(rt; is_made(&rt, *number, *events, lines));
+    }
+    assert!(rt; has_setup(&rt));
 }

@@ -1,6 +1,6 @@
-use base_types::{Cover, CoverName, ObjectKey, OutOfMemory, Text, covers, exact_key};
-use std::alloc::Global;
-use std::test::Fail;
+use crate::given::text;
+use base_types::{Cover, CoverName, ObjectKey, Text, covers, exact_key};
+use std::process::Abort;
 
 // The names that a cover is of.
 enum Pattern {
@@ -39,66 +39,61 @@ static COVERS: [(CoverParts, bool, Option<bool>); 11] = [
     (("", "nodes", None, Pattern::Any), false, None),
 ];
 
-fn cover_name(alloc: Global, pattern: &Pattern) -> Result<CoverName, OutOfMemory> {
+fn cover_name(rt: &(impl Abort + AllocGlobal), pattern: &Pattern) -> CoverName {
     match pattern {
-        Pattern::Exact(name) => Ok(CoverName::Exact(Text::from_str(alloc, name)?)),
-        Pattern::Prefix(front) => Ok(CoverName::Prefix(Text::from_str(alloc, front)?)),
-        Pattern::Any => Ok(CoverName::Any),
+        Pattern::Exact(name) => CoverName::Exact(text(rt, name)),
+        Pattern::Prefix(front) => CoverName::Prefix(text(rt, front)),
+        Pattern::Any => CoverName::Any,
     }
 }
 
-fn namespace(alloc: Global, name: Option<&str>) -> Result<Option<Text>, OutOfMemory> {
-    match name {
-        Some(name) => Ok(Some(Text::from_str(alloc, name)?)),
-        None => Ok(None),
-    }
+fn namespace(rt: &(impl Abort + AllocGlobal), name: Option<&str>) -> Option<Text> {
+    Some(text(rt, name?))
 }
 
-fn cover(alloc: Global, parts: &CoverParts) -> Result<Cover, OutOfMemory> {
-    Ok(Cover {
-        group: Text::from_str(alloc, parts.0)?,
-        resource: Text::from_str(alloc, parts.1)?,
-        namespace: namespace(alloc, parts.2)?,
-        name: cover_name(alloc, &parts.3)?,
+fn cover(rt: &(impl Abort + AllocGlobal), parts: &CoverParts) -> Cover {
+    let (group, resource, name, pattern) = parts;
+    Cover {
+        group: text(rt, group),
+        resource: text(rt, resource),
+        namespace: namespace(rt, *name),
+        name: cover_name(rt, pattern),
         creates: false,
-    })
+    }
 }
 
-fn pod(alloc: Global) -> Result<ObjectKey, OutOfMemory> {
-    Ok(ObjectKey {
-        group: Text::new(alloc),
-        resource: Text::from_str(alloc, "pods")?,
-        namespace: Text::from_str(alloc, "d")?,
-        name: Text::from_str(alloc, "web-1")?,
-    })
+fn pod(rt: &(impl Abort + AllocGlobal)) -> ObjectKey {
+    ObjectKey {
+        group: text(rt, ""),
+        resource: text(rt, "pods"),
+        namespace: text(rt, "d"),
+        name: text(rt, "web-1"),
+    }
 }
 
-fn told_of(
-    alloc: Global,
-    cover: &Cover,
-    pod: &ObjectKey,
-) -> Result<(bool, Option<bool>), OutOfMemory> {
-    let exact = exact_key(alloc, cover)?;
-    let is_pod = exact.as_ref().map(|key| key == pod);
-    Ok((covers(cover, pod), is_pod))
+// Whether the one key that a cover is of is the pod's, if it is of one.
+fn is_of(rt: &(impl Abort + AllocGlobal), cover: &Cover, pod: &ObjectKey) -> Option<bool> {
+    let exact = exact_key(rt.alloc(), cover).expect(rt, "memory")?;
+    Some(exact == *pod)
 }
 
 // Whether the cover takes the pod, and whether the one key that it is of is the pod's.
 fn told(
-    alloc: Global,
+    rt: &(impl Abort + AllocGlobal),
     parts: &CoverParts,
     pod: &ObjectKey,
-) -> Result<(bool, Option<bool>), OutOfMemory> {
-    let cover = cover(alloc, parts)?;
-    told_of(alloc, &cover, pod)
+) -> (bool, Option<bool>) {
+    let cover = cover(rt, parts);
+    let told = (covers(&cover, pod), is_of(rt, &cover, pod));
+    drop(cover);
+    told
 }
 
 #[test]
-fn covers_take_keys(rt: HostRuntime) -> Result<(), Fail> {
-    let pod = pod(rt.alloc())?;
-    for (at, (parts, taken, is_pod)) in COVERS.iter().enumerate() {
-        let found = told(rt.alloc(), parts, &pod)?;
-        assert_eq!(rt; found, (*taken, *is_pod), "the row {at}");
+fn covers_take_keys(rt: HostRuntime) {
+    let pod = pod(&rt);
+    for (parts, taken, is_pod) in &COVERS {
+        assert!(rt; told(&rt, parts, &pod) == (*taken, *is_pod));
     }
-    Ok(())
+    drop(pod);
 }

@@ -1,16 +1,6 @@
-use base_types::{ObjectKey, OutOfMemory, Text, escape, key_text, read_key};
-use std::alloc::Global;
-use std::test::Fail;
-
-fn key(alloc: Global, parts: &[&str; 4]) -> Result<ObjectKey, OutOfMemory> {
-    let [group, resource, namespace, name] = parts;
-    Ok(ObjectKey {
-        group: Text::from_str(alloc, group)?,
-        resource: Text::from_str(alloc, resource)?,
-        namespace: Text::from_str(alloc, namespace)?,
-        name: Text::from_str(alloc, name)?,
-    })
-}
+use crate::given::{check, text};
+use base_types::{ObjectKey, escape, key_text, read_key};
+use std::process::Abort;
 
 // Group, resource, namespace and name, and the key's text.
 static KEYS: [([&str; 4], &str); 6] = [
@@ -54,58 +44,46 @@ static NO_KEYS: [&str; 18] = [
     "/configmaps/d/a*",
 ];
 
-fn is_printed(alloc: Global, key: &ObjectKey, text: &str) -> Result<bool, OutOfMemory> {
-    let printed = key_text(alloc, key)?;
-    Ok(printed.as_str() == text)
-}
-
-fn prints(alloc: Global, parts: &[&str; 4], text: &str) -> Result<bool, OutOfMemory> {
-    let key = key(alloc, parts)?;
-    is_printed(alloc, &key, text)
-}
-
-fn has_parts(key: &ObjectKey, parts: &[&str; 4]) -> bool {
+fn key(rt: &(impl Abort + AllocGlobal), parts: &[&str; 4]) -> ObjectKey {
     let [group, resource, namespace, name] = parts;
-    key.group.as_str() == *group
-        && key.resource.as_str() == *resource
-        && key.namespace.as_str() == *namespace
-        && key.name.as_str() == *name
+    ObjectKey {
+        group: text(rt, group),
+        resource: text(rt, resource),
+        namespace: text(rt, namespace),
+        name: text(rt, name),
+    }
 }
 
-fn reads(alloc: Global, text: &str, parts: &[&str; 4]) -> Result<bool, OutOfMemory> {
-    let read = read_key(alloc, text)?;
-    Ok(match &read {
-        Some(key) => has_parts(key, parts),
-        None => false,
-    })
+fn prints(rt: &(impl Abort + AllocGlobal), key: &ObjectKey, text: &str) -> bool {
+    let printed = key_text(rt.alloc(), key).expect(rt, "memory");
+    printed.as_str() == text
 }
 
-fn is_no_key(alloc: Global, text: &str) -> Result<bool, OutOfMemory> {
-    let read = read_key(alloc, text)?;
-    Ok(read.is_none())
+// Whether the text is read as this key, or as none.
+fn reads(rt: &(impl Abort + AllocGlobal), text: &str, key: Option<&ObjectKey>) -> bool {
+    let read = read_key(rt.alloc(), text).expect(rt, "memory");
+    read.as_ref() == key
+}
+
+fn is_text_of(rt: &(impl Abort + AllocGlobal), text: &str, parts: &[&str; 4]) -> bool {
+    let key = key(rt, parts);
+    prints(rt, &key, text) && reads(rt, text, Some(&key))
+}
+
+fn is_escaped(rt: &(impl Abort + AllocGlobal), plain: &str, wanted: &str) -> bool {
+    let plain = text(rt, plain);
+    let escaped = escape(rt.alloc(), &plain).expect(rt, "memory");
+    escaped.as_str() == wanted
 }
 
 #[test]
-fn keys_and_their_texts(rt: HostRuntime) -> Result<(), Fail> {
+fn keys_and_their_texts(rt: HostRuntime) {
     for (parts, text) in &KEYS {
-        assert!(rt; prints(rt.alloc(), parts, text)?, "the text is {text}");
-        assert!(rt; reads(rt.alloc(), text, parts)?, "{text} is a key");
+        check(&rt, is_text_of(&rt, text, parts), text);
     }
-    Ok(())
-}
-
-#[test]
-fn texts_of_no_key(rt: HostRuntime) -> Result<(), Fail> {
     for text in &NO_KEYS {
-        assert!(rt; is_no_key(rt.alloc(), text)?, "{text} is no key");
+        check(&rt, reads(&rt, text, None), text);
     }
-    Ok(())
-}
-
-#[test]
-fn an_escaped_text(rt: HostRuntime) -> Result<(), Fail> {
-    let text = Text::from_str(rt.alloc(), "pages:12 /\u{e4}")?;
-    let escaped = escape(rt.alloc(), &text)?;
-    assert_eq!(rt; escaped.as_str(), "pages:12%20%2F%C3%A4");
-    Ok(())
+    let escaped = "pages:12%20%2F%C3%A4";
+    check(&rt, is_escaped(&rt, "pages:12 /\u{e4}", escaped), escaped);
 }

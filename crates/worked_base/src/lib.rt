@@ -6,6 +6,8 @@ mod case_rows;
 #[cfg(test)]
 mod cover_rows;
 #[cfg(test)]
+mod given;
+#[cfg(test)]
 mod key_rows;
 #[cfg(test)]
 mod matching_rows;

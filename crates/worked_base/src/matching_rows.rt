@@ -1,6 +1,6 @@
-use base_types::{OutOfMemory, Text, Texts, has_text, is_combined, path_matches};
-use std::alloc::Global;
-use std::test::Fail;
+use crate::given::{check, text};
+use base_types::{Texts, has_text, is_combined, path_matches};
+use std::process::Abort;
 
 // An entry of `nonResourceURLs`, a path, and whether it takes the path.
 static ENTRIES: [(&str, &str, bool); 10] = [
@@ -24,48 +24,42 @@ static COMBINED: [(&str, &str, &str, bool); 4] = [
     ("pods.log", "pods", "log", false),
 ];
 
-fn takes(alloc: Global, entry: &str, path: &str) -> Result<bool, OutOfMemory> {
-    let entry = Text::from_str(alloc, entry)?;
-    let path = Text::from_str(alloc, path)?;
-    Ok(path_matches(&entry, &path))
+fn takes(rt: &(impl Abort + AllocGlobal), entry: &str, path: &str) -> bool {
+    let entry = text(rt, entry);
+    let path = text(rt, path);
+    path_matches(&entry, &path)
 }
 
 #[test]
-fn entries_take_paths(rt: HostRuntime) -> Result<(), Fail> {
+fn entries_take_paths(rt: HostRuntime) {
     for (entry, path, taken) in &ENTRIES {
-        assert_eq!(rt;
-            takes(rt.alloc(), entry, path)?,
-            *taken,
-            "{entry} and {path}"
-        );
+        check(&rt, takes(&rt, entry, path) == *taken, path);
     }
-    Ok(())
+}
+
+// A text, and whether it is one of the list `a`, `b`.
+static LISTED: [(&str, bool); 2] = [("b", true), ("ab", false)];
+
+fn a_and_b(rt: &(impl Abort + AllocGlobal)) -> Texts {
+    let mut texts = Texts::new(rt.alloc());
+    texts.push(text(rt, "a")).expect(rt, "memory");
+    texts.push(text(rt, "b")).expect(rt, "memory");
+    texts
+}
+
+fn is_listed(rt: &(impl Abort + AllocGlobal), wanted: &str) -> bool {
+    let texts = a_and_b(rt);
+    let wanted = text(rt, wanted);
+    has_text(&texts, &wanted)
 }
 
 #[test]
-fn combined_resources(rt: HostRuntime) {
+fn texts_of_two(rt: HostRuntime) {
     for (text, resource, subresource, combined) in &COMBINED {
         let found = is_combined(text, resource, subresource);
-        assert_eq!(rt; found, *combined, "of {text}");
+        check(&rt, found == *combined, text);
     }
-}
-
-fn two_texts(alloc: Global) -> Result<Texts, OutOfMemory> {
-    let mut texts = Texts::new(alloc);
-    texts.push(Text::from_str(alloc, "a")?)?;
-    texts.push(Text::from_str(alloc, "b")?)?;
-    Ok(texts)
-}
-
-fn holds(alloc: Global, texts: &Texts, text: &str) -> Result<bool, OutOfMemory> {
-    let text = Text::from_str(alloc, text)?;
-    Ok(has_text(texts, &text))
-}
-
-#[test]
-fn texts_of_a_list(rt: HostRuntime) -> Result<(), Fail> {
-    let texts = two_texts(rt.alloc())?;
-    assert!(rt; holds(rt.alloc(), &texts, "b")?);
-    assert!(rt; !holds(rt.alloc(), &texts, "ab")?);
-    Ok(())
+    for (text, listed) in &LISTED {
+        check(&rt, is_listed(&rt, text) == *listed, text);
+    }
 }

@@ -1,8 +1,9 @@
 ghost use Rattle.std.specs.Prelude.{◌≡◌, ◌<◌, ◌≤◌, ◌≤ℤ◌, IfOk, All, AllPairs};
 
+use crate::given::check;
 use base_types::{Moment, OutOfMemory};
 use std::alloc::Global;
-use std::test::Fail;
+use std::process::Abort;
 use strict_order::{Moments, Thing, settle_moments};
 
 const NO_END: u128 = 73_786_976_294_838_206_464;
@@ -10,6 +11,59 @@ const NO_END: u128 = 73_786_976_294_838_206_464;
 const TEN: i128 = 1_714_557_600_000_000_000;
 
 const SECOND: i128 = 1_000_000_000;
+
+// The first moment of a thing and its last, its least number and its greatest.
+type Bounds = (i128, i128, u128, u128);
+
+// What is seen, the things of the lines 1, 2 and so on, the lines of two that cross, and else the moments of all.
+static SETTLED: [(&str, &[Bounds], Option<(u64, u64)>, &[Moment]); 6] = [
+    (
+        "revisions 11 and 12 are made, a list shows both, and a later one only the first",
+        &[
+            (TEN + SECOND, TEN + 2 * SECOND, 22, 22),
+            (TEN + SECOND, TEN + 9 * SECOND, 24, 24),
+            (TEN + 3 * SECOND, TEN + 4 * SECOND, 25, 25),
+            (TEN + 5 * SECOND, TEN + 6 * SECOND, 23, 23),
+        ],
+        Some((4, 3)),
+        &[],
+    ),
+    (
+        "the same where the later list began before the other ended",
+        &[
+            (TEN + SECOND, TEN + 2 * SECOND, 22, 22),
+            (TEN + SECOND, TEN + 9 * SECOND, 24, 24),
+            (TEN + 3 * SECOND, TEN + 4 * SECOND, 25, 25),
+            (TEN + 3 * SECOND, TEN + 6 * SECOND, 23, 23),
+        ],
+        None,
+        &[
+            Moment(TEN + SECOND),
+            Moment(TEN + 3 * SECOND),
+            Moment(TEN + 3 * SECOND),
+            Moment(TEN + 3 * SECOND),
+        ],
+    ),
+    ("no thing", &[], None, &[]),
+    (
+        "one without an end",
+        &[(5, 5, 23, NO_END), (1, 1, 30, 30)],
+        None,
+        &[Moment(5), Moment(1)],
+    ),
+    (
+        "the revision was seen before it was made",
+        &[(3, 4, 23, 25), (5, 6, 22, 22)],
+        Some((2, 1)),
+        &[],
+    ),
+    (
+        "both writes come after both reads: the first lines are told",
+        &[(9, 9, 2, 2), (9, 9, 2, 2), (1, 1, 3, 3), (1, 1, 3, 3)],
+        Some((1, 3)),
+        &[],
+    ),
+];
 
 fn thing(line: u64, lo: i128, hi: i128, least: u128, greatest: u128) -> Thing
     ensures { result ≡ record { line = line; lo = record { 0 = lo }; hi = record { 0 = hi }; least = least; greatest = greatest } }
@@ -23,100 +77,52 @@ fn thing(line: u64, lo: i128, hi: i128, least: u128, greatest: u128) -> Thing
     }
 }
 
-/// Revisions 11 and 12 are made, a list shows both, and a later one only the first.
-#[test]
-fn a_list_can_go_back(rt: HostRuntime) -> Result<(), Fail> {
-    let alloc = rt.alloc();
-    let things = [
-        thing(1, TEN + SECOND, TEN + 2 * SECOND, 22, 22),
-        thing(2, TEN + SECOND, TEN + 9 * SECOND, 24, 24),
-        thing(3, TEN + 3 * SECOND, TEN + 4 * SECOND, 25, 25),
-        thing(4, TEN + 5 * SECOND, TEN + 6 * SECOND, 23, 23),
-    ];
-    match settle_moments(alloc, &things)? {
-        Moments::Crossed { first, second } => assert_eq!(rt; (first, second), (4, 3)),
-        Moments::Found(_) => assert!(rt; false, "the second list shows less"),
-    }
-
-    // The same where the later list began before the other ended.
-    let things = [
-        thing(1, TEN + SECOND, TEN + 2 * SECOND, 22, 22),
-        thing(2, TEN + SECOND, TEN + 9 * SECOND, 24, 24),
-        thing(3, TEN + 3 * SECOND, TEN + 4 * SECOND, 25, 25),
-        thing(4, TEN + 3 * SECOND, TEN + 6 * SECOND, 23, 23),
-    ];
-    match settle_moments(alloc, &things)? {
-        Moments::Found(moments) => {
-            let third = Moment(TEN + 3 * SECOND);
-            let expected = [Moment(TEN + SECOND), third, third, third];
-            assert!(rt; moments.as_slice() == expected.as_slice());
-        }
-        Moments::Crossed { .. } => assert!(rt; false, "the lists overlap"),
-    }
-    Ok(())
-}
-
-/// How many things have moments; none where two cross.
-fn found(moments: &Moments) -> Option<usize> {
-    match moments {
-        Moments::Found(moments) => Some(moments.len()),
-        Moments::Crossed { .. } => None,
-    }
-}
-
-/// The lines of two things that cross, where some do.
-fn crossed(moments: &Moments) -> Option<(u64, u64)> {
-    match moments {
-        Moments::Found(_) => None,
-        Moments::Crossed { first, second } => Some((*first, *second)),
-    }
-}
-
-#[test]
-fn no_thing_and_one_without_an_end(rt: HostRuntime) -> Result<(), Fail> {
-    let alloc = rt.alloc();
-    assert_eq!(rt; found(&settle_moments(alloc, &[])?), Some(0));
-    let open = [thing(1, 5, 5, 23, NO_END), thing(2, 1, 1, 30, 30)];
-    assert_eq!(rt; found(&settle_moments(alloc, &open)?), Some(2));
-    Ok(())
-}
-
-/// The revision was seen before it was made.
-#[test]
-fn a_write_that_comes_too_late(rt: HostRuntime) -> Result<(), Fail> {
-    let things = [thing(1, 3, 4, 23, 25), thing(2, 5, 6, 22, 22)];
-    assert_eq!(rt;
-        crossed(&settle_moments(rt.alloc(), &things)?),
-        Some((2, 1))
-    );
-    Ok(())
-}
-
-/// Both writes come after both reads: the first lines are told.
-#[test]
-fn ties_of_lines(rt: HostRuntime) -> Result<(), Fail> {
-    let things = [
-        thing(1, 9, 9, 2, 2),
-        thing(2, 9, 9, 2, 2),
-        thing(3, 1, 1, 3, 3),
-        thing(4, 1, 1, 3, 3),
-    ];
-    assert_eq!(rt;
-        crossed(&settle_moments(rt.alloc(), &things)?),
-        Some((1, 3))
-    );
-    Ok(())
-}
-
-/// Things with small bounds, so that many of them meet.
-fn drawn(alloc: Global, seed: u64, count: u64) -> Result<Vec<Thing>, OutOfMemory>
+// The things of lines from 1 on. An end below its beginning, which no row has, is lifted to it.
+fn things_of(alloc: Global, rows: &[Bounds]) -> Result<Vec<Thing>, OutOfMemory>
     ensures lines { IfOk result (λ things. AllPairs (λ a b. a.line < b.line) things.items) }
     ensures moments { IfOk result (λ things. All (λ thing. thing.lo.0 ≤ℤ thing.hi.0) things.items) }
     ensures numbers { IfOk result (λ things. All (λ thing. thing.least ≤ thing.greatest) things.items) }
 {
     let mut things = Vec::new(alloc);
+    for line in 0..rows.len() {
+        let (lo, hi, least, greatest) = rows[line];
+        let hi = lo.max(hi);
+        let greatest = least.max(greatest);
+        things.push(thing(line as u64 + 1, lo, hi, least, greatest))?;
+    }
+    Ok(things)
+}
+
+fn is_settled(settled: &Moments, crossing: Option<(u64, u64)>, moments: &[Moment]) -> bool {
+    match settled {
+        Moments::Found(found) => crossing.is_none() && found.as_slice() == moments,
+        Moments::Crossed { first, second } => crossing == Some((*first, *second)),
+    }
+}
+
+fn settles(
+    rt: &(impl Abort + AllocGlobal),
+    rows: &[Bounds],
+    crossing: Option<(u64, u64)>,
+    moments: &[Moment],
+) -> bool {
+    let things = things_of(rt.alloc(), rows).expect(rt, "memory");
+    let settled = settle_moments(rt.alloc(), &things).expect(rt, "memory");
+    is_settled(&settled, crossing, moments)
+}
+
+#[test]
+fn worked_things_settle(rt: HostRuntime) {
+    for (seen, rows, crossing, moments) in &SETTLED {
+        check(&rt, settles(&rt, rows, *crossing, moments), seen);
+    }
+}
+
+// Small bounds, so that many of them meet.
+fn drawn(rt: &(impl Abort + AllocGlobal), seed: u64) -> Vec<Bounds> {
+    let mut rows = Vec::new(rt.alloc());
     let mut bits = seed;
-    for line in 0..count {
+    for _ in 0..seed % 9 {
         bits = bits
             .wrapping_mul(6_364_136_223_846_793_005)
             .wrapping_add(1_442_695_040_888_963_407);
@@ -124,12 +130,12 @@ fn drawn(alloc: Global, seed: u64, count: u64) -> Result<Vec<Thing>, OutOfMemory
         let hi = lo.max(i128::from(bits >> 56 & 31));
         let least = u128::from(bits >> 51 & 31);
         let greatest = least + u128::from(bits >> 47 & 15);
-        things.push(thing(line, lo, hi, least, greatest))?;
+        rows.push((lo, hi, least, greatest)).expect(rt, "memory");
     }
-    Ok(things)
+    rows
 }
 
-/// The first moment of each thing, by comparing it with all others.
+// The first moment of a thing, by comparing it with all.
 fn compared(things: &[Thing], b: &Thing) -> Moment {
     let mut moment = b.lo;
     for a in things {
@@ -140,46 +146,55 @@ fn compared(things: &[Thing], b: &Thing) -> Moment {
     moment
 }
 
-/// The lines of the first two things that cross, by comparing all with all.
+fn all_compared(rt: &(impl Abort + AllocGlobal), things: &[Thing]) -> Vec<Moment> {
+    let mut moments = Vec::new(rt.alloc());
+    for thing in things {
+        moments.push(compared(things, thing)).expect(rt, "memory");
+    }
+    moments
+}
+
+// Two last moments with their lines.
+type Ends = ((Moment, u64), (Moment, u64));
+
+fn lesser(least: Option<Ends>, ends: Ends) -> Ends {
+    match least {
+        Some(least) if least <= ends => least,
+        _ => ends,
+    }
+}
+
+// The lines of the first two things that cross, by comparing all with all.
 fn compared_lines(things: &[Thing]) -> Option<(u64, u64)> {
-    let mut least: Option<((Moment, u64), (Moment, u64))> = None;
+    let mut least: Option<Ends> = None;
     for b in things {
         for a in things {
             if a.greatest < b.least && b.hi < a.lo {
-                let pair = ((b.hi, b.line), (a.hi, a.line));
-                least = match least {
-                    Some(least) if least <= pair => Some(least),
-                    _ => Some(pair),
-                };
+                least = Some(lesser(least, ((b.hi, b.line), (a.hi, a.line))));
             }
         }
     }
-    least.map(|(second, first)| (first.1, second.1))
+    let (second, first) = least?;
+    Some((first.1, second.1))
+}
+
+// Whether what is drawn has moments, which comparing all with all gives as well.
+fn drawn_has_moments(rt: &(impl Abort + AllocGlobal), seed: u64) -> bool {
+    let rows = drawn(rt, seed);
+    let things = things_of(rt.alloc(), &rows).expect(rt, "memory");
+    let moments = all_compared(rt, &things);
+    let crossing = compared_lines(&things);
+    assert!(rt; settles(rt, &rows, crossing, &moments), "at {seed}");
+    crossing.is_none()
 }
 
 #[test]
-fn all_compared_with_all_give_the_same(rt: HostRuntime) -> Result<(), Fail> {
-    let alloc = rt.alloc();
+fn all_compared_with_all_give_the_same(rt: HostRuntime) {
     let mut found = 0u32;
     for seed in 0..300u64 {
-        let things = drawn(alloc, seed, seed % 9)?;
-        match settle_moments(alloc, &things)? {
-            Moments::Found(moments) => {
-                found = found.saturating_add(1);
-                assert_eq!(rt; moments.len(), things.len());
-                for (thing, moment) in things.iter().zip(moments.as_slice()) {
-                    assert!(rt; *moment == compared(&things, thing), "at {seed}");
-                }
-                assert!(rt; compared_lines(&things).is_none(), "at {seed}");
-            }
-            Moments::Crossed { first, second } => {
-                assert!(rt;
-                    compared_lines(&things) == Some((first, second)),
-                    "at {seed}"
-                );
-            }
+        if drawn_has_moments(&rt, seed) {
+            found = found.saturating_add(1);
         }
     }
-    assert!(rt; 50 < found && found < 250, "{found}");
-    Ok(())
+    assert!(rt; 50 < found && found < 250);
 }

@@ -1,6 +1,6 @@
+use crate::given::check;
 use base_types::Outcome;
-use std::alloc::Global;
-use std::test::Fail;
+use std::process::Abort;
 use verdict_text::{PlacementFault, print_outcome, read_placement};
 
 // The last one is a removal that two reads bound, and after it the greatest numbers.
@@ -13,19 +13,24 @@ static PRINTED: [&str; 6] = [
     "explained 4\n1 made 14 none\n2 removed 15 none\n3 at 14 none\n4 at 15 none\n",
 ];
 
-// What the placement that a text says is printed as.
-fn prints_the_same(alloc: Global, text: &str) -> Result<bool, Fail> {
-    let outcome = Outcome::Explained(read_placement(alloc, text.as_bytes())?);
-    let printed = print_outcome(alloc, &outcome)?;
-    Ok(printed.as_slice() == text.as_bytes())
+fn read(rt: &(impl Abort + AllocGlobal), text: &str) -> Outcome {
+    let placement = read_placement(rt.alloc(), text.as_bytes()).expect(rt, "a placement");
+    Outcome::Explained(placement)
+}
+
+// Whether the placement that a text says is printed as this text.
+fn prints_the_same(rt: &(impl Abort + AllocGlobal), text: &str) -> bool {
+    let outcome = read(rt, text);
+    let printed = print_outcome(rt.alloc(), &outcome).expect(rt, "memory");
+    drop(outcome);
+    printed.as_slice() == text.as_bytes()
 }
 
 #[test]
-fn what_was_read_prints_the_same(rt: HostRuntime) -> Result<(), Fail> {
+fn what_was_read_prints_the_same(rt: HostRuntime) {
     for text in &PRINTED {
-        assert!(rt; prints_the_same(rt.alloc(), text)?, "{text}");
+        check(&rt, prints_the_same(&rt, text), text);
     }
-    Ok(())
 }
 
 // Texts, and the line at which each isn't a placement's.
@@ -89,10 +94,16 @@ static REFUSED: [(&str, u64); 47] = [
     ("explained 1\n1 none denied 1 2 3 4\n", 2),
 ];
 
+// No UTF-8, in the first line and behind it.
+static NO_TEXTS: [(&[u8], u64); 2] = [
+    (b"\xff\n", 1),
+    (b"explained 2\n1 none none\n2 \xc3 none\n", 3),
+];
+
 // The line at which the bytes aren't a placement's.
-fn fault_line(alloc: Global, bytes: &[u8]) -> Option<u64> {
-    match read_placement(alloc, bytes) {
-        Err(PlacementFault::Line { number }) => Some(number),
+fn fault_line(rt: &impl AllocGlobal, bytes: &[u8]) -> Option<u64> {
+    match read_placement(rt.alloc(), bytes).err()? {
+        PlacementFault::Line { number } => Some(number),
         _ => None,
     }
 }
@@ -100,20 +111,10 @@ fn fault_line(alloc: Global, bytes: &[u8]) -> Option<u64> {
 #[test]
 fn the_first_line_that_stops(rt: HostRuntime) {
     for (text, number) in &REFUSED {
-        let found = fault_line(rt.alloc(), text.as_bytes());
-        assert_eq!(rt; found, Some(*number), "{text}");
+        let found = fault_line(&rt, text.as_bytes());
+        check(&rt, found == Some(*number), text);
     }
-}
-
-// No UTF-8, in the first line and behind it.
-static NO_TEXTS: [(&[u8], u64); 2] = [
-    (b"\xff\n", 1),
-    (b"explained 2\n1 none none\n2 \xc3 none\n", 3),
-];
-
-#[test]
-fn bytes_that_are_no_text(rt: HostRuntime) {
     for (bytes, number) in &NO_TEXTS {
-        assert_eq!(rt; fault_line(rt.alloc(), bytes), Some(*number));
+        assert!(rt; fault_line(&rt, bytes) == Some(*number));
     }
 }

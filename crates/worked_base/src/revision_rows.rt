@@ -19,10 +19,13 @@ static TEXTS: [(&[u8], Option<u64>); 15] = [
     (b"1\xFF", None),
 ];
 
+fn number_of(text: &[u8]) -> Option<u64> {
+    Some(read_revision(text)?.get())
+}
+
 #[test]
 fn revisions(rt: HostRuntime) {
     for (text, number) in &TEXTS {
-        let read = read_revision(text).map(|revision| revision.get());
-        assert_eq!(rt; read, *number);
+        assert!(rt; number_of(text) == *number);
     }
 }
