@@ -5,3 +5,5 @@
 mod events_read;
 #[cfg(test)]
 mod events_seen;
+#[cfg(test)]
+mod given;
