@@ -1,6 +1,7 @@
-use crate::patching::{fault_of, nulls};
+use crate::patching::{check_done, check_refused, nulls};
+use crate::reading::push;
 use base_types::json::{Node, Tree, Trees};
-use json_patch::{ApplyCause, ApplyFault};
+use json_patch::ApplyCause;
 use std::process::Abort;
 
 fn list_of(rt: &(impl Abort + AllocGlobal), tree: Tree) -> Tree {
@@ -46,37 +47,33 @@ static DEEP: [(&str, &str, bool); 5] = [
     ),
 ];
 
-fn deepest_path(rt: &(impl Abort + AllocGlobal)) -> String {
-    let mut path = String::new(rt.alloc());
+fn deepest_patch(rt: &(impl Abort + AllocGlobal), front: &str, back: &str) -> String {
+    let mut patch = String::from_str(rt.alloc(), front).expect(rt, "memory");
     for _ in 0..126 {
-        path.push_str("/0").expect(rt, "memory");
+        push(rt, &mut patch, "/0");
     }
-    path
+    push(rt, &mut patch, back);
+    patch
 }
 
-fn is_done(rt: &(impl Abort + AllocGlobal), document: &Tree, patch: &str) -> bool {
-    fault_of(rt, document, patch).is_none()
-}
-
-fn is_done_deepest(
+fn check_deepest(
     rt: &(impl Abort + AllocGlobal),
     document: &Tree,
-    start: &str,
-    end: &str,
-) -> bool {
-    let path = deepest_path(rt);
-    let patch = format!(in rt.alloc(); "{start}{path}{end}").expect(rt, "memory");
-    is_done(rt, document, patch.as_str())
+    front: &str,
+    back: &str,
+    is_done: bool,
+) {
+    let patch = deepest_patch(rt, front, back);
+    check_done(rt, document, patch.as_str(), is_done);
 }
 
 #[test]
 fn depth_is_limited(rt: HostRuntime) {
     let deep = nested(&rt, 127);
     let absent = r#"[{"op": "test", "path": "/0/1", "value": 1}]"#;
-    assert!(rt; !is_done(&rt, &deep, absent));
-    for (start, end, allowed) in &DEEP {
-        let is_done = is_done_deepest(&rt, &deep, start, end);
-        assert_eq!(rt; is_done, *allowed, "{start}");
+    check_done(&rt, &deep, absent, false);
+    for (front, back, allowed) in &DEEP {
+        check_deepest(&rt, &deep, front, back, *allowed);
     }
     drop(deep);
 }
@@ -93,12 +90,10 @@ static TOO_DEEP: [(&str, bool); 4] = [
 fn what_is_too_deep_can_be_mended(rt: HostRuntime) {
     let too_deep = nested(&rt, 128);
     for (patch, done) in &TOO_DEEP {
-        assert_eq!(rt; is_done(&rt, &too_deep, patch), *done, "{patch}");
+        check_done(&rt, &too_deep, patch, *done);
     }
     let further = r#"[{"op": "add", "path": "/-", "value": 1}]"#;
-    let fault = fault_of(&rt, &too_deep, further);
-    let cause = ApplyCause::Deep;
-    assert!(rt; fault == Some(ApplyFault::Operation { index: 0, cause }));
+    check_refused(&rt, &too_deep, further, 0, ApplyCause::Deep);
     drop(too_deep);
 }
 
@@ -107,16 +102,14 @@ fn what_is_too_deep_can_be_mended(rt: HostRuntime) {
 fn size_is_limited(rt: HostRuntime) {
     let document = nulls(&rt, 999_998);
     let one = r#"[{"op": "add", "path": "/-", "value": 1}]"#;
-    assert!(rt; is_done(&rt, &document, one));
+    check_done(&rt, &document, one, true);
     let two =
         r#"[{"op": "add", "path": "/-", "value": 1}, {"op": "add", "path": "/0", "value": 1}]"#;
-    let fault = fault_of(&rt, &document, two);
-    let cause = ApplyCause::Large;
-    assert!(rt; fault == Some(ApplyFault::Operation { index: 1, cause }));
+    check_refused(&rt, &document, two, 1, ApplyCause::Large);
     let exchanged =
         r#"[{"op": "add", "path": "/-", "value": 1}, {"op": "replace", "path": "/0", "value": []},
         {"op": "move", "from": "/1", "path": "/0/-"}, {"op": "remove", "path": "/0"},
         {"op": "add", "path": "/0", "value": [0]}]"#;
-    assert!(rt; is_done(&rt, &document, exchanged));
+    check_done(&rt, &document, exchanged, true);
     drop(document);
 }

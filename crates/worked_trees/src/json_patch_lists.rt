@@ -1,67 +1,64 @@
-use crate::patching::{nulls, patched};
-use base_types::json::{Node, Tree, Trees, equal};
+use crate::patching::{makes, nulls, push_operation};
+use crate::reading::{check, push};
+use base_types::json::{Node, Tree, Trees};
 use std::process::Abort;
 
-/// The text of a patch of a list without items, and the items that it makes.
-#[derive(Drop)]
-struct Worked {
-    patch: String,
-    items: Vec<Tree>,
-}
-
-impl Worked {
-    fn push_text(&mut self, rt: &(impl Abort + AllocGlobal), text: &str) {
-        self.patch.push_str(text).expect(rt, "memory");
-    }
-
-    fn add_first(&mut self, rt: &(impl Abort + AllocGlobal), number: u32) {
-        let text = format!(in rt.alloc();
-            r#", {{"op": "add", "path": "/0", "value": {number}}}"#
-        ).expect(rt, "memory");
-        self.push_text(rt, text.as_str());
-        let node = Node::Whole(number as i128);
-        self.items.insert(0, Tree { node }).expect(rt, "memory");
-    }
-
-    fn remove_middle(&mut self, rt: &(impl Abort + AllocGlobal)) {
-        let middle = self.items.len() / 2;
-        if middle < self.items.len() {
-            let gone = self.items.remove(middle);
-            drop(gone);
-            let text = format!(in rt.alloc();
-                r#", {{"op": "remove", "path": "/{middle}"}}"#
-            ).expect(rt, "memory");
-            self.push_text(rt, text.as_str());
-        }
-    }
-}
-
-/// 3,000 numbers that come first, one after another, and 1,000 that leave in the middle, one after three.
-fn make_worked(rt: &(impl Abort + AllocGlobal)) -> Worked {
-    let patch = String::from_str(rt.alloc(), r#"[{"op": "test", "path": "", "value": []}"#);
-    let mut worked = Worked {
-        patch: patch.expect(rt, "memory"),
-        items: Vec::new(rt.alloc()),
-    };
+// The text of a patch of a list without items: 3,000 numbers come first, one after another, and 1,000 leave in the
+// middle, one after three. Two thirds of them and one more are there when one leaves.
+fn patch_of_edits(rt: &(impl Abort + AllocGlobal)) -> String {
+    let start = r#"[{"op": "test", "path": "", "value": []}"#;
+    let mut patch = String::from_str(rt.alloc(), start).expect(rt, "memory");
     for number in 0..3_000u32 {
-        worked.add_first(rt, number);
+        let front = r#", {"op": "add", "path": "/0", "value": "#;
+        push_operation(rt, &mut patch, front, number, "}");
         if number % 3 == 2 {
-            worked.remove_middle(rt);
+            let front = r#", {"op": "remove", "path": "/"#;
+            push_operation(rt, &mut patch, front, number / 3 + 1, r#""}"#);
         }
     }
-    worked.push_text(rt, "]");
-    worked
+    push(rt, &mut patch, "]");
+    patch
+}
+
+fn add_first(rt: &(impl Abort + AllocGlobal), items: &mut Vec<Tree>, number: u32) {
+    let node = Node::Whole(number as i128);
+    items.insert(0, Tree { node }).expect(rt, "memory");
+}
+
+fn remove_middle(items: &mut Vec<Tree>) {
+    let middle = items.len() / 2;
+    if middle < items.len() {
+        drop(items.remove(middle));
+    }
+}
+
+// The items that the edits make.
+fn edited(rt: &(impl Abort + AllocGlobal)) -> Vec<Tree> {
+    let mut items = Vec::new(rt.alloc());
+    for number in 0..3_000u32 {
+        add_first(rt, &mut items, number);
+        if number % 3 == 2 {
+            remove_middle(&mut items);
+        }
+    }
+    items
+}
+
+fn edits_make(rt: &(impl Abort + AllocGlobal), wanted: &Tree) -> bool {
+    let patch = patch_of_edits(rt);
+    let document = nulls(rt, 0);
+    let is_made = makes(rt, &document, patch.as_str(), wanted);
+    drop(document);
+    is_made
 }
 
 /// A long list is edited at its front and in its middle, across the borders of the chunks that hold it.
 #[test]
 fn long_lists_are_edited_anywhere(rt: HostRuntime) {
-    let Worked { patch, items } = make_worked(&rt);
+    let all = edited(&rt);
     let wanted = Tree {
-        node: Node::Items(Trees { all: items }),
+        node: Node::Items(Trees { all }),
     };
-    let made = patched(&rt, &nulls(&rt, 0), patch.as_str()).expect(&rt, "a document");
-    assert!(rt; equal(&made, &wanted));
-    drop(made);
+    check(&rt, edits_make(&rt, &wanted), "the items");
     drop(wanted);
 }

@@ -1,83 +1,78 @@
-use crate::patching::patched;
-use crate::reading::read;
+use crate::patching::{digits, makes, push_operation};
+use crate::reading::{check, members_of, push, read};
 use base_types::Text;
-use base_types::json::{MemberList, Node, Tree, equal};
+use base_types::json::{MemberList, Node, Tree};
 use std::process::Abort;
 
-/// The text of a patch of an object without members, and the members that it makes.
-#[derive(Drop)]
-struct Worked {
-    patch: String,
-    members: MemberList,
+// What a step does with the member of which number: 3,000 members come first, one after another, then 1,500 leave, in
+// the order of their names, and 500 of them come back.
+fn change(step: u32) -> (bool, u32) {
+    if step < 3_000 {
+        return (true, 9_999 - step);
+    }
+    if step < 4_500 {
+        return (false, step + 4_500);
+    }
+    (true, step.saturating_add(3_500))
 }
 
-impl Worked {
-    fn push_text(&mut self, rt: &(impl Abort + AllocGlobal), text: &str) {
-        self.patch.push_str(text).expect(rt, "memory");
-    }
-
-    fn add(&mut self, rt: &(impl Abort + AllocGlobal), number: u32) {
-        let text = format!(in rt.alloc();
-            r#", {{"op": "add", "path": "/{number}", "value": null}}"#
-        ).expect(rt, "memory");
-        self.push_text(rt, text.as_str());
-        let name = format!(in rt.alloc(); "{number}").expect(rt, "memory");
-        let value = Tree { node: Node::Null };
-        let was = self.members.put(Text::from_string(name), value);
-        drop(was.expect(rt, "memory"));
-    }
-
-    fn remove(&mut self, rt: &(impl Abort + AllocGlobal), number: u32) {
-        let text = format!(in rt.alloc(); r#", {{"op": "remove", "path": "/{number}"}}"#).expect(
-            rt, "memory",
-        );
-        self.push_text(rt, text.as_str());
-        let name = format!(in rt.alloc(); "{number}").expect(rt, "memory");
-        let gone = self.members.take(name.as_str());
-        drop(gone);
-    }
-}
-
-fn no_members(rt: &(impl Abort + AllocGlobal)) -> MemberList {
-    match read(rt, "{}").node {
-        Node::Members(list) => list,
-        other => {
-            drop(other);
-            panic!(rt; "no object")
+// The text of a patch that changes an object without members.
+fn patch_of_changes(rt: &(impl Abort + AllocGlobal)) -> String {
+    let start = r#"[{"op": "test", "path": "", "value": {}}"#;
+    let mut patch = String::from_str(rt.alloc(), start).expect(rt, "memory");
+    for step in 0..5_000u32 {
+        let (comes, number) = change(step);
+        if comes {
+            let front = r#", {"op": "add", "path": "/"#;
+            push_operation(rt, &mut patch, front, number, r#"", "value": null}"#);
+        } else {
+            let front = r#", {"op": "remove", "path": "/"#;
+            push_operation(rt, &mut patch, front, number, r#""}"#);
         }
     }
+    push(rt, &mut patch, "]");
+    patch
 }
 
-/// 3,000 members that come first, one after another, then 1,500 that leave, in the order of their names, and 500 of
-/// them that come back.
-fn make_worked(rt: &(impl Abort + AllocGlobal)) -> Worked {
-    let patch = String::from_str(rt.alloc(), r#"[{"op": "test", "path": "", "value": {}}"#);
-    let mut worked = Worked {
-        patch: patch.expect(rt, "memory"),
-        members: no_members(rt),
-    };
-    for number in 0..3_000u32 {
-        worked.add(rt, 9_999 - number);
+fn put(rt: &(impl Abort + AllocGlobal), members: &mut MemberList, number: u32) {
+    let name = Text::from_string(digits(rt, number));
+    let was = members.put(name, Tree { node: Node::Null });
+    drop(was.expect(rt, "memory"));
+}
+
+fn take(rt: &(impl Abort + AllocGlobal), members: &mut MemberList, number: u32) {
+    let name = digits(rt, number);
+    drop(members.take(name.as_str()));
+}
+
+// The members that the changes make.
+fn changed(rt: &(impl Abort + AllocGlobal)) -> MemberList {
+    let mut members = members_of(rt, "{}");
+    for step in 0..5_000u32 {
+        let (comes, number) = change(step);
+        if comes {
+            put(rt, &mut members, number);
+        } else {
+            take(rt, &mut members, number);
+        }
     }
-    for number in 7_500..9_000u32 {
-        worked.remove(rt, number);
-    }
-    for number in 8_000..8_500u32 {
-        worked.add(rt, number);
-    }
-    worked.push_text(rt, "]");
-    worked
+    members
+}
+
+fn changes_make(rt: &(impl Abort + AllocGlobal), wanted: &Tree) -> bool {
+    let patch = patch_of_changes(rt);
+    let document = read(rt, "{}");
+    let is_made = makes(rt, &document, patch.as_str(), wanted);
+    drop(document);
+    is_made
 }
 
 /// A large object is changed at its front and in its middle, across the borders of the chunks that hold it.
 #[test]
 fn large_objects_are_changed_anywhere(rt: HostRuntime) {
-    let Worked { patch, members } = make_worked(&rt);
     let wanted = Tree {
-        node: Node::Members(members),
+        node: Node::Members(changed(&rt)),
     };
-    let made = patched(&rt, &read(&rt, "{}"), patch.as_str()).expect(&rt, "a document");
-    assert!(rt; equal(&made, &wanted));
-    drop(made);
+    check(&rt, changes_make(&rt, &wanted), "the members");
     drop(wanted);
 }

@@ -1,7 +1,7 @@
-use crate::patching::{fault_of, nulls};
-use crate::reading::read;
+use crate::patching::{check_refused, nulls};
+use crate::reading::{check, read};
 use base_types::json::Tree;
-use json_patch::{ApplyCause, ApplyFault, PatchFault, read_patch};
+use json_patch::{ApplyCause, PatchFault, read_patch};
 use std::process::Abort;
 
 /// Document, patch, and the first operation that can't be done with its first cause.
@@ -140,21 +140,22 @@ static REFUSED: [(&str, &str, u32, ApplyCause); 22] = [
     ),
 ];
 
-fn fault(rt: &(impl Abort + AllocGlobal), document: &str, patch: &str) -> Option<ApplyFault> {
+fn check_row(
+    rt: &(impl Abort + AllocGlobal),
+    document: &str,
+    patch: &str,
+    index: u32,
+    cause: ApplyCause,
+) {
     let document = read(rt, document);
-    let fault = fault_of(rt, &document, patch);
+    check_refused(rt, &document, patch, index, cause);
     drop(document);
-    fault
 }
 
 #[test]
 fn refused_operations(rt: HostRuntime) {
     for (document, patch, index, cause) in &REFUSED {
-        let wanted = ApplyFault::Operation {
-            index: *index,
-            cause: *cause,
-        };
-        assert!(rt; fault(&rt, document, patch) == Some(wanted), "of {patch}");
+        check_row(&rt, document, patch, *index, *cause);
     }
 }
 
@@ -189,21 +190,19 @@ static UNREAD: [(&str, PatchFault); 9] = [
     (r#"[{"path": "/a"}]"#, PatchFault::BadOperation { index: 0 }),
 ];
 
-// Why a tree can't be read as a patch.
-fn why_unread(rt: &(impl Abort + AllocGlobal), tree: Tree) -> Option<PatchFault> {
-    let fault = read_patch(rt.alloc(), &tree).err();
+// Stops the test unless this is why the tree can't be read as a patch.
+fn check_unread(rt: &(impl Abort + AllocGlobal), tree: Tree, fault: PatchFault, patch: &str) {
+    let found = read_patch(rt.alloc(), &tree).err();
     drop(tree);
-    fault
+    check(rt, found == Some(fault), patch);
 }
 
 #[test]
 fn refused_patches(rt: HostRuntime) {
     for (patch, fault) in &UNREAD {
-        let found = why_unread(&rt, read(&rt, patch));
-        assert!(rt; found == Some(*fault), "of {patch}");
+        check_unread(&rt, read(&rt, patch), *fault, patch);
     }
-    let many = why_unread(&rt, nulls(&rt, 10_001));
-    assert!(rt; many == Some(PatchFault::TooMany));
-    let most = why_unread(&rt, nulls(&rt, 10_000));
-    assert!(rt; most == Some(PatchFault::BadOperation { index: 0 }));
+    check_unread(&rt, nulls(&rt, 10_001), PatchFault::TooMany, "many nulls");
+    let first = PatchFault::BadOperation { index: 0 };
+    check_unread(&rt, nulls(&rt, 10_000), first, "the most nulls");
 }

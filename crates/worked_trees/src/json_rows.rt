@@ -1,11 +1,10 @@
-use crate::reading::{is_tree, read};
+use crate::reading::{check, is_tree, members_of, push, read};
 use base_types::Text;
 use base_types::json::{
-    MemberList, Node, PointerFault, Tree, TreeFault, copy, equal, from_value, get, read_pointer,
+    MemberList, Node, Pointer, PointerFault, Tree, TreeFault, copy, from_value, get, read_pointer,
     stored_form, to_value,
 };
 use serde_json::Value;
-use std::alloc::Global;
 use std::process::Abort;
 
 /// Each text with what it is printed as: members in order, the last of a name, integers to the ends of
@@ -20,22 +19,27 @@ static PRINTED: [(&str, &str); 7] = [
     (r#"{"a": 1, "b": 2, "a": 3}"#, r#"{"a":3,"b":2}"#),
 ];
 
-fn printed(rt: &(impl Abort + AllocGlobal), text: &str) -> String {
+// The value of the tree of a text.
+fn value_again(rt: &(impl Abort + AllocGlobal), text: &str) -> Value {
     let value = Value::from_str(rt.alloc(), text).expect(rt, "JSON");
     let tree = from_value(rt.alloc(), &value).expect(rt, "a tree");
     drop(value);
     let again = to_value(rt.alloc(), &tree).expect(rt, "memory");
     drop(tree);
-    let text = again.to_string(rt.alloc()).expect(rt, "memory");
+    again
+}
+
+fn is_printed(rt: &(impl Abort + AllocGlobal), text: &str, wanted: &str) -> bool {
+    let again = value_again(rt, text);
+    let printed = again.to_string(rt.alloc()).expect(rt, "memory");
     drop(again);
-    text
+    printed.as_str() == wanted
 }
 
 #[test]
 fn values_come_back(rt: HostRuntime) {
     for (text, wanted) in &PRINTED {
-        let found = printed(&rt, text);
-        assert_eq!(rt; found.as_str(), *wanted, "of {text}");
+        check(&rt, is_printed(&rt, text, wanted), text);
     }
 }
 
@@ -48,47 +52,43 @@ static FRACTIONS: [&str; 6] = [
     r#"[1, {"a": 2.5}]"#,
 ];
 
-fn tree_fault(rt: &(impl Abort + AllocGlobal), text: &str) -> Option<TreeFault> {
+fn is_fraction(rt: &(impl Abort + AllocGlobal), text: &str) -> bool {
     let value = Value::from_str(rt.alloc(), text).expect(rt, "JSON");
     let fault = from_value(rt.alloc(), &value).err();
     drop(value);
-    fault
+    fault == Some(TreeFault::Fraction)
 }
 
 #[test]
 fn fractions_have_no_tree(rt: HostRuntime) {
     for text in &FRACTIONS {
-        let fault = tree_fault(&rt, text);
-        assert!(rt; fault == Some(TreeFault::Fraction), "of {text}");
+        check(&rt, is_fraction(&rt, text), text);
     }
 }
 
 const DOCUMENT: &str = r#"{"foo": ["bar", "baz"], "": 0, "a/b": 1, "c%d": 2, "e^f": 3, "g|h": 4,
     "i\\j": 5, "k\"l": 6, " ": 7, "m~n": 8}"#;
 
-// The table of RFC 6901 section 5.
-static POINTERS: [(&str, &str); 12] = [
-    ("", DOCUMENT),
-    ("/foo", r#"["bar", "baz"]"#),
-    ("/foo/0", r#""bar""#),
-    ("/", "0"),
-    ("/a~1b", "1"),
-    ("/c%d", "2"),
-    ("/e^f", "3"),
-    ("/g|h", "4"),
-    (r"/i\j", "5"),
-    ("/k\"l", "6"),
-    ("/ ", "7"),
-    ("/m~0n", "8"),
-];
-
-static LEADING_NOWHERE: [&str; 6] = [
-    "/foo/-",
-    "/foo/00",
-    "/foo/2",
-    "/foo/99999999999999999999",
-    "/foo/0/0",
-    "/bar",
+// The table of RFC 6901 section 5, and pointers that lead nowhere.
+static POINTERS: [(&str, Option<&str>); 18] = [
+    ("", Some(DOCUMENT)),
+    ("/foo", Some(r#"["bar", "baz"]"#)),
+    ("/foo/0", Some(r#""bar""#)),
+    ("/", Some("0")),
+    ("/a~1b", Some("1")),
+    ("/c%d", Some("2")),
+    ("/e^f", Some("3")),
+    ("/g|h", Some("4")),
+    (r"/i\j", Some("5")),
+    ("/k\"l", Some("6")),
+    ("/ ", Some("7")),
+    ("/m~0n", Some("8")),
+    ("/foo/-", None),
+    ("/foo/00", None),
+    ("/foo/2", None),
+    ("/foo/99999999999999999999", None),
+    ("/foo/0/0", None),
+    ("/bar", None),
 ];
 
 fn pointed<'a>(rt: &(impl Abort + AllocGlobal), document: &'a Tree, at: &str) -> Option<&'a Tree> {
@@ -98,64 +98,72 @@ fn pointed<'a>(rt: &(impl Abort + AllocGlobal), document: &'a Tree, at: &str) ->
     found
 }
 
-// Whether this value is at the pointer.
-fn leads_to(rt: &(impl Abort + AllocGlobal), document: &Tree, at: &str, value: &str) -> bool {
-    match pointed(rt, document, at) {
-        Some(found) => is_tree(rt, found, value),
-        None => false,
+// Whether this value is at the pointer, or nothing.
+fn leads_to(
+    rt: &(impl Abort + AllocGlobal),
+    document: &Tree,
+    at: &str,
+    wanted: Option<&str>,
+) -> bool {
+    match (pointed(rt, document, at), wanted) {
+        (Some(found), Some(value)) => is_tree(rt, found, value),
+        (found, value) => found.is_none() && value.is_none(),
     }
 }
 
-/// The table of RFC 6901 section 5, and pointers that lead nowhere.
 #[test]
 fn pointers_lead_to_values(rt: HostRuntime) {
     let document = read(&rt, DOCUMENT);
     for (text, value) in &POINTERS {
-        assert!(rt; leads_to(&rt, &document, text, value), "at {text}");
-    }
-    for text in &LEADING_NOWHERE {
-        assert!(rt; pointed(&rt, &document, text).is_none(), "at {text}");
+        check(&rt, leads_to(&rt, &document, text, *value), text);
     }
     drop(document);
 }
 
-static NO_POINTERS: [&str; 6] = ["a", "~", "/~", "/a~2", "/é~", " /a"];
-
-// Pointers of one token, with the token.
-static TOKENS: [(&str, &str); 4] = [
-    ("/a~1b", "a/b"),
-    ("/~01", "~1"),
-    ("/é~0ü", "é~ü"),
-    ("/", ""),
+// Texts, and the tokens of the pointer that each is, with a bar before each. A text without `/` at its front, or with
+// a `~` of no meaning, is no pointer. `~01` is `~1`.
+static SPELLED: [(&str, Option<&str>); 11] = [
+    ("a", None),
+    ("~", None),
+    ("/~", None),
+    ("/a~2", None),
+    ("/é~", None),
+    (" /a", None),
+    ("/a~1b", Some("|a/b")),
+    ("/~01", Some("|~1")),
+    ("/é~0ü", Some("|é~ü")),
+    ("/", Some("|")),
+    ("/a//b", Some("|a||b")),
 ];
 
-fn is_one_token(rt: &(impl Abort + AllocGlobal), text: &str, token: &str) -> bool {
+fn tokens(rt: &(impl Abort + AllocGlobal), pointer: &Pointer) -> String {
+    let mut tokens = String::new(rt.alloc());
+    for token in pointer {
+        push(rt, &mut tokens, "|");
+        push(rt, &mut tokens, token.as_str());
+    }
+    tokens
+}
+
+fn has_tokens(rt: &(impl Abort + AllocGlobal), text: &str, wanted: &str) -> bool {
     let pointer = read_pointer(rt.alloc(), text).expect(rt, "a pointer");
-    match pointer.as_slice() {
-        [only] => only.as_str() == token,
-        _ => false,
+    let tokens = tokens(rt, &pointer);
+    drop(pointer);
+    tokens.as_str() == wanted
+}
+
+fn is_spelled(rt: &(impl Abort + AllocGlobal), text: &str, tokens: Option<&str>) -> bool {
+    match tokens {
+        Some(tokens) => has_tokens(rt, text, tokens),
+        None => read_pointer(rt.alloc(), text).err() == Some(PointerFault::Form),
     }
 }
 
-fn pointer_fault(alloc: Global, text: &str) -> Option<PointerFault> {
-    read_pointer(alloc, text).err()
-}
-
-fn count_of_tokens(rt: &(impl Abort + AllocGlobal), text: &str) -> usize {
-    read_pointer(rt.alloc(), text).expect(rt, "a pointer").len()
-}
-
-/// A text without `/` at its front, or with a `~` of no meaning, is no pointer. `~01` is `~1`.
 #[test]
 fn pointers_have_one_spelling(rt: HostRuntime) {
-    for text in &NO_POINTERS {
-        let fault = pointer_fault(rt.alloc(), text);
-        assert!(rt; fault == Some(PointerFault::Form), "of {text}");
+    for (text, tokens) in &SPELLED {
+        check(&rt, is_spelled(&rt, text, *tokens), text);
     }
-    for (text, token) in &TOKENS {
-        assert!(rt; is_one_token(&rt, text, token), "of {text}");
-    }
-    assert_eq!(rt; count_of_tokens(&rt, "/a//b"), 3);
 }
 
 static DISTINCT: [&str; 12] = [
@@ -173,30 +181,33 @@ static DISTINCT: [&str; 12] = [
     r#"{"b": null}"#,
 ];
 
-fn is_its_copy(rt: &(impl Abort + AllocGlobal), text: &str) -> bool {
-    let tree = read(rt, text);
-    let copied = copy(rt.alloc(), &tree).expect(rt, "memory");
-    let is_same = copied == tree;
+fn equals_itself_alone(rt: &(impl Abort + AllocGlobal), tree: &Tree, text: &str) -> bool {
+    for other in &DISTINCT {
+        if is_tree(rt, tree, other) != (text == *other) {
+            return false;
+        }
+    }
+    true
+}
+
+fn equals_its_copy(rt: &(impl Abort + AllocGlobal), tree: &Tree) -> bool {
+    let copied = copy(rt.alloc(), tree).expect(rt, "memory");
+    let is_same = copied == *tree;
     drop(copied);
-    drop(tree);
     is_same
 }
 
-fn are_equal(rt: &(impl Abort + AllocGlobal), text: &str, other: &str) -> bool {
+fn is_told_apart(rt: &(impl Abort + AllocGlobal), text: &str) -> bool {
     let tree = read(rt, text);
-    let is_same = is_tree(rt, &tree, other);
+    let is_so = equals_its_copy(rt, &tree) && equals_itself_alone(rt, &tree, text);
     drop(tree);
-    is_same
+    is_so
 }
 
 #[test]
 fn trees_are_told_apart(rt: HostRuntime) {
-    for (i, text) in DISTINCT.iter().enumerate() {
-        assert!(rt; is_its_copy(&rt, text), "a copy of {text}");
-        for (j, other) in DISTINCT.iter().enumerate() {
-            let same = are_equal(&rt, text, other);
-            assert_eq!(rt; same, i == j, "{text} and {other}");
-        }
+    for text in &DISTINCT {
+        check(&rt, is_told_apart(&rt, text), text);
     }
 }
 
@@ -223,60 +234,92 @@ fn is_stored_as(rt: &(impl Abort + AllocGlobal), object: &str, stored: &str) -> 
 #[test]
 fn stored_forms(rt: HostRuntime) {
     for (object, stored) in &STORED {
-        assert!(rt; is_stored_as(&rt, object, stored), "of {object}");
+        check(&rt, is_stored_as(&rt, object, stored), object);
     }
 }
 
-fn text_of(tree: Option<&Tree>) -> Option<&str> {
-    Some(tree?.as_text()?.as_str())
+// What a member's value is.
+enum Member {
+    Flag(bool),
+    Whole(i128),
+    Text(&'static str),
+    Items(usize),
+    Null,
+    Absent,
 }
 
-fn length_of(tree: Option<&Tree>) -> Option<usize> {
-    Some(tree?.as_items()?.all.len())
+const OBJECT: &str = r#"{"f": true, "i": [1], "n": null, "t": "x", "w": -7}"#;
+
+// The members of the object.
+static MEMBERS: [(&str, Member); 6] = [
+    ("f", Member::Flag(true)),
+    ("w", Member::Whole(-7)),
+    ("t", Member::Text("x")),
+    ("i", Member::Items(1)),
+    ("n", Member::Null),
+    ("m", Member::Absent),
+];
+
+fn is_text(value: &Tree, wanted: &str) -> bool {
+    match value.as_text() {
+        Some(text) => text.as_str() == wanted,
+        None => false,
+    }
 }
 
-fn check_members(rt: &impl Abort, tree: &Tree) {
-    assert!(rt; tree.member("f").and_then(|flag| flag.as_flag()) == Some(true));
-    assert!(rt; tree.member("w").and_then(|whole| whole.as_whole()) == Some(-7));
-    assert!(rt; text_of(tree.member("t")) == Some("x"));
-    assert!(rt; length_of(tree.member("i")) == Some(1));
-    assert!(rt; tree.as_members().map(|members| members.all.len()) == Some(5));
-    assert!(rt; tree.member("n").is_some_and(|null| null.is_null()));
-    assert!(rt; tree.member("m").is_none());
+fn has_items(value: &Tree, count: usize) -> bool {
+    match value.as_items() {
+        Some(items) => items.all.len() == count,
+        None => false,
+    }
+}
+
+fn has_members(value: &Tree, count: usize) -> bool {
+    match value.as_members() {
+        Some(members) => members.all.len() == count,
+        None => false,
+    }
+}
+
+fn is_value(value: &Tree, wanted: &Member) -> bool {
+    match wanted {
+        Member::Flag(flag) => value.as_flag() == Some(*flag),
+        Member::Whole(whole) => value.as_whole() == Some(*whole),
+        Member::Text(text) => is_text(value, text),
+        Member::Items(count) => has_items(value, *count),
+        Member::Null => value.is_null(),
+        Member::Absent => false,
+    }
+}
+
+fn is_member(value: Option<&Tree>, wanted: &Member) -> bool {
+    match value {
+        Some(value) => is_value(value, wanted),
+        None => matches!(wanted, Member::Absent),
+    }
 }
 
 #[test]
 fn one_level(rt: HostRuntime) {
-    let tree = read(
-        &rt,
-        r#"{"f": true, "i": [1], "n": null, "t": "x", "w": -7}"#,
-    );
-    check_members(&rt, &tree);
+    let tree = read(&rt, OBJECT);
+    for (name, wanted) in &MEMBERS {
+        check(&rt, is_member(tree.member(name), wanted), name);
+    }
+    check(&rt, has_members(&tree, 5), "five members");
     drop(tree);
 }
 
+// Names that are put into an object, one after another.
 static PUT_IN: [&str; 4] = ["c", "a", "e", "c"];
 
 fn put(rt: &(impl Abort + AllocGlobal), list: &mut MemberList, name: &str) {
-    let value = read(rt, "3");
     let name = Text::from_str(rt.alloc(), name).expect(rt, "memory");
-    let was = list.put(name, value).expect(rt, "memory");
+    let was = list.put(name, read(rt, "3")).expect(rt, "memory");
     drop(was);
 }
 
-fn members_of(rt: &(impl Abort + AllocGlobal), text: &str) -> MemberList {
-    match read(rt, text).node {
-        Node::Members(list) => list,
-        other => {
-            drop(other);
-            panic!(rt; "no object")
-        }
-    }
-}
-
-// The members of a tree, with others put in.
-fn put_in(rt: &(impl Abort + AllocGlobal), text: &str) -> MemberList {
-    let mut list = members_of(rt, text);
+fn put_in(rt: &(impl Abort + AllocGlobal)) -> MemberList {
+    let mut list = members_of(rt, r#"{"b": 1, "d": 2}"#);
     for name in &PUT_IN {
         put(rt, &mut list, name);
     }
@@ -284,7 +327,10 @@ fn put_in(rt: &(impl Abort + AllocGlobal), text: &str) -> MemberList {
 }
 
 fn takes(list: &mut MemberList, name: &str) -> bool {
-    list.take(name).is_some()
+    let gone = list.take(name);
+    let is_gone = gone.is_some();
+    drop(gone);
+    is_gone
 }
 
 fn is_object(rt: &(impl Abort + AllocGlobal), list: MemberList, text: &str) -> bool {
@@ -298,9 +344,10 @@ fn is_object(rt: &(impl Abort + AllocGlobal), list: MemberList, text: &str) -> b
 
 #[test]
 fn members_are_put_and_taken(rt: HostRuntime) {
-    let mut list = put_in(&rt, r#"{"b": 1, "d": 2}"#);
-    assert_eq!(rt; list.all.len(), 5);
-    assert!(rt; takes(&mut list, "d") && !takes(&mut list, "d"));
+    let mut list = put_in(&rt);
+    check(&rt, list.all.len() == 5, "five members");
+    check(&rt, takes(&mut list, "d"), "d");
+    check(&rt, !takes(&mut list, "d"), "no d");
     let wanted = r#"{"a": 3, "b": 1, "c": 3, "e": 3}"#;
-    assert!(rt; is_object(&rt, list, wanted));
+    check(&rt, is_object(&rt, list, wanted), wanted);
 }

@@ -1,6 +1,6 @@
 ghost use Rattle.std.specs.Prelude.{◌<◌, IfSome, length};
 
-use crate::reading::{is_tree, read};
+use crate::reading::{check, is_tree, read};
 use base_types::json::read_pointer;
 use hash_seed::Seed;
 use node_pool::{Interner, NodeId, Pool, PoolFault};
@@ -11,24 +11,23 @@ use std::process::Abort;
 fn shared<T: Send + Sync>(_value: &T) {}
 
 // Texts that are put in where there is room for two trees, the number that each gets, and how many trees there are then.
-static NUMBERS: [(&str, Option<u32>, u32); 5] = [
-    (r#""x""#, Some(0), 1),
-    (r#"["x"]"#, Some(1), 2),
-    (r#""x""#, Some(0), 2),
-    (r#""y""#, None, 2),
-    (r#"["x", []]"#, None, 2),
+static NUMBERS: [(&str, Result<NodeId, PoolFault>, u32); 5] = [
+    (r#""x""#, Ok(NodeId(0)), 1),
+    (r#"["x"]"#, Ok(NodeId(1)), 2),
+    (r#""x""#, Ok(NodeId(0)), 2),
+    (r#""y""#, Err(PoolFault::Full), 2),
+    (r#"["x", []]"#, Err(PoolFault::Full), 2),
 ];
 
-// The number of a tree, or none where there is no room.
-fn number(rt: &(impl Abort + AllocGlobal), interner: &mut Interner, text: &str) -> Option<u32> {
+fn intern(
+    rt: &(impl Abort + AllocGlobal),
+    interner: &mut Interner,
+    text: &str,
+) -> Result<NodeId, PoolFault> {
     let tree = read(rt, text);
     let interned = interner.intern(&tree);
     drop(tree);
-    match interned {
-        Ok(node) => Some(node.0),
-        Err(PoolFault::Full) => None,
-        Err(fault) => panic!(rt; "{fault}"),
-    }
+    interned
 }
 
 const OBJECT: &str = r#"{"metadata": {"name": "a", "finalizers": ["x/y"]}, "data": {"k": "x"}}"#;
@@ -78,31 +77,42 @@ fn is_there(
     }
 }
 
-// Whether a number of the pool has this tree.
-fn is_numbered(rt: &(impl Abort + AllocGlobal), pool: &Pool, number: u32, text: &str) -> bool {
-    number < pool.len() && equals(rt, pool, NodeId(number), text)
+// Whether a number of the pool has this tree, if the tree has a number.
+fn is_numbered(
+    rt: &(impl Abort + AllocGlobal),
+    pool: &Pool,
+    number: &Result<NodeId, PoolFault>,
+    text: &str,
+) -> bool {
+    match number {
+        Ok(node) => node.0 < pool.len() && equals(rt, pool, *node, text),
+        Err(_) => true,
+    }
 }
 
 // Each tree that was put in has its number in the pool.
 fn check_numbers(rt: &(impl Abort + AllocGlobal), pool: &Pool) {
     shared(pool);
-    assert_eq!(rt; pool.len(), 2);
+    check(rt, pool.len() == 2, "two trees");
     for (text, number, _) in &NUMBERS {
-        if let Some(number) = number {
-            assert!(rt; is_numbered(rt, pool, *number, text), "of {text}");
-        }
+        check(rt, is_numbered(rt, pool, number, text), text);
     }
+}
+
+// The trees of the texts, each of which gets its number.
+fn interned(rt: &(impl Abort + AllocGlobal)) -> Interner {
+    let mut interner = Interner::new(rt.alloc(), 2, Seed::of(b"")).expect(rt, "memory");
+    for (text, wanted, len) in &NUMBERS {
+        check(rt, intern(rt, &mut interner, text) == *wanted, text);
+        check(rt, interner.len() == *len, text);
+    }
+    interner
 }
 
 #[test]
 fn a_tree_has_one_number(rt: HostRuntime) {
-    let mut interner = Interner::new(rt.alloc(), 2, Seed::of(b"")).expect(&rt, "memory");
+    let interner = interned(&rt);
     shared(&interner);
-    for (text, wanted, len) in &NUMBERS {
-        let found = number(&rt, &mut interner, text);
-        assert_eq!(rt; found, *wanted, "of {text}");
-        assert_eq!(rt; interner.len(), *len, "after {text}");
-    }
     let pool = interner.into_pool().expect(&rt, "memory");
     check_numbers(&rt, &pool);
     drop(pool);
@@ -120,21 +130,21 @@ fn comes_back(rt: &(impl Abort + AllocGlobal), pool: &Pool, node: NodeId, text: 
 fn check_parts(rt: &(impl Abort + AllocGlobal), pool: &Pool, node: NodeId)
     requires { node.0 < length pool.now.trees }
 {
-    assert!(rt; pool.same(node, node) && equals(rt, pool, node, OBJECT));
-    assert!(rt; comes_back(rt, pool, node, OBJECT));
+    check(rt, pool.same(node, node), "itself");
+    check(rt, equals(rt, pool, node, OBJECT), OBJECT);
+    check(rt, comes_back(rt, pool, node, OBJECT), OBJECT);
     for (at, part) in &PARTS {
-        assert!(rt; is_there(rt, pool, node, at, *part), "at {at}");
+        check(rt, is_there(rt, pool, node, at, *part), at);
     }
 }
 
 #[test]
 fn parts_are_found(rt: HostRuntime) {
-    let object = read(&rt, OBJECT);
     let mut interner = Interner::new(rt.alloc(), 100, Seed::of(b"")).expect(&rt, "memory");
-    let node = interner.intern(&object).expect(&rt, "room");
-    drop(object);
+    let node = intern(&rt, &mut interner, OBJECT).expect(&rt, "room");
     let pool = interner.into_pool().expect(&rt, "memory");
-    assert_eq!(rt; pool.len(), 7);
+    check(&rt, pool.len() == 7, "seven trees");
+    assert!(rt; node.0 < pool.len());
     check_parts(&rt, &pool, node);
     drop(pool);
 }

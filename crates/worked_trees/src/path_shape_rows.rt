@@ -1,4 +1,4 @@
-use crate::reading::read;
+use crate::reading::{check, read};
 use base_types::json::Tree;
 use path_shape::{FieldClass, Shape, ShapeFault, agrees, keeps};
 use std::process::Abort;
@@ -97,7 +97,7 @@ fn first_fault(rt: &(impl Abort + AllocGlobal), text: &str) -> Option<ShapeFault
 #[test]
 fn lists_of_entries(rt: HostRuntime) {
     for (text, fault) in &LISTS {
-        assert!(rt; first_fault(&rt, text) == *fault, "of {text}");
+        check(&rt, first_fault(&rt, text) == *fault, text);
     }
 }
 
@@ -229,8 +229,8 @@ static CASES: [([&str; 3], &str, &str); 14] = [
 #[test]
 fn answers_agree(rt: HostRuntime) {
     for (given, right, wrong) in &CASES {
-        assert!(rt; agree(&rt, given, right), "{given:?} and {right}");
-        assert!(rt; !agree(&rt, given, wrong), "{given:?} and {wrong}");
+        check(&rt, agree(&rt, given, right), right);
+        check(&rt, !agree(&rt, given, wrong), wrong);
     }
 }
 
@@ -282,7 +282,7 @@ fn is_kept(rt: &(impl Abort + AllocGlobal), shapes: &str, old: &str, answered: &
 #[test]
 fn deletes_keep(rt: HostRuntime) {
     for [shapes, old, right, wrong] in &KEPT {
-        assert!(rt; is_kept(&rt, shapes, old, right), "{shapes} and {right}");
-        assert!(rt; !is_kept(&rt, shapes, old, wrong), "{shapes} and {wrong}");
+        check(&rt, is_kept(&rt, shapes, old, right), right);
+        check(&rt, !is_kept(&rt, shapes, old, wrong), wrong);
     }
 }

@@ -1,4 +1,4 @@
-use base_types::json::{Tree, equal, from_value};
+use base_types::json::{MemberList, Node, Tree, equal, from_value};
 use serde_json::Value;
 use std::process::Abort;
 
@@ -16,4 +16,27 @@ pub(crate) fn is_tree(rt: &(impl Abort + AllocGlobal), tree: &Tree, text: &str) 
     let is_same = equal(tree, &wanted);
     drop(wanted);
     is_same
+}
+
+/// The members of a JSON text that is an object.
+pub(crate) fn members_of(rt: &(impl Abort + AllocGlobal), text: &str) -> MemberList {
+    match read(rt, text).node {
+        Node::Members(list) => list,
+        other => {
+            drop(other);
+            panic!(rt; "no object")
+        }
+    }
+}
+
+/// Puts more behind a text.
+pub(crate) fn push(rt: &impl Abort, text: &mut String, more: &str) {
+    text.push_str(more).expect(rt, "memory");
+}
+
+/// Stops the test at this row, unless the row is right.
+pub(crate) fn check(rt: &impl Abort, is_right: bool, row: &str) {
+    if !is_right {
+        rt.panic(row);
+    }
 }
