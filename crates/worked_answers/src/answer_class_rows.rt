@@ -1,4 +1,4 @@
-use crate::given::{event_of, setup_of, tree};
+use crate::given::{assert_so, assert_text, event, setup_of, tree};
 use answer_class::{Answer, class_of, conditions_of, listable};
 use audit_event::Event;
 use setup_file::Setup;
@@ -92,26 +92,6 @@ const LIST: &str = r#"{"kind":"ConfigMapList","metadata":{"resourceVersion":"12"
 const OLD_LIST: &str = r#"{"kind":"ConfigMapList","metadata":{"resourceVersion":"9"},"items":[]}"#;
 
 const TABLE: &str = r#"{"kind":"Table","metadata":{"resourceVersion":"12"},"rows":[]}"#;
-
-// The event of a request, received and answered at these times of one day.
-fn event(
-    rt: &(impl Abort + AllocGlobal),
-    request: (&str, &str, &str),
-    times: (&str, &str),
-    code: u16,
-    answer: &str,
-) -> Event {
-    let (verb, uri, body) = request;
-    let (received, staged) = times;
-    let text = format!(in rt.alloc();
-        r#"{{"level":"RequestResponse","auditID":"a","stage":"ResponseComplete","requestURI":"{uri}",
-        "verb":"{verb}","user":{{"username":"u"}},"responseStatus":{{"code":{code}}},"requestObject":{body},
-        "responseObject":{answer},"requestReceivedTimestamp":"2024-05-01T{received}Z",
-        "stageTimestamp":"2024-05-01T{staged}Z"}}"#
-    )
-    .expect(rt, "memory");
-    event_of(rt, text.as_str(), 1)
-}
 
 fn word(answer: &Answer) -> &'static str {
     match answer {
@@ -211,10 +191,9 @@ fn told(
     setup: &Setup,
     request: (&str, &str, &str),
     times: (&str, &str),
-    code: u16,
-    answer: &str,
+    answer: (u16, &str),
 ) -> &'static str {
-    let event = event(rt, request, times, code, answer);
+    let event = event(rt, 1, request, times, answer);
     let told = class_word(rt, setup, &event);
     drop(event);
     told
@@ -224,8 +203,8 @@ fn told(
 fn each_class_is_told(rt: HostRuntime) {
     let setup = setup_of(&rt, SETUP);
     for (request, times, code, answer, class) in &CLASSES {
-        let found = told(&rt, &setup, *request, *times, *code, answer);
-        assert_eq!(rt; found, *class, "of {answer}");
+        let found = told(&rt, &setup, *request, *times, (*code, answer));
+        assert_text(&rt, found, class, answer);
     }
     drop(setup);
 }
@@ -255,7 +234,7 @@ fn asked_by(
     setup: &Setup,
     request: (&str, &str, &str),
 ) -> (Option<u64>, bool) {
-    let event = event(rt, request, WITHIN, 200, NOTHING);
+    let event = event(rt, 1, request, WITHIN, (200, NOTHING));
     let asked = asked(rt, setup, &event);
     drop(event);
     asked
@@ -266,9 +245,8 @@ fn asked_by(
 fn conditions_are_read(rt: HostRuntime) {
     let setup = setup_of(&rt, SETUP);
     for (request, revision, has_uid) in &CONDITIONS {
-        let (found, asks_uid) = asked_by(&rt, &setup, *request);
-        assert_eq!(rt; found, *revision);
-        assert_eq!(rt; asks_uid, *has_uid);
+        let found = asked_by(&rt, &setup, *request);
+        assert_so(&rt, found == (*revision, *has_uid), request.1);
     }
     drop(setup);
 }
@@ -282,7 +260,7 @@ static LABELLED: [(&str, bool); 3] = [
 
 // The answer to a list with the selector `app=w`.
 fn selected_list(rt: &(impl Abort + AllocGlobal)) -> Answer {
-    let event = event(rt, ("list", LABEL, NOTHING), WITHIN, 200, LIST);
+    let event = event(rt, 1, ("list", LABEL, NOTHING), WITHIN, (200, LIST));
     let setup = setup_of(rt, SETUP);
     let answer = class_of(rt.alloc(), &setup, &event);
     drop(setup);
@@ -302,7 +280,7 @@ fn is_selected(rt: &(impl Abort + AllocGlobal), answer: &Answer, text: &str) -> 
 fn labels_are_selected(rt: HostRuntime) {
     let answer = selected_list(&rt);
     for (text, is_listed) in &LABELLED {
-        assert_eq!(rt; is_selected(&rt, &answer, text), *is_listed);
+        assert_so(&rt, is_selected(&rt, &answer, text) == *is_listed, text);
     }
     drop(answer);
 }

@@ -1,4 +1,4 @@
-use crate::given::{push, tree};
+use crate::given::{assert_so, push, tree};
 use base_types::Texts;
 use base_types::json::Tree;
 use label_select::{Selector, SelectorFault, Test, matches, read_selector};
@@ -120,15 +120,11 @@ fn lines_of(rt: &(impl Abort + AllocGlobal), selector: &Selector) -> String {
     lines
 }
 
-fn has_lines(rt: &(impl Abort + AllocGlobal), selector: &Selector, lines: &str) -> bool {
-    lines_of(rt, selector).as_str() == lines
-}
-
-fn is_read_as(rt: &(impl Abort + AllocGlobal), text: &str, lines: &str) -> bool {
+fn is_read_as(rt: &(impl Abort + AllocGlobal), text: &str, wanted: &str) -> bool {
     let selector = read_selector(rt.alloc(), text).expect(rt, "a selector");
-    let is_so = has_lines(rt, &selector, lines);
+    let lines = lines_of(rt, &selector);
     drop(selector);
-    is_so
+    lines.as_str() == wanted
 }
 
 fn is_refused(rt: &(impl Abort + AllocGlobal), text: &str) -> bool {
@@ -146,7 +142,7 @@ fn is_right(rt: &(impl Abort + AllocGlobal), text: &str, lines: Option<&str>) ->
 #[test]
 fn selectors(rt: HostRuntime) {
     for (text, lines) in &SELECTORS {
-        assert!(rt; is_right(&rt, text, *lines));
+        assert_so(&rt, is_right(&rt, text, *lines), text);
     }
 }
 
@@ -202,8 +198,8 @@ fn takes_labels(rt: &(impl Abort + AllocGlobal), text: &str, json: &str) -> bool
 #[test]
 fn labels(rt: HostRuntime) {
     for (text, json, taken) in &LABELS {
-        assert_eq!(rt; takes_labels(&rt, text, json), *taken);
+        assert_so(&rt, takes_labels(&rt, text, json) == *taken, text);
     }
-    assert!(rt; takes(&rt, "!a,b!=c", None));
-    assert!(rt; !takes(&rt, "!a,b", None));
+    assert_so(&rt, takes(&rt, "!a,b!=c", None), "no labels");
+    assert_so(&rt, !takes(&rt, "!a,b", None), "no labels");
 }

@@ -1,5 +1,5 @@
-use crate::given::{assert_text, event_of, push, setup_of};
-use audit_event::{Event, Events};
+use crate::given::{assert_so, assert_text, event, push, setup_of};
+use audit_event::Events;
 use hash_seed::Seed;
 use page_chains::chains;
 use setup_file::{Checkpoint, Checkpoints};
@@ -39,79 +39,103 @@ const EMPTY: &str = r#"{"kind":"ConfigMapList","metadata":{"resourceVersion":"10
 const EMPTY_LATER: &str =
     r#"{"kind":"ConfigMapList","metadata":{"resourceVersion":"11"},"items":[]}"#;
 
-// Lists, each with its URI, the second in which it was answered, and the answer; and the chains that they make, each
-// with its name and the names of its objects.
+// The chains that lists make, each with its name and the names of its objects; and the lists, each with its URI, when it
+// was answered, and the answer.
 static LOGS: [(&str, &[(&str, &str, &str)]); 15] = [
-    ("pages:1=ab ", &[(FIRST, "02", A_THEN_T1), (NEXT, "04", B)]),
-    ("pages:2=ab ", &[(NEXT, "04", B), (FIRST, "02", A_THEN_T1)]),
+    (
+        "pages:1=ab ",
+        &[(FIRST, "10:00:02", A_THEN_T1), (NEXT, "10:00:04", B)],
+    ),
+    (
+        "pages:2=ab ",
+        &[(NEXT, "10:00:04", B), (FIRST, "10:00:02", A_THEN_T1)],
+    ),
     (
         "pages:1=ab ",
         &[
-            (FIRST, "02", A_THEN_T1),
-            (NEXT, "04", B_THEN_T2),
-            (THIRD, "06", EMPTY),
+            (FIRST, "10:00:02", A_THEN_T1),
+            (NEXT, "10:00:04", B_THEN_T2),
+            (THIRD, "10:00:06", EMPTY),
         ],
     ),
     // a page in two chains
     (
         "pages:1=ab pages:2=ab ",
         &[
-            (FIRST, "02", A_THEN_T1),
-            (FIRST, "03", A_THEN_T1),
-            (NEXT, "04", B),
+            (FIRST, "10:00:02", A_THEN_T1),
+            (FIRST, "10:00:03", A_THEN_T1),
+            (NEXT, "10:00:04", B),
         ],
     ),
     // of two pages that were asked for by one token the one that was answered first
     (
         "pages:1=ab ",
         &[
-            (FIRST, "02", A_THEN_T1),
-            (NEXT, "09", EMPTY),
-            (NEXT, "04", B),
+            (FIRST, "10:00:02", A_THEN_T1),
+            (NEXT, "10:00:09", EMPTY),
+            (NEXT, "10:00:04", B),
         ],
     ),
     (
         "pages:1=a ",
         &[
-            (FIRST, "02", A_THEN_T1),
-            (NEXT, "04", EMPTY),
-            (NEXT, "04", B),
+            (FIRST, "10:00:02", A_THEN_T1),
+            (NEXT, "10:00:04", EMPTY),
+            (NEXT, "10:00:04", B),
         ],
     ),
     // a page is missing
-    ("", &[(FIRST, "02", A_THEN_T1)]),
-    ("", &[(FIRST, "02", A_THEN_T1), (THIRD, "04", B)]),
-    ("", &[(NEXT, "02", B_THEN_T2), (THIRD, "04", EMPTY)]),
+    ("", &[(FIRST, "10:00:02", A_THEN_T1)]),
+    (
+        "",
+        &[(FIRST, "10:00:02", A_THEN_T1), (THIRD, "10:00:04", B)],
+    ),
+    (
+        "",
+        &[(NEXT, "10:00:02", B_THEN_T2), (THIRD, "10:00:04", EMPTY)],
+    ),
     // at another revision, and of another scope
-    ("", &[(FIRST, "02", A_THEN_T1), (NEXT, "04", EMPTY_LATER)]),
     (
         "",
         &[
-            (FIRST, "02", A_THEN_T1),
-            ("/api/v1/configmaps?continue=t1", "04", EMPTY),
+            (FIRST, "10:00:02", A_THEN_T1),
+            (NEXT, "10:00:04", EMPTY_LATER),
+        ],
+    ),
+    (
+        "",
+        &[
+            (FIRST, "10:00:02", A_THEN_T1),
+            ("/api/v1/configmaps?continue=t1", "10:00:04", EMPTY),
         ],
     ),
     // a page would come twice
-    ("", &[(FIRST, "02", A_THEN_T1), (NEXT, "04", B_THEN_T1)]),
+    (
+        "",
+        &[
+            (FIRST, "10:00:02", A_THEN_T1),
+            (NEXT, "10:00:04", B_THEN_T1),
+        ],
+    ),
     // selectors, and tokens
     (
         "",
         &[
             (
                 "/api/v1/namespaces/d/configmaps?labelSelector=app",
-                "02",
+                "10:00:02",
                 A_THEN_T1,
             ),
-            (NEXT, "04", B),
+            (NEXT, "10:00:04", B),
         ],
     ),
     (
         "",
         &[
-            (FIRST, "02", A_THEN_T1),
+            (FIRST, "10:00:02", A_THEN_T1),
             (
                 "/api/v1/namespaces/d/configmaps?continue=t1&continue=t2",
-                "04",
+                "10:00:04",
                 B,
             ),
         ],
@@ -119,26 +143,15 @@ static LOGS: [(&str, &[(&str, &str, &str)]); 15] = [
     (
         "pages:1=ab ",
         &[
-            (FIRST, "02", A_THEN_T1),
+            (FIRST, "10:00:02", A_THEN_T1),
             (
                 "/api/v1/namespaces/d/configmaps?continue=&continue=t1&fieldSelector=",
-                "04",
+                "10:00:04",
                 B,
             ),
         ],
     ),
 ];
-
-fn event(rt: &(impl Abort + AllocGlobal), line: u64, list: (&str, &str, &str)) -> Event {
-    let (uri, second, answer) = list;
-    let text = format!(in rt.alloc();
-        r#"{{"level":"RequestResponse","auditID":"a{line}","stage":"ResponseComplete","requestURI":"{uri}","verb":"list",
-        "user":{{"username":"u"}},"responseStatus":{{"code":200}},"responseObject":{answer},
-        "requestReceivedTimestamp":"2024-05-01T10:00:01Z","stageTimestamp":"2024-05-01T10:00:{second}Z"}}"#
-    )
-    .expect(rt, "memory");
-    event_of(rt, text.as_str(), line)
-}
 
 fn write_chain(rt: &impl Abort, text: &mut String, chain: &Checkpoint) {
     push(rt, text, chain.name.as_str());
@@ -158,8 +171,9 @@ fn log_of(
 ) -> Events {
     let mut events = Events::new(rt.alloc());
     let mut line = first;
-    for list in lists {
-        let event = event(rt, line, *list);
+    for (uri, staged, answer) in lists {
+        let request = ("list", *uri, "null");
+        let event = event(rt, line, request, ("10:00:01", staged), (200, answer));
         events.push(event).expect(rt, "memory");
         line = line.saturating_add(apart);
     }
@@ -189,30 +203,29 @@ fn told(rt: &(impl Abort + AllocGlobal), found: &Checkpoints) -> String {
     text
 }
 
-fn told_of(rt: &(impl Abort + AllocGlobal), lists: &[(&str, &str, &str)]) -> String {
+fn check_told(rt: &(impl Abort + AllocGlobal), lists: &[(&str, &str, &str)], wanted: &str) {
     let found = chains_of(rt, lists, 1, 1);
     let text = told(rt, &found);
     drop(found);
-    text
+    assert_text(rt, text.as_str(), wanted, "the lists");
 }
 
 #[test]
 fn pages_make_chains(rt: HostRuntime) {
     for (wanted, lists) in &LOGS {
-        let text = told_of(&rt, *lists);
-        assert_eq!(rt; text.as_str(), *wanted, "of {lists:?}");
+        check_told(&rt, *lists, wanted);
     }
 }
 
 fn check_chain(rt: &impl Abort, chain: &Checkpoint) {
-    assert_text(rt, &chain.name, "pages:3");
-    assert_text(rt, &chain.resource, "configmaps");
-    assert_text(rt, &chain.namespace, "d");
-    assert_eq!(rt; chain.revision.get(), 10);
+    assert_text(rt, chain.name.as_str(), "pages:3", "the name");
+    assert_text(rt, chain.resource.as_str(), "configmaps", "the resource");
+    assert_text(rt, chain.namespace.as_str(), "d", "the namespace");
+    assert_so(rt, chain.revision.get() == 10, "the revision");
 }
 
 fn check_chains(rt: &impl Abort, found: &Checkpoints) {
-    assert_eq!(rt; found.len(), 1);
+    assert_so(rt, found.len() == 1, "one chain");
     for chain in found {
         check_chain(rt, chain);
     }
@@ -220,7 +233,7 @@ fn check_chains(rt: &impl Abort, found: &Checkpoints) {
 
 #[test]
 fn a_chain_is_a_list_of_its_scope(rt: HostRuntime) {
-    let lists = [(FIRST, "02", A_THEN_T1), (NEXT, "04", B)];
+    let lists = [(FIRST, "10:00:02", A_THEN_T1), (NEXT, "10:00:04", B)];
     let found = chains_of(&rt, &lists, 3, 2);
     check_chains(&rt, &found);
     drop(found);

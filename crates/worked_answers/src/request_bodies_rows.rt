@@ -1,4 +1,4 @@
-use crate::given::{event_of, setup_of, tree};
+use crate::given::{assert_so, event, setup_of, tree};
 use audit_event::Event;
 use base_types::json::Tree;
 use request_bodies::is_body_right;
@@ -88,17 +88,6 @@ static BODIES: [((&str, &str, &str), u16, &str, &str, bool); 27] = [
     (("delete", MAP, NOTHING), 200, TWO, DELETED, true),
 ];
 
-fn event(rt: &(impl Abort + AllocGlobal), request: (&str, &str, &str), code: u16) -> Event {
-    let (verb, uri, body) = request;
-    let text = format!(in rt.alloc();
-        r#"{{"level":"RequestResponse","auditID":"a","stage":"ResponseComplete","requestURI":"{uri}",
-        "verb":"{verb}","user":{{"username":"u"}},"responseStatus":{{"code":{code}}},"requestObject":{body},
-        "requestReceivedTimestamp":"2024-05-01T10:00:01Z","stageTimestamp":"2024-05-01T10:00:02Z"}}"#
-    )
-    .expect(rt, "memory");
-    event_of(rt, text.as_str(), 1)
-}
-
 fn is_right(
     rt: &(impl Abort + AllocGlobal),
     setup: &Setup,
@@ -134,7 +123,7 @@ fn judged_request(
     answered: &str,
 ) -> bool {
     let (request, code) = asked;
-    let event = event(rt, request, code);
+    let event = event(rt, 1, request, ("10:00:01", "10:00:02"), (code, "null"));
     let right = judged(rt, setup, &event, before, answered);
     drop(event);
     right
@@ -146,7 +135,7 @@ fn bodies_are_judged(rt: HostRuntime) {
     for (request, code, before, answered, right) in &BODIES {
         let asked = (*request, *code);
         let found = judged_request(&rt, &setup, asked, before, answered);
-        assert_eq!(rt; found, *right, "of {before}");
+        assert_so(&rt, found == *right, before);
     }
     drop(setup);
 }

@@ -1,4 +1,4 @@
-use crate::given::{assert_count, assert_text, push, setup_of};
+use crate::given::{assert_so, assert_text, push, setup_of};
 use SetupRule::{S1, S2, S3, S4, S5, S6, S7, S8, S9, S10, S11, S12, S13, S14, S15};
 use hash_seed::Seed;
 use setup_file::{Setup, SetupFault, SetupRule, read_setup};
@@ -183,6 +183,7 @@ fn text_with(rt: &(impl Abort + AllocGlobal), member: &str, value: &str) -> Stri
     text
 }
 
+// The rule that a setup breaks.
 fn broken_rule(rt: &(impl Abort + AllocGlobal), text: &str) -> Option<SetupRule> {
     match read_setup(rt.alloc(), text.as_bytes(), Seed::of(b"")).err() {
         None => None,
@@ -191,37 +192,44 @@ fn broken_rule(rt: &(impl Abort + AllocGlobal), text: &str) -> Option<SetupRule>
     }
 }
 
-fn broken_with(rt: &(impl Abort + AllocGlobal), member: &str, value: &str) -> Option<SetupRule> {
+fn check_rule(rt: &(impl Abort + AllocGlobal), text: &str, wanted: Option<SetupRule>) {
+    assert_so(rt, broken_rule(rt, text) == wanted, text);
+}
+
+fn check_member(
+    rt: &(impl Abort + AllocGlobal),
+    member: &str,
+    value: &str,
+    wanted: Option<SetupRule>,
+) {
     let text = text_with(rt, member, value);
-    broken_rule(rt, text.as_str())
+    check_rule(rt, text.as_str(), wanted);
 }
 
 #[test]
 fn first_broken_rules(rt: HostRuntime) {
     for (member, value, rule) in &CASES {
-        let found = broken_with(&rt, member, value);
-        assert_eq!(rt; found, *rule, "{member}: {value}");
+        check_member(&rt, member, value, *rule);
     }
-    assert_eq!(rt; broken_rule(&rt, "{\"kind\":"), Some(S1));
+    check_rule(&rt, "{\"kind\":", Some(S1));
 }
 
 fn check_times(rt: &impl Abort, setup: &Setup) {
-    assert_eq!(rt; setup.start.get(), 10);
-    assert_eq!(rt; setup.start_time.0, 1_714_557_600_000_000_000);
-    assert_eq!(rt; setup.slack, 0);
-    assert_eq!(rt; setup.lag, 0);
+    assert_so(rt, setup.start.get() == 10, "start");
+    let time = setup.start_time.0;
+    assert_so(rt, time == 1_714_557_600_000_000_000, "its time");
+    assert_so(rt, setup.slack == 0, "slackNanos");
+    assert_so(rt, setup.lag == 0, "lagNanos");
 }
 
 fn check_groups(rt: &impl Abort, setup: &Setup) {
-    assert!(rt; setup.until.is_none() && !setup.authorize);
-    assert_count(rt, setup.bypass.len(), 1);
-    assert_count(rt, setup.skip.len(), 1);
-    assert_text(
-        rt,
-        setup.skip.iter().next().expect(rt, "a group"),
-        "system:nodes",
-    );
-    assert_count(rt, setup.checkpoints.len(), 0);
+    assert_so(rt, setup.until.is_none(), "until");
+    assert_so(rt, !setup.authorize, "authorize");
+    assert_so(rt, setup.bypass.len() == 1, "bypassGroups");
+    assert_so(rt, setup.skip.len() == 1, "skipGroups");
+    let group = setup.skip.iter().next().expect(rt, "a group");
+    assert_text(rt, group.as_str(), "system:nodes", "skipGroups");
+    assert_so(rt, setup.checkpoints.len() == 0, "checkpoints");
 }
 
 #[test]
