@@ -1,94 +1,106 @@
 use crate::context_rows::{ROWS, Row, SEEN_EARLY};
-use crate::reading::context;
+use crate::reading::{assert_text, check, context};
 use crate::setups::CHECKED;
-use base_types::Revision;
+use base_types::{ObjectKey, Revision};
 use node_pool::NodeId;
-use std::alloc::Global;
 use std::marker::Sync;
+use std::process::Abort;
 use std::string::String;
-use std::test::Fail;
 use std::thread::Threads;
 use version_store::Context;
 
-// The places from `low` to `high`, or all from `low` on.
-fn append_places(text: &mut String, low: u64, high: u64) -> Result<(), Fail> {
-    write!(text, "{low}..")?;
+fn push(rt: &impl Abort, text: &mut String, more: &str) {
+    text.push_str(more).expect(rt, "memory");
+}
+
+// The places from `low` to `high`, or all from `low` on, of a thing of this number.
+fn append_places(rt: &impl Abort, text: &mut String, what: &str, number: u32, low: u64, high: u64) {
+    write!(text, "{what} {number} at {low}..").expect(rt, "memory");
     if high < u64::MAX {
-        write!(text, "{high}")?;
+        write!(text, "{high}").expect(rt, "memory");
     }
-    Ok(())
 }
 
 // The versions, with their makers and the groups of their revisions.
-fn append_versions(text: &mut String, context: &Context) -> Result<(), Fail> {
+fn append_versions(rt: &impl Abort, text: &mut String, context: &Context) {
     for version in context.versions() {
         let revision = version.revision;
         let group = context.group(revision);
-        write!(text, "{} {:?} {:?}; ", revision.get(), version.maker, group)?;
+        write!(text, "{} {:?} {:?}; ", revision.get(), version.maker, group).expect(rt, "memory");
     }
-    Ok(())
 }
 
 // The places that each removal may have.
-fn append_removals(text: &mut String, context: &Context) -> Result<(), Fail> {
+fn append_removals(rt: &impl Abort, text: &mut String, context: &Context) {
     for range in context.ranges() {
-        write!(text, "removal {} at ", range.event)?;
-        append_places(text, range.low, range.high)?;
-        text.push_str("; ")?;
+        append_places(rt, text, "removal", range.event, range.low, range.high);
+        push(rt, text, "; ");
     }
-    Ok(())
 }
 
 // The window and the fault of each event and checkpoint.
-fn append_events(text: &mut String, context: &Context) -> Result<(), Fail> {
+fn append_events(rt: &impl Abort, text: &mut String, context: &Context) {
     for event in 0..context.count() {
         let window = context.window(event);
-        write!(text, "event {event} at ")?;
-        append_places(text, window.low, window.high)?;
-        write!(text, " {:?}; ", context.fault(event))?;
+        append_places(rt, text, "event", event, window.low, window.high);
+        write!(text, " {:?}; ", context.fault(event)).expect(rt, "memory");
     }
-    Ok(())
 }
 
 // What is found of a log.
-fn found(alloc: Global, context: &Context) -> Result<String, Fail> {
-    let mut text = String::new(alloc);
-    append_versions(&mut text, context)?;
-    append_removals(&mut text, context)?;
-    append_events(&mut text, context)?;
-    Ok(text)
+fn found(rt: &(impl Abort + AllocGlobal), context: &Context) -> String {
+    let mut text = String::new(rt.alloc());
+    append_versions(rt, &mut text, context);
+    append_removals(rt, &mut text, context);
+    append_events(rt, &mut text, context);
+    text
 }
 
-fn found_of<R: Threads + Sync>(rt: &R, alloc: Global, row: &Row) -> Result<String, Fail> {
-    let context = context(rt, alloc, row.setup, row.log, 1000)?.ok_or("full")?;
-    found(alloc, &context)
+fn check_row<R: Abort + AllocGlobal + Sync + Threads>(rt: &R, row: &Row) {
+    let context = context(rt, row.setup, row.log, 1000).expect(rt, "room");
+    let found = found(rt, &context);
+    assert_text(rt, found.as_str(), row.found, row.name);
 }
 
 #[test]
-fn what_is_found_of_logs(rt: HostRuntime) -> Result<(), Fail> {
+fn what_is_found_of_logs(rt: HostRuntime) {
     for row in &ROWS {
-        let found = found_of(&rt, rt.alloc(), row)?;
-        assert_eq!(rt; found.as_str(), row.found, "{}", row.name);
+        check_row(&rt, row);
     }
-    Ok(())
 }
 
-// What the readers of the first object tell: its versions at two revisions, the latest up to two places, and of a
-// revision that nobody wrote its maker and its group.
-fn object_of(alloc: Global, context: &Context) -> Result<String, Fail> {
-    let version = context.versions().first().ok_or("no version")?;
-    let key = &version.key;
-    let fifteen = Revision::new(15).ok_or("no revision")?;
-    Ok(format!(in alloc;
-        "{} {}, {} {}, {}, {} {}",
-        context.version(key, version.revision).is_some(),
-        context.version(key, fifteen).is_some(),
+// What the readers of an object tell: its versions at two revisions, and the latest up to two places.
+fn append_latest(
+    rt: &impl Abort,
+    text: &mut String,
+    context: &Context,
+    key: &ObjectKey,
+    revisions: (Revision, Revision),
+) {
+    write!(
+        text,
+        "{} {}, {} {}, ",
+        context.version(key, revisions.0).is_some(),
+        context.version(key, revisions.1).is_some(),
         context.latest(key, 13).is_some(),
-        context.latest(key, 15).is_some(),
-        context.incarnations(key).len(),
+        context.latest(key, 15).is_some()
+    )
+    .expect(rt, "memory");
+}
+
+// The first object, and of a revision that nobody wrote its maker and its group.
+fn append_object(rt: &impl Abort, text: &mut String, context: &Context) {
+    let version = context.versions().first().expect(rt, "a version");
+    let fifteen = Revision::new(15).expect(rt, "a revision");
+    append_latest(rt, text, context, &version.key, (version.revision, fifteen));
+    write!(
+        text,
+        "{}, {} {}; ",
+        context.incarnations(&version.key).len(),
         context.maker(fifteen).is_some(),
         context.group(fifteen).len()
-    )?)
+    )
+    .expect(rt, "memory");
 }
 
 // The number of the first tree in an answer.
@@ -101,83 +113,74 @@ fn node(context: &Context, event: u32) -> Option<NodeId> {
 }
 
 // The line, the name and the first tree's number of an event or checkpoint.
-fn append_event(text: &mut String, context: &Context, event: u32) -> Result<(), Fail> {
+fn append_event(rt: &impl Abort, text: &mut String, context: &Context, event: u32) {
     if event < context.count() {
-        let name = context.name_of(event).as_str();
-        write!(
-            text,
-            "{} {name} {:?}; ",
-            context.line_of(event),
-            node(context, event)
-        )?;
+        let (line, name) = (context.line_of(event), context.name_of(event).as_str());
+        write!(text, "{line} {name} {:?}; ", node(context, event)).expect(rt, "memory");
     }
-    Ok(())
 }
 
-// What the readers of one event tell: of a write, of a read and of two checkpoints.
-fn events_of(alloc: Global, context: &Context) -> Result<String, Fail> {
-    let mut text = String::new(alloc);
-    append_event(&mut text, context, 0)?;
-    append_event(&mut text, context, 2)?;
-    append_event(&mut text, context, 4)?;
-    append_event(&mut text, context, 5)?;
-    Ok(text)
+// Of a write, of a read and of two checkpoints.
+static NUMBERS: [u32; 4] = [0, 2, 4, 5];
+
+// Which write could have made its object with no object before it, and after the first version.
+fn append_faults(rt: &(impl Abort + AllocGlobal), text: &mut String, context: &Context) {
+    let alone = context
+        .making_fault(rt.alloc(), 0, None)
+        .expect(rt, "memory");
+    let first = context.versions().first();
+    let again = context
+        .making_fault(rt.alloc(), 0, first)
+        .expect(rt, "memory");
+    write!(text, "{alone:?} {again:?}, ").expect(rt, "memory");
 }
 
-// Which write could have made its object with no object before it, and after the first version; whether a list has the
-// first tree; and whether a decision that isn't judged is found.
-fn judged_of(alloc: Global, context: &Context) -> Result<String, Fail> {
-    let tree = node(context, 0).ok_or("no tree")?;
-    let alone = context.making_fault(alloc, 0, None)?;
-    let again = context.making_fault(alloc, 0, context.versions().first())?;
-    Ok(format!(in alloc;
-        "{alone:?} {again:?}, {}, {} {}",
-        context.is_listable(2, tree)?,
+// Whether a list has the first tree; and whether a decision that isn't judged is found.
+fn append_judged(rt: &impl Abort, text: &mut String, context: &Context) {
+    let tree = node(context, 0).expect(rt, "a tree");
+    let is_listable = context.is_listable(2, tree).expect(rt, "memory");
+    write!(
+        text,
+        "{is_listable}, {} {}",
         context.find_decision(2, 14, 20).is_some(),
         context.find_decision(2, 20, 14).is_some()
-    )?)
+    )
+    .expect(rt, "memory");
 }
 
 // What is known of an object, of events, and of what they could have done.
-fn known_of(alloc: Global, context: &Context) -> Result<String, Fail> {
-    let object = object_of(alloc, context)?;
-    let events = events_of(alloc, context)?;
-    let judged = judged_of(alloc, context)?;
-    Ok(format!(in alloc; "{object}; {events}{judged}")?)
+fn known_of(rt: &(impl Abort + AllocGlobal), context: &Context) -> String {
+    let mut text = String::new(rt.alloc());
+    append_object(rt, &mut text, context);
+    for event in &NUMBERS {
+        append_event(rt, &mut text, context, *event);
+    }
+    append_faults(rt, &mut text, context);
+    append_judged(rt, &mut text, context);
+    text
 }
 
-fn known_seen_early<R: Threads + Sync>(rt: &R, alloc: Global) -> Result<String, Fail> {
-    let context = context(rt, alloc, CHECKED, SEEN_EARLY, 1000)?.ok_or("full")?;
-    known_of(alloc, &context)
-}
+const KNOWN: &str =
+    "true false, false true, 1, false 0; 1 a1 Some(NodeId(7)); 3 a3 Some(NodeId(7)); \
+    1099511627777 checkpoint:1 None; 1099511627778 checkpoint:2 Some(NodeId(7)); None Some(U4), true, true false";
 
 #[test]
-fn what_is_known_of_a_log(rt: HostRuntime) -> Result<(), Fail> {
-    let text = known_seen_early(&rt, rt.alloc())?;
-    assert_eq!(rt;
-        text.as_str(),
-        "true false, false true, 1, false 0; 1 a1 Some(NodeId(7)); 3 a3 Some(NodeId(7)); 1099511627777 checkpoint:1 None; 1099511627778 checkpoint:2 Some(NodeId(7)); None Some(U4), true, true false"
-    );
-    Ok(())
+fn what_is_known_of_a_log(rt: HostRuntime) {
+    let context = context(&rt, CHECKED, SEEN_EARLY, 1000).expect(&rt, "room");
+    let known = known_of(&rt, &context);
+    assert_text(&rt, known.as_str(), KNOWN, "a log");
 }
 
 // How many values a pool of this size holds of a log, where it has room for all.
-fn values_within<R: Threads + Sync>(
-    rt: &R,
-    alloc: Global,
-    limit: u32,
-) -> Result<Option<u32>, Fail> {
-    match context(rt, alloc, CHECKED, SEEN_EARLY, limit)? {
-        Some(context) => Ok(Some(context.pool().len())),
-        None => Ok(None),
+fn values_within<R: Abort + AllocGlobal + Sync + Threads>(rt: &R, limit: u32) -> Option<u32> {
+    match context(rt, CHECKED, SEEN_EARLY, limit) {
+        Some(context) => Some(context.pool().len()),
+        None => None,
     }
 }
 
 #[test]
-fn a_full_pool(rt: HostRuntime) -> Result<(), Fail> {
-    let fits = values_within(&rt, rt.alloc(), 8)?;
-    let full = values_within(&rt, rt.alloc(), 7)?;
-    assert!(rt; fits == Some(8));
-    assert!(rt; full.is_none());
-    Ok(())
+fn a_full_pool(rt: HostRuntime) {
+    check(&rt, values_within(&rt, 8) == Some(8), "a pool of 8");
+    check(&rt, values_within(&rt, 7).is_none(), "a pool of 7");
 }

@@ -1,61 +1,82 @@
+ghost use Rattle.std.specs.Prelude.{◌<◌, length};
+
 use crate::claim_rows::{ROWS, Row};
-use crate::reading::context;
+use crate::reading::{assert_text, check, context};
+use base_types::{Bound, PlacedAnswer};
 use claims::{claim, decision_window, place};
-use std::alloc::Global;
 use std::marker::Sync;
+use std::process::Abort;
 use std::string::String;
-use std::test::Fail;
 use std::thread::Threads;
 use version_store::Context;
 
-// What each event and checkpoint asks, and where its answer stands, where the one removal has this place.
-fn found(alloc: Global, context: &Context, chosen: u64) -> Result<String, Fail> {
-    let mut text = String::new(alloc);
-    for event in 0..context.count() {
-        let claim = claim(alloc, context, event)?;
-        let line = place(alloc, context, event, &[chosen])?;
-        write!(text, "{:?} ", claim.fails)?;
-        for bound in claim.bounds.as_slice() {
-            write!(
-                text,
-                "{} from {} to {} ",
-                bound.range, bound.low, bound.high
-            )?;
-        }
-        write!(text, "{:?}; ", line.map(|line| line.answer))?;
+fn append_bounds(rt: &impl Abort, text: &mut String, bounds: &[Bound]) {
+    for bound in bounds {
+        write!(
+            text,
+            "{} from {} to {} ",
+            bound.range, bound.low, bound.high
+        )
+        .expect(rt, "memory");
     }
-    Ok(text)
 }
 
-fn found_of<R: Threads + Sync>(rt: &R, alloc: Global, row: &Row) -> Result<String, Fail> {
-    let context = context(rt, alloc, row.setup, row.log, 1000)?.ok_or("full")?;
-    found(alloc, &context, row.place)
+// What an event or checkpoint asks.
+fn append_claim(rt: &(impl Abort + AllocGlobal), text: &mut String, context: &Context, event: u32)
+    requires { event < length context.now.log }
+{
+    let claim = claim(rt.alloc(), context, event).expect(rt, "memory");
+    write!(text, "{:?} ", claim.fails).expect(rt, "memory");
+    append_bounds(rt, text, claim.bounds.as_slice());
+}
+
+// Where the answer stands, where the one removal has this place.
+fn answer(
+    rt: &(impl Abort + AllocGlobal),
+    context: &Context,
+    event: u32,
+    chosen: u64,
+) -> Option<PlacedAnswer>
+    requires { event < length context.now.log }
+{
+    match place(rt.alloc(), context, event, &[chosen]).expect(rt, "memory") {
+        Some(line) => Some(line.answer),
+        None => None,
+    }
+}
+
+// What each event and checkpoint asks, and where its answer stands.
+fn found(rt: &(impl Abort + AllocGlobal), context: &Context, chosen: u64) -> String {
+    let mut text = String::new(rt.alloc());
+    for event in 0..context.count() {
+        append_claim(rt, &mut text, context, event);
+        write!(text, "{:?}; ", answer(rt, context, event, chosen)).expect(rt, "memory");
+    }
+    text
+}
+
+fn check_row<R: Abort + AllocGlobal + Sync + Threads>(rt: &R, row: &Row) {
+    let context = context(rt, row.setup, row.log, 1000).expect(rt, "room");
+    let found = found(rt, &context, row.place);
+    assert_text(rt, found.as_str(), row.found, row.name);
 }
 
 #[test]
-fn claims_of_logs(rt: HostRuntime) -> Result<(), Fail> {
+fn claims_of_logs(rt: HostRuntime) {
     for row in &ROWS {
-        let found = found_of(&rt, rt.alloc(), row)?;
-        assert_eq!(rt; found.as_str(), row.found, "{}", row.name);
+        check_row(&rt, row);
     }
-    Ok(())
 }
 
-// The places at which an authoriser's caches may be for the first decision of the last row.
-fn caches<R: Threads + Sync>(rt: &R, alloc: Global) -> Result<(u64, u64), Fail> {
-    let row = ROWS.last().ok_or("no row")?;
-    let context = context(rt, alloc, row.setup, row.log, 1000)?.ok_or("full")?;
+/// The places at which an authoriser's caches may be for the first decision of the last row.
+#[test]
+fn the_window_of_a_decision(rt: HostRuntime) {
+    let row = ROWS.last().expect(&rt, "a row");
+    let context = context(&rt, row.setup, row.log, 1000).expect(&rt, "room");
     if context.count() == 0 {
-        return Err("no event".into());
+        panic!(rt; "no event");
     }
     let window = decision_window(&context, 0);
-    Ok((window.low, window.high))
-}
-
-#[test]
-fn the_window_of_a_decision(rt: HostRuntime) -> Result<(), Fail> {
-    let (low, high) = caches(&rt, rt.alloc())?;
-    assert_eq!(rt; low, 10);
-    assert_eq!(rt; high, u64::MAX);
-    Ok(())
+    check(&rt, window.low == 10, "the lowest");
+    check(&rt, window.high == u64::MAX, "the highest");
 }

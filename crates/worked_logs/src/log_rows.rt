@@ -1,17 +1,16 @@
 //! One request as an event of a log: where in the history its answer may be, whether its decision is judged, and the
 //! number of its object.
 
-ghost use Rattle.std.specs.Prelude.{◌≡◌, length, All, IfOk};
+ghost use Rattle.std.specs.Prelude.{◌≡◌, length, All};
 ghost use Rattle.audit_event.specs.Events.{IsSound};
 
-use crate::reading::setup_of;
-use audit_event::{Event, Events, read_item};
+use crate::reading::{assert_text, check, event_of, push, setup_of};
+use audit_event::{Event, Events};
 use hash_seed::Seed;
 use node_pool::Interner;
-use serde_json::Value;
-use std::alloc::Global;
 use std::marker::Sync;
-use std::test::Fail;
+use std::mem::forget;
+use std::process::Abort;
 use std::thread::Threads;
 use version_store::log_of;
 use write_groups::{LogEvent, Reading, Shown};
@@ -41,26 +40,41 @@ const AS_NODE: &str =
 const FROM_NODE: &str =
     r#""user":{"username":"n","groups":["nodes"]},"impersonatedUser":{"username":"u"}"#;
 
-// The event of a request of configmaps by these users, received and answered at these times of one day.
-fn event(
-    alloc: Global,
-    request: (&str, &str),
-    users: &str,
-    stage: &str,
-    times: (&str, &str),
-) -> Result<Event, Fail>
-    ensures { IfOk result IsSound }
+// A request of configmaps with its verb and query, by these users, answered in a stage, received and answered at these
+// times of one day.
+#[derive(Clone, Copy)]
+struct Request {
+    of: (&'static str, &'static str),
+    users: &'static str,
+    stage: &'static str,
+    times: (&'static str, &'static str),
+}
+
+// Who asks within the log.
+fn usual(of: (&'static str, &'static str)) -> Request {
+    Request {
+        of,
+        users: USER,
+        stage: "ResponseComplete",
+        times: WITHIN,
+    }
+}
+
+// The event of a request.
+fn event(rt: &(impl Abort + AllocGlobal), request: &Request) -> Event
+    ensures { IsSound result }
 {
-    let (verb, query) = request;
-    let (received, staged) = times;
-    let text = format!(in alloc;
+    let (verb, query) = request.of;
+    let (received, staged) = request.times;
+    let (users, stage) = (request.users, request.stage);
+    let text = format!(in rt.alloc();
         r#"{{"level":"RequestResponse","auditID":"a","stage":"{stage}","verb":"{verb}",
         "requestURI":"/api/v1/namespaces/d/configmaps{query}",{users},"responseStatus":{{"code":200}},
         "annotations":{{"authorization.k8s.io/decision":"allow"}},"responseObject":{OBJECT},
         "requestReceivedTimestamp":"2024-05-01T{received}Z","stageTimestamp":"2024-05-01T{staged}Z"}}"#
-    )?;
-    let value = Value::from_str(alloc, text.as_str())?;
-    Ok(read_item(alloc, &value, 1)?)
+    )
+    .expect(rt, "memory");
+    event_of(rt, text.as_str(), 1)
 }
 
 fn word(reading: Reading) -> &'static str {
@@ -134,42 +148,14 @@ static DECISIONS: [(&str, &str, (&str, &str), bool); 9] = [
 ];
 
 // A log of one request of the object that was there at the start.
-fn log_with(
-    alloc: Global,
-    request: (&str, &str),
-    users: &str,
-    stage: &str,
-    times: (&str, &str),
-) -> Result<Events, Fail>
-    ensures sound { IfOk result (All IsSound) }
-    ensures one { IfOk result (λ events. length events ≡ 1) }
+fn log_with(rt: &(impl Abort + AllocGlobal), request: &Request) -> Events
+    ensures sound { All IsSound result }
+    ensures one { length result ≡ 1 }
 {
-    let read = event(alloc, request, users, stage, times)?;
-    let mut events = Events::new(alloc);
-    events.push(read)?;
-    Ok(events)
-}
-
-// What is told of the event of such a log.
-fn tell<R: Threads + Sync>(
-    rt: &R,
-    alloc: Global,
-    request: (&str, &str),
-    users: &str,
-    stage: &str,
-    times: (&str, &str),
-) -> Result<Told, Fail> {
-    let setup = setup_of(alloc, SETUP, Seed::of(b""))?;
-    if !setup.checkpoints.is_empty() {
-        return Ok(nothing());
-    }
-    let events = log_with(alloc, request, users, stage, times)?;
-    let mut interner = Interner::new(alloc, 100, Seed::of(b""))?;
-    let log = log_of(rt, alloc, &mut interner, &setup, &events)?;
-    Ok(match log.events.as_slice().first() {
-        Some(event) => told_of(event, interner.len()),
-        None => nothing(),
-    })
+    let read = event(rt, request);
+    let mut events = Events::new(rt.alloc());
+    push(rt, &mut events, read);
+    events
 }
 
 // What is told of an event, and how many distinct values the objects of its log have.
@@ -181,12 +167,11 @@ struct Told {
     values: u32,
 }
 
-fn nothing() -> Told {
-    Told {
-        reading: "nothing",
-        is_judged: false,
-        node: None,
-        values: 0,
+// The number of the object that a read was answered with.
+fn seen_node(event: &LogEvent) -> Option<u32> {
+    match &event.answer {
+        Shown::Saw { item } => Some(item.node.0),
+        _ => None,
     }
 }
 
@@ -199,44 +184,47 @@ fn told_of(event: &LogEvent, values: u32) -> Told {
     }
 }
 
-// The number of the object that a read was answered with.
-fn seen_node(event: &LogEvent) -> Option<u32> {
-    match &event.answer {
-        Shown::Saw { item } => Some(item.node.0),
-        _ => None,
+// What is told of the event of such a log.
+fn tell<R: Abort + AllocGlobal + Sync + Threads>(rt: &R, request: &Request) -> Told {
+    let setup = setup_of(rt, SETUP, Seed::of(b""));
+    let events = log_with(rt, request);
+    let mut interner = Interner::new(rt.alloc(), 100, Seed::of(b"")).expect(rt, "memory");
+    let log = log_of(rt, rt.alloc(), &mut interner, &setup, &events).expect(rt, "a log");
+    let first = log.events.as_slice().first().expect(rt, "an event");
+    let told = told_of(first, interner.len());
+    forget(log);
+    forget(interner);
+    forget(events);
+    forget(setup);
+    told
+}
+
+#[test]
+fn each_reading_is_told(rt: HostRuntime) {
+    for (of, reading) in &READINGS {
+        let told = tell(&rt, &usual(*of));
+        assert_text(&rt, told.reading, reading, of.1);
     }
 }
 
 #[test]
-fn each_reading_is_told(rt: HostRuntime) -> Result<(), Fail> {
-    for (request, reading) in &READINGS {
-        let told = tell(&rt, rt.alloc(), *request, USER, "ResponseComplete", WITHIN)?;
-        assert_eq!(rt; told.reading, *reading);
-    }
-    Ok(())
-}
-
-#[test]
-fn judged_decisions_are_told(rt: HostRuntime) -> Result<(), Fail> {
+fn judged_decisions_are_told(rt: HostRuntime) {
     for (users, stage, times, is_judged) in &DECISIONS {
-        let told = tell(&rt, rt.alloc(), ("get", "/a"), users, stage, *times)?;
-        assert_eq!(rt; told.is_judged, *is_judged);
+        let request = Request {
+            of: ("get", "/a"),
+            users,
+            stage,
+            times: *times,
+        };
+        let told = tell(&rt, &request);
+        check(&rt, told.is_judged == *is_judged, users);
     }
-    Ok(())
 }
 
 /// An object that is read as it was at the start has one number in the pool.
 #[test]
-fn equal_trees_have_one_number(rt: HostRuntime) -> Result<(), Fail> {
-    let told = tell(
-        &rt,
-        rt.alloc(),
-        ("get", "/a"),
-        USER,
-        "ResponseComplete",
-        WITHIN,
-    )?;
-    assert_eq!(rt; told.node, Some(5));
-    assert_eq!(rt; told.values, 6);
-    Ok(())
+fn equal_trees_have_one_number(rt: HostRuntime) {
+    let told = tell(&rt, &usual(("get", "/a")));
+    check(&rt, told.node == Some(5), "the number");
+    check(&rt, told.values == 6, "how many");
 }

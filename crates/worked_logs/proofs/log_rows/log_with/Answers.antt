@@ -9,6 +9,6 @@ all_of_one one sound zero d within = sound
 all_of_one one sound (suc k) d within = absurd (omega arith)
 
 pub returns-clause-sound : goal.returns-clause-sound
-returns-clause-sound c =
-    let pushed : c.push.new.self ≡ c.in_ok-read.read ∷ [] = c.in_ok-push.ensures.ok ∙ ap (λ l. l ++ c.in_ok-read.read ∷ []) c.new-events.ensures in
-    subst (All IsSound) (sym pushed) (all_of_one c.in_ok-read.read c.in_ok-read.ensures)
+returns-clause-sound g c =
+    let pushed : c.push.new.events ≡ c.event-read.result ∷ [] = c.push.ensures ∙ ap (λ l. l ++ c.event-read.result ∷ []) c.new-events.ensures in
+    subst (All IsSound) (sym pushed) (all_of_one c.event-read.result c.event-read.ensures)

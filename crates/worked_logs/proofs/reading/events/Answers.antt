@@ -8,18 +8,18 @@ use Rattle.version_store.specs.Logged.{last_line}
 use Rattle.worked_logs.proofs.reading.events.Goals as goal
 
 pub loop-told-preserved : goal.loop-told-preserved
-loop-told-preserved c =
+loop-told-preserved g c =
     let before = c.loop-told.invariant in
     let items = c.loop-told.events in
-    let one = c.in_ok-event.event in
+    let one = c.event-event.result in
     let long = c.len.ensures in
     let again = c.len-in-loop-told.ensures in
     let short = c.if-len-ge100.false in
-    let line = c.in_ok-event.ensures.line in
+    let line = c.event-event.ensures.line in
     let its : one.line ≡ length items + 1 = omega (arith, line, again) in
-    rw c.in_ok-push.ensures.ok (
+    rw c.push.ensures (
       omega (arith, length_push items one, long, short),
-      All-push IsSound items one before.1 c.in_ok-event.ensures.sound,
+      All-push IsSound items one before.1 c.event-event.ensures.sound,
       All-push (λ (event : Event). 0 < event.line) items one before.2 (omega (arith, its)),
       all_pairs_push (λ (a b : Event). a.line < b.line) items one before.3 (λ k d within. (let below = before.4 k d within in omega (arith, below, its))),
       All-push (λ (event : Event). event.line ≤ length (items ++ one ∷ [])) items one
@@ -28,7 +28,7 @@ loop-told-preserved c =
     )
 
 pub returns-clause-lines : goal.returns-clause-lines
-returns-clause-lines c =
+returns-clause-lines g c =
     let before = c.loop-told.invariant in
     record {
       numbered = before.2;
