@@ -1,103 +1,154 @@
+use crate::given::{assert_so, bytes_of, push};
 use audit_event::Malformed;
-use base_types::{Bytes, OutOfMemory};
 use batch_decode::{Decoded, ItemFault, decode_line};
 use line_reader::Line;
-use std::alloc::{AllocError, Global};
-use std::test::Fail;
+use std::process::Abort;
 
 const ITEM: &str =
     r#"{"level":"Metadata","auditID":"a","stage":"ResponseComplete","requestURI":"/","verb":"get","user":{},"requestReceivedTimestamp":"2024-05-01T10:00:00Z","stageTimestamp":"2024-05-01T10:00:00Z""#;
 
 const LIST: &str = r#"{"kind":"EventList","apiVersion":"audit.k8s.io/v1","items":["#;
 
-// An EventList of items with these further members.
-fn list_text(alloc: Global, items: &[&str]) -> Result<String, AllocError> {
-    let mut text = String::from_str(alloc, LIST)?;
-    let mut is_first = true;
-    for more in items {
-        if !is_first {
-            text.push_str(",")?;
-        }
-        is_first = false;
-        text.push_str(ITEM)?;
-        text.push_str(more)?;
-        text.push_str("}")?;
-    }
-    text.push_str("]}")?;
-    Ok(text)
-}
-
-fn decode(alloc: Global, text: &str) -> Result<Decoded, OutOfMemory> {
-    let bytes = Bytes::from_vec(text.as_bytes().to_vec(alloc)?);
-    decode_line(alloc, &Line { number: 9, bytes })
-}
-
-fn fault_at(index: u64, code: Malformed) -> Option<ItemFault> {
-    Some(ItemFault { index, code })
-}
-
-// How many numbers an EventList takes, how many events come of it, and at which item they end.
-fn outcome(alloc: Global, items: &[&str]) -> Result<(u64, usize, Option<ItemFault>), OutOfMemory> {
-    let text = list_text(alloc, items)?;
-    let decoded = decode(alloc, text.as_str())?;
-    Ok((decoded.taken, decoded.events.len(), decoded.fault))
-}
-
 const NAMED: &str = r#","kind":"Event","apiVersion":"audit.k8s.io/v1""#;
+
+const HALF_NAMED: &str = r#","kind":"Event""#;
 
 const NO_VERB: &str = r#","verb":"""#;
 
 const LISTED: &str = r#","kind":"EventList","apiVersion":"audit.k8s.io/v1","items":[]"#;
 
-#[test]
-fn lists(rt: HostRuntime) -> Result<(), Fail> {
-    assert_eq!(rt; outcome(rt.alloc(), &[])?, (1, 0, None));
-    assert_eq!(rt; outcome(rt.alloc(), &["", NAMED])?, (2, 2, None));
-    let no_verb = fault_at(1, Malformed::M9);
-    assert_eq!(rt; outcome(rt.alloc(), &["", NO_VERB, ""])?, (3, 1, no_verb));
-    let list = fault_at(2, Malformed::M2);
-    assert_eq!(rt; outcome(rt.alloc(), &["", "", LISTED])?, (3, 2, list));
-    let half_named = fault_at(0, Malformed::M2);
-    assert_eq!(rt;
-        outcome(rt.alloc(), &[r#","kind":"Event""#])?,
-        (1, 0, half_named)
-    );
-    Ok(())
+fn push_item(rt: &impl Abort, text: &mut String, more: &str) {
+    push(rt, text, ITEM);
+    push(rt, text, more);
+    push(rt, text, "}");
+}
+
+// An EventList of items with these further members.
+fn list_text(rt: &(impl Abort + AllocGlobal), items: &[&str]) -> String {
+    let mut text = String::new(rt.alloc());
+    push(rt, &mut text, LIST);
+    let mut is_first = true;
+    for more in items {
+        if !is_first {
+            push(rt, &mut text, ",");
+        }
+        is_first = false;
+        push_item(rt, &mut text, more);
+    }
+    push(rt, &mut text, "]}");
+    text
+}
+
+fn event_text(rt: &(impl Abort + AllocGlobal)) -> String {
+    let mut text = String::new(rt.alloc());
+    push_item(rt, &mut text, NAMED);
+    text
+}
+
+fn decode(rt: &(impl Abort + AllocGlobal), text: &str) -> Decoded {
+    let line = Line {
+        number: 9,
+        bytes: bytes_of(rt, text),
+    };
+    decode_line(rt.alloc(), &line).expect(rt, "memory")
+}
+
+/// How many numbers a line takes, how many events come of it, and at which item they end.
+type Outcome = (u64, usize, Option<ItemFault>);
+
+fn outcome(rt: &(impl Abort + AllocGlobal), text: &str) -> Outcome {
+    let decoded = decode(rt, text);
+    let outcome = (decoded.taken, decoded.events.len(), decoded.fault);
+    drop(decoded);
+    outcome
+}
+
+fn check(rt: &(impl Abort + AllocGlobal), text: &str, wanted: Outcome) {
+    assert_so(rt, outcome(rt, text) == wanted, text);
+}
+
+// The items of an EventList by their further members, and what comes of it.
+static LISTS: [(&[&str], Outcome); 5] = [
+    (&[], (1, 0, None)),
+    (&["", NAMED], (2, 2, None)),
+    (
+        &["", NO_VERB, ""],
+        (
+            3,
+            1,
+            Some(ItemFault {
+                index: 1,
+                code: Malformed::M9,
+            }),
+        ),
+    ),
+    (
+        &["", "", LISTED],
+        (
+            3,
+            2,
+            Some(ItemFault {
+                index: 2,
+                code: Malformed::M2,
+            }),
+        ),
+    ),
+    (
+        &[HALF_NAMED],
+        (
+            1,
+            0,
+            Some(ItemFault {
+                index: 0,
+                code: Malformed::M2,
+            }),
+        ),
+    ),
+];
+
+fn check_list(rt: &(impl Abort + AllocGlobal), items: &[&str], wanted: Outcome) {
+    let text = list_text(rt, items);
+    check(rt, text.as_str(), wanted);
 }
 
 #[test]
-fn other_lines(rt: HostRuntime) -> Result<(), Fail> {
-    let cases = [
-        ("x", Malformed::M1),
-        ("[]", Malformed::M2),
-        (
-            r#"{"kind":"EventList","apiVersion":"audit.k8s.io/v1"}"#,
-            Malformed::M2,
-        ),
-        (
-            r#"{"kind":"EventList","apiVersion":"audit.k8s.io/v1","items":{}}"#,
-            Malformed::M2,
-        ),
-        (
-            r#"{"kind":"EventList","apiVersion":"v1","items":[]}"#,
-            Malformed::M2,
-        ),
-        (
-            r#"{"kind":"Event","apiVersion":"audit.k8s.io/v1"}"#,
-            Malformed::M3,
-        ),
-    ];
-    for (text, code) in cases {
-        let decoded = decode(rt.alloc(), text)?;
-        assert_eq!(rt; decoded.taken, 1, "{text}");
-        assert!(rt; decoded.events.is_empty(), "{text}");
-        assert_eq!(rt; decoded.fault, fault_at(0, code), "{text}");
+fn lists(rt: HostRuntime) {
+    for (items, wanted) in &LISTS {
+        check_list(&rt, *items, *wanted);
     }
-    let mut event = String::from_str(rt.alloc(), ITEM)?;
-    event.push_str(r#","kind":"Event","apiVersion":"audit.k8s.io/v1"}"#)?;
-    let decoded = decode(rt.alloc(), event.as_str())?;
-    assert_eq!(rt; decoded.taken, 1);
-    assert_eq!(rt; decoded.events.len(), 1);
-    assert!(rt; decoded.fault.is_none());
-    Ok(())
+}
+
+// Lines of which no event comes, and the rule that they break.
+static OTHERS: [(&str, Malformed); 6] = [
+    ("x", Malformed::M1),
+    ("[]", Malformed::M2),
+    (
+        r#"{"kind":"EventList","apiVersion":"audit.k8s.io/v1"}"#,
+        Malformed::M2,
+    ),
+    (
+        r#"{"kind":"EventList","apiVersion":"audit.k8s.io/v1","items":{}}"#,
+        Malformed::M2,
+    ),
+    (
+        r#"{"kind":"EventList","apiVersion":"v1","items":[]}"#,
+        Malformed::M2,
+    ),
+    (
+        r#"{"kind":"Event","apiVersion":"audit.k8s.io/v1"}"#,
+        Malformed::M3,
+    ),
+];
+
+#[test]
+fn other_lines(rt: HostRuntime) {
+    for (text, code) in &OTHERS {
+        let fault = ItemFault {
+            index: 0,
+            code: *code,
+        };
+        check(&rt, text, (1, 0, Some(fault)));
+    }
+    let event = event_text(&rt);
+    check(&rt, event.as_str(), (1, 1, None));
 }

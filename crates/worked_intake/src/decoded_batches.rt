@@ -1,72 +1,102 @@
-ghost use Rattle.std.specs.Prelude.{◌≡◌, IfOk, vec_len};
+ghost use Rattle.std.specs.Prelude.{◌≡◌, vec_len};
 
 use crate::gates::{Meeting, Roll};
-use base_types::Bytes;
-use batch_decode::decode_all;
-use judge_pool::FreeGate;
+use crate::given::{assert_so, bytes_of};
+use batch_decode::{DecodedList, decode_all};
+use judge_pool::{FreeGate, Gate};
 use line_reader::Line;
-use std::alloc::{AllocError, Global};
-use std::test::Fail;
+use std::marker::Sync;
+use std::process::Abort;
+use std::thread::Threads;
 
 const LINES: u32 = 8_192;
 
+fn line_of(rt: &(impl Abort + AllocGlobal), number: u64, text: &str) -> Line {
+    Line {
+        number,
+        bytes: bytes_of(rt, text),
+    }
+}
+
 // So many lines, each an empty EventList of no API.
-fn lines_of(alloc: Global, count: u32) -> Result<Vec<Line>, AllocError>
-    ensures { IfOk result (λ lines. vec_len lines ≡ count) }
+fn lines_of(rt: &(impl Abort + AllocGlobal), count: u32) -> Vec<Line>
+    ensures { vec_len result ≡ count }
 {
-    let mut lines = Vec::new(alloc);
-    for number in 0..count {
-        let bytes = Bytes::from_vec(b"{\"items\":[]}".to_vec(alloc)?);
-        lines.push(Line {
-            number: number as u64 + 1,
-            bytes,
-        })?;
-    }
-    Ok(lines)
-}
-
-#[test]
-fn two_lines_are_decoded_at_once(rt: HostRuntime) -> Result<(), Fail> {
-    let gate = Meeting::of(LINES);
-    let lines = lines_of(rt.alloc(), LINES)?;
-    let decoded = decode_all(&rt, rt.alloc(), lines.as_slice(), &gate)?;
-    assert_eq!(rt; decoded.len(), 8_192);
-    assert!(rt; gate.has_met());
-    Ok(())
-}
-
-#[test]
-fn each_line_enters_the_gate_once(rt: HostRuntime) -> Result<(), Fail> {
-    for count in [0, 1, LINES] {
-        let gate = Roll::of(rt.alloc(), count)?;
-        let lines = lines_of(rt.alloc(), count)?;
-        let decoded = decode_all(&rt, rt.alloc(), lines.as_slice(), &gate)?;
-        assert_eq!(rt; decoded.len(), count as usize);
-        assert!(rt; gate.is_once_each(), "of {count}");
-    }
-    Ok(())
-}
-
-#[test]
-fn lines_come_in_order(rt: HostRuntime) -> Result<(), Fail> {
-    let texts: [&[u8]; 3] = [
-        b"x",
-        b"{\"kind\":\"EventList\",\"apiVersion\":\"audit.k8s.io/v1\",\"items\":[1,2]}",
-        b"{}",
-    ];
     let mut lines = Vec::new(rt.alloc());
-    for text in texts {
-        lines.push(Line {
-            number: 1,
-            bytes: Bytes::from_vec(text.to_vec(rt.alloc())?),
-        })?;
+    for number in 0..count {
+        let line = line_of(rt, number as u64 + 1, "{\"items\":[]}");
+        lines.push(line).expect(rt, "memory");
     }
-    assert_eq!(rt; lines.len(), 3);
-    let decoded = decode_all(&rt, rt.alloc(), lines.as_slice(), &FreeGate)?;
-    let mut taken = Vec::new(rt.alloc());
-    for line in &decoded {
-        taken.push(line.taken)?;
+    lines
+}
+
+// How many of so many lines are decoded.
+fn count_decoded(
+    rt: &(impl Abort + AllocGlobal + Threads + Sync),
+    count: u32,
+    gate: &impl Gate,
+) -> usize {
+    let lines = lines_of(rt, count);
+    let decoded = decode_all(rt, rt.alloc(), lines.as_slice(), gate);
+    drop(lines);
+    decoded.expect(rt, "memory").len()
+}
+
+#[test]
+fn two_lines_are_decoded_at_once(rt: HostRuntime) {
+    let gate = Meeting::of(LINES);
+    assert_so(&rt, count_decoded(&rt, LINES, &gate) == 8_192, "all lines");
+    assert_so(&rt, gate.has_met(), "at once");
+}
+
+fn check_roll(rt: &(impl Abort + AllocGlobal + Threads + Sync), count: u32) {
+    let gate = Roll::of(rt, count);
+    let found = count_decoded(rt, count, &gate);
+    assert_so(rt, found == count as usize, "all lines");
+    assert_so(rt, gate.is_once_each(), "each once");
+}
+
+#[test]
+fn each_line_enters_the_gate_once(rt: HostRuntime) {
+    for count in [0, 1, LINES] {
+        check_roll(&rt, count);
     }
-    assert_eq!(rt; taken.as_slice(), [1, 2, 1].as_slice());
-    Ok(())
+}
+
+// A line that is no JSON, a list of two items, and an object.
+static TEXTS: [&str; 3] = [
+    "x",
+    r#"{"kind":"EventList","apiVersion":"audit.k8s.io/v1","items":[1,2]}"#,
+    "{}",
+];
+
+fn lines_of_texts(rt: &(impl Abort + AllocGlobal)) -> Vec<Line> {
+    let mut lines = Vec::new(rt.alloc());
+    for text in &TEXTS {
+        let line = line_of(rt, 1, text);
+        lines.push(line).expect(rt, "memory");
+    }
+    lines
+}
+
+fn decoded_texts(rt: &(impl Abort + AllocGlobal + Threads + Sync)) -> DecodedList {
+    let lines = lines_of_texts(rt);
+    assert!(rt; lines.len() == 3);
+    let decoded = decode_all(rt, rt.alloc(), lines.as_slice(), &FreeGate);
+    drop(lines);
+    decoded.expect(rt, "memory")
+}
+
+#[test]
+fn lines_come_in_order(rt: HostRuntime) {
+    let decoded = decoded_texts(&rt);
+    match decoded.as_slice() {
+        [x, list, object] => {
+            assert_so(&rt, x.taken == 1, "no JSON");
+            assert_so(&rt, list.taken == 2, "a list");
+            assert_so(&rt, object.taken == 1, "an object");
+        }
+        _ => panic!(rt; "not three lines"),
+    }
+    drop(decoded);
 }

@@ -1,5 +1,5 @@
 use judge_pool::Gate;
-use std::alloc::{AllocError, Global};
+use std::process::Abort;
 use std::sync::atomic::{AtomicBool, AtomicU64, Ordering};
 
 const TURNS: u32 = 2_000_000_000;
@@ -50,12 +50,12 @@ pub struct Roll {
 }
 
 impl Roll {
-    pub fn of(alloc: Global, count: u32) -> Result<Roll, AllocError> {
-        let mut entries = Vec::new(alloc);
+    pub fn of(rt: &(impl Abort + AllocGlobal), count: u32) -> Roll {
+        let mut entries = Vec::new(rt.alloc());
         for _ in 0..count {
-            entries.push(AtomicU64::new(0))?;
+            entries.push(AtomicU64::new(0)).expect(rt, "memory");
         }
-        Ok(Roll { entries })
+        Roll { entries }
     }
 
     /// Whether each number entered once.

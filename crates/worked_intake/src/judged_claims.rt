@@ -1,8 +1,11 @@
 use crate::gates::{Meeting, Roll};
+use crate::given::assert_so;
 use base_types::{Bounds, Claim, OutOfMemory, Reason};
-use judge_pool::{ClaimSource, FreeGate, claims_all};
+use judge_pool::{ClaimSource, FreeGate, Gate, claims_all};
 use std::alloc::Global;
-use std::test::Fail;
+use std::marker::Sync;
+use std::process::Abort;
+use std::thread::Threads;
 
 const EVENTS: u32 = 8_192;
 
@@ -36,32 +39,42 @@ impl ClaimSource for Plain {
     }
 }
 
+// How many claims of so many events come.
+fn count_claims(
+    rt: &(impl Abort + AllocGlobal + Threads + Sync),
+    count: u32,
+    gate: &impl Gate,
+) -> usize {
+    claims_all(rt, rt.alloc(), &Plain { count }, gate)
+        .expect(rt, "memory")
+        .len()
+}
+
 #[test]
-fn two_events_are_judged_at_once(rt: HostRuntime) -> Result<(), Fail> {
-    let source = Plain { count: EVENTS };
+fn two_events_are_judged_at_once(rt: HostRuntime) {
     let gate = Meeting::of(EVENTS);
-    let claims = claims_all(&rt, rt.alloc(), &source, &gate)?;
-    assert_eq!(rt; claims.len(), 8_192);
-    assert!(rt; gate.has_met());
-    Ok(())
+    assert_so(&rt, count_claims(&rt, EVENTS, &gate) == 8_192, "all claims");
+    assert_so(&rt, gate.has_met(), "at once");
+}
+
+fn check_roll(rt: &(impl Abort + AllocGlobal + Threads + Sync), count: u32) {
+    let gate = Roll::of(rt, count);
+    let found = count_claims(rt, count, &gate);
+    assert_so(rt, found == count as usize, "all claims");
+    assert_so(rt, gate.is_once_each(), "each once");
 }
 
 #[test]
-fn each_event_enters_the_gate_once(rt: HostRuntime) -> Result<(), Fail> {
+fn each_event_enters_the_gate_once(rt: HostRuntime) {
     for count in [0, 1, EVENTS] {
-        let gate = Roll::of(rt.alloc(), count)?;
-        let claims = claims_all(&rt, rt.alloc(), &Plain { count }, &gate)?;
-        assert_eq!(rt; claims.len(), count as usize);
-        assert!(rt; gate.is_once_each(), "of {count}");
+        check_roll(&rt, count);
     }
-    Ok(())
 }
 
 #[test]
-fn all_claims_come(rt: HostRuntime) -> Result<(), Fail> {
+fn all_claims_come(rt: HostRuntime) {
     for count in [0, 1, 5_000] {
-        let claims = claims_all(&rt, rt.alloc(), &Plain { count }, &FreeGate)?;
-        assert_eq!(rt; claims.len(), count as usize);
+        let found = count_claims(&rt, count, &FreeGate);
+        assert_so(&rt, found == count as usize, "all claims");
     }
-    Ok(())
 }

@@ -8,6 +8,8 @@ mod decoded_batches;
 #[cfg(test)]
 mod gates;
 #[cfg(test)]
+mod given;
+#[cfg(test)]
 mod judged_claims;
 #[cfg(test)]
 mod log_intake_rows;

@@ -1,26 +1,15 @@
-ghost use Rattle.std.specs.Prelude.{◌≡◌, ◌<◌, length, IfOk};
+ghost use Rattle.std.specs.Prelude.{◌≡◌, ◌<◌, length};
 
+use crate::given::{assert_text, bytes_of, spelled};
 use audit_event::Events;
-use base_types::{Bytes, Text};
+use base_types::Text;
 use edge_io::{InputFile, InputFiles, MemoryDesk};
 use hash_seed::Seed;
 use judge_pool::FreeGate;
-use log_intake::{LogStop, read_log, read_setup_named};
-use std::alloc::{AllocError, Global};
+use log_intake::{LogStop, SetupStop, read_log, read_setup_named};
 use std::marker::Sync;
-use std::test::Fail;
+use std::process::Abort;
 use std::thread::Threads;
-
-const HEAD: &str = r#"{"kind":"Event","apiVersion":"audit.k8s.io/v1","#;
-
-const LIST: &str = r#"{"kind":"EventList","apiVersion":"audit.k8s.io/v1","items":["#;
-
-// An event behind its ID.
-const REST: &str =
-    r#""level":"Metadata","stage":"ResponseComplete","requestURI":"/","user":{},"requestReceivedTimestamp":"2024-05-01T10:00:00Z","stageTimestamp":"2024-05-01T10:00:00Z","verb":"get"}"#;
-
-const NO_VERB: &str =
-    r#""level":"Metadata","stage":"ResponseComplete","requestURI":"/","user":{},"requestReceivedTimestamp":"2024-05-01T10:00:00Z","stageTimestamp":"2024-05-01T10:00:00Z","verb":""}"#;
 
 // Rows of how many events are read and the number of the last, or why none are, and then the log.
 const ROWS: &str = r#"0 0
@@ -59,31 +48,45 @@ LIST]}
 BLANK
 x"#;
 
-// A log of the table in full.
-fn spelled(alloc: Global, log: &str) -> Result<String, AllocError> {
-    let blank = log.replace(alloc, "BLANK", " \t\r")?;
-    let heads = blank.as_str().replace(alloc, "HEAD", HEAD)?;
-    let lists = heads.as_str().replace(alloc, "LIST", LIST)?;
-    let ends = lists.as_str().replace(alloc, "NO_VERB", NO_VERB)?;
-    ends.as_str().replace(alloc, "REST", REST)
+fn buffer_of(rt: &(impl Abort + AllocGlobal)) -> Vec<u8>
+    ensures { length result.items ≡ 65536 }
+{
+    let buffer = vec![in rt.alloc(); 0u8; 65_536];
+    buffer.expect(rt, "memory")
 }
 
-fn buffer_of(alloc: Global) -> Result<Vec<u8>, AllocError>
-    ensures { IfOk result (λ buffer. length buffer.items ≡ 65536) }
-{
-    vec![in alloc; 0u8; 65_536]
+fn files_of(rt: &(impl Abort + AllocGlobal), text: &str) -> InputFiles {
+    let mut files = InputFiles::new(rt.alloc());
+    let file = InputFile {
+        name: Text::from_str(rt.alloc(), "f").expect(rt, "memory"),
+        bytes: bytes_of(rt, text),
+    };
+    files.push(file).expect(rt, "memory");
+    files
 }
 
 // A desk of one file, `f`.
-fn desk_of(alloc: Global, text: &str, cut: usize, failing: &[u64]) -> Result<MemoryDesk, Fail>
+fn desk_of(rt: &(impl Abort + AllocGlobal), text: &str, cut: usize, failing: &[u64]) -> MemoryDesk
     requires { 0 < cut }
 {
-    let mut files = InputFiles::new(alloc);
-    files.push(InputFile {
-        name: Text::from_str(alloc, "f")?,
-        bytes: Bytes::from_vec(text.as_bytes().to_vec(alloc)?),
-    })?;
-    Ok(MemoryDesk::new(alloc, files, cut, failing)?)
+    let files = files_of(rt, text);
+    MemoryDesk::new(rt.alloc(), files, cut, failing).expect(rt, "memory")
+}
+
+fn read(
+    rt: &(impl Abort + AllocGlobal + Threads + Sync),
+    log: &str,
+    cut: usize,
+    failing: &[u64],
+) -> Result<Events, LogStop>
+    requires { 0 < cut }
+{
+    let mut desk = desk_of(rt, log, cut, failing);
+    let mut buffer = buffer_of(rt);
+    let seed = Seed::of(b"");
+    let answer = read_log(rt, rt.alloc(), &mut desk, "f", &mut buffer, seed, &FreeGate);
+    drop(desk);
+    answer
 }
 
 fn last_line(events: &Events) -> u64 {
@@ -93,92 +96,103 @@ fn last_line(events: &Events) -> u64 {
     }
 }
 
-fn text_of(alloc: Global, answer: &Result<Events, LogStop>) -> Result<String, Fail> {
+fn events_text(rt: &(impl Abort + AllocGlobal), events: &Events) -> String {
+    let (count, line) = (events.len(), last_line(events));
+    format!(in rt.alloc(); "{count} {line}").expect(rt, "memory")
+}
+
+fn stop_text(rt: &(impl Abort + AllocGlobal), stop: LogStop) -> String {
+    format!(in rt.alloc(); "{stop:?}").expect(rt, "memory")
+}
+
+fn answer_text(rt: &(impl Abort + AllocGlobal), answer: &Result<Events, LogStop>) -> String {
     match answer {
-        Ok(events) => {
-            let (count, line) = (events.len(), last_line(events));
-            Ok(format!(in alloc; "{count} {line}")?)
-        }
-        Err(stop) => Ok(format!(in alloc; "{stop:?}")?),
+        Ok(events) => events_text(rt, events),
+        Err(stop) => stop_text(rt, *stop),
     }
 }
 
-// What reading a log tells.
-fn told<R: Threads + Sync>(
-    rt: &R,
-    alloc: Global,
+// Compares what reading a log tells.
+fn check_log(
+    rt: &(impl Abort + AllocGlobal + Threads + Sync),
     log: &str,
     cut: usize,
     failing: &[u64],
-) -> Result<String, Fail>
+    wanted: &str,
+)
     requires { 0 < cut }
 {
-    let mut desk = desk_of(alloc, log, cut, failing)?;
-    let mut buffer = buffer_of(alloc)?;
-    let answer = read_log(
-        rt,
-        alloc,
-        &mut desk,
-        "f",
-        &mut buffer,
-        Seed::of(b""),
-        &FreeGate,
-    );
-    text_of(alloc, &answer)
+    let answer = read(rt, log, cut, failing);
+    let text = answer_text(rt, &answer);
+    drop(answer);
+    assert_text(rt, text.as_str(), wanted);
+}
+
+// Compares what a row's log tells, however its bytes arrive.
+fn check_row(rt: &(impl Abort + AllocGlobal + Threads + Sync), row: &str) {
+    let (wanted, log) = row.split_once('\n').unwrap_or((row, ""));
+    let log = spelled(rt, log);
+    check_log(rt, log.as_str(), 65_536, &[], wanted);
+    check_log(rt, log.as_str(), 7, &[], wanted);
 }
 
 #[test]
-fn logs(rt: HostRuntime) -> Result<(), Fail> {
-    let alloc = rt.alloc();
+fn logs(rt: HostRuntime) {
     for row in ROWS.split("\n\n") {
-        let (wanted, log) = match row.split_once('\n') {
-            Some(both) => both,
-            None => (row, ""),
-        };
-        let log = spelled(alloc, log)?;
-        // However the bytes arrive.
-        assert_eq!(rt;
-            told(&rt, alloc, log.as_str(), 65_536, &[])?.as_str(),
-            wanted
-        );
-        assert_eq!(rt; told(&rt, alloc, log.as_str(), 7, &[])?.as_str(), wanted);
+        check_row(&rt, row);
     }
-    Ok(())
 }
 
 #[test]
-fn failing_reads(rt: HostRuntime) -> Result<(), Fail> {
-    let alloc = rt.alloc();
+fn failing_reads(rt: HostRuntime) {
     // All bytes come with the first read, and the second one finds the end. A refusal goes before a fault behind it.
-    assert_eq!(rt; told(&rt, alloc, " ", 8, &[1])?.as_str(), "ReadFault");
-    assert_eq!(rt; told(&rt, alloc, " ", 8, &[2])?.as_str(), "ReadFault");
-    assert_eq!(rt; told(&rt, alloc, " ", 8, &[3])?.as_str(), "0 0");
+    check_log(&rt, " ", 8, &[1], "ReadFault");
+    check_log(&rt, " ", 8, &[2], "ReadFault");
+    check_log(&rt, " ", 8, &[3], "0 0");
     let refused = "Malformed { line: 1, code: M1 }";
-    assert_eq!(rt; told(&rt, alloc, "x\n      ", 4, &[2])?.as_str(), refused);
-    Ok(())
+    check_log(&rt, "x\n      ", 4, &[2], refused);
 }
 
 const SETUP: &str =
     r#"{"kind":"PastSetup","version":1,"start":{"revision":"10","time":"2024-05-01T10:00:00Z"},"policy":{"apiVersion":"audit.k8s.io/v1","kind":"Policy","rules":[]},"resources":[],"snapshot":[]}"#;
 
-// Why there is no setup; the empty text where there is one.
-fn stop_of(alloc: Global, setup: &str, cut: usize, failing: &[u64]) -> Result<String, Fail>
+// Why there is no setup, where there is none.
+fn stop_of(
+    rt: &(impl Abort + AllocGlobal),
+    setup: &str,
+    cut: usize,
+    failing: &[u64],
+) -> Option<SetupStop>
     requires { 0 < cut }
 {
-    let mut desk = desk_of(alloc, setup, cut, failing)?;
-    let mut buffer = buffer_of(alloc)?;
-    match read_setup_named(alloc, &mut desk, "f", &mut buffer).err() {
-        Some(stop) => Ok(format!(in alloc; "{stop:?}")?),
-        None => Ok(String::new(alloc)),
-    }
+    let mut desk = desk_of(rt, setup, cut, failing);
+    let mut buffer = buffer_of(rt);
+    let stop = read_setup_named(rt.alloc(), &mut desk, "f", &mut buffer).err();
+    drop(desk);
+    stop
+}
+
+// Compares why there is no setup; the empty text where there is one.
+fn check_setup(
+    rt: &(impl Abort + AllocGlobal),
+    setup: &str,
+    cut: usize,
+    failing: &[u64],
+    wanted: &str,
+)
+    requires { 0 < cut }
+{
+    let text = match stop_of(rt, setup, cut, failing) {
+        Some(stop) => format!(in rt.alloc(); "{stop:?}").expect(rt, "memory"),
+        None => String::new(rt.alloc()),
+    };
+    assert_text(rt, text.as_str(), wanted);
 }
 
 #[test]
-fn setups(rt: HostRuntime) -> Result<(), Fail> {
-    let alloc = rt.alloc();
-    assert_eq!(rt; stop_of(alloc, SETUP, 65_536, &[])?.as_str(), "");
-    assert_eq!(rt; stop_of(alloc, SETUP, 7, &[])?.as_str(), "");
-    assert_eq!(rt; stop_of(alloc, "x", 8, &[])?.as_str(), "Rule(S1)");
-    assert_eq!(rt; stop_of(alloc, "x", 8, &[2])?.as_str(), "ReadFault");
-    Ok(())
+fn setups(rt: HostRuntime) {
+    check_setup(&rt, SETUP, 65_536, &[], "");
+    check_setup(&rt, SETUP, 7, &[], "");
+    check_setup(&rt, "x", 8, &[], "Rule(S1)");
+    check_setup(&rt, "x", 8, &[2], "ReadFault");
 }

@@ -1,18 +1,11 @@
+use crate::given::{assert_so, assert_text, push, spelled};
 use log_sift::{Sifting, left_text, sift};
-use std::alloc::{AllocError, Global};
-use std::test::Fail;
-
-const HEAD: &str = r#"{"kind":"Event","apiVersion":"audit.k8s.io/v1","#;
-
-const LIST: &str = r#"{"kind":"EventList","apiVersion":"audit.k8s.io/v1","items":["#;
-
-// An event behind its ID, without its last brace.
-const OPEN: &str =
-    r#""level":"Metadata","stage":"ResponseComplete","requestURI":"/","user":{},"requestReceivedTimestamp":"2024-05-01T10:00:00Z","stageTimestamp":"2024-05-01T10:00:00Z","verb":"get""#;
+use std::process::Abort;
 
 // Rows of what is said, and of the lines of a log: those behind `+` stay, and those behind `-` are left out. The last
 // of them has no newline.
 const ROWS: &str = r#"kept 0 left 0
++
 
 1 M1
 2 M1
@@ -98,15 +91,6 @@ kept 0 left 1
 +BLANK
 -x"#;
 
-// A line of the table in full.
-fn spelled(alloc: Global, line: &str) -> Result<String, AllocError> {
-    let blank = line.replace(alloc, "BLANK", " \t\r")?;
-    let returns = blank.as_str().replace(alloc, "RETURN", "\r")?;
-    let heads = returns.as_str().replace(alloc, "HEAD", HEAD)?;
-    let lists = heads.as_str().replace(alloc, "LIST", LIST)?;
-    lists.as_str().replace(alloc, "OPEN", OPEN)
-}
-
 // What a row says, its log, and what stays of that.
 #[derive(Drop)]
 struct Row {
@@ -115,86 +99,82 @@ struct Row {
     kept: String,
 }
 
-// Puts the next line of a row's log behind the others.
-fn add_line(row: &mut Row, line: &str, is_first: bool, stays: bool) -> Result<(), AllocError> {
-    if !is_first {
-        row.log.push('\n')?;
+// Puts a line of a row where it belongs.
+fn add_line(rt: &impl Abort, row: &mut Row, line: &str) {
+    if let Some(stays) = line.strip_prefix("+") {
+        push(rt, &mut row.log, stays);
+        push(rt, &mut row.kept, stays);
+    } else if let Some(left) = line.strip_prefix("-") {
+        push(rt, &mut row.log, left);
+    } else {
+        push(rt, &mut row.said, line);
     }
-    row.log.push_str(line)?;
-    if stays {
-        row.kept.push_str(line)?;
-    }
-    Ok(())
 }
 
-fn row_of(alloc: Global, text: &str) -> Result<Row, AllocError> {
+fn row_of(rt: &(impl Abort + AllocGlobal), text: &str) -> Row {
     let mut row = Row {
-        said: String::new(alloc),
-        log: String::new(alloc),
-        kept: String::new(alloc),
+        said: String::new(rt.alloc()),
+        log: String::new(rt.alloc()),
+        kept: String::new(rt.alloc()),
     };
-    let mut is_first = true;
-    let mut stayed = false;
-    for line in text.split('\n') {
-        let (stays, rest) = match (line.strip_prefix("+"), line.strip_prefix("-")) {
-            (Some(rest), _) => (true, rest),
-            (None, Some(rest)) => (false, rest),
-            (None, None) => {
-                row.said.push_str(line)?;
-                row.said.push('\n')?;
-                continue;
-            }
-        };
-        if stayed {
-            row.kept.push('\n')?;
-        }
-        let full = spelled(alloc, rest)?;
-        add_line(&mut row, full.as_str(), is_first, stays)?;
-        is_first = false;
-        stayed = stays;
+    for line in text.split_inclusive('\n') {
+        add_line(rt, &mut row, line);
     }
-    Ok(row)
+    row
 }
 
 // The bytes that stay of a log.
-fn kept_of(alloc: Global, log: &[u8], sifting: &Sifting) -> Result<Vec<u8>, AllocError> {
-    let mut kept = Vec::new(alloc);
+fn kept_of(rt: &(impl Abort + AllocGlobal), log: &[u8], sifting: &Sifting) -> Vec<u8> {
+    let mut kept = Vec::new(rt.alloc());
     for stretch in sifting.stays.as_slice() {
-        if let Some(bytes) = log.get(stretch.start..stretch.end) {
-            kept.extend_from_slice(bytes)?;
-        }
+        let bytes = log.get(stretch.start..stretch.end).expect(rt, "bytes");
+        kept.extend_from_slice(bytes).expect(rt, "memory");
     }
-    Ok(kept)
+    kept
+}
+
+fn check_kept(rt: &(impl Abort + AllocGlobal), log: &[u8], sifting: &Sifting, wanted: &[u8]) {
+    let kept = kept_of(rt, log, sifting);
+    assert_so(rt, kept.as_slice() == wanted, "what stays");
+}
+
+fn check_left(rt: &(impl Abort + AllocGlobal), sifting: &Sifting, wanted: &str) {
+    let text = left_text(rt.alloc(), sifting).expect(rt, "memory");
+    assert_text(rt, text.as_str(), wanted);
+}
+
+fn check_row(rt: &(impl Abort + AllocGlobal), row: &Row) {
+    let log = row.log.as_str().as_bytes();
+    let sifting = sift(rt.alloc(), log).expect(rt, "memory");
+    check_left(rt, &sifting, row.said.as_str());
+    check_kept(rt, log, &sifting, row.kept.as_str().as_bytes());
+    drop(sifting);
+}
+
+fn check_text(rt: &(impl Abort + AllocGlobal), text: &str) {
+    let full = spelled(rt, text);
+    let row = row_of(rt, full.as_str());
+    check_row(rt, &row);
+    drop(row);
 }
 
 #[test]
-fn sifted_logs(rt: HostRuntime) -> Result<(), Fail> {
-    let alloc = rt.alloc();
+fn sifted_logs(rt: HostRuntime) {
     for text in ROWS.split("\n\n") {
-        let row = row_of(alloc, text)?;
-        let log = row.log.as_str().as_bytes();
-        let sifting = sift(alloc, log)?;
-        assert_eq!(rt; left_text(alloc, &sifting)?.as_str(), row.said.as_str());
-        let kept = kept_of(alloc, log, &sifting)?;
-        assert_eq!(rt; kept.as_slice(), row.kept.as_str().as_bytes());
+        check_text(&rt, text);
     }
-    Ok(())
 }
 
-// A line of spaces.
-fn spaces(alloc: Global, count: usize) -> Result<Vec<u8>, AllocError> {
-    vec![in alloc; b' '; count]
+// Compares what is said of a line of so many spaces.
+fn check_spaces(rt: &(impl Abort + AllocGlobal), count: usize, wanted: &str) {
+    let spaces = vec![in rt.alloc(); b' '; count].expect(rt, "memory");
+    let sifting = sift(rt.alloc(), spaces.as_slice()).expect(rt, "memory");
+    check_left(rt, &sifting, wanted);
+    drop(sifting);
 }
 
 #[test]
-fn long_lines(rt: HostRuntime) -> Result<(), Fail> {
-    let alloc = rt.alloc();
-    let short = sift(alloc, spaces(alloc, 16_777_216)?.as_slice())?;
-    assert_eq!(rt; left_text(alloc, &short)?.as_str(), "kept 0 left 0\n");
-    let long = sift(alloc, spaces(alloc, 16_777_217)?.as_slice())?;
-    assert_eq!(rt;
-        left_text(alloc, &long)?.as_str(),
-        "1 limit line\nkept 0 left 1\n"
-    );
-    Ok(())
+fn long_lines(rt: HostRuntime) {
+    check_spaces(&rt, 16_777_216, "kept 0 left 0\n");
+    check_spaces(&rt, 16_777_217, "1 limit line\nkept 0 left 1\n");
 }

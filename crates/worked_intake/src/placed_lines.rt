@@ -1,7 +1,10 @@
+use crate::given::assert_so;
 use base_types::{OutOfMemory, PlacedAnswer, PlacedLine};
 use judge_pool::{LineSource, lines_all};
 use std::alloc::Global;
-use std::test::Fail;
+use std::marker::Sync;
+use std::process::Abort;
+use std::thread::Threads;
 
 /// Each event stands on the line of its number, in no place; events of odd numbers have no line.
 #[derive(Drop)]
@@ -44,12 +47,16 @@ fn are_in_order(lines: &[Option<PlacedLine>]) -> bool {
     true
 }
 
+fn check_lines(rt: &(impl Abort + AllocGlobal + Threads + Sync), count: u32) {
+    let lines = lines_all(rt, rt.alloc(), &Numbered { count }).expect(rt, "memory");
+    assert_so(rt, lines.len() == count as usize, "all lines");
+    assert_so(rt, are_in_order(&lines), "in order");
+    drop(lines);
+}
+
 #[test]
-fn all_lines_come(rt: HostRuntime) -> Result<(), Fail> {
+fn all_lines_come(rt: HostRuntime) {
     for count in [0, 1, 5_000] {
-        let lines = lines_all(&rt, rt.alloc(), &Numbered { count })?;
-        assert_eq!(rt; lines.len(), count as usize);
-        assert!(rt; are_in_order(&lines), "of {count}");
+        check_lines(&rt, count);
     }
-    Ok(())
 }

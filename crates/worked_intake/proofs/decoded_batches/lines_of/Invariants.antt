@@ -3,4 +3,4 @@ use Rattle.std.specs.Prelude.{vec_len}
 use Rattle.worked_intake.proofs.decoded_batches.lines_of.Given as goal
 
 abbrev pub invariant-loop-number : goal.invariant-loop-number
-invariant-loop-number l = vec_len l.lines ≡ l.number
+invariant-loop-number g l = vec_len l.lines ≡ l.number
