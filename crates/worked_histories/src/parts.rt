@@ -1,9 +1,15 @@
-ghost use Rattle.std.specs.Prelude.{◌≡◌, ◌++◌, ◌∷◌, []};
+//! Keys, covers, versions and logs that several tables use.
+ghost use Rattle.std.specs.Prelude.{◌≡◌, ◌<◌, ◌^◌, ◌++◌, ◌∷◌, [], length, AllPairs};
 
-use base_types::{Moment, ObjectKey, Revision, Text};
+use base_types::{Cover, CoverName, Decision, Moment, ObjectKey, Revision, Text};
 use node_pool::NodeId;
 use std::process::Abort;
-use write_groups::{Item, LogEvent, Preconditions, Reading, Shown};
+use write_groups::{Item, Items, Listing, LogEvent, Preconditions, Reading, Shown};
+
+/// Stops the test where what was found isn't so.
+pub fn check(rt: &impl Abort, holds: bool, what: &str) {
+    assert!(rt; holds, "{what}");
+}
 
 pub fn text(rt: &(impl Abort + AllocGlobal), text: &str) -> Text {
     Text::from_str(rt.alloc(), text).expect(rt, "memory")
@@ -24,60 +30,227 @@ pub fn revision(rt: &impl Abort, number: u64) -> Revision {
     Revision::new(number).expect(rt, "a revision")
 }
 
-/// A version of a config map.
-pub fn item(rt: &(impl Abort + AllocGlobal), name: &str, uid: &str, number: u64) -> Item {
+fn namespace_of(rt: &(impl Abort + AllocGlobal), pattern: &str) -> Option<Text> {
+    if pattern == "*" {
+        return None;
+    }
+    Some(text(rt, pattern))
+}
+
+fn name_of(rt: &(impl Abort + AllocGlobal), pattern: &str) -> CoverName {
+    let Some(front) = pattern.strip_suffix('*') else {
+        return CoverName::Exact(text(rt, pattern));
+    };
+    if front.is_empty() {
+        return CoverName::Any;
+    }
+    CoverName::Prefix(text(rt, front))
+}
+
+/// A cover of a namespace, or of all by `*`, and of a name, of the front of names and `*`, or of all by `*`.
+pub fn cover(
+    rt: &(impl Abort + AllocGlobal),
+    resource: &str,
+    namespace: &str,
+    pattern: &str,
+) -> Cover {
+    Cover {
+        group: text(rt, ""),
+        resource: text(rt, resource),
+        namespace: namespace_of(rt, namespace),
+        name: name_of(rt, pattern),
+        creates: false,
+    }
+}
+
+/// What an event of a log says of a config map.
+#[derive(Clone, Copy)]
+pub enum Told {
+    Created,
+    Updated,
+    /// An update whose condition was this revision.
+    Replaced(u64),
+    Removed,
+    /// A write whose answer doesn't show what it left.
+    Unseen,
+    /// Such a write of any pods.
+    UnseenPods,
+    Absent,
+    Present,
+    Seen,
+    NoneListed,
+    SomeListed,
+    Nothing,
+    OtherLevel,
+    OmittedStage,
+    Allowed,
+}
+
+/// Where in the history the answer may be.
+#[derive(Clone, Copy)]
+pub enum Asked {
+    MostRecent,
+    AnyVersion,
+    NotOlderThan(u64),
+    Exactly(u64),
+    Checkpoint(u64),
+}
+
+/// The object of an event: a config map of the namespace `d`.
+#[derive(Clone, Copy)]
+struct Object {
+    name: &'static str,
+    uid: &'static str,
+    revision: u64,
+}
+
+/// What an event says, the name, the uid and the revision of its object, where in the history the answer may be, and
+/// the moments between which it was.
+pub type Row = (Told, &'static str, &'static str, u64, Asked, i128, i128);
+
+fn reading(rt: &impl Abort, asked: Asked) -> Reading {
+    match asked {
+        Asked::MostRecent => Reading::MostRecent,
+        Asked::AnyVersion => Reading::AnyVersion,
+        Asked::NotOlderThan(number) => Reading::NotOlderThan(revision(rt, number)),
+        Asked::Exactly(number) => Reading::Exactly(revision(rt, number)),
+        Asked::Checkpoint(number) => Reading::Checkpoint(revision(rt, number)),
+    }
+}
+
+fn item(rt: &(impl Abort + AllocGlobal), object: &Object) -> Item {
     Item {
-        key: key(rt, "configmaps", name),
-        revision: revision(rt, number),
-        uid: text(rt, uid),
+        key: key(rt, "configmaps", object.name),
+        revision: revision(rt, object.revision),
+        uid: text(rt, object.uid),
         node: NodeId(0),
     }
 }
 
-/// The answer to a write of a config map.
-pub fn made(
-    rt: &(impl Abort + AllocGlobal),
-    name: &str,
-    uid: &str,
-    number: u64,
-    created: bool,
-) -> Shown {
+fn one_item(rt: &(impl Abort + AllocGlobal), object: &Object) -> Items {
+    let mut items = Items::new(rt.alloc());
+    items.push(item(rt, object)).expect(rt, "memory");
+    items
+}
+
+// A whole list at the start.
+fn listing(rt: &(impl Abort + AllocGlobal), items: Items) -> Shown {
+    Shown::Listed {
+        listing: Listing {
+            group: text(rt, ""),
+            resource: text(rt, "configmaps"),
+            namespace: text(rt, "d"),
+            revision: revision(rt, 10),
+            whole: true,
+            items,
+        },
+    }
+}
+
+fn made(rt: &(impl Abort + AllocGlobal), object: &Object, created: bool) -> Shown {
     Shown::Made {
-        item: item(rt, name, uid, number),
+        item: item(rt, object),
         created,
     }
 }
 
-/// An event between these moments, whose request asks for this revision.
-pub fn event_of(
-    line: u64,
-    times: (i128, i128),
-    reading: Reading,
-    wanted: Option<Revision>,
-    answer: Shown,
-) -> LogEvent
+fn removed(rt: &(impl Abort + AllocGlobal), object: &Object) -> Shown {
+    Shown::Removed {
+        key: key(rt, "configmaps", object.name),
+        uid: text(rt, object.uid),
+    }
+}
+
+// The answer to a write, or to a request that neither writes nor reads.
+fn written(rt: &(impl Abort + AllocGlobal), told: Told, object: &Object) -> Shown {
+    match told {
+        Told::Created => made(rt, object, true),
+        Told::Updated | Told::Replaced(_) => made(rt, object, false),
+        Told::Removed => removed(rt, object),
+        Told::Unseen => Shown::Opaque {
+            cover: cover(rt, "configmaps", "d", object.name),
+        },
+        Told::UnseenPods => Shown::Opaque {
+            cover: cover(rt, "pods", "*", "*"),
+        },
+        _ => Shown::Free,
+    }
+}
+
+fn answer(rt: &(impl Abort + AllocGlobal), told: Told, object: &Object) -> Shown {
+    match told {
+        Told::Absent => Shown::SawNone {
+            key: key(rt, "configmaps", object.name),
+        },
+        Told::Present => Shown::SawSome {
+            key: key(rt, "configmaps", object.name),
+        },
+        Told::Seen => Shown::Saw {
+            item: item(rt, object),
+        },
+        Told::NoneListed => listing(rt, Items::new(rt.alloc())),
+        Told::SomeListed => listing(rt, one_item(rt, object)),
+        _ => written(rt, told, object),
+    }
+}
+
+fn wanted(told: Told) -> Option<Revision> {
+    match told {
+        Told::Replaced(number) => Revision::new(number),
+        _ => None,
+    }
+}
+
+fn decision(told: Told) -> Option<Decision> {
+    match told {
+        Told::Allowed => Some(Decision::Allow),
+        _ => None,
+    }
+}
+
+/// The event of a row, on this line.
+pub fn event(rt: &(impl Abort + AllocGlobal), line: u64, row: &Row) -> LogEvent
     ensures { result.line ≡ line }
 {
-    let (lo, hi) = times;
+    let (told, name, uid, revision, asked, lo, hi) = *row;
+    let object = Object {
+        name,
+        uid,
+        revision,
+    };
     LogEvent {
         line,
         lo: Moment(lo),
         hi: Moment(hi),
-        reading,
+        reading: reading(rt, asked),
         preconditions: Preconditions {
-            revision: wanted,
+            revision: wanted(told),
             uid: None,
         },
-        answer,
-        other_level: false,
-        omitted_stage: false,
-        decision: None,
+        answer: answer(rt, told, &object),
+        other_level: matches!(told, Told::OtherLevel),
+        omitted_stage: matches!(told, Told::OmittedStage),
+        decision: decision(told),
     }
 }
 
-/// Puts an event behind the others.
-pub fn push(rt: &impl Abort, events: &mut Vec<LogEvent>, event: LogEvent)
-    ensures { events.new.items ≡ events.old.items ++ event ∷ [] }
+/// Puts one more behind the others.
+pub fn push<T: Drop>(rt: &impl Abort, items: &mut Vec<T>, item: T)
+    ensures { items.new.items ≡ items.old.items ++ item ∷ [] }
 {
-    events.push(event).expect(rt, "memory");
+    items.push(item).expect(rt, "memory");
+}
+
+/// The events of these rows, of which the first is on line 0.
+pub fn log(rt: &(impl Abort + AllocGlobal), rows: &[Row]) -> Vec<LogEvent>
+    requires { length rows.now < 2 ^ 32 }
+    ensures few { length result.items < 2 ^ 32 }
+    ensures lines { AllPairs (λ a b. a.line < b.line) result.items }
+{
+    let mut events = Vec::new(rt.alloc());
+    for line in 0..rows.len() {
+        let event = event(rt, line as u64, &rows[line]);
+        push(rt, &mut events, event);
+    }
+    events
 }

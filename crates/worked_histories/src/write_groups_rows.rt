@@ -1,136 +1,143 @@
-ghost use Rattle.std.specs.Prelude.{◌≡◌, ◌<◌, ◌^◌, length, AllPairs};
+ghost use Rattle.std.specs.Prelude.{◌≡◌, ◌<◌, ◌^◌, length, All, AllPairs};
 
-use crate::parts::{event_of, key, made, push, revision, text};
-use base_types::{Cover, CoverName, Moment, Revision};
+use crate::parts::{Asked, Row, Told, check, event, key, log, revision};
+use Asked::{AnyVersion, Checkpoint, Exactly, MostRecent, NotOlderThan};
+use base_types::{Moment, Revision};
 use std::process::Abort;
 use time_windows::{Span, Windows};
 use write_groups::{
-    Group, Hidden, LogEvent, Reading, Shown, Window, groups_of, highest, lowest, order_of,
-    spans_of, window_of,
+    Group, Groups, Hidden, LogEvent, Window, groups_of, highest, lowest, order_of, spans_of,
+    window_of,
 };
-
-/// What an event of the test says of an object.
-#[derive(Clone, Copy)]
-enum Told {
-    Updated(&'static str, u64),
-    Created(&'static str, u64),
-    /// An update whose condition was the second revision.
-    Replaced(&'static str, u64, u64),
-    Unseen(&'static str),
-    Checked(u64),
-}
 
 // Revision 11 belongs to `a`, whose unrecorded write may have begun before; `b` was answered with it too. Revision 12
 // was created, and revision 13 replaced 12. Three ends are equal. The checkpoints have no time.
-const LOG: [(Told, i128, i128); 10] = [
-    (Told::Updated("a", 11), 100, 130),
-    (Told::Unseen("a"), 50, 500),
-    (Told::Created("b", 12), 120, 140),
-    (Told::Updated("b", 11), 90, 140),
-    (Told::Updated("a", 11), 80, 160),
-    (Told::Unseen("b"), 10, 140),
-    (Told::Updated("a", 10), 0, 20),
-    (Told::Replaced("b", 13, 12), 150, 170),
-    (Told::Checked(13), 0, 0),
-    (Told::Checked(12), 0, 0),
+static LOG: [Row; 10] = [
+    (Told::Updated, "a", "a", 11, MostRecent, 100, 130),
+    (Told::Unseen, "a", "", 0, MostRecent, 50, 500),
+    (Told::Created, "b", "b", 12, MostRecent, 120, 140),
+    (Told::Updated, "b", "b", 11, MostRecent, 90, 140),
+    (Told::Updated, "a", "a", 11, MostRecent, 80, 160),
+    (Told::Unseen, "b", "", 0, MostRecent, 10, 140),
+    (Told::Updated, "a", "a", 10, MostRecent, 0, 20),
+    (Told::Replaced(12), "b", "b", 13, MostRecent, 150, 170),
+    (Told::Nothing, "", "", 0, Checkpoint(13), 0, 0),
+    (Told::Nothing, "", "", 0, Checkpoint(12), 0, 0),
 ];
 
-fn unseen(rt: &(impl Abort + AllocGlobal), name: &str) -> Shown {
-    Shown::Opaque {
-        cover: Cover {
-            group: text(rt, ""),
-            resource: text(rt, "configmaps"),
-            namespace: Some(text(rt, "d")),
-            name: CoverName::Exact(text(rt, name)),
-            creates: false,
-        },
-    }
-}
+// The events in the order of judgement.
+static ORDER: [u32; 10] = [6, 0, 2, 3, 5, 4, 7, 1, 8, 9];
 
-fn answer(rt: &(impl Abort + AllocGlobal), told: Told) -> Shown {
-    match told {
-        Told::Updated(name, number) => made(rt, name, name, number, false),
-        Told::Created(name, number) => made(rt, name, name, number, true),
-        Told::Replaced(name, number, _) => made(rt, name, name, number, false),
-        Told::Unseen(name) => unseen(rt, name),
-        Told::Checked(_) => Shown::Free,
-    }
-}
-
-fn reading(rt: &impl Abort, told: Told) -> Reading {
-    match told {
-        Told::Checked(number) => Reading::Checkpoint(revision(rt, number)),
-        _ => Reading::MostRecent,
-    }
-}
-
-fn wanted(told: Told) -> Option<Revision> {
-    match told {
-        Told::Replaced(_, _, number) => Revision::new(number),
-        _ => None,
-    }
-}
-
-fn event(rt: &(impl Abort + AllocGlobal), line: u64, told: Told, lo: i128, hi: i128) -> LogEvent
-    ensures { result.line ≡ line }
+fn groups(rt: &(impl Abort + AllocGlobal), start: Revision, events: &[LogEvent]) -> Groups
+    requires few { length events.now < 2 ^ 32 }
+    requires lines { AllPairs (λ a b. a.line < b.line) events.now }
+    ensures rising { AllPairs (λ a b. a.revision < b.revision) result }
+    ensures above { All (λ group. start < group.revision) result }
 {
-    let reading = reading(rt, told);
-    let answer = answer(rt, told);
-    event_of(line, (lo, hi), reading, wanted(told), answer)
-}
-
-fn log(rt: &(impl Abort + AllocGlobal)) -> Vec<LogEvent>
-    ensures few { length result.items < 2 ^ 32 }
-    ensures lines { AllPairs (λ a b. a.line < b.line) result.items }
-{
-    let mut events = Vec::new(rt.alloc());
-    for line in 0..10u64 {
-        let (told, lo, hi) = LOG[line as usize];
-        let event = event(rt, line, told, lo, hi);
-        push(rt, &mut events, event);
-    }
-    events
+    let order = order_of(rt.alloc(), events).expect(rt, "memory");
+    check(rt, order.as_slice() == ORDER.as_slice(), "order");
+    let groups = groups_of(rt.alloc(), start, events, &order).expect(rt, "memory");
+    drop(order);
+    groups
 }
 
 // Revisions, each with the object's name and the events of its group.
 static GROUPS: [(u64, &str, &[u32]); 3] = [(11, "a", &[0, 4]), (12, "b", &[2]), (13, "b", &[7])];
 
-fn check_group(rt: &impl Abort, group: &Group, row: &(u64, &str, &[u32])) {
-    let (number, name, members) = row;
-    assert_eq!(rt; group.revision.get(), *number);
-    assert!(rt; group.key.name.as_str() == *name);
-    assert!(rt; group.members.as_slice() == *members, "members of {number}");
+fn is_group(group: Option<&Group>, row: &(u64, &str, &[u32])) -> bool {
+    let (number, name, members) = *row;
+    match group {
+        Some(group) => {
+            group.revision.get() == number
+                && group.key.name.as_str() == name
+                && group.members.as_slice() == members
+        }
+        None => false,
+    }
 }
 
-fn check_groups(rt: &impl Abort, groups: &[Group]) {
-    assert_eq!(rt; groups.len(), 3);
-    for (group, row) in groups.iter().zip(&GROUPS) {
-        check_group(rt, group, row);
+fn are_groups(groups: &[Group]) -> bool {
+    for at in 0..3usize {
+        if !is_group(groups.get(at), &GROUPS[at]) {
+            return false;
+        }
     }
+    groups.len() == 3
 }
 
 // Revisions, each with the moments between which it was written.
 static TIMES: [(u64, i128, i128); 3] = [(11, 50, 130), (12, 120, 140), (13, 150, 170)];
 
-fn check_spans(rt: &impl Abort, spans: &[Span]) {
-    assert_eq!(rt; spans.len(), 3);
-    for (span, (number, lo, hi)) in spans.iter().zip(&TIMES) {
-        assert_eq!(rt; span.revision.get(), *number);
-        assert_eq!(rt; (span.lo.0, span.hi.0), (*lo, *hi), "times of {number}");
+fn is_span(span: Option<&Span>, row: &(u64, i128, i128)) -> bool {
+    let (number, lo, hi) = *row;
+    match span {
+        Some(span) => span.revision.get() == number && span.lo.0 == lo && span.hi.0 == hi,
+        None => false,
     }
 }
 
-/// The events in the order of judgement, the groups of the revisions, and when each was written.
-#[test]
-fn groups_of_a_log(rt: HostRuntime) {
-    let events = log(&rt);
-    let order = order_of(rt.alloc(), &events).expect(&rt, "memory");
-    assert!(rt; order.as_slice() == [6u32, 0, 2, 3, 5, 4, 7, 1, 8, 9].as_slice());
-    let start = revision(&rt, 10);
-    let groups = groups_of(rt.alloc(), start, &events, &order).expect(&rt, "memory");
-    check_groups(&rt, groups.as_slice());
-    let spans = spans_of(rt.alloc(), start, &events, groups.as_slice()).expect(&rt, "memory");
-    check_spans(&rt, &spans);
+fn are_spans(spans: &[Span]) -> bool {
+    for at in 0..3usize {
+        if !is_span(spans.get(at), &TIMES[at]) {
+            return false;
+        }
+    }
+    spans.len() == 3
+}
+
+fn windows(
+    rt: &(impl Abort + AllocGlobal),
+    start: Revision,
+    events: &[LogEvent],
+    groups: &[Group],
+) -> Windows
+    requires rising { AllPairs (λ a b. a.revision < b.revision) groups.now }
+    requires above { All (λ group. start < group.revision) groups.now }
+    ensures { result.start ≡ start }
+{
+    let spans = spans_of(rt.alloc(), start, events, groups).expect(rt, "memory");
+    check(rt, are_spans(&spans), "times");
+    let windows = Windows::build(rt.alloc(), start, &spans).expect(rt, "memory");
+    drop(spans);
+    windows
+}
+
+// Readings, each with its window.
+static WINDOWS: [(Asked, u64, u64); 8] = [
+    (MostRecent, 11, 12),
+    (AnyVersion, 10, 12),
+    (NotOlderThan(12), 12, 12),
+    (NotOlderThan(9), 10, 12),
+    (Exactly(12), 12, 12),
+    (Exactly(13), 1, 0),
+    (Exactly(9), 1, 0),
+    (Checkpoint(13), 13, 13),
+];
+
+// The window of an event from 135 to 145: revision 11 had been written, revision 13 had not begun.
+fn is_window(
+    rt: &(impl Abort + AllocGlobal),
+    windows: &Windows,
+    start: Revision,
+    row: &(Asked, u64, u64),
+) -> bool
+    requires { windows.now.start ≡ start }
+{
+    let (asked, low, high) = *row;
+    let event = event(rt, 1, &(Told::Unseen, "a", "", 0, asked, 135, 145));
+    let window = window_of(windows, start, &event);
+    drop(event);
+    window == Window { low, high }
+}
+
+fn check_windows(rt: &(impl Abort + AllocGlobal), windows: &Windows, start: Revision)
+    requires { windows.now.start ≡ start }
+{
+    for row in &WINDOWS {
+        check(rt, is_window(rt, windows, start, row), "a window");
+    }
+    check(rt, lowest(windows, Moment(130)) == 10, "the lowest");
+    check(rt, highest(windows, Moment(150)) == u64::MAX, "the highest");
 }
 
 // Names, and when the first unrecorded write of each may have begun.
@@ -140,103 +147,38 @@ static SINCE: [(&str, Option<Moment>); 3] = [
     ("c", None),
 ];
 
-fn since(rt: &(impl Abort + AllocGlobal), hidden: &Hidden, name: &str) -> Option<Moment> {
+fn is_since(
+    rt: &(impl Abort + AllocGlobal),
+    hidden: &Hidden,
+    row: &(&str, Option<Moment>),
+) -> bool {
+    let (name, wanted) = *row;
     let key = key(rt, "configmaps", name);
     let since = hidden.since(&key);
     drop(key);
-    since
+    since == wanted
 }
 
-/// When the first unrecorded write of a key may have begun.
-#[test]
-fn unrecorded_writes(rt: HostRuntime) {
-    let events = log(&rt);
-    let hidden = Hidden::build(rt.alloc(), &events).expect(&rt, "memory");
-    for (name, wanted) in &SINCE {
-        assert!(rt; since(&rt, &hidden, name) == *wanted, "since of {name}");
+fn check_hidden(rt: &(impl Abort + AllocGlobal), events: &[LogEvent]) {
+    let hidden = Hidden::build(rt.alloc(), events).expect(rt, "memory");
+    for row in &SINCE {
+        check(rt, is_since(rt, &hidden, row), row.0);
     }
     drop(hidden);
 }
 
-fn windows(rt: &(impl Abort + AllocGlobal), start: Revision) -> Windows
-    ensures { result.start ≡ start }
-{
-    let events = log(rt);
-    let order = order_of(rt.alloc(), &events).expect(rt, "memory");
-    let groups = groups_of(rt.alloc(), start, &events, &order).expect(rt, "memory");
-    let spans = spans_of(rt.alloc(), start, &events, groups.as_slice()).expect(rt, "memory");
-    Windows::build(rt.alloc(), start, &spans).expect(rt, "memory")
-}
-
-// How a reading is asked for.
-#[derive(Clone, Copy)]
-enum Asked {
-    MostRecent,
-    AnyVersion,
-    NotOlderThan(u64),
-    Exactly(u64),
-    Checkpoint(u64),
-}
-
-fn reading_asked(rt: &impl Abort, asked: Asked) -> Reading {
-    match asked {
-        Asked::MostRecent => Reading::MostRecent,
-        Asked::AnyVersion => Reading::AnyVersion,
-        Asked::NotOlderThan(number) => Reading::NotOlderThan(revision(rt, number)),
-        Asked::Exactly(number) => Reading::Exactly(revision(rt, number)),
-        Asked::Checkpoint(number) => Reading::Checkpoint(revision(rt, number)),
-    }
-}
-
-// Readings, each with its window.
-static WINDOWS: [(Asked, u64, u64); 8] = [
-    (Asked::MostRecent, 11, 12),
-    (Asked::AnyVersion, 10, 12),
-    (Asked::NotOlderThan(12), 12, 12),
-    (Asked::NotOlderThan(9), 10, 12),
-    (Asked::Exactly(12), 12, 12),
-    (Asked::Exactly(13), 1, 0),
-    (Asked::Exactly(9), 1, 0),
-    (Asked::Checkpoint(13), 13, 13),
-];
-
-// An event from 135 to 145.
-fn read(rt: &(impl Abort + AllocGlobal), reading: Reading) -> LogEvent {
-    let answer = unseen(rt, "a");
-    event_of(1, (135, 145), reading, None, answer)
-}
-
-fn window(
-    rt: &(impl Abort + AllocGlobal),
-    windows: &Windows,
-    start: Revision,
-    reading: Reading,
-) -> Window
-    requires { windows.now.start ≡ start }
-{
-    let event = read(rt, reading);
-    let window = window_of(windows, start, &event);
-    drop(event);
-    window
-}
-
-/// The window of an event from 135 to 145 by each reading: revision 11 had been written, revision 13 had not begun.
+/// The events in the order of judgement, the groups of the revisions, when each was written, the windows of readings,
+/// and when unrecorded writes may have begun.
 #[test]
-fn windows_of_readings(rt: HostRuntime) {
+fn groups_of_a_log(rt: HostRuntime) {
     let start = revision(&rt, 10);
-    let windows = windows(&rt, start);
-    for (reading, low, high) in &WINDOWS {
-        let found = window(&rt, &windows, start, reading_asked(&rt, *reading));
-        let wanted = Window {
-            low: *low,
-            high: *high,
-        };
-        assert!(rt; found == wanted, "{low} to {high}");
-    }
-    let (low, high) = (
-        lowest(&windows, Moment(130)),
-        highest(&windows, Moment(150)),
-    );
-    assert_eq!(rt; (low, high), (10, u64::MAX));
+    let events = log(&rt, &LOG);
+    let groups = groups(&rt, start, &events);
+    check(&rt, are_groups(groups.as_slice()), "groups");
+    let windows = windows(&rt, start, &events, groups.as_slice());
+    drop(groups);
+    check_hidden(&rt, &events);
+    drop(events);
+    check_windows(&rt, &windows, start);
     drop(windows);
 }

@@ -1,6 +1,6 @@
 use Rattle.std.proofs.Common.{◌≡◌, ◌<◌, length, All, AllPairs}
 use Rattle.write_groups.specs.declared.event.LogEvent.{LogEvent}
-use Rattle.worked_histories.proofs.object_versions_rows.log.Given as goal
+use Rattle.worked_histories.proofs.parts.log.Given as goal
 
 -- lines rise up to this one
 abbrev pub invariant-loop-line : goal.invariant-loop-line

@@ -3,7 +3,7 @@ use Rattle.std.proofs.lemmas.List.{length_push}
 use Rattle.std.proofs.lemmas.List.Elements.{All-push, All-weaker}
 use Rattle.std.proofs.lemmas.List.Quantifiers.{all_pairs_push}
 use Rattle.write_groups.specs.declared.event.LogEvent.{LogEvent}
-use Rattle.worked_histories.proofs.write_groups_rows.log.Goals as goal
+use Rattle.worked_histories.proofs.parts.log.Goals as goal
 
 pub loop-line-preserved : goal.loop-line-preserved
 loop-line-preserved g c =
