@@ -50,6 +50,10 @@ passed_want answer_of inner found result was is = subst (λ r. IsPassed answer_o
 pub passed_report : {X : Type 0} (answer_of : X → Answer) (inner : Result X Stop) (found : X) (report : Report) → inner ≡ Ok found → report_answer report ≡ answer_of found → IsPassed answer_of inner (Ok report)
 passed_report answer_of inner found report was is = subst (λ r. IsPassed answer_of r (Ok report)) (sym was) is
 
+-- what is made of it keeps its promise
+pub of_made : {E : Type 0} (P : Report → Type 0) (made : Result Report E) (report : Report) → made ≡ Ok report → IfOk made P → P report
+of_made P made report is holds = subst (λ r. IfOk r P) is holds
+
 abbrev err : Stop → Result Report Stop
 err stop = Err stop
 

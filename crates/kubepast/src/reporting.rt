@@ -42,7 +42,11 @@ pub fn report_of<R: Threads + Sync, D: Desk, G: Gate, H: Gate>(
             setup,
             log,
             question,
-        } => asked(rt, alloc, desk, setup, log, &question, gates.lines),
+        } => {
+            let found = asked(rt, alloc, desk, setup, log, &question, gates.lines);
+            drop(question);
+            found
+        }
         Command::Make { number, events } => made(rt, alloc, number, events, gates),
     }
 }
@@ -61,7 +65,9 @@ fn judged<R: Threads + Sync, D: Desk, G: Gate, H: Gate>(
         ≡ desk.old) (D.faults desk.old) (D.faults desk.new) result }
 {
     let judged = judge(rt, alloc, desk, setup, log, gates)?;
-    Ok(judged_report(alloc, &judged)?)
+    let report = judged_report(alloc, &judged);
+    drop(judged);
+    Ok(report?)
 }
 
 // Judges a log by a setup, each by its name, and asks for moments.
@@ -78,7 +84,9 @@ fn strictly<R: Threads + Sync, D: Desk, G: Gate, H: Gate>(
         ≡ desk.old) (D.faults desk.old) (D.faults desk.new) result }
 {
     let found = judge_strictly(rt, alloc, desk, setup, log, gates)?;
-    Ok(strictly_report(alloc, &found)?)
+    let report = strictly_report(alloc, &found);
+    drop(found);
+    Ok(report?)
 }
 
 // Checks a placement again, by a setup and a log, each by its name.
@@ -133,5 +141,7 @@ fn made<R: Threads + Sync, G: Gate, H: Gate>(
     ensures no_fault { IsErrOf result Stop.ReadFault → ⊥ }
 {
     let judged = judge_made(rt, alloc, number, events, gates)?;
-    Ok(made_report(alloc, number, events, &judged)?)
+    let report = made_report(alloc, number, events, &judged);
+    drop(judged);
+    Ok(report?)
 }

@@ -1,183 +1,138 @@
-use std::alloc::Global;
-use std::test::Fail;
+use crate::tests::texts::{halves, put};
+use std::process::Abort;
 
-// The places of a form that fields are put into.
-const HOLES: [&str; 9] = ["$1", "$2", "$3", "$4", "$5", "$6", "$7", "$8", "$9"];
+// Each line has a name and its form: bodies, members of an event, and resources. A word's fields stand in the places of
+// the digits.
+const FORMS: &str =
+    r#"new {"kind":"ConfigMap","apiVersion":"v1","metadata":{"name":"①","namespace":"d"③},"data":{"k":"②"}}
+put {"kind":"ConfigMap","apiVersion":"v1","metadata":{"name":"①","namespace":"d","resourceVersion":"②"},"data":{"k":"③"}}
+cm {"kind":"ConfigMap","apiVersion":"v1","metadata":{"name":"①","namespace":"d","uid":"②","resourceVersion":"③"⑤},"data":{"k":"④"}}
+list {"kind":"ConfigMapList","apiVersion":"v1","metadata":{"resourceVersion":"①"②},"items":[
+ok {"kind":"Status","apiVersion":"v1","status":"Success","details":{"name":"①","kind":"configmaps","uid":"②"}}
+no {"kind":"Status","apiVersion":"v1","status":"Failure","reason":"②","details":{"name":"①","kind":"configmaps"},"code":③}
+pod {"kind":"Pod","apiVersion":"v1","metadata":{"name":"p","namespace":"d","uid":"P","resourceVersion":"①"},"status":{"phase":"②"}}
+allow "annotations":{"authorization.k8s.io/decision":"allow"}
+forbid "annotations":{"authorization.k8s.io/decision":"forbid"}
+admin "user":{"username":"admin","groups":["system:masters"]}
+kubelet "user":{"username":"system:node:n","groups":["system:nodes"]}
+pods {"group":"","version":"v1","resource":"pods","kind":"Pod","listKind":"PodList","namespaced":true,"subresources":[{"name":"status","effect":"same","shapes":[{"path":"/status","class":"Asked"}]}]}
+filled-pods {"group":"","version":"v1","resource":"pods","kind":"Pod","listKind":"PodList","namespaced":true,"shapes":[{"path":"/spec","class":"Defaulted"},{"path":"/status","class":"Owned"}]}
+rules {"group":"rbac.authorization.k8s.io","version":"v1","resource":"①","kind":"②","listKind":"②List","namespaced":③}
+role {"kind":"Role","apiVersion":"rbac.authorization.k8s.io/v1","metadata":{"name":"r","namespace":"d","uid":"RR","resourceVersion":"3"},"rules":[{"apiGroups":[""],"resources":["configmaps"],"verbs":["get"]}]}
+binding {"kind":"RoleBinding","apiVersion":"rbac.authorization.k8s.io/v1","metadata":{"name":"①","namespace":"d"②},"subjects":[{"kind":"User","name":"③"}],"roleRef":{"kind":"Role","name":"r"}}"#;
 
-pub const SETUP_FORM: &str =
-    r#"{"kind":"PastSetup","version":1,"start":{"revision":"10","time":"2024-05-01T10:00:00Z"},"until":"2024-05-01T11:00:00Z","policy":{"apiVersion":"audit.k8s.io/v1","kind":"Policy","rules":[{"level":"RequestResponse"}]},"resources":[{"group":"","version":"v1","resource":"configmaps","kind":"ConfigMap","listKind":"ConfigMapList","namespaced":true}$1],"snapshot":[$2]$3$4}"#;
+fn forms() -> &'static str {
+    FORMS
+}
 
-pub const CHECKED_FORM: &str = r#","version":2,"checkpoints":[$1]"#;
+// Each is spelled by three bytes.
+const DIGITS: &str = "①②③④⑤";
 
-pub const CHECKPOINT_FORM: &str =
-    r#"{"group":"","resource":"configmaps","namespace":"d","list":$1}"#;
-
-pub const HELD_FORM: &str = r#"{"group":"$1","resource":"$2","object":$3}"#;
-
-pub const HEAD: &str = r#"{"kind":"Event","apiVersion":"audit.k8s.io/v1","#;
-
-// Behind the kind and the version of an event.
-pub const EVENT_FORM: &str =
-    r#""level":"RequestResponse","auditID":"$1","stage":"ResponseComplete","verb":"$2","requestURI":"$3","user":{"username":"u"},"requestReceivedTimestamp":"2024-05-01T10:00:$4Z","stageTimestamp":"2024-05-01T10:00:$5Z"$6$7$8$9}"#;
-
-pub const LIST_OF_EVENTS: &str = r#"{"kind":"EventList","apiVersion":"audit.k8s.io/v1","items":["#;
-
-// The word in a form of a list for its items.
-const ITEMS: &str = "ITEMS";
-
-// A form that a row's words name: bodies, members of an event, and resources.
-fn form_of(name: &str) -> Option<&'static str> {
-    match name {
-        "new" => Some(
-            r#"{"kind":"ConfigMap","apiVersion":"v1","metadata":{"name":"$1","namespace":"d"$3},"data":{"k":"$2"}}"#,
-        ),
-        "put" => Some(
-            r#"{"kind":"ConfigMap","apiVersion":"v1","metadata":{"name":"$1","namespace":"d","resourceVersion":"$2"},"data":{"k":"$3"}}"#,
-        ),
-        "cm" => Some(
-            r#"{"kind":"ConfigMap","apiVersion":"v1","metadata":{"name":"$1","namespace":"d","uid":"$2","resourceVersion":"$3"$5},"data":{"k":"$4"}}"#,
-        ),
-        "list" => Some(
-            r#"{"kind":"ConfigMapList","apiVersion":"v1","metadata":{"resourceVersion":"$1"$2},"items":[ITEMS]}"#,
-        ),
-        "ok" => Some(
-            r#"{"kind":"Status","apiVersion":"v1","status":"Success","details":{"name":"$1","kind":"configmaps","uid":"$2"}}"#,
-        ),
-        "no" => Some(
-            r#"{"kind":"Status","apiVersion":"v1","status":"Failure","reason":"$2","details":{"name":"$1","kind":"configmaps"},"code":$3}"#,
-        ),
-        "pod" => Some(
-            r#"{"kind":"Pod","apiVersion":"v1","metadata":{"name":"p","namespace":"d","uid":"P","resourceVersion":"$1"},"status":{"phase":"$2"}}"#,
-        ),
-        _ => member_of(name),
+// An unknown name has no form, and what it stands in is no JSON text then.
+fn form_of(name: &str) -> &'static str {
+    for line in forms().lines() {
+        let (word, form) = halves(line, ' ');
+        if word == name {
+            return form;
+        }
     }
+    ""
 }
 
-// Members of an event, and resources.
-fn member_of(name: &str) -> Option<&'static str> {
-    match name {
-        "allow" => Some(r#""annotations":{"authorization.k8s.io/decision":"allow"}"#),
-        "forbid" => Some(r#""annotations":{"authorization.k8s.io/decision":"forbid"}"#),
-        "admin" => Some(r#""user":{"username":"admin","groups":["system:masters"]}"#),
-        "kubelet" => Some(r#""user":{"username":"system:node:n","groups":["system:nodes"]}"#),
-        "code" => Some(r#","responseStatus":{"metadata":{},"code":$1}"#),
-        "pods" => Some(
-            r#"{"group":"","version":"v1","resource":"pods","kind":"Pod","listKind":"PodList","namespaced":true,"subresources":[{"name":"status","effect":"same","shapes":[{"path":"/status","class":"Asked"}]}]}"#,
-        ),
-        "filled-pods" => Some(
-            r#"{"group":"","version":"v1","resource":"pods","kind":"Pod","listKind":"PodList","namespaced":true,"shapes":[{"path":"/spec","class":"Defaulted"},{"path":"/status","class":"Owned"}]}"#,
-        ),
-        "rules" => Some(
-            r#"{"group":"rbac.authorization.k8s.io","version":"v1","resource":"$1","kind":"$2","listKind":"$2List","namespaced":$3}"#,
-        ),
-        "role" => Some(
-            r#"{"kind":"Role","apiVersion":"rbac.authorization.k8s.io/v1","metadata":{"name":"r","namespace":"d","uid":"RR","resourceVersion":"3"},"rules":[{"apiGroups":[""],"resources":["configmaps"],"verbs":["get"]}]}"#,
-        ),
-        "binding" => Some(
-            r#"{"kind":"RoleBinding","apiVersion":"rbac.authorization.k8s.io/v1","metadata":{"name":"$1","namespace":"d"$2},"subjects":[{"kind":"User","name":"$3"}],"roleRef":{"kind":"Role","name":"r"}}"#,
-        ),
-        _ => None,
-    }
-}
-
-pub fn text_of(alloc: Global, text: &str) -> Result<String, Fail> {
-    Ok(String::from_str(alloc, text)?)
-}
-
-// Puts fields into the holes of a form, and nothing into those that are left.
-pub fn filled(alloc: Global, form: &str, fields: &[&str]) -> Result<String, Fail> {
-    let mut text = text_of(alloc, form)?;
-    for (at, hole) in HOLES.iter().enumerate() {
-        let field = match fields.get(at) {
-            Some(field) => *field,
-            None => "",
-        };
-        text = text.as_str().replace(alloc, *hole, field)?;
-    }
-    Ok(text)
-}
-
-// A text cut at its first `mark`, or all of it before an empty rest.
-pub fn halves(text: &str, mark: char) -> (&str, &str) {
-    match text.split_once(mark) {
-        Some(both) => both,
-        None => (text, ""),
-    }
-}
-
-// A form with its fields: `NAME|FIELD|FIELD`.
-fn formed(alloc: Global, word: &str) -> Result<String, Fail> {
+// A form with its fields: `NAME|FIELD|FIELD`. A field that isn't given is empty.
+fn put_form(rt: &impl Abort, out: &mut String, word: &str) {
     let (name, fields) = halves(word, '|');
-    let form = form_of(name).ok_or("no such form")?;
-    let fields: Vec<&str> = fields.split('|').collect(alloc)?;
-    filled(alloc, form, fields.as_slice())
+    for letter in form_of(name).chars() {
+        match DIGITS.find(letter) {
+            Some(at) => put(rt, out, fields.split('|').nth(at / 3).unwrap_or("")),
+            None => out.push(letter).expect(rt, "memory"),
+        }
+    }
 }
 
-// Adds an item behind the others.
-pub fn add(items: &mut String, item: &str) -> Result<(), Fail> {
-    if !items.is_empty() {
-        items.push(',')?;
+/// Puts a comma behind an earlier item.
+pub fn put_comma(rt: &impl Abort, out: &mut String) {
+    if !out.as_str().ends_with('[') {
+        put(rt, out, ",");
     }
-    items.push_str(item)?;
-    Ok(())
 }
 
 // A list with its items: `list|REVISION+ITEM+ITEM`.
-fn list(alloc: Global, head: &str, items: &str) -> Result<String, Fail> {
-    let mut all = String::new(alloc);
+fn put_list(rt: &impl Abort, out: &mut String, head: &str, items: &str) {
+    put_form(rt, out, head);
     for item in items.split('+') {
         if !item.is_empty() {
-            add(&mut all, formed(alloc, item)?.as_str())?;
+            put_comma(rt, out);
+            put_form(rt, out, item);
         }
     }
-    Ok(
-        formed(alloc, head)?
-            .as_str()
-            .replace(alloc, ITEMS, all.as_str())?,
-    )
+    put(rt, out, "]}");
 }
 
-// A word of a row in full. JSON stands for itself.
-pub fn spelled(alloc: Global, word: &str) -> Result<String, Fail> {
+/// Puts a word of a row in full. JSON stands for itself.
+pub fn put_spelled(rt: &impl Abort, out: &mut String, word: &str) {
     if word.starts_with('{') || word.starts_with('[') || word.starts_with('"') {
-        return text_of(alloc, word);
+        put(rt, out, word);
+        return;
     }
     match word.split_once('+') {
-        Some((head, items)) => list(alloc, head, items),
-        None => formed(alloc, word),
+        Some((head, items)) => put_list(rt, out, head, items),
+        None => put_form(rt, out, word),
     }
 }
 
-// A body as a member of an event; `-` is none.
-pub fn body(alloc: Global, name: &str, word: &str) -> Result<String, Fail> {
-    if word == "-" {
-        return Ok(String::new(alloc));
+// What stands before and behind each word of an event.
+static WORDS: [(&str, &str); 8] = [
+    (
+        r#""level":"RequestResponse","stage":"ResponseComplete","user":{"username":"u"},"auditID":""#,
+        "\"",
+    ),
+    (",\"verb\":\"", "\""),
+    (",\"requestURI\":\"", "\""),
+    (",\"requestReceivedTimestamp\":\"2024-05-01T10:00:", "Z\""),
+    (",\"stageTimestamp\":\"2024-05-01T10:00:", "Z\""),
+    (",\"responseStatus\":{\"metadata\":{},\"code\":", "}"),
+    (",\"requestObject\":", ""),
+    (",\"responseObject\":", ""),
+];
+
+// The first six words stand for themselves; the third is a path behind that of the namespace, or a whole one.
+fn put_word(rt: &impl Abort, out: &mut String, at: usize, word: &str) {
+    if at > 5 {
+        put_spelled(rt, out, word);
+        return;
     }
-    let body = spelled(alloc, word)?;
-    Ok(format!(in alloc; ",\"{name}\":{body}")?)
+    if at == 2 && !word.starts_with('/') {
+        put(rt, out, "/api/v1/namespaces/d/");
+    }
+    put(rt, out, word);
 }
 
-pub fn code(alloc: Global, word: &str) -> Result<String, Fail> {
-    if word == "-" {
-        return Ok(String::new(alloc));
+/// Puts the members of an event: `AUDITID VERB PATH FROM UNTIL CODE REQUEST ANSWER`, of which `-` is none, and further
+/// members, which come last and count in place of earlier ones of their names.
+pub fn put_event(rt: &impl Abort, out: &mut String, line: &str) {
+    for (at, word) in line.split(' ').enumerate() {
+        if word != "-" {
+            let (before, behind) = match WORDS.get(at) {
+                Some(both) => *both,
+                None => (",", ""),
+            };
+            put(rt, out, before);
+            put_word(rt, out, at, word);
+            put(rt, out, behind);
+        }
     }
-    filled(alloc, member_of("code").ok_or("no code")?, &[word])
 }
 
-// A path behind that of the namespace, or a whole one.
-pub fn path(alloc: Global, word: &str) -> Result<String, Fail> {
-    if word.starts_with('/') {
-        return text_of(alloc, word);
-    }
-    Ok(format!(in alloc; "/api/v1/namespaces/d/{word}")?)
-}
-
-// Members that come last, and count in place of earlier ones of their names.
-pub fn others(alloc: Global, words: &[&str]) -> Result<String, Fail> {
-    let mut all = String::new(alloc);
-    for word in words {
-        all.push(',')?;
-        all.push_str(spelled(alloc, *word)?.as_str())?;
-    }
-    Ok(all)
+/// Puts an object of the snapshot: `GROUP/RESOURCE OBJECT`.
+pub fn put_held(rt: &impl Abort, out: &mut String, line: &str) {
+    let (resource, object) = halves(line, ' ');
+    let (group, name) = halves(resource, '/');
+    put(rt, out, "{\"group\":\"");
+    put(rt, out, group);
+    put(rt, out, "\",\"resource\":\"");
+    put(rt, out, name);
+    put(rt, out, "\",\"object\":");
+    put_spelled(rt, out, object);
+    put(rt, out, "}");
 }

@@ -215,6 +215,7 @@ status 1"#;
 
 /// Events in lists of events, and an object that is not read.
 pub const ITEMS: &str = r#"row events in a list
+lists
 item a1 create configmaps 01 02 201 new|a|x cm|a|A|11|x
 item a2 get configmaps/a 03 04 200 - cm|a|A|11|x
 listed
@@ -224,6 +225,7 @@ tells 2 at 11 none
 status 0
 
 row a list of no events
+lists
 listed
 tells explained 0
 status 0

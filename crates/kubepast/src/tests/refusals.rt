@@ -97,6 +97,7 @@ tells malformed 2 M6
 status 4
 
 row an item without a verb
+lists
 item a1 create configmaps 01 02 201 new|a|x cm|a|A|11|x
 item a2  configmaps/a 03 04 200 - cm|a|A|11|x
 listed
@@ -104,6 +105,7 @@ tells malformed 2 M9
 status 4
 
 row a line behind a list of three events
+lists
 item a1 create configmaps 01 02 201 new|a|x cm|a|A|11|x
 item a2 get configmaps/a 03 04 200 - cm|a|A|11|x
 item a3 get configmaps/a 05 06 200 - cm|a|A|11|x

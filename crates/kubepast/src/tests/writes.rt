@@ -205,3 +205,34 @@ tells at 0
 tells none 0
 tells explained
 status 0"#;
+
+/// Made cases of many events, and one of them twice.
+pub const MADE_LARGE: &str = r#"row a made case of two thousand events
+words make 1 2000
+tells case 1 2000
+tells made 1107
+tells removed 207
+tells at 686
+tells none 0
+tells explained
+status 0
+
+row the same case once more
+words make 1 2000
+tells case 1 2000
+tells made 1107
+tells removed 207
+tells at 686
+tells none 0
+tells explained
+status 0
+
+row a made case of twenty thousand events
+words make 1 20000
+tells case 1 20000
+tells made 10748
+tells removed 2190
+tells at 7062
+tells none 0
+tells explained
+status 0"#;
