@@ -1,4 +1,4 @@
--- An authoriser keeps roles, cluster roles, role bindings and cluster role bindings in four caches, and each may be
+-- An authorizer keeps roles, cluster roles, role bindings and cluster role bindings in four caches, and each may be
 -- behind by itself.
 use Rattle.std.specs.Prelude.{◌≤◌, ℕ}
 use Rattle.base_types.specs.declared.placed.Places.{Places}
@@ -9,7 +9,7 @@ use Rattle.base_types.specs.declared.request.User.{User}
 use Rattle.rbac_timeline.specs.Choices.{Allows, Choice, IsChoice}
 use Rattle.rbac_timeline.specs.Known.{Known}
 
--- the choice makes the authoriser answer so
+-- the choice makes the authorizer answer so
 abbrev pub Answers : Known → Choice → User → RequestAttrs → Decision → Type 0
 Answers known choice who attrs Allow = Allows known choice who attrs
 Answers known choice who attrs Forbid = Allows known choice who attrs → ⊥

@@ -1,4 +1,4 @@
-//! Which decisions an authoriser could have given at each place of a history, by the roles and bindings
+//! Which decisions an authorizer could have given at each place of a history, by the roles and bindings
 //! that its four caches may have held (Kubernetes "Using RBAC Authorization").
 #![tactic(auto)]
 

@@ -26,7 +26,7 @@ impl Listable for Unselected {
     }
 }
 
-/// An authoriser that never gives a decision that is recorded.
+/// An authorizer that never gives a decision that is recorded.
 #[derive(Drop)]
 struct Unmoved;
 

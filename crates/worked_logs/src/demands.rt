@@ -68,7 +68,7 @@ fn claims_of_logs(rt: HostRuntime) {
     }
 }
 
-/// The places at which an authoriser's caches may be for the first decision of the last row.
+/// The places at which an authorizer's caches may be for the first decision of the last row.
 #[test]
 fn the_window_of_a_decision(rt: HostRuntime) {
     let row = ROWS.last().expect(&rt, "a row");

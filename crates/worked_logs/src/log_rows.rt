@@ -15,7 +15,7 @@ use std::thread::Threads;
 use version_store::log_of;
 use write_groups::{LogEvent, Reading, Shown};
 
-// The log is from 10:00 to 11:00; clocks may be off by a second, and an authoriser's caches may be a second behind.
+// The log is from 10:00 to 11:00; clocks may be off by a second, and an authorizer's caches may be a second behind.
 const SETUP: &str =
     r#"{"kind":"PastSetup","version":1,"start":{"revision":"10","time":"2024-05-01T10:00:00Z"},
     "until":"2024-05-01T11:00:00Z","slackNanos":1000000000,"lagNanos":1000000000,"authorize":true,"skipGroups":["nodes"],

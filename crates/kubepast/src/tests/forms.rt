@@ -28,7 +28,7 @@ fn forms() -> &'static str {
 // Each is spelled by three bytes.
 const DIGITS: &str = "①②③④⑤";
 
-// An unknown name has no form, and what it stands in is no JSON text then.
+// An unknown name has a form that is no JSON, and so is no text that it stands in.
 fn form_of(name: &str) -> &'static str {
     for line in forms().lines() {
         let (word, form) = halves(line, ' ');
@@ -36,7 +36,7 @@ fn form_of(name: &str) -> &'static str {
             return form;
         }
     }
-    ""
+    "?"
 }
 
 // A form with its fields: `NAME|FIELD|FIELD`. A field that isn't given is empty.

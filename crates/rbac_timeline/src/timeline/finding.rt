@@ -40,7 +40,7 @@ impl Timeline {
         any_group(who.groups.as_slice(), &self.bypass)
     }
 
-    /// Which decisions an authoriser could have given whose caches stood at these places. A role or binding
+    /// Which decisions an authorizer could have given whose caches stood at these places. A role or binding
     /// that is clouded or can't be read may grant everything that it can reach, or nothing.
     pub fn decide(&self, places: &Places, who: &User, attrs: &RequestAttrs) -> Possible
         ensures allow { IsTrue result.allow ↔ IsPossible self.now places.now who.now attrs.now Decision.Allow }
