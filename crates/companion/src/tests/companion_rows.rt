@@ -59,6 +59,7 @@ setup 2024-05-01T10:00:00Z policy core maps bare|3 file bare S12
 setup 2024-05-01T10:00:00Z policy core maps no-uid|3 file no-uid S12
 setup 2024-05-01T10:00:00Z policy core maps same-uid|3 file same-uid S13
 setup --authorize 2024-05-01T10:00:00Z policy rbac bindings odd-roles cluster-roles cluster-bindings|3 file odd-roles S14
+setup --authorize 2024-05-01T10:00:00Z policy rbac roles odd-bindings cluster-roles cluster-bindings|3 file odd-bindings S14
 setup 2024-05-01T10:00:00Z policy|2 usage
 setup --authorize 2024-05-01T10:00:00Z policy|2 usage
 setup --authorize --authorize policy core|2 usage

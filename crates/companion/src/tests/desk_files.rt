@@ -55,6 +55,9 @@ x
 =bindings
 {"kind":"RoleBindingList","apiVersion":"rbac.authorization.k8s.io/v1",
     "metadata":{"resourceVersion":"10"},"items":[]}
+=odd-bindings
+{"kind":"RoleBindingList","apiVersion":"rbac.authorization.k8s.io/v1","metadata":{"resourceVersion":"10"},
+    "items":[{"metadata":{"name":"b","namespace":"d","uid":"B","resourceVersion":"5"},"roleRef":5}]}
 =cluster-roles
 {"kind":"ClusterRoleList","apiVersion":"rbac.authorization.k8s.io/v1",
     "metadata":{"resourceVersion":"10"},"items":[]}
