@@ -3,6 +3,7 @@ pub mod Levels
 pub mod Adding
 pub mod Stores
 pub mod Walks
+pub mod Stays
 pub mod Answered
 pub mod Looks
 pub mod Prefixes

@@ -1,5 +1,6 @@
 pub mod Flat
 pub mod Kept
+pub mod Leaves
 pub mod Pooled
 pub mod Subtrees
 pub mod Within

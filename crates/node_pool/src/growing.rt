@@ -1,14 +1,16 @@
-ghost use Rattle.std.specs.Prelude.{◌≡◌, ◌<◌, ◌≤◌, [], Some, Err, length, take, slice_get, OnOk, OnErr, IfOk};
+ghost use Rattle.std.specs.Prelude.{◌≡◌, ◌<◌, ◌≤◌, [], Some, Err, length, take, slice_get, OnOk, OnErr, IfOk, IfSome};
 ghost use Rattle.indexmap.specs.IndexSet.{insert_key};
 ghost use Rattle.node_pool.specs.Flat.{flat_eq};
 ghost use Rattle.node_pool.specs.Kept.{Grows};
 ghost use Rattle.node_pool.specs.Pooled.{AreDistinct};
-ghost use Rattle.node_pool.specs.Subtrees.{Begins, with_tree};
+ghost use Rattle.node_pool.specs.Subtrees.{Begins, interned, with_tree};
 ghost use Rattle.node_pool.specs.Within.{IsWithin, tree_of};
 
 use crate::fault::PoolFault;
 use crate::form::Level;
+use crate::near;
 use crate::store::Store;
+use base_types::json::Tree;
 use base_types::{OutOfMemory, Text};
 use hash_seed::{Seed, Seeded};
 use indexmap::IndexSet;
@@ -34,6 +36,17 @@ impl Model for GrowingStore {
     ghost view = { λ s. seen s.limit s.names.keys s.levels.keys };
 
     ghost invariant = { λ s. AreKept s.limit s.names.keys s.levels.keys };
+}
+
+/// A member's name while its object is put in.
+#[derive(Clone, Copy)]
+pub struct Named {
+    /// The number of the name.
+    pub name: usize,
+    /// The guess for the number of its value.
+    pub value: Option<u32>,
+    /// From where the guessed object's members are looked at for the next name.
+    pub next: usize,
 }
 
 impl GrowingStore {
@@ -67,8 +80,87 @@ impl GrowingStore {
         numbered(&mut self.names, name)
     }
 
-    /// The number of a level's tree, which is a new one where the tree is new.
-    pub fn place(&mut self, level: Level) -> Result<u32, PoolFault>
+    /// As `number_of`. A number that is guessed is of an object in which the name may stand: there it is met without a
+    /// hash, from the position that an earlier name left.
+    pub fn number_near(
+        &mut self,
+        near: Option<u32>,
+        from: usize,
+        name: &Text,
+    ) -> Result<Named, OutOfMemory>
+        ensures grows { Grows self.old self.new }
+        ensures trees { self.new.trees ≡ self.old.trees }
+        ensures number { IfOk result (λ n. slice_get self.new.names n.name ≡ Some name.now) }
+    {
+        let met = self.met(near, from, name);
+        if let Some((number, value)) = met.member {
+            return Ok(Named {
+                name: number,
+                value: Some(value),
+                next: met.next,
+            });
+        }
+        let number = self.number_of(name)?;
+        Ok(Named {
+            name: number,
+            value: None,
+            next: met.next,
+        })
+    }
+
+    fn met(&self, near: Option<u32>, from: usize, name: &Text) -> near::Met
+        ensures { IfSome result.member (λ m. slice_get self.now.names m.0 ≡ Some name.now) }
+    {
+        near::meet(&self.names, &self.levels, near, from, name)
+    }
+
+    /// A guess: the number of an item of the array that is guessed.
+    pub fn item_near(&self, near: Option<u32>, index: usize) -> Option<u32> {
+        near::item(&self.levels, near, index)
+    }
+
+    /// The guessed number, where it has this tree, and nothing is within the tree. So the tree adds nothing.
+    pub fn leaf_near(&self, near: Option<u32>, tree: &Tree) -> Option<u32>
+        ensures number { IfSome result (λ n. slice_get self.now.trees n ≡ Some tree.now) }
+        ensures added { IfSome result (λ _. interned self.now.trees tree.now ≡ self.now.trees) }
+        ensures room { length self.now.trees ≤ self.now.limit }
+    {
+        near::leaf(&self.levels, near, tree)
+    }
+
+    /// As `place`. The number that is guessed is the answer where it has this level: a tree that is there adds nothing.
+    pub fn place_near(&mut self, near: Option<u32>, level: Level) -> Result<u32, PoolFault>
+        requires within { IsWithin self.old.names (length self.old.trees) level }
+        ensures limit { self.new.limit ≡ self.old.limit }
+        ensures names { self.new.names ≡ self.old.names }
+        ensures placed { OnOk result (self.new.trees ≡ with_tree self.old.trees
+            (tree_of self.old.names self.old.trees level)) }
+        ensures number { IfOk result (λ n. slice_get self.new.trees n ≡ Some
+            (tree_of self.old.names self.old.trees level)) }
+        ensures fits { OnOk result (length (with_tree self.old.trees (tree_of self.old.names self.old.trees
+            level)) ≤ self.old.limit) }
+        ensures full { result ≡ Err PoolFault.Full → self.old.limit < length (with_tree self.old.trees
+            (tree_of self.old.names self.old.trees level)) }
+        ensures refused { OnErr result (self.new.trees ≡ self.old.trees) }
+    {
+        if let Some(number) = self.standing(near, &level) {
+            return Ok(number);
+        }
+        self.place(level)
+    }
+
+    fn standing(&self, near: Option<u32>, level: &Level) -> Option<u32>
+        ensures number { IfSome result (λ n. slice_get self.now.trees n ≡ Some
+            (tree_of self.now.names self.now.trees level.now)) }
+        ensures placed { IfSome result (λ _. with_tree self.now.trees
+            (tree_of self.now.names self.now.trees level.now) ≡ self.now.trees) }
+        ensures room { length self.now.trees ≤ self.now.limit }
+    {
+        near::standing(&self.levels, near, level)
+    }
+
+    // The number of a level's tree, which is a new one where the tree is new.
+    fn place(&mut self, level: Level) -> Result<u32, PoolFault>
         requires within { IsWithin self.old.names (length self.old.trees) level }
         ensures limit { self.new.limit ≡ self.old.limit }
         ensures names { self.new.names ≡ self.old.names }

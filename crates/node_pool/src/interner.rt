@@ -4,10 +4,11 @@ ghost use Rattle.node_pool.specs.Subtrees.{interned};
 
 use crate::fault::PoolFault;
 use crate::growing::GrowingStore;
+use crate::guesses::Guesses;
 use crate::interning::add;
 use crate::pool::{NodeId, Pool};
-use base_types::OutOfMemory;
 use base_types::json::Tree;
+use base_types::{OutOfMemory, Text};
 use hash_seed::Seed;
 use std::alloc::Global;
 use std::marker::Model;
@@ -18,6 +19,7 @@ use std::marker::Model;
 pub struct Interner {
     alloc: Global,
     store: GrowingStore,
+    guesses: Guesses,
 }
 
 impl Model for Interner {
@@ -39,6 +41,7 @@ impl Interner {
         Ok(Interner {
             alloc,
             store: GrowingStore::new(alloc, limit, seed),
+            guesses: Guesses::new(alloc, seed),
         })
     }
 
@@ -61,9 +64,42 @@ impl Interner {
         ensures refused { OnErr result (self.new ≡ self.old) }
         ensures limit { self.new.limit ≡ self.old.limit }
     {
+        self.intern_near(None, tree)
+    }
+
+    /// As `intern`, and quicker where the tree is much like the one that was interned last under the same text: what
+    /// the two have at equal places is found without a hash.
+    pub fn intern_like(&mut self, like: &Text, tree: &Tree) -> Result<NodeId, PoolFault>
+        ensures added { OnOk result (self.new.trees ≡ interned self.old.trees tree.now) }
+        ensures number { IfOk result (λ node. slice_get self.new.trees node.0 ≡ Some tree.now) }
+        ensures fits { OnOk result (length (interned self.old.trees tree.now) ≤ self.old.limit) }
+        ensures full { result ≡ Err PoolFault.Full → self.old.limit < length (interned self.old.trees tree.now) }
+        ensures refused { OnErr result (self.new ≡ self.old) }
+        ensures limit { self.new.limit ≡ self.old.limit }
+    {
+        let place = self.guesses.place(like)?;
+        let near = self.guesses.at(place);
+        match self.intern_near(near, tree) {
+            Ok(node) => {
+                self.guesses.keep(place, node.0);
+                Ok(node)
+            }
+            Err(fault) => Err(fault),
+        }
+    }
+
+    // The number of a tree, with a guess for it.
+    fn intern_near(&mut self, near: Option<u32>, tree: &Tree) -> Result<NodeId, PoolFault>
+        ensures added { OnOk result (self.new.trees ≡ interned self.old.trees tree.now) }
+        ensures number { IfOk result (λ node. slice_get self.new.trees node.0 ≡ Some tree.now) }
+        ensures fits { OnOk result (length (interned self.old.trees tree.now) ≤ self.old.limit) }
+        ensures full { result ≡ Err PoolFault.Full → self.old.limit < length (interned self.old.trees tree.now) }
+        ensures refused { OnErr result (self.new ≡ self.old) }
+        ensures limit { self.new.limit ≡ self.old.limit }
+    {
         let alloc = self.alloc;
         let before = self.store.len();
-        match add(alloc, &mut self.store, tree) {
+        match add(alloc, &mut self.store, near, tree) {
             Ok(number) => Ok(NodeId(number)),
             Err(fault) => {
                 self.store.cut(before);
@@ -76,7 +112,12 @@ impl Interner {
     pub fn into_pool(self) -> Result<Pool, OutOfMemory>
         ensures same { IfOk result (λ pool. pool ≡ self) }
     {
-        let Interner { alloc, store } = self;
+        let Interner {
+            alloc,
+            store,
+            guesses,
+        } = self;
+        drop(guesses);
         let store = store.into_store(alloc)?;
         Ok(Pool::of(alloc, store))
     }

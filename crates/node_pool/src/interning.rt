@@ -13,22 +13,36 @@ use base_types::json::{MemberList, Node, Tree, Trees};
 use std::alloc::Global;
 
 /// Puts a tree and what is within it into the store, as far as each is new, and answers the tree's number. After a
-/// refusal a part of it may stand there.
+/// refusal a part of it may stand there. A number that is guessed is of a tree that may be much like this one: what is
+/// equal at equal places is found without a hash.
 #[cycle(add)]
-pub fn add(alloc: Global, store: &mut GrowingStore, tree: &Tree) -> Result<u32, PoolFault>
+pub fn add(
+    alloc: Global,
+    store: &mut GrowingStore,
+    near: Option<u32>,
+    tree: &Tree,
+) -> Result<u32, PoolFault>
     ensures grows { Grows store.old store.new }
     ensures added { OnOk result (store.new.trees ≡ interned store.old.trees tree.now) }
     ensures number { IfOk result (λ n. slice_get store.new.trees n ≡ Some tree.now) }
     ensures fits { OnOk result (length (interned store.old.trees tree.now) ≤ store.old.limit) }
     ensures full { result ≡ Err PoolFault.Full → store.old.limit < length (interned store.old.trees tree.now) }
 {
-    let level = level_of(alloc, store, tree)?;
-    store.place(level)
+    if let Some(number) = store.leaf_near(near, tree) {
+        return Ok(number);
+    }
+    let level = level_of(alloc, store, near, tree)?;
+    store.place_near(near, level)
 }
 
 // The level of a tree, once what is inside the tree has its numbers.
 #[cycle(add)]
-fn level_of(alloc: Global, store: &mut GrowingStore, tree: &Tree) -> Result<Level, PoolFault>
+fn level_of(
+    alloc: Global,
+    store: &mut GrowingStore,
+    near: Option<u32>,
+    tree: &Tree,
+) -> Result<Level, PoolFault>
     ensures grows { Grows store.old store.new }
     ensures added { OnOk result (store.new.trees ≡ fold with_tree store.old.trees (inside tree.now)) }
     ensures within { IfOk result (λ level. IsWithin store.new.names (length store.new.trees) level) }
@@ -48,17 +62,22 @@ fn level_of(alloc: Global, store: &mut GrowingStore, tree: &Tree) -> Result<Leve
             form: Form::Words(text.clone()?),
         }),
         Node::Items(list) => Ok(Level {
-            form: Form::Items(add_items(alloc, store, list)?),
+            form: Form::Items(add_items(alloc, store, near, list)?),
         }),
         Node::Members(list) => Ok(Level {
-            form: Form::Members(add_members(alloc, store, list)?),
+            form: Form::Members(add_members(alloc, store, near, list)?),
         }),
     }
 }
 
-// The numbers of the items.
+// The numbers of the items, each of which is guessed to be that at its place.
 #[cycle(add)]
-fn add_items(alloc: Global, store: &mut GrowingStore, list: &Trees) -> Result<Vec<u32>, PoolFault>
+fn add_items(
+    alloc: Global,
+    store: &mut GrowingStore,
+    near: Option<u32>,
+    list: &Trees,
+) -> Result<Vec<u32>, PoolFault>
     ensures grows { Grows store.old store.new }
     ensures added { OnOk result (store.new.trees ≡ fold with_tree store.old.trees (inside_kids (kids_of list.now))) }
     ensures within { IfOk result (λ v. AllByRecursion (λ k. k < length store.new.trees) v.items) }
@@ -68,16 +87,18 @@ fn add_items(alloc: Global, store: &mut GrowingStore, list: &Trees) -> Result<Ve
 {
     let mut numbers = Vec::with_capacity(alloc, list.all.len())?;
     for item in &list.all {
-        numbers.push(add(alloc, store, item)?)?;
+        let guess = store.item_near(near, numbers.len());
+        numbers.push(add(alloc, store, guess, item)?)?;
     }
     Ok(numbers)
 }
 
-// The numbers of the members' names and values.
+// The numbers of the members' names and values, of which those of the same name are guessed.
 #[cycle(add)]
 fn add_members(
     alloc: Global,
     store: &mut GrowingStore,
+    near: Option<u32>,
     list: &MemberList,
 ) -> Result<Vec<(usize, u32)>, PoolFault>
     ensures grows { Grows store.old store.new }
@@ -91,10 +112,12 @@ fn add_members(
         (inside_fields (fields_of list.now))) }
 {
     let mut numbers = Vec::with_capacity(alloc, list.all.len())?;
+    let mut from = 0;
     for member in &list.all {
-        let name = store.number_of(&member.name)?;
-        let value = add(alloc, store, &member.value)?;
-        numbers.push((name, value))?;
+        let named = store.number_near(near, from, &member.name)?;
+        let value = add(alloc, store, named.value, &member.value)?;
+        numbers.push((named.name, value))?;
+        from = named.next;
     }
     Ok(numbers)
 }

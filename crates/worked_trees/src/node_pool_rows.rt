@@ -1,6 +1,7 @@
 ghost use Rattle.std.specs.Prelude.{◌<◌, IfSome, length};
 
 use crate::reading::{check, is_tree, read};
+use base_types::Text;
 use base_types::json::read_pointer;
 use hash_seed::Seed;
 use node_pool::{Interner, NodeId, Pool, PoolFault};
@@ -28,6 +29,47 @@ fn intern(
     let interned = interner.intern(&tree);
     drop(tree);
     interned
+}
+
+// Texts that are put in where there is room for twelve trees, each like the one that was put in last under the same
+// word: the same, one with another member, value or kind, one after a refusal, and such that none was there before.
+static LIKE: [(&str, &str); 9] = [
+    ("a", r#"{"k": ["x", 1], "m": {}}"#),
+    ("a", r#"{"k": ["x", 1], "m": {}}"#),
+    ("a", r#"{"b": true, "k": ["x", 2], "m": {}}"#),
+    ("b", r#"["x", 1]"#),
+    ("b", r#"{"k": ["x", 1]}"#),
+    ("a", r#"{"b": ["x"], "k": "x", "z": [null, [2, 3]]}"#),
+    ("a", r#"{"k": ["x", 1], "m": {}}"#),
+    ("a", r#"{"k": ["x", 1], "m": true}"#),
+    ("", r#"{"k": ["x", 1], "m": true}"#),
+];
+
+fn intern_like(
+    rt: &(impl Abort + AllocGlobal),
+    interner: &mut Interner,
+    like: &str,
+    text: &str,
+) -> Result<NodeId, PoolFault> {
+    let tree = read(rt, text);
+    let like = Text::from_str(rt.alloc(), like).expect(rt, "memory");
+    let interned = interner.intern_like(&like, &tree);
+    drop(like);
+    drop(tree);
+    interned
+}
+
+#[test]
+fn guesses_change_no_number(rt: HostRuntime) {
+    let mut guessing = Interner::new(rt.alloc(), 12, Seed::of(b"")).expect(&rt, "memory");
+    let mut plain = Interner::new(rt.alloc(), 12, Seed::of(b"")).expect(&rt, "memory");
+    for (like, text) in &LIKE {
+        let number = intern_like(&rt, &mut guessing, like, text);
+        check(&rt, number == intern(&rt, &mut plain, text), text);
+        check(&rt, guessing.len() == plain.len(), text);
+    }
+    drop(guessing);
+    drop(plain);
 }
 
 const OBJECT: &str = r#"{"metadata": {"name": "a", "finalizers": ["x/y"]}, "data": {"k": "x"}}"#;

@@ -26,7 +26,7 @@ fn item_of(
     ensures full { result ≡ Err BuildFault.PoolFull → pool.old.limit < length (interned pool.old.trees tree.now) }
     ensures limit { pool.new.limit ≡ pool.old.limit }
 {
-    let node = pool.intern(tree)?;
+    let node = pool.intern_like(&uid, tree)?;
     Ok(Item {
         key,
         revision,

@@ -36,8 +36,8 @@ pub add_members-returns-in_err-value-clause-full : goal.add_members-returns-in_e
 add_members-returns-in_err-value-clause-full t c = λ refused.
     let l = c.loop-member in
     let o = c.args.store.now in
-    let now = c.number_of.new.self in
-    let n = c.in_ok-name.ensures in
+    let now = c.number_near.new.self in
+    let n = c.in_ok-named.ensures in
     let p = err_from_is_err_and c.from_residual-in_err-value.result c.from_residual-in_err-value.ensures.1 in
     let fault : p.0 ≡ Full = one_fault c.from_residual-in_err-value.result p.0 Full p.1 refused in
     let is : c.add.result ≡ Err Full = c.in_err-value.was ∙ ap Err (sym p.2 ∙ fault) in
@@ -51,15 +51,15 @@ pub add_members-loop-member-preserved : goal.add_members-loop-member-preserved
 add_members-loop-member-preserved t c =
     let l = c.loop-member in
     let o = c.args.store.now in
-    let now = c.number_of.new.self in
+    let now = c.number_near.new.self in
     let new = c.add.new.store in
-    let n = c.in_ok-name.ensures in
+    let n = c.in_ok-named.ensures in
     let e = c.in_ok-value.ensures in
     let v = c.member.view_is in
     let done = members_named o l.store now c.deref-member-items.result.now l.numbers.items l.member-index l.invariant n.grows n.trees in
     subst (λ ms. MembersDone o new c.deref-member-items.result.now ms (l.member-index + 1)) (sym c.in_ok-push.ensures.items)
-    (members_step o now new c.deref-member-items.result.now l.numbers.items l.member-index c.in_ok-name.name c.in_ok-value.value c.member-item.result done c.loop-member-test.true c.member-item.is
-    (subst (λ (m : List ℕ × Meaning). slice_get now.names c.in_ok-name.name ≡ Some m.0) v n.number) e.grows
+    (members_step o now new c.deref-member-items.result.now l.numbers.items l.member-index c.in_ok-named.named.name c.in_ok-value.value c.member-item.result done c.loop-member-test.true c.member-item.is
+    (subst (λ (m : List ℕ × Meaning). slice_get now.names c.in_ok-named.named.name ≡ Some m.0) v n.number) e.grows
     (subst (λ (m : List ℕ × Meaning). new.trees ≡ interned now.trees m.1) v e.added) (subst (λ (m : List ℕ × Meaning). slice_get new.trees c.in_ok-value.value ≡ Some m.1) v e.number))
 
 pub level_of-returns-in_ok-add_members-in-Members-clause-within : goal.level_of-returns-in_ok-add_members-in-Members-clause-within
@@ -80,44 +80,44 @@ pub add-returns-clause-grows : goal.add-returns-clause-grows
 add-returns-clause-grows t c =
     let o = c.args.store.now in
     let mid = c.level_of.new.store in
-    let new = c.place.new.self in
-    let e = c.place.ensures in
-    Grows-trans o mid new c.level_of.ensures.grows (Grows-placed c.place.result mid new (tree_of mid.names mid.trees c.in_ok-level.level) e.limit e.names e.placed e.refused)
+    let new = c.place_near.new.self in
+    let e = c.place_near.ensures in
+    Grows-trans o mid new c.level_of.ensures.grows (Grows-placed c.place_near.result mid new (tree_of mid.names mid.trees c.in_ok-level.level) e.limit e.names e.placed e.refused)
 
 pub add-returns-clause-added : goal.add-returns-clause-added
 add-returns-clause-added t c =
     let o = c.args.store.now in
     let mid = c.level_of.new.store in
-    let new = c.place.new.self in
+    let new = c.place_near.new.self in
     let l = c.in_ok-level.ensures in
-    let e = c.place.ensures in
+    let e = c.place_near.ensures in
     let p = tree_of mid.names mid.trees c.in_ok-level.level in
     let same : with_tree mid.trees p ≡ interned o.trees c.args.tree.now = placed-interned o.trees mid.trees c.args.tree.now p l.added l.stands in
-    subst (λ ts. OnOk c.place.result (new.trees ≡ ts)) same e.placed
+    subst (λ ts. OnOk c.place_near.result (new.trees ≡ ts)) same e.placed
 
 pub add-returns-clause-number : goal.add-returns-clause-number
 add-returns-clause-number t c =
     let l = c.in_ok-level.ensures in
-    subst (λ t. IfOk c.place.result (λ n. slice_get c.place.new.self.trees n ≡ Some t)) l.stands c.place.ensures.number
+    subst (λ t. IfOk c.place_near.result (λ n. slice_get c.place_near.new.self.trees n ≡ Some t)) l.stands c.place_near.ensures.number
 
 pub add-returns-clause-fits : goal.add-returns-clause-fits
 add-returns-clause-fits t c =
     let o = c.args.store.now in
     let mid = c.level_of.new.store in
-    let new = c.place.new.self in
+    let new = c.place_near.new.self in
     let l = c.in_ok-level.ensures in
-    let e = c.place.ensures in
+    let e = c.place_near.ensures in
     let p = tree_of mid.names mid.trees c.in_ok-level.level in
     let same : with_tree mid.trees p ≡ interned o.trees c.args.tree.now = placed-interned o.trees mid.trees c.args.tree.now p l.added l.stands in
-    fits-at c.place.result (with_tree mid.trees p) (interned o.trees c.args.tree.now) mid.limit o.limit same l.grows.limit e.fits
+    fits-at c.place_near.result (with_tree mid.trees p) (interned o.trees c.args.tree.now) mid.limit o.limit same l.grows.limit e.fits
 
 pub add-returns-clause-full : goal.add-returns-clause-full
 add-returns-clause-full t c =
     let o = c.args.store.now in
     let mid = c.level_of.new.store in
-    let new = c.place.new.self in
+    let new = c.place_near.new.self in
     let l = c.in_ok-level.ensures in
-    let e = c.place.ensures in
+    let e = c.place_near.ensures in
     let p = tree_of mid.names mid.trees c.in_ok-level.level in
     let same : with_tree mid.trees p ≡ interned o.trees c.args.tree.now = placed-interned o.trees mid.trees c.args.tree.now p l.added l.stands in
     λ refused. full-at (with_tree mid.trees p) (interned o.trees c.args.tree.now) mid.limit o.limit same l.grows.limit (e.full refused)
@@ -146,25 +146,25 @@ add_items-returns-in_err-add-clause-grows t c = Grows-trans c.args.store.now c.l
 pub add_items-returns-in_err-push-clause-grows : goal.add_items-returns-in_err-push-clause-grows
 add_items-returns-in_err-push-clause-grows t c = Grows-trans c.args.store.now c.loop-item.store c.add.new.store c.loop-item.invariant.grows c.add.ensures.grows
 
-pub add_members-returns-in_err-name-clause-full : goal.add_members-returns-in_err-name-clause-full
-add_members-returns-in_err-name-clause-full t c = λ refused. not_full c.from_residual-in_err-name.result c.from_residual-in_err-name.ensures.1 refused
+pub add_members-returns-in_err-named-clause-full : goal.add_members-returns-in_err-named-clause-full
+add_members-returns-in_err-named-clause-full t c = λ refused. not_full c.from_residual-in_err-named.result c.from_residual-in_err-named.ensures.1 refused
 
-pub add_members-returns-in_err-name-clause-grows : goal.add_members-returns-in_err-name-clause-grows
-add_members-returns-in_err-name-clause-grows t c = Grows-trans c.args.store.now c.loop-member.store c.number_of.new.self c.loop-member.invariant.grows c.number_of.ensures.grows
+pub add_members-returns-in_err-named-clause-grows : goal.add_members-returns-in_err-named-clause-grows
+add_members-returns-in_err-named-clause-grows t c = Grows-trans c.args.store.now c.loop-member.store c.number_near.new.self c.loop-member.invariant.grows c.number_near.ensures.grows
 
 pub add_members-returns-in_err-value-clause-grows : goal.add_members-returns-in_err-value-clause-grows
 add_members-returns-in_err-value-clause-grows t c =
     let o = c.args.store.now in
     let l = c.loop-member in
-    let now = c.number_of.new.self in
-    Grows-trans o now c.add.new.store (Grows-trans o l.store now l.invariant.grows c.number_of.ensures.grows) c.add.ensures.grows
+    let now = c.number_near.new.self in
+    Grows-trans o now c.add.new.store (Grows-trans o l.store now l.invariant.grows c.number_near.ensures.grows) c.add.ensures.grows
 
 pub add_members-returns-in_err-push-clause-grows : goal.add_members-returns-in_err-push-clause-grows
 add_members-returns-in_err-push-clause-grows t c =
     let o = c.args.store.now in
     let l = c.loop-member in
-    let now = c.number_of.new.self in
-    Grows-trans o now c.add.new.store (Grows-trans o l.store now l.invariant.grows c.number_of.ensures.grows) c.add.ensures.grows
+    let now = c.number_near.new.self in
+    Grows-trans o now c.add.new.store (Grows-trans o l.store now l.invariant.grows c.number_near.ensures.grows) c.add.ensures.grows
 
 pub add_items-returns-clause-added : goal.add_items-returns-clause-added
 add_items-returns-clause-added t c =
