@@ -3,6 +3,7 @@ ghost use Rattle.base_types.specs.Keys.{key_spelling};
 ghost use Rattle.history_query.specs.Appending.{Appends};
 ghost use Rattle.history_query.specs.States.{IsKeyText, IsStateOf, IsStateText, presence_text, presence_word};
 ghost use Rattle.verdict_text.specs.Words.{ended, spaced};
+ghost use Rattle.version_store.specs.Keyed.{AreKeys};
 
 use crate::sight::{ObjectSight, sight_of};
 use crate::telling::is_below_start;
@@ -19,7 +20,8 @@ pub fn state(alloc: Global, context: &Context, place: u64) -> Result<Bytes, OutO
     if is_below_start(context, place) {
         text.push_str("unknown\n")?;
     } else {
-        append_keys(alloc, &mut text, context, place)?;
+        let keys = context.keys(alloc)?;
+        append_keys(alloc, &mut text, context, &keys, place)?;
     }
     Ok(Bytes::from_vec(text.into_bytes()))
 }
@@ -28,12 +30,13 @@ fn append_keys(
     alloc: Global,
     text: &mut String,
     context: &Context,
+    keys: &[ObjectKey],
     place: u64,
 ) -> Result<(), OutOfMemory>
+    requires { AreKeys context.now.versions context.now.log keys.now }
     ensures { OnOk result (Appends (IsStateOf context.now place) (string_bytes text.old)
         (string_bytes text.new)) }
 {
-    let keys = context.keys();
     for key in keys {
         append_key(alloc, text, context, key, place)?;
     }

@@ -14,11 +14,7 @@ mod removed;
 mod versions;
 
 pub use bodies::Bodies;
-pub use hiding::{clouds_of, slots_of, unrecorded_of};
+pub use hiding::unrecorded_of;
 pub use log_past::{LogPast, past_of};
 pub use maker::Judged;
 pub use making::{Making, finding_fault, making_at, making_fault};
-pub use removal::range_behind;
-pub use removals::removals_of;
-pub use removed::{Removed, first_removals};
-pub use versions::{Log, Written, write_versions};

@@ -3,7 +3,6 @@ use Rattle.std.specs.Prelude.{◌≡◌, ℕ, List, Option}
 use Rattle.std.specs.BTreeMap.{BTreeMap}
 use Rattle.std.proofs.Common.{sym, subst}
 use Rattle.base_types.specs.declared.claim.Reason.{Reason}
-use Rattle.base_types.specs.declared.key.ObjectKey.{ObjectKey}
 use Rattle.clouds.specs.Writes.{Writes}
 use Rattle.time_windows.specs.History as timed
 use Rattle.write_groups.specs.declared.event.Item.{Item}
@@ -15,9 +14,9 @@ use Rattle.version_store.specs.Shown.{AreItemsOf}
 use Rattle.version_store.specs.Told.{IsTold}
 use Rattle.version_store.specs.declared.log.Log.{Log}
 
-pub told_of : (known : Known) (log : Log) (windows : timed.History) (clouds : Writes) (faults : List (Option Reason)) (keys : List ObjectKey) (uses : BTreeMap (List ℕ) ℕ) → known.snapshot ≡ log.snapshot
-    → known.log ≡ log.events → IsContext known log windows clouds faults keys uses → IsTold known
-told_of known log windows clouds faults keys uses items events is = record {
+pub told_of : (known : Known) (log : Log) (windows : timed.History) (clouds : Writes) (faults : List (Option Reason)) (uses : BTreeMap (List ℕ) ℕ) → known.snapshot ≡ log.snapshot
+    → known.log ≡ log.events → IsContext known log windows clouds faults uses → IsTold known
+told_of known log windows clouds faults uses items events is = record {
   trees = is.trees;
   snapshot = subst (λ (l : List Item). AreItemsOf known.trees known.setup.snapshot l) (sym items) is.logged.snapshot;
   logged = subst (λ (l : List LogEvent). AreLogged known.setup known.trees known.events l) (sym events) is.logged.logged;

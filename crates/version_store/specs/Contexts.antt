@@ -3,7 +3,6 @@ use Rattle.std.specs.Prelude.{◌≡◌, ◌<◌, ◌^◌, ◌≤ℤ◌, neg_ℤ
 use Rattle.std.specs.BTreeMap.{BTreeMap}
 use Rattle.audit_event.specs.Events as audit
 use Rattle.base_types.specs.declared.claim.Reason.{Reason}
-use Rattle.base_types.specs.declared.key.ObjectKey.{ObjectKey}
 use Rattle.clouds.specs.Writes.{Writes}
 use Rattle.history_model.specs.Events as model
 use Rattle.history_model.specs.Histories.{IsEvent}
@@ -15,7 +14,6 @@ use Rattle.setup_file.specs.Sound.{IsSound}
 use Rattle.time_windows.specs.History as timed
 use Rattle.object_past.specs.Faulted.{AreFaults}
 use Rattle.version_store.specs.Histories.{history_of}
-use Rattle.version_store.specs.Keyed.{AreKeys}
 use Rattle.version_store.specs.Known.{Known}
 use Rattle.version_store.specs.Log.{AreLines, IsLogOf, RiseByLine}
 use Rattle.version_store.specs.LogTrees.{pooled}
@@ -26,7 +24,7 @@ use Rattle.version_store.specs.Uses.{AreUses}
 use Rattle.write_groups.specs.Members.{AreGroupsOf}
 
 -- what is found of the setup and the log is what the definitions say of them
-pub record IsContext (known : Known) (log : Log) (windows : timed.History) (clouds : Writes) (faults : List (Option Reason)) (keys : List ObjectKey) (uses : BTreeMap (List ℕ) ℕ) : Type 0 where
+pub record IsContext (known : Known) (log : Log) (windows : timed.History) (clouds : Writes) (faults : List (Option Reason)) (uses : BTreeMap (List ℕ) ℕ) : Type 0 where
   pub setup : IsSound known.setup
   pub events : All audit.IsSound known.events
   pub event_lines : AreLines known.events
@@ -48,5 +46,4 @@ pub record IsContext (known : Known) (log : Log) (windows : timed.History) (clou
   pub sound_roles : AreSound known.rbac.versions known.rbac.ends
   pub nodes : All (λ v. v.node.0 < length known.trees) known.versions
   pub faults_of : AreFaults (history_of known) faults
-  pub keys_of : AreKeys known.versions known.log keys
   pub uses_of : AreUses known.versions uses

@@ -11,7 +11,6 @@ ghost use Rattle.setup_file.specs.Sound.{IsSound};
 ghost use Rattle.write_groups.specs.Modelled.{HasEvents, HasTimes};
 ghost use Rattle.version_store.specs.Gathering.{IsFound, past_with};
 ghost use Rattle.version_store.specs.Histories.{body_test};
-ghost use Rattle.version_store.specs.Keyed.{AreKeys};
 ghost use Rattle.version_store.specs.Log.{AreLines, IsLogOf, RiseByLine};
 ghost use Rattle.version_store.specs.LogTrees.{pooled};
 ghost use Rattle.version_store.specs.Makings.{AreMakersCodes, AreMakingsOf};
@@ -23,12 +22,11 @@ use crate::bodies::RequestBodies;
 use crate::context::Context;
 use crate::faults::{faults_of, makings_of};
 use crate::foreseen::past_foreseen;
-use crate::keys::keys_of;
 use crate::log::{BuildFault, Log, log_of};
 use crate::roles::timeline_of;
 use crate::uses::{Uses, uses_of};
 use audit_event::Events;
-use base_types::{ObjectKey, OutOfMemory, Reason};
+use base_types::{OutOfMemory, Reason};
 use clouds::Clouds;
 use hash_seed::Seed;
 use node_pool::{Interner, Pool};
@@ -61,7 +59,6 @@ pub struct Parts {
 pub struct Told {
     faults: Vec<Option<Reason>>,
     timeline: Timeline,
-    keys: Vec<ObjectKey>,
     uses: Uses,
 }
 
@@ -145,19 +142,16 @@ fn told_of(alloc: Global, bodies: &RequestBodies<'_>, parts: &Parts) -> Result<T
         → told.timeline.spans ≡ unrecorded_in h bodies.now.log.now) }
     ensures bypass { IfOk result (λ told. told.timeline.bypass ≡ bodies.now.setup.now.bypass) }
     ensures sound { IfOk result (λ told. AreSound told.timeline.versions told.timeline.ends) }
-    ensures keys { IfOk result (λ told. AreKeys parts.now.past.versions bodies.now.log.now told.keys.items) }
     ensures uses { IfOk result (λ told. AreUses parts.now.past.versions told.uses) }
 {
     let log = bodies.log;
     let past = &parts.past;
     let faults = faults_in(alloc, bodies, parts)?;
-    let keys = keys_of(alloc, past, log)?;
     let uses = uses_of(alloc, past.versions())?;
     let timeline = timeline_of(alloc, bodies.setup, &parts.windows, log, past, bodies.pool)?;
     Ok(Told {
         faults,
         timeline,
-        keys,
         uses,
     })
 }
@@ -232,7 +226,6 @@ fn joined(setup: Setup, events: Events, gathered: Gathered) -> Context
     let Told {
         faults,
         timeline,
-        keys,
         uses,
     } = told;
     let Parts {
@@ -255,7 +248,6 @@ fn joined(setup: Setup, events: Events, gathered: Gathered) -> Context
         past,
         timeline,
         faults,
-        keys,
         uses,
     }
 }

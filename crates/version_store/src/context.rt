@@ -1,4 +1,4 @@
-ghost use Rattle.std.specs.Prelude.{◌≡◌, ◌<◌, ◌^◌, ◌≤ℤ◌, ℕ, neg_ℤ, pos, length, map, All};
+ghost use Rattle.std.specs.Prelude.{◌≡◌, ◌<◌, ◌^◌, ◌≤ℤ◌, ℕ, neg_ℤ, pos, length, map, All, IfOk};
 ghost use Rattle.history_model.specs.Events as model;
 ghost use Rattle.history_model.specs.Histories.{History, IsEvent};
 ghost use Rattle.history_model.specs.Readable.{IsReadable};
@@ -6,15 +6,17 @@ ghost use Rattle.history_model.specs.Windows.{low_end, high_end};
 ghost use Rattle.object_past.specs.Faulted.{AreFaults, IsFaultOf};
 ghost use Rattle.object_versions.specs.Modelled.{AreCloudsOf};
 
+use crate::keys::keys_of;
 use crate::log::Log;
 use crate::uses::Uses;
 use audit_event::{Event, Events};
-use base_types::{ObjectKey, Range, Reason, Shared};
+use base_types::{ObjectKey, OutOfMemory, Range, Reason, Shared};
 use clouds::Clouds;
 use node_pool::Pool;
 use object_past::{Past, Version};
 use rbac_timeline::Timeline;
 use setup_file::Setup;
+use std::alloc::Global;
 use std::marker::Model;
 use time_windows::Windows;
 use write_groups::{Groups, LogEvent, Window, window_of};
@@ -33,7 +35,6 @@ pub struct Context {
     pub(crate) past: Past,
     pub(crate) timeline: Timeline,
     pub(crate) faults: Vec<Option<Reason>>,
-    pub(crate) keys: Vec<ObjectKey>,
     // Where each uid comes first, for those who try other objects before a write.
     pub(crate) uses: Uses,
 }
@@ -54,7 +55,6 @@ impl Drop for Context {
             past,
             timeline,
             faults: _,
-            keys: _,
             uses: _,
         } = self;
         drop(setup);
@@ -108,7 +108,7 @@ impl Model for Context {
       versions = c.past.versions;
       removals = c.past.removals;
       rbac = c.timeline;
-    }) c.log c.windows c.clouds c.faults.items c.keys.items c.uses };
+    }) c.log c.windows c.clouds c.faults.items c.uses };
 }
 
 // What is told of the event of this number.
@@ -245,11 +245,12 @@ impl Context {
         &self.pool
     }
 
-    /// The keys that have a version or that an unrecorded write names exactly, in order.
-    pub fn keys(&self) -> &[ObjectKey]
-        ensures { AreKeys self.now.versions self.now.log result.now }
+    /// The keys that have a version or that an unrecorded write names exactly, in order. They are gathered at each
+    /// call.
+    pub fn keys(&self, alloc: Global) -> Result<Vec<ObjectKey>, OutOfMemory>
+        ensures { IfOk result (λ keys. AreKeys self.now.versions self.now.log keys.items) }
     {
-        self.keys.as_slice()
+        keys_of(alloc, &self.past, self.log.events.as_slice())
     }
 
     /// What `fault` tells of each event, by its number.

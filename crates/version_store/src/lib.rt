@@ -18,10 +18,6 @@ mod roles;
 mod uses;
 mod verdicts;
 
-pub use bodies::RequestBodies;
 pub use context::Context;
-pub use faults::{Makings, faults_of, makings_of};
-pub use keys::keys_of;
 pub use law::one_history_law;
-pub use log::{BuildFault, Log, Selectors, log_of};
-pub use roles::{role_ends, roles_of};
+pub use log::{BuildFault, Log, log_of};

@@ -17,7 +17,6 @@ use Rattle.version_store.proofs.Ranging.{numbers_are}
 use Rattle.version_store.proofs.Sharing.{event_shared, logged_shared, pool_shared, setup_shared}
 use Rattle.version_store.specs.Gathering.{past_with}
 use Rattle.version_store.specs.Histories.{body_test, history_of}
-use Rattle.version_store.specs.Keyed.{AreKeys}
 use Rattle.std.proofs.Crossing as owned
 use denote.Param.Send.{sendable}
 use Rattle.version_store.proofs.build.found_of.Goals as goal
@@ -147,6 +146,5 @@ returns g c =
           (record { versions = refl; removals = refl })
           (have_codes setup events trees log found kept roles refl refl right c.requires.rising c.requires.log)
           (ap (map event_of) (sym logged));
-      keys_of = subst (λ (l : List LogEvent). AreKeys kept.versions l c.in_ok-told.told.keys.items) logged found_of.keys;
       uses_of = found_of.uses;
     }
