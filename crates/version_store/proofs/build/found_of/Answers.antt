@@ -110,7 +110,7 @@ returns g c =
     let log = c.args.log.now in
     let found = past_with c.in_ok-parts.parts in
     let kept = c.in_ok-parts.parts.past in
-    let roles = c.in_ok-told.told.timeline in
+    let roles = c.in-Ok.told.timeline in
     let told = c.as_slice-recorded.ensures in
     let logged = c.as_slice-logged.ensures in
     let says = subst (λ (past : LogPast). (h : History) → HasFound setup.start c.as_slice-snapshot.result.now c.as_slice-logged.result.now
@@ -121,7 +121,8 @@ returns g c =
     let h = history_of (known_of setup events trees log found kept roles) in
     let readable = is_readable setup events trees log found kept roles refl refl right c.requires.rising c.requires.log in
     let times = has_times setup events trees log found kept roles refl refl start in
-    let found_of = c.in_ok-told.ensures in
+    let found_of = c.in-Ok.ensures in
+    let timed = found_of.timeline in
     record {
       setup = c.requires.setup;
       events = c.requires.events;
@@ -136,17 +137,17 @@ returns g c =
       groups = right.groups;
       start = start;
       clouds_of = right.clouds;
-      roles = found_of.roles;
-      ends = found_of.ends;
-      unrecorded = found_of.spans h times ∙ ap (unrecorded_in h) logged;
-      bypass = found_of.bypass;
-      sound_roles = found_of.sound;
+      roles = timed.versions;
+      ends = timed.ends;
+      unrecorded = timed.spans h times ∙ ap (unrecorded_in h) logged;
+      bypass = timed.bypass;
+      sound_roles = timed.sound;
       nodes = have_nodes setup events trees log found kept roles refl refl right c.requires.rising c.requires.log;
       faults_of = found_of.faults h readable refl
           (has_bodies setup events trees log found kept roles refl refl c.as_slice-recorded.result.now c.as_slice-logged.result.now told logged)
           (record { versions = refl; removals = refl })
           (have_codes setup events trees log found kept roles refl refl right c.requires.rising c.requires.log)
           (ap (map event_of) (sym logged));
-      keys_of = subst (λ (l : List LogEvent). AreKeys kept.versions l c.in_ok-told.told.keys.items) logged found_of.keys;
+      keys_of = subst (λ (l : List LogEvent). AreKeys kept.versions l c.in-Ok.told.keys.items) logged found_of.keys;
       uses_of = found_of.uses;
     }
