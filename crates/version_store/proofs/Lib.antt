@@ -12,6 +12,7 @@ pub mod Ranked
 pub mod Batches
 pub mod Blaming
 pub mod Coding
+pub mod Refusing
 pub mod RoleEnds
 pub mod Keying
 pub mod Built
@@ -23,4 +24,5 @@ pub mod Membering
 pub mod Ranging
 pub mod OneHistory
 pub mod Telling
+pub mod TimelineLemmas
 pub mod Using

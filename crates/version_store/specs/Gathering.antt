@@ -1,13 +1,23 @@
 -- What is found of a setup and its log, before it is put together to a context.
-use Rattle.std.specs.Prelude.{List}
+use Rattle.std.specs.Prelude.{◌≡◌, ℕ, List, Option}
+use Rattle.std.specs.BTreeMap.{BTreeMap}
 use Rattle.audit_event.specs.declared.event.Event.{Event}
 use Rattle.base_types.specs.Meaning.{Meaning}
+use Rattle.base_types.specs.declared.claim.Reason.{Reason}
+use Rattle.history_model.specs.Histories.{History}
+use Rattle.history_model.specs.Readable.{IsReadable}
+use Rattle.object_past.specs.Faulted.{AreFaults}
+use Rattle.object_past.specs.Past.{HasPast}
 use Rattle.object_versions.specs.declared.log_past.LogPast.{LogPast}
 use Rattle.setup_file.specs.declared.setup.Setup.{Setup}
 use Rattle.version_store.specs.Contexts.{IsContext}
+use Rattle.version_store.specs.Histories.{body_test}
+use Rattle.version_store.specs.Makings.{AreMakersCodes, AreMakingsOf}
 use Rattle.version_store.specs.declared.build.Found.{Found}
 use Rattle.version_store.specs.declared.build.Parts.{Parts}
 use Rattle.version_store.specs.declared.log.Log.{Log}
+use Rattle.write_groups.specs.Modelled.{HasEvents}
+use Rattle.write_groups.specs.declared.event.LogEvent.{LogEvent}
 
 -- what is found is what a context holds
 abbrev pub IsFound : Setup → List Event → List Meaning → Log → Found → Type 0
@@ -36,3 +46,8 @@ past_with parts = record {
   judged = parts.judged;
   removals = parts.past.removals;
 }
+
+-- the faults of the events of each history with this log, these trees and the past that was found
+abbrev pub AreFaultsFor : Setup → List Event → List LogEvent → List Meaning → Parts → List (Option Reason) → Type 0
+AreFaultsFor setup events log trees parts faults = (h : History) → IsReadable h → h.start ≡ setup.start → h.body ≡ body_test setup events log trees → HasPast parts.past h
+    → ((makings : BTreeMap ℕ (Option Reason)) → AreMakingsOf parts.judged.items makings → AreMakersCodes h makings) → HasEvents log h → AreFaults h faults

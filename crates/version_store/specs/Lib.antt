@@ -18,6 +18,7 @@ pub mod Membered
 pub mod Readings
 pub mod Roles
 pub mod Shown
+pub mod Timelines
 pub mod Told
 pub mod Uses
 pub mod Verdicts

@@ -1,4 +1,6 @@
-ghost use Rattle.std.specs.Prelude.{◌≡◌, ◌<◌, ℕ, Bool, Option, IfOk, option_map, option_and_then, length, slice_get};
+ghost use Rattle.std.specs.Prelude.{◌≡◌, ◌<◌, ℕ, Bool, Option, Some, IfOk, length, slice_get};
+ghost use Rattle.std.specs.Prelude.{option_map, option_and_then};
+ghost use Rattle.request_bodies.specs.Right.{is_body_right};
 ghost use Rattle.version_store.specs.Histories.{body_test, made_node};
 
 use audit_event::Event;
@@ -51,6 +53,32 @@ fn made_at(log: &[LogEvent], number: u32) -> Option<NodeId>
     made_node(log.get(number as usize)?)
 }
 
+impl<'a> RequestBodies<'a> {
+    // Whether a write was answered, by the tree of the number `made`, with what its body asked of the tree of another
+    // number, or of none.
+    fn is_answer_right(
+        &self,
+        alloc: Global,
+        recorded: &Event,
+        answered: &Tree,
+        made: Option<NodeId>,
+        before: Option<NodeId>,
+    ) -> Result<bool, OutOfMemory>
+        requires { option_and_then (slice_get self.now.pool.now.trees)
+            (option_map (λ node. node.0) made) ≡ Some answered.now }
+        ensures { IfOk result (λ right. right
+            ≡ is_body_right self.now.setup.now recorded.now answered.now
+            (option_and_then (slice_get self.now.pool.now.trees)
+            (option_map (λ node. node.0) before))) }
+    {
+        if before == made {
+            return is_body_right(alloc, self.setup, recorded, answered, Some(answered));
+        }
+        let before = tree_at(self.pool, before)?;
+        is_body_right(alloc, self.setup, recorded, answered, before.as_ref())
+    }
+}
+
 impl<'a> Bodies for RequestBodies<'a> {
     ghost body = { λ b. body_test b.setup.now b.events.now b.log.now b.pool.now.trees };
 
@@ -67,10 +95,8 @@ impl<'a> Bodies for RequestBodies<'a> {
         let Some(answered) = tree_at(self.pool, made)? else {
             return Ok(true);
         };
-        if before == made {
-            return is_body_right(alloc, self.setup, recorded, &answered, Some(&answered));
-        }
-        let before = tree_at(self.pool, before)?;
-        is_body_right(alloc, self.setup, recorded, &answered, before.as_ref())
+        let right = self.is_answer_right(alloc, recorded, &answered, made, before);
+        drop(answered);
+        right
     }
 }

@@ -1,20 +1,11 @@
-ghost use Rattle.std.specs.Prelude.{◌≡◌, ◌<◌, ◌≤◌, ◌+◌, ◌^◌, ℕ, Err, Option, length, All, AllPairs, IfOk};
-ghost use Rattle.std.specs.BTreeMap.{BTreeMap};
+ghost use Rattle.std.specs.Prelude.{◌≡◌, ◌<◌, ◌≤◌, ◌+◌, ◌^◌, Err, length, All, AllPairs, IfOk};
 ghost use Rattle.audit_event.specs.Events.{IsSound as IsSoundEvent};
-ghost use Rattle.history_model.specs.Histories.{History};
-ghost use Rattle.history_model.specs.Readable.{IsReadable};
-ghost use Rattle.object_past.specs.Faulted.{AreFaults};
-ghost use Rattle.object_past.specs.Past.{AreEnds, HasPast};
-ghost use Rattle.object_versions.specs.Hidden.{unrecorded_in};
-ghost use Rattle.rbac_timeline.specs.Sound.{AreSound};
+ghost use Rattle.object_past.specs.Past.{AreEnds};
 ghost use Rattle.setup_file.specs.Sound.{IsSound};
-ghost use Rattle.write_groups.specs.Modelled.{HasEvents, HasTimes};
-ghost use Rattle.version_store.specs.Gathering.{IsFound, past_with};
-ghost use Rattle.version_store.specs.Histories.{body_test};
+ghost use Rattle.version_store.specs.Gathering.{AreFaultsFor, IsFound, past_with};
 ghost use Rattle.version_store.specs.Log.{AreLines, IsLogOf, RiseByLine};
 ghost use Rattle.version_store.specs.LogTrees.{pooled};
-ghost use Rattle.version_store.specs.Makings.{AreMakersCodes, AreMakingsOf};
-ghost use Rattle.version_store.specs.Roles.{AreRoles, role_ends};
+ghost use Rattle.version_store.specs.Timelines.{IsTimelineOf};
 ghost use Rattle.version_store.specs.Told.{IsTold};
 ghost use Rattle.version_store.specs.Uses.{AreUses};
 
@@ -94,7 +85,13 @@ fn parts_of(alloc: Global, found: LogPast) -> Result<Parts, OutOfMemory>
         judged,
         removals,
     } = found;
-    let past = Past::build(alloc, versions, removals)?;
+    let Ok(past) = Past::build(alloc, versions, removals) else {
+        drop(windows);
+        drop(clouds);
+        drop(groups);
+        drop(judged);
+        return Err(OutOfMemory);
+    };
     Ok(Parts {
         order,
         windows,
@@ -112,12 +109,8 @@ fn faults_in(
     parts: &Parts,
 ) -> Result<Vec<Option<Reason>>, OutOfMemory>
     requires { length bodies.now.log.now < 2 ^ 32 }
-    ensures { IfOk result (λ faults. (h : History) → IsReadable h → h.start ≡ bodies.now.setup.now.start
-        → h.body ≡ body_test bodies.now.setup.now bodies.now.events.now bodies.now.log.now
-        bodies.now.pool.now.trees → HasPast parts.now.past h
-        → ((makings : BTreeMap ℕ (Option Reason)) → AreMakingsOf parts.now.judged.items makings
-        → AreMakersCodes h makings)
-        → HasEvents bodies.now.log.now h → AreFaults h faults.items) }
+    ensures { IfOk result (λ faults. AreFaultsFor bodies.now.setup.now bodies.now.events.now
+        bodies.now.log.now bodies.now.pool.now.trees parts.now faults.items) }
 {
     let makings = makings_of(alloc, &parts.judged)?;
     let start = bodies.setup.start;
@@ -128,20 +121,12 @@ fn told_of(alloc: Global, bodies: &RequestBodies<'_>, parts: &Parts) -> Result<T
     requires start { bodies.now.setup.now.start ≡ parts.now.windows.start }
     requires few { length bodies.now.log.now < 2 ^ 32 }
     requires numbered { length parts.now.past.versions < 2 ^ 32 }
-    requires nodes { All (λ v. v.node.0 < length bodies.now.pool.now.trees) parts.now.past.versions }
-    ensures faults { IfOk result (λ told. (h : History) → IsReadable h → h.start ≡ bodies.now.setup.now.start
-        → h.body ≡ body_test bodies.now.setup.now bodies.now.events.now bodies.now.log.now
-        bodies.now.pool.now.trees → HasPast parts.now.past h
-        → ((makings : BTreeMap ℕ (Option Reason)) → AreMakingsOf parts.now.judged.items makings
-        → AreMakersCodes h makings)
-        → HasEvents bodies.now.log.now h → AreFaults h told.faults.items) }
-    ensures roles { IfOk result (λ told. AreRoles bodies.now.pool.now.trees parts.now.past.versions
-        told.timeline.versions) }
-    ensures ends { IfOk result (λ told. told.timeline.ends ≡ role_ends parts.now.past.removals) }
-    ensures spans { IfOk result (λ told. (h : History) → HasTimes parts.now.windows h
-        → told.timeline.spans ≡ unrecorded_in h bodies.now.log.now) }
-    ensures bypass { IfOk result (λ told. told.timeline.bypass ≡ bodies.now.setup.now.bypass) }
-    ensures sound { IfOk result (λ told. AreSound told.timeline.versions told.timeline.ends) }
+    requires nodes { All (λ v. v.node.0 < length bodies.now.pool.now.trees)
+        parts.now.past.versions }
+    ensures faults { IfOk result (λ told. AreFaultsFor bodies.now.setup.now bodies.now.events.now
+        bodies.now.log.now bodies.now.pool.now.trees parts.now told.faults.items) }
+    ensures timeline { IfOk result (λ told. IsTimelineOf bodies.now.setup.now
+        bodies.now.pool.now.trees parts.now.past parts.now.windows bodies.now.log.now told.timeline) }
     ensures uses { IfOk result (λ told. AreUses parts.now.past.versions told.uses) }
 {
     let log = bodies.log;
@@ -168,7 +153,8 @@ fn found_of<R: Threads + Sync>(
     requires setup { IsSound setup.now }
     requires events { All IsSoundEvent events.now }
     requires lines { AreLines events.now }
-    requires few { length setup.now.snapshot + length events.now + length setup.now.checkpoints < 2 ^ 32 }
+    requires few { length setup.now.snapshot + length events.now + length setup.now.checkpoints
+        < 2 ^ 32 }
     requires trees { pool.now.trees ≡ pooled setup.now events.now }
     requires log { IsLogOf setup.now events.now pool.now.trees log.now }
     requires rising { RiseByLine log.now.events }
@@ -185,7 +171,10 @@ fn found_of<R: Threads + Sync>(
     };
     let found = past_foreseen(rt, alloc, &bodies, setup.start, snapshot, logged)?;
     let parts = parts_of(alloc, found)?;
-    let told = told_of(alloc, &bodies, &parts)?;
+    let Ok(told) = told_of(alloc, &bodies, &parts) else {
+        drop(parts);
+        return Err(OutOfMemory);
+    };
     Ok(Found { parts, told })
 }
 
@@ -201,16 +190,26 @@ fn gather<R: Threads + Sync>(
     requires setup { IsSound setup.now }
     requires events { All IsSoundEvent events.now }
     requires lines { AreLines events.now }
-    requires few { length setup.now.snapshot + length events.now + length setup.now.checkpoints < 2 ^ 32 }
-    ensures found { IfOk result (λ gathered. IsFound setup.now events.now gathered.pool.trees gathered.log
-        gathered.found) }
+    requires few { length setup.now.snapshot + length events.now + length setup.now.checkpoints
+        < 2 ^ 32 }
+    ensures found { IfOk result (λ gathered. IsFound setup.now events.now gathered.pool.trees
+        gathered.log gathered.found) }
     ensures full { result ≡ Err BuildFault.PoolFull → limit < length (pooled setup.now events.now) }
     ensures fits { IfOk result (λ gathered. length (pooled setup.now events.now) ≤ limit) }
 {
     let mut interner = Interner::new(alloc, limit, seed)?;
-    let log = log_of(rt, alloc, &mut interner, setup, events)?;
+    let log = match log_of(rt, alloc, &mut interner, setup, events) {
+        Ok(log) => log,
+        Err(fault) => {
+            drop(interner);
+            return Err(fault);
+        }
+    };
     let pool = interner.into_pool()?;
-    let found = found_of(rt, alloc, setup, events, &pool, &log)?;
+    let Ok(found) = found_of(rt, alloc, setup, events, &pool, &log) else {
+        drop(pool);
+        return Err(BuildFault::OutOfMemory);
+    };
     Ok(Gathered { pool, log, found })
 }
 
@@ -295,7 +294,13 @@ impl Context {
         ensures full { result ≡ Err BuildFault.PoolFull → limit < length (pooled setup events) }
         ensures fits { IfOk result (λ context. length (pooled setup events) ≤ limit) }
     {
-        let gathered = gather(rt, alloc, &setup, &events, limit, seed)?;
-        Ok(joined(setup, events, gathered))
+        match gather(rt, alloc, &setup, &events, limit, seed) {
+            Ok(gathered) => Ok(joined(setup, events, gathered)),
+            Err(fault) => {
+                drop(setup);
+                drop(events);
+                Err(fault)
+            }
+        }
     }
 }

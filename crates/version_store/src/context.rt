@@ -78,7 +78,8 @@ impl Model for Context {
 
     ghost Value = { Known };
 
-    ghost coded = { Prim.hlevel (codes, setup_row.the_row.coded, event_row.the_row.coded, coded_meaning) };
+    ghost coded = { Prim.hlevel
+        (codes, setup_row.the_row.coded, event_row.the_row.coded, coded_meaning) };
 
     ghost use Rattle.version_store.specs.Contexts.{IsContext};
 
@@ -182,8 +183,8 @@ impl Context {
         requires { event < length self.now.log }
         ensures low { (e : model.Event) → IsEvent (history_of self.now) event e
             → result.low ≡ low_end (history_of self.now) e }
-        ensures high { (e : model.Event) → IsEvent (history_of self.now) event e → result.high ≡ high_end
-            (history_of self.now) e }
+        ensures high { (e : model.Event) → IsEvent (history_of self.now) event e
+            → result.high ≡ high_end (history_of self.now) e }
     {
         let logged = self.log.events.as_slice();
         window_of(&self.windows, self.setup.start, &logged[event as usize])

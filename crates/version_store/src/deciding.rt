@@ -16,7 +16,8 @@ fn judged_in<'a>(
     log: &[LogEvent],
     number: u32,
 ) -> Option<(&'a Event, Decision)>
-    ensures { option_map (λ judged. (judged.0.now, judged.1)) result ≡ judged_in events.now log.now number }
+    ensures { option_map (λ judged. (judged.0.now, judged.1)) result
+        ≡ judged_in events.now log.now number }
 {
     let event = events.get(number as usize)?;
     let decision = log.get(number as usize)?.decision?;
@@ -67,7 +68,8 @@ impl Context {
     /// The least four places from `low` to `high` at which caches could have given the decision of the event of this
     /// number; where none is judged, the least of all.
     pub fn find_decision(&self, event: u32, low: u64, high: u64) -> Option<Places>
-        ensures some { IfSome result (AreLeastPlaces (IsGivenWithin ((history_of self.now).decides event) low high)) }
+        ensures some { IfSome result (AreLeastPlaces (IsGivenWithin
+            ((history_of self.now).decides event) low high)) }
         ensures none { IfNone result (AreNoneGiven ((history_of self.now).decides event) low high) }
     {
         match judged_in(self.events.as_slice(), self.log.events.as_slice(), event) {

@@ -62,8 +62,8 @@ fn write_fault<B: Bodies>(
 ) -> Result<Option<Reason>, OutOfMemory>
     ensures { IfOk result (λ fault. (h : History) → IsReadable h → h.start ≡ start
         → h.body ≡ B.body bodies.now → HasPast past.now h
-        → AreMakersCodes h makings.now → IsMaking h (making_of making.entry) → IsFaultOf h making.entry.number
-        (event_of making.entry.event.now) fault) }
+        → AreMakersCodes h makings.now → IsMaking h (making_of making.entry)
+        → IsFaultOf h making.entry.number (event_of making.entry.event.now) fault) }
 {
     let revision = making.item.revision.get();
     if revision <= start.get() {

@@ -53,7 +53,8 @@ pub fn past_foreseen<R: Threads + Sync, B: Bodies + Sync>(
     ensures start { IfOk result (λ past. past.windows.start ≡ start) }
     ensures past { IfOk result (λ past. (h : History) → HasFound start snapshot.now events.now
         (B.body bodies.now) past h → IsPastOf events.now past h) }
-    ensures few_versions { IfOk result (λ past. length past.versions ≤ length snapshot.now + length events.now) }
+    ensures few_versions { IfOk result (λ past. length past.versions
+        ≤ length snapshot.now + length events.now) }
     ensures few_removals { IfOk result (λ past. length past.removals ≤ length events.now) }
 {
     let cases = cases_of(alloc, snapshot, events)?;

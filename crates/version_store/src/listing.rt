@@ -27,7 +27,8 @@ impl Context {
     // The labels of the object of a number. No other part of it is put together.
     fn labels(&self, node: NodeId) -> Result<Option<Tree>, OutOfMemory>
         requires { node.0 < length self.now.trees }
-        ensures { IfOk result (λ labels. labels ≡ option_and_then (metadata_at (codes "labels")) (slice_get self.now.trees node.0)) }
+        ensures { IfOk result (λ labels. labels
+            ≡ option_and_then (metadata_at (codes "labels")) (slice_get self.now.trees node.0)) }
     {
         match self.labels_at(node) {
             Some(at) => Ok(Some(self.pool.tree(at)?)),
@@ -37,7 +38,8 @@ impl Context {
 
     fn labels_at(&self, node: NodeId) -> Option<NodeId>
         requires { node.0 < length self.now.trees }
-        ensures found { option_and_then (λ at. slice_get self.now.trees at.0) result ≡ option_and_then (metadata_at (codes "labels")) (slice_get self.now.trees node.0) }
+        ensures found { option_and_then (λ at. slice_get self.now.trees at.0) result
+            ≡ option_and_then (metadata_at (codes "labels")) (slice_get self.now.trees node.0) }
         ensures within { IfSome result (λ at. at.0 < length self.now.trees) }
     {
         let metadata = self.pool.member(node, "metadata")?;

@@ -30,13 +30,26 @@ use std::thread::Threads;
 use write_groups::{Items, LogEvents};
 
 /// A log as the model of history sees it, beside its setup.
-#[derive(Drop)]
 pub struct Log {
     /// The objects that were there at the start.
     pub snapshot: Items,
     /// The events by line, and the checkpoints behind them.
     pub events: LogEvents,
     pub selectors: Selectors,
+}
+
+// Written out, so that a function that lets a log go has one call and not the steps of each field.
+impl Drop for Log {
+    fn drop(self) {
+        let Log {
+            snapshot,
+            events,
+            selectors,
+        } = self;
+        drop(snapshot);
+        drop(events);
+        drop(selectors);
+    }
 }
 
 // The events of the log, and the checkpoints behind them.
@@ -65,7 +78,8 @@ pub fn log_of<R: Threads + Sync>(
     ensures lines { AreLines events.now → IfOk result (λ log. RiseByLine log.events) }
     ensures pooled { OnOk result (pool.new.trees ≡ pooled setup.now events.now) }
     ensures fits { OnOk result (length (pooled setup.now events.now) ≤ pool.old.limit) }
-    ensures full { result ≡ Err BuildFault.PoolFull → pool.old.limit < length (pooled setup.now events.now) }
+    ensures full { result ≡ Err BuildFault.PoolFull
+        → pool.old.limit < length (pooled setup.now events.now) }
     ensures limit { pool.new.limit ≡ pool.old.limit }
 {
     let snapshot = items_of(alloc, pool, setup.snapshot.as_slice())?;

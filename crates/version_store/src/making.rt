@@ -22,8 +22,9 @@ impl Context {
         event: u32,
         before: Option<&Version>,
     ) -> Result<Option<Reason>, OutOfMemory>
-        ensures write { IfOk result (λ fault. (m : model.Making) → IsMaking (history_of self.now) m → m.number ≡ event
-            → IsLeastFault (history_of self.now) m (option_map (λ v. version_of v.now) before.entry) fault) }
+        ensures write { IfOk result (λ fault. (m : model.Making) → IsMaking (history_of self.now) m
+            → m.number ≡ event → IsLeastFault (history_of self.now) m
+            (option_map (λ v. version_of v.now) before.entry) fault) }
         ensures other { IfOk result (λ fault. ((m : model.Making) → IsMaking (history_of self.now) m
             → m.number ≡ event → ⊥) → fault ≡ None) }
     {

@@ -26,7 +26,8 @@ fn alone(node: NodeId, item: u32) -> Option<NodeId>
 
 // The tree of an item of an answer.
 fn shown_in(answer: &Shown, item: u32) -> Option<NodeId>
-    ensures { option_map (λ node. node.0) result ≡ slice_get (shown_trees (answer_of answer.now)) item }
+    ensures { option_map (λ node. node.0) result
+        ≡ slice_get (shown_trees (answer_of answer.now)) item }
 {
     match answer {
         Shown::Made { item: made, .. } => alone(made.node, item),
@@ -45,7 +46,8 @@ fn shown_in(answer: &Shown, item: u32) -> Option<NodeId>
 // The group of a revision, of groups by revision.
 fn group_at(groups: &[Group], revision: Revision) -> Option<&Group>
     requires { AllPairs (λ a b. a.revision < b.revision) groups.now }
-    ensures { option_map (λ group. group.now) result ≡ find (λ group. group.revision == revision) groups.now }
+    ensures { option_map (λ group. group.now) result
+        ≡ find (λ group. group.revision == revision) groups.now }
 {
     let upto = groups.partition_point(|group| group.revision.get() <= revision.get());
     if upto == 0 {
@@ -102,16 +104,16 @@ impl Context {
 
     /// The version of this key and revision.
     pub fn version(&self, key: &ObjectKey, revision: Revision) -> Option<&Version>
-        ensures { option_map (λ v. v.now) result ≡ find (λ v. same_key v.key key.now && v.revision ==
-            revision) self.now.versions }
+        ensures { option_map (λ v. v.now) result
+            ≡ find (λ v. same_key v.key key.now && v.revision == revision) self.now.versions }
     {
         self.past.version(key, revision.get())
     }
 
     /// The key's latest version at or below a place.
     pub fn latest(&self, key: &ObjectKey, place: u64) -> Option<&Version>
-        ensures latest { option_map (λ v. version_of v.now) result ≡ latest (history_of self.now).versions
-            key.now place }
+        ensures latest { option_map (λ v. version_of v.now) result
+            ≡ latest (history_of self.now).versions key.now place }
         ensures known { IfSome result (λ v. Contains self.now.versions v.now) }
     {
         self.past.latest(key, place)
@@ -119,7 +121,8 @@ impl Context {
 
     /// The incarnations of a key's object, in order.
     pub fn incarnations(&self, key: &ObjectKey) -> &[Incarnation]
-        ensures { AreIncarnations (record { versions = self.now.versions; removals = self.now.removals })
+        ensures { AreIncarnations
+            (record { versions = self.now.versions; removals = self.now.removals })
             key.now result.now }
     {
         self.past.incarnations(key)
@@ -127,7 +130,8 @@ impl Context {
 
     /// Who wrote the version of this revision.
     pub fn maker(&self, revision: Revision) -> Option<Maker>
-        ensures { result ≡ option_map (λ v. v.maker) (find (λ v. v.revision == revision) self.now.versions) }
+        ensures { result
+            ≡ option_map (λ v. v.maker) (find (λ v. v.revision == revision) self.now.versions) }
     {
         self.past.maker(revision.get())
     }

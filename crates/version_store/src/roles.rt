@@ -1,11 +1,8 @@
 ghost use Rattle.std.specs.Prelude.{◌≡◌, ◌<◌, ◌^◌, Some, IfOk, All, AllPairs, length};
 ghost use Rattle.std.specs.List.Sorted.{IsPermutation, IsSorted};
-ghost use Rattle.history_model.specs.Histories.{History};
-ghost use Rattle.object_versions.specs.Hidden.{unrecorded_in};
-ghost use Rattle.rbac_timeline.specs.Sound.{AreSound};
-ghost use Rattle.write_groups.specs.Modelled.{HasTimes};
 ghost use Rattle.version_store.specs.Roles.{AreRoles, binding_content, content_by, is_role, rbac_version};
 ghost use Rattle.version_store.specs.Roles.{role_content, role_end, role_ends, roles_at, turn_order, turns_from};
+ghost use Rattle.version_store.specs.Timelines.{IsTimelineOf};
 
 use base_types::json::Tree;
 use base_types::{ObjectKey, OutOfMemory, Revision};
@@ -185,12 +182,7 @@ pub fn timeline_of(
     requires start { setup.now.start ≡ windows.now.start }
     requires few { length past.now.versions < 2 ^ 32 }
     requires nodes { All (λ v. v.node.0 < length pool.now.trees) past.now.versions }
-    ensures versions { IfOk result (λ timeline. AreRoles pool.now.trees past.now.versions timeline.versions) }
-    ensures ends { IfOk result (λ timeline. timeline.ends ≡ role_ends past.now.removals) }
-    ensures spans { IfOk result (λ timeline. (h : History) → HasTimes windows.now h
-        → timeline.spans ≡ unrecorded_in h log.now) }
-    ensures bypass { IfOk result (λ timeline. timeline.bypass ≡ setup.now.bypass) }
-    ensures sound { IfOk result (λ timeline. AreSound timeline.versions timeline.ends) }
+    ensures { IfOk result (IsTimelineOf setup.now pool.now.trees past.now windows.now log.now) }
 {
     let roles = roles_of(alloc, pool, past.versions())?;
     let ends = role_ends(alloc, past.removals())?;

@@ -20,11 +20,13 @@ fn listing_of(
     pool: &mut Interner,
     checkpoint: &Checkpoint,
 ) -> Result<Listing, BuildFault>
-    ensures listing { IfOk result (IsListingOf pool.new.trees checkpoint.now.group checkpoint.now.resource
-        checkpoint.now.namespace checkpoint.now.revision true checkpoint.now.items) }
-    ensures added { OnOk result (pool.new.trees ≡ with_trees pool.old.trees (object_trees checkpoint.now.items)) }
-    ensures full { result ≡ Err BuildFault.PoolFull → pool.old.limit < length (with_trees pool.old.trees
-        (object_trees checkpoint.now.items)) }
+    ensures listing { IfOk result (IsListingOf pool.new.trees checkpoint.now.group
+        checkpoint.now.resource checkpoint.now.namespace checkpoint.now.revision true
+        checkpoint.now.items) }
+    ensures added { OnOk result
+        (pool.new.trees ≡ with_trees pool.old.trees (object_trees checkpoint.now.items)) }
+    ensures full { result ≡ Err BuildFault.PoolFull
+        → pool.old.limit < length (with_trees pool.old.trees (object_trees checkpoint.now.items)) }
     ensures limit { pool.new.limit ≡ pool.old.limit }
 {
     let items = items_of(alloc, pool, checkpoint.items.as_slice())?;
@@ -47,9 +49,10 @@ fn logged_checkpoint(
 ) -> Result<LogEvent, BuildFault>
     requires { number ≤ 2 ^ 32 }
     ensures logged { IfOk result (IsLoggedCheckpoint pool.new.trees number checkpoint.now) }
-    ensures added { OnOk result (pool.new.trees ≡ with_trees pool.old.trees (object_trees checkpoint.now.items)) }
-    ensures full { result ≡ Err BuildFault.PoolFull → pool.old.limit < length (with_trees pool.old.trees
-        (object_trees checkpoint.now.items)) }
+    ensures added { OnOk result
+        (pool.new.trees ≡ with_trees pool.old.trees (object_trees checkpoint.now.items)) }
+    ensures full { result ≡ Err BuildFault.PoolFull
+        → pool.old.limit < length (with_trees pool.old.trees (object_trees checkpoint.now.items)) }
     ensures limit { pool.new.limit ≡ pool.old.limit }
 {
     let listing = listing_of(alloc, pool, checkpoint)?;
@@ -78,9 +81,10 @@ pub fn checkpoints_of(
 ) -> Result<LogEvents, BuildFault>
     requires { length checkpoints.now < 2 ^ 32 }
     ensures logged { IfOk result (AreLoggedCheckpoints pool.new.trees checkpoints.now) }
-    ensures added { OnOk result (pool.new.trees ≡ with_trees pool.old.trees (checkpoint_trees checkpoints.now)) }
-    ensures full { result ≡ Err BuildFault.PoolFull → pool.old.limit < length (with_trees pool.old.trees
-        (checkpoint_trees checkpoints.now)) }
+    ensures added { OnOk result
+        (pool.new.trees ≡ with_trees pool.old.trees (checkpoint_trees checkpoints.now)) }
+    ensures full { result ≡ Err BuildFault.PoolFull
+        → pool.old.limit < length (with_trees pool.old.trees (checkpoint_trees checkpoints.now)) }
     ensures limit { pool.new.limit ≡ pool.old.limit }
 {
     let mut all = LogEvents::new(alloc);

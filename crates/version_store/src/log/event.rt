@@ -37,9 +37,10 @@ fn logged_event(
 ) -> Result<Logged, BuildFault>
     ensures logged { IfOk result (λ logged. IsLoggedAs pool.new.trees classified logged.event) }
     ensures selector { IfOk result (λ logged. logged.selector ≡ selector_in classified.answer) }
-    ensures added { OnOk result (pool.new.trees ≡ with_trees pool.old.trees (answer_trees classified.answer)) }
-    ensures full { result ≡ Err BuildFault.PoolFull → pool.old.limit < length (with_trees pool.old.trees
-        (answer_trees classified.answer)) }
+    ensures added { OnOk result
+        (pool.new.trees ≡ with_trees pool.old.trees (answer_trees classified.answer)) }
+    ensures full { result ≡ Err BuildFault.PoolFull
+        → pool.old.limit < length (with_trees pool.old.trees (answer_trees classified.answer)) }
     ensures limit { pool.new.limit ≡ pool.old.limit }
 {
     let Classified {
@@ -79,7 +80,8 @@ pub struct LoggedEvents {
 
 fn add(all: &mut LoggedEvents, number: u32, logged: Logged) -> Result<(), OutOfMemory>
     ensures event { OnOk result (all.new.events ≡ all.old.events ++ logged.event ∷ []) }
-    ensures selector { OnOk result (AddsSelector number logged.selector all.old.selectors all.new.selectors) }
+    ensures selector { OnOk result (AddsSelector number logged.selector all.old.selectors
+        all.new.selectors) }
 {
     let Logged { event, selector } = logged;
     all.events.push(event)?;
@@ -97,13 +99,14 @@ fn add_all(
     classified: Vec<Classified>,
 ) -> Result<(), BuildFault>
     requires few { length all.old.events + length classified.items < 2 ^ 32 }
-    ensures logged { OnOk result (AddsLogged pool.old.trees pool.new.trees classified.items all.old.events
-        all.new.events) }
+    ensures logged { OnOk result (AddsLogged pool.old.trees pool.new.trees classified.items
+        all.old.events all.new.events) }
     ensures selectors { OnOk result (AddsSelectors all.old.events classified.items all.old.selectors
         all.new.selectors) }
-    ensures added { OnOk result (pool.new.trees ≡ with_trees pool.old.trees (classified_trees classified.items)) }
-    ensures full { result ≡ Err BuildFault.PoolFull → pool.old.limit < length (with_trees pool.old.trees
-        (classified_trees classified.items)) }
+    ensures added { OnOk result
+        (pool.new.trees ≡ with_trees pool.old.trees (classified_trees classified.items)) }
+    ensures full { result ≡ Err BuildFault.PoolFull
+        → pool.old.limit < length (with_trees pool.old.trees (classified_trees classified.items)) }
     ensures limit { pool.new.limit ≡ pool.old.limit }
 {
     for one in classified {
@@ -125,11 +128,13 @@ pub fn events_of<R: Threads + Sync>(
     requires slack { setup.now.slack ≤ 10 ^ 18 }
     requires sound { All IsSound events.now }
     requires few { length events.now < 2 ^ 32 }
-    ensures logged { IfOk result (λ all. AreLoggedEvents setup.now pool.new.trees events.now all.events) }
+    ensures logged { IfOk result (λ all. AreLoggedEvents setup.now pool.new.trees events.now
+        all.events) }
     ensures selectors { IfOk result (λ all. AreSelectorsOf setup.now events.now all.selectors) }
-    ensures added { OnOk result (pool.new.trees ≡ with_trees pool.old.trees (event_trees setup.now events.now)) }
-    ensures full { result ≡ Err BuildFault.PoolFull → pool.old.limit < length (with_trees pool.old.trees
-        (event_trees setup.now events.now)) }
+    ensures added { OnOk result
+        (pool.new.trees ≡ with_trees pool.old.trees (event_trees setup.now events.now)) }
+    ensures full { result ≡ Err BuildFault.PoolFull
+        → pool.old.limit < length (with_trees pool.old.trees (event_trees setup.now events.now)) }
     ensures limit { pool.new.limit ≡ pool.old.limit }
 {
     let mut all = LoggedEvents {

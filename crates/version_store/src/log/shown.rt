@@ -23,7 +23,8 @@ fn item_of(
 ) -> Result<Item, BuildFault>
     ensures item { IfOk result (IsItemOf pool.new.trees (object_of key revision uid tree.now)) }
     ensures added { OnOk result (pool.new.trees ≡ interned pool.old.trees tree.now) }
-    ensures full { result ≡ Err BuildFault.PoolFull → pool.old.limit < length (interned pool.old.trees tree.now) }
+    ensures full { result ≡ Err BuildFault.PoolFull
+        → pool.old.limit < length (interned pool.old.trees tree.now) }
     ensures limit { pool.new.limit ≡ pool.old.limit }
 {
     let node = pool.intern_like(&uid, tree)?;
@@ -35,12 +36,31 @@ fn item_of(
     })
 }
 
+// The same, where the tree is given away: it is let go in one call, once it is in the pool.
+fn item_with(
+    pool: &mut Interner,
+    key: ObjectKey,
+    revision: Revision,
+    uid: Text,
+    tree: Tree,
+) -> Result<Item, BuildFault>
+    ensures item { IfOk result (IsItemOf pool.new.trees (object_of key revision uid tree)) }
+    ensures added { OnOk result (pool.new.trees ≡ interned pool.old.trees tree) }
+    ensures full { result ≡ Err BuildFault.PoolFull
+        → pool.old.limit < length (interned pool.old.trees tree) }
+    ensures limit { pool.new.limit ≡ pool.old.limit }
+{
+    let item = item_of(pool, key, revision, uid, &tree);
+    drop(tree);
+    item
+}
+
 // The item of an object that stays where it is.
 fn copied_item(pool: &mut Interner, object: &SnapshotObject) -> Result<Item, BuildFault>
     ensures item { IfOk result (IsItemOf pool.new.trees object.now) }
     ensures added { OnOk result (pool.new.trees ≡ interned pool.old.trees object.now.tree) }
-    ensures full { result ≡ Err BuildFault.PoolFull → pool.old.limit < length
-        (interned pool.old.trees object.now.tree) }
+    ensures full { result ≡ Err BuildFault.PoolFull
+        → pool.old.limit < length (interned pool.old.trees object.now.tree) }
     ensures limit { pool.new.limit ≡ pool.old.limit }
 {
     let key = object.key.clone()?;
@@ -55,9 +75,10 @@ pub fn items_of(
     objects: &[SnapshotObject],
 ) -> Result<Items, BuildFault>
     ensures items { IfOk result (AreItemsOf pool.new.trees objects.now) }
-    ensures added { OnOk result (pool.new.trees ≡ with_trees pool.old.trees (object_trees objects.now)) }
-    ensures full { result ≡ Err BuildFault.PoolFull → pool.old.limit < length (with_trees pool.old.trees
-        (object_trees objects.now)) }
+    ensures added { OnOk result
+        (pool.new.trees ≡ with_trees pool.old.trees (object_trees objects.now)) }
+    ensures full { result ≡ Err BuildFault.PoolFull
+        → pool.old.limit < length (with_trees pool.old.trees (object_trees objects.now)) }
     ensures limit { pool.new.limit ≡ pool.old.limit }
 {
     let mut items = Items::new(alloc);
@@ -70,7 +91,8 @@ pub fn items_of(
 fn moved_item(pool: &mut Interner, object: SnapshotObject) -> Result<Item, BuildFault>
     ensures item { IfOk result (IsItemOf pool.new.trees object) }
     ensures added { OnOk result (pool.new.trees ≡ interned pool.old.trees object.tree) }
-    ensures full { result ≡ Err BuildFault.PoolFull → pool.old.limit < length (interned pool.old.trees object.tree) }
+    ensures full { result ≡ Err BuildFault.PoolFull
+        → pool.old.limit < length (interned pool.old.trees object.tree) }
     ensures limit { pool.new.limit ≡ pool.old.limit }
 {
     let SnapshotObject {
@@ -79,15 +101,16 @@ fn moved_item(pool: &mut Interner, object: SnapshotObject) -> Result<Item, Build
         uid,
         tree,
     } = object;
-    item_of(pool, key, revision, uid, &tree)
+    item_with(pool, key, revision, uid, tree)
 }
 
 // The items of objects that are given away, so that nothing of them is copied.
 fn moved_items(alloc: Global, pool: &mut Interner, objects: Snapshot) -> Result<Items, BuildFault>
     ensures items { IfOk result (AreItemsOf pool.new.trees objects) }
-    ensures added { OnOk result (pool.new.trees ≡ with_trees pool.old.trees (object_trees objects)) }
-    ensures full { result ≡ Err BuildFault.PoolFull → pool.old.limit < length (with_trees pool.old.trees
-        (object_trees objects)) }
+    ensures added { OnOk result
+        (pool.new.trees ≡ with_trees pool.old.trees (object_trees objects)) }
+    ensures full { result ≡ Err BuildFault.PoolFull
+        → pool.old.limit < length (with_trees pool.old.trees (object_trees objects)) }
     ensures limit { pool.new.limit ≡ pool.old.limit }
 {
     let mut items = Items::new(alloc);
@@ -114,13 +137,49 @@ fn unselected(shown: Shown) -> Told
     }
 }
 
+// What a list shows, of which all parts are given away.
+fn tell_list(
+    alloc: Global,
+    pool: &mut Interner,
+    group: Text,
+    resource: Text,
+    namespace: Text,
+    revision: Revision,
+    whole: bool,
+    objects: Snapshot,
+    selector: Option<Selector>,
+) -> Result<Told, BuildFault>
+    ensures shown { IfOk result (λ told. IsShownAs pool.new.trees
+        (Answer.Listed group resource namespace revision whole objects selector) told.shown) }
+    ensures selector { IfOk result (λ told. told.selector ≡ selector) }
+    ensures added { OnOk result
+        (pool.new.trees ≡ with_trees pool.old.trees (object_trees objects)) }
+    ensures full { result ≡ Err BuildFault.PoolFull
+        → pool.old.limit < length (with_trees pool.old.trees (object_trees objects)) }
+    ensures limit { pool.new.limit ≡ pool.old.limit }
+{
+    let items = moved_items(alloc, pool, objects)?;
+    let listing = Listing {
+        group,
+        resource,
+        namespace,
+        revision,
+        whole,
+        items,
+    };
+    Ok(Told {
+        shown: Shown::Listed { listing },
+        selector,
+    })
+}
+
 /// What an answer shows, once the trees of its objects are in the pool.
 pub fn tell(alloc: Global, pool: &mut Interner, answer: Answer) -> Result<Told, BuildFault>
     ensures shown { IfOk result (λ told. IsShownAs pool.new.trees answer told.shown) }
     ensures selector { IfOk result (λ told. told.selector ≡ selector_in answer) }
     ensures added { OnOk result (pool.new.trees ≡ with_trees pool.old.trees (answer_trees answer)) }
-    ensures full { result ≡ Err BuildFault.PoolFull → pool.old.limit < length (with_trees pool.old.trees
-        (answer_trees answer)) }
+    ensures full { result ≡ Err BuildFault.PoolFull
+        → pool.old.limit < length (with_trees pool.old.trees (answer_trees answer)) }
     ensures limit { pool.new.limit ≡ pool.old.limit }
 {
     match answer {
@@ -131,7 +190,7 @@ pub fn tell(alloc: Global, pool: &mut Interner, answer: Answer) -> Result<Told, 
             tree,
             created,
         } => {
-            let item = item_of(pool, key, revision, uid, &tree)?;
+            let item = item_with(pool, key, revision, uid, tree)?;
             Ok(unselected(Shown::Made { item, created }))
         }
         Answer::Saw {
@@ -140,7 +199,7 @@ pub fn tell(alloc: Global, pool: &mut Interner, answer: Answer) -> Result<Told, 
             uid,
             tree,
         } => {
-            let item = item_of(pool, key, revision, uid, &tree)?;
+            let item = item_with(pool, key, revision, uid, tree)?;
             Ok(unselected(Shown::Saw { item }))
         }
         Answer::Listed {
@@ -151,21 +210,9 @@ pub fn tell(alloc: Global, pool: &mut Interner, answer: Answer) -> Result<Told, 
             whole,
             items,
             selector,
-        } => {
-            let items = moved_items(alloc, pool, items)?;
-            let listing = Listing {
-                group,
-                resource,
-                namespace,
-                revision,
-                whole,
-                items,
-            };
-            Ok(Told {
-                shown: Shown::Listed { listing },
-                selector,
-            })
-        }
+        } => tell_list(
+            alloc, pool, group, resource, namespace, revision, whole, items, selector,
+        ),
         Answer::Removed { key, uid } => Ok(unselected(Shown::Removed { key, uid })),
         Answer::Opaque { cover } => Ok(unselected(Shown::Opaque { cover })),
         Answer::SawNone { key } => Ok(unselected(Shown::SawNone { key })),

@@ -3,20 +3,20 @@ use Rattle.node_pool.specs.Pooled.{Pooled}
 use Rattle.version_store.specs.Log.{IsLogOf}
 use Rattle.version_store.specs.LogTrees.{pooled}
 use Rattle.version_store.specs.declared.log.fault.BuildFault.TheVariants.{PoolFull}
-use Rattle.version_store.proofs.PoolLemmas.{passed_on}
+use Rattle.version_store.proofs.Refusing.{same_fault}
 use Rattle.version_store.proofs.build.gather.Goals as goal
 
 pub found_of-requires-clause-trees : goal.found_of-requires-clause-trees
-found_of-requires-clause-trees g c κs _ = ap (λ (p : Pooled). p.trees) c.in_ok-pool.ensures.same ∙ c.in_ok-log.ensures.pooled
+found_of-requires-clause-trees g c κs _ = ap (λ (p : Pooled). p.trees) c.in_ok-pool.ensures.same ∙ c.in-Ok.ensures.pooled
 
 pub found_of-requires-clause-log : goal.found_of-requires-clause-log
 found_of-requires-clause-log g c κs _ =
-    subst (λ (p : Pooled). IsLogOf c.args.setup.now c.args.events.now p.trees c.in_ok-log.log) (sym c.in_ok-pool.ensures.same) c.in_ok-log.ensures.log
+    subst (λ (p : Pooled). IsLogOf c.args.setup.now c.args.events.now p.trees c.in-Ok.log) (sym c.in_ok-pool.ensures.same) c.in-Ok.ensures.log
 
-pub returns-in_err-log-clause-full : goal.returns-in_err-log-clause-full
-returns-in_err-log-clause-full g c = λ refused.
-    let is : c.log_of.result ≡ Err PoolFull = c.in_err-log.was ∙ ap Err (passed_on c.from_residual-in_err-log.result _ PoolFull c.from_residual-in_err-log.ensures.1 refused) in
+pub returns-in-Err-clause-full : goal.returns-in-Err-clause-full
+returns-in-Err-clause-full g c = λ refused.
+    let is : c.log_of.result ≡ Err PoolFull = c.in-Err.is ∙ ap Err (same_fault c.in-Err.fault PoolFull refused) in
     subst (λ n. n < length (pooled c.args.setup.now c.args.events.now)) c.in_ok-interner.ensures.limit (c.log_of.ensures.full is)
 
 pub returns-clause-fits : goal.returns-clause-fits
-returns-clause-fits g c = subst (λ n. length (pooled c.args.setup.now c.args.events.now) ≤ n) c.in_ok-interner.ensures.limit c.in_ok-log.ensures.fits
+returns-clause-fits g c = subst (λ n. length (pooled c.args.setup.now c.args.events.now) ≤ n) c.in_ok-interner.ensures.limit c.in-Ok.ensures.fits

@@ -7,7 +7,7 @@ returns-clause-same c = λ i. record {
   windows = c.args.found.windows;
   clouds = c.args.found.clouds;
   groups = c.args.found.groups;
-  versions = sym c.in_ok-past.ensures.versions i;
+  versions = sym c.in-Ok.ensures.versions i;
   judged = c.args.found.judged;
-  removals = sym c.in_ok-past.ensures.removals i;
+  removals = sym c.in-Ok.ensures.removals i;
 }
