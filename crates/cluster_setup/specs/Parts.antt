@@ -5,7 +5,9 @@ use Rattle.base_types.specs.Edits.{put}
 use Rattle.base_types.specs.Meaning.{Meaning, flag, whole, items, Fields, no_fields, kids_of}
 use Rattle.cluster_setup.specs.declared.shapes.Shape.{Shape}
 use Rattle.cluster_setup.specs.Files.{group_of, version_of, word}
-use Rattle.cluster_setup.specs.Making.{say, shape, start_tree, with_idle, with_lag}
+use Rattle.cluster_setup.specs.declared.table.Form.{Form}
+use Rattle.cluster_setup.specs.Making.{is_namespaced, say, shape, shapes_of, start_tree, subresources_of, with_idle, with_lag}
+use Rattle.cluster_setup.specs.Table.{patch_of}
 
 -- the members with these texts at these names
 abbrev pub said : List (Bor (List ℕ) × Bor (List ℕ)) → Fields
@@ -37,6 +39,11 @@ with_rules namespaced patch shapes subresources fields =
     (put (codes "shapes") shapes
     (say (codes "objectPatch") patch
     (put (codes "namespaced") (flag namespaced) fields)))
+
+-- how the resource of an entry is judged
+abbrev pub with_rules_of : Meaning → Meaning → Form → Fields → Fields
+with_rules_of document entry form fields =
+    with_rules (is_namespaced entry) (patch_of form) (shapes_of form) (subresources_of document (word (codes "name") entry) form) fields
 
 -- where a log begins, and whether decisions are judged
 abbrev pub with_start : List ℕ → List ℕ → Bool → Fields → Fields

@@ -1,7 +1,8 @@
 ghost use Rattle.std.specs.Prelude.{◌≡◌, IfOk, OnOk};
 ghost use Rattle.base_types.specs.Meaning.{fields_of};
 ghost use Rattle.std.specs.List.{flat_map};
-ghost use Rattle.cluster_setup.specs.Making.{entries_of, objects_of, start_tree, setup_tree, with_lag};
+ghost use Rattle.cluster_setup.specs.Shown.{setup_from};
+ghost use Rattle.cluster_setup.specs.Making.{entries_of, objects_of, start_tree, with_lag};
 ghost use Rattle.cluster_setup.specs.Parts.{with_content, with_start};
 
 use crate::building::{flag, object, put, said, whole};
@@ -46,8 +47,8 @@ fn add_lag(alloc: Global, fields: &mut MemberList, authorize: bool) -> Result<()
 
 // Says where a log begins, and whether decisions are judged.
 fn add_start(alloc: Global, fields: &mut MemberList, given: Given<'_>) -> Result<(), OutOfMemory>
-    ensures { OnOk result (fields_of fields.new ≡ with_start given.entry.revision.now given.entry.time.now
-        given.entry.authorize (fields_of fields.old)) }
+    ensures { OnOk result (fields_of fields.new ≡ with_start given.entry.revision.now
+        given.entry.time.now given.entry.authorize (fields_of fields.old)) }
 {
     put(alloc, fields, "version", whole(1))?;
     let start = start_tree(alloc, given.revision, given.time)?;
@@ -82,8 +83,7 @@ pub fn setup_tree<'a>(
     given: Given<'a>,
     shown: &'a [Tree],
 ) -> Result<Tree, OutOfMemory>
-    ensures { IfOk result (λ tree. tree ≡ setup_tree given.entry.revision.now given.entry.time.now
-        given.entry.policy.now given.entry.trees.now shown.now given.entry.authorize) }
+    ensures { IfOk result (λ tree. tree ≡ setup_from given.entry shown.now) }
 {
     let mut fields = said(alloc, &[("kind", "PastSetup")])?;
     add_start(alloc, &mut fields, given)?;

@@ -5,7 +5,7 @@ ghost use Rattle.setup_file.specs.Reading.{IsTreeOf};
 ghost use Rattle.setup_file.specs.declared.fault.SetupRule.{SetupRule as AnyRule};
 ghost use Rattle.setup_file.specs.declared.fault.SetupFault.TheVariants.{Rule};
 ghost use Rattle.cluster_setup.specs.Answers.{json_line, IsAccepted, IsTextOf, Breaks};
-ghost use Rattle.cluster_setup.specs.Making.{setup_tree};
+ghost use Rattle.cluster_setup.specs.Shown.{setup_from};
 
 use crate::assembling::{Given, setup_tree};
 use crate::telling::line_of;
@@ -19,7 +19,8 @@ use std::alloc::Global;
 /// The tree of a JSON text whose numbers are whole.
 pub fn read_tree(alloc: Global, bytes: &[u8]) -> Result<Option<Tree>, OutOfMemory>
     ensures some { IfOk result (λ found. IfSome found (IsTreeOf bytes.now)) }
-    ensures none { IfOk result (λ found. IfNone found ((tree : Meaning) → IsTreeOf bytes.now tree → ⊥)) }
+    ensures none { IfOk result (λ found.
+        IfNone found ((tree : Meaning) → IsTreeOf bytes.now tree → ⊥)) }
     ensures range { IfOk result (λ found. IfSome found InRange) }
 {
     let value = match Value::from_slice(alloc, bytes) {
@@ -82,11 +83,10 @@ pub fn accept_shown<'a>(
     requires policy { InRange given.policy.now }
     requires trees { All InRange given.trees.now }
     requires shown { All InRange shown.now }
-    ensures text { IfOk result (λ text. IsTextOf (setup_tree given.entry.revision.now given.entry.time.now
-        given.entry.policy.now given.entry.trees.now shown.now given.entry.authorize) (string_bytes text)) }
+    ensures text { IfOk result (λ text.
+        IsTextOf (setup_from given.entry shown.now) (string_bytes text)) }
     ensures broken { (rule : AnyRule) → result ≡ Err (Rule rule)
-        → Breaks (setup_tree given.entry.revision.now given.entry.time.now given.entry.policy.now
-        given.entry.trees.now shown.now given.entry.authorize) rule }
+        → Breaks (setup_from given.entry shown.now) rule }
 {
     let tree = setup_tree(alloc, given, shown)?;
     accept(alloc, &tree)
