@@ -28,7 +28,9 @@ pub fn read_tree(alloc: Global, bytes: &[u8]) -> Result<Option<Tree>, OutOfMemor
         Err(fault) if fault.is_memory() => return Err(OutOfMemory),
         Err(_) => return Ok(None),
     };
-    match from_value(alloc, &value) {
+    let found = from_value(alloc, &value);
+    drop(value);
+    match found {
         Ok(tree) => Ok(Some(tree)),
         Err(TreeFault::Fraction) => Ok(None),
         Err(TreeFault::OutOfMemory) => Err(OutOfMemory),
@@ -40,7 +42,11 @@ fn is_tree_of(alloc: Global, bytes: &[u8], tree: &Tree) -> Result<bool, OutOfMem
     ensures { IfOk result (λ is. IsTrue is ↔ IsTreeOf bytes.now tree.now) }
 {
     match read_tree(alloc, bytes)? {
-        Some(found) => Ok(equal(&found, tree)),
+        Some(found) => {
+            let is = equal(&found, tree);
+            drop(found);
+            Ok(is)
+        }
         None => Ok(false),
     }
 }
@@ -51,7 +57,10 @@ fn print(alloc: Global, tree: &Tree) -> Result<String, OutOfMemory>
     requires { InRange tree.now }
     ensures { IfOk result (λ text. string_bytes text ≡ json_line tree.now) }
 {
-    line_of(to_value(alloc, tree)?.to_string(alloc)?)
+    let value = to_value(alloc, tree)?;
+    let text = value.to_string(alloc);
+    drop(value);
+    line_of(text?)
 }
 
 // The line of a setup's tree, or the rule that it breaks. It is read again as it stands, with its newline.
@@ -89,5 +98,7 @@ pub fn accept_shown<'a>(
         → Breaks (setup_from given.entry shown.now) rule }
 {
     let tree = setup_tree(alloc, given, shown)?;
-    accept(alloc, &tree)
+    let accepted = accept(alloc, &tree);
+    drop(tree);
+    accepted
 }

@@ -107,9 +107,14 @@ fn policy_of(alloc: Global, bytes: &[u8]) -> Result<Option<Tree>, OutOfMemory>
     let Some(tree) = read_tree(alloc, bytes)? else {
         return Ok(None);
     };
-    if is_policy(alloc, &tree)? {
+    let Ok(is) = is_policy(alloc, &tree) else {
+        drop(tree);
+        return Err(OutOfMemory);
+    };
+    if is {
         Ok(Some(tree))
     } else {
+        drop(tree);
         Ok(None)
     }
 }
@@ -215,7 +220,11 @@ fn governed(
 {
     match policy_of(alloc, policy) {
         Ok(found) => match found {
-            Some(tree) => read_out(alloc, time, &tree, files, authorize),
+            Some(tree) => {
+                let made = read_out(alloc, time, &tree, files, authorize);
+                drop(tree);
+                made
+            }
             None => Err(SetupRefusal::Policy),
         },
         Err(_) => Err(SetupRefusal::OutOfMemory),

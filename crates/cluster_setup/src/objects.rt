@@ -42,7 +42,10 @@ fn whole_item(alloc: Global, kind: &str, version: &str, item: &Tree) -> Result<T
     ensures { IfOk result (λ made. made ≡ whole_item kind.now version.now item.now) }
 {
     let mut made = copy(alloc, item)?;
-    complete(alloc, &mut made, kind, version)?;
+    let Ok(()) = complete(alloc, &mut made, kind, version) else {
+        drop(made);
+        return Err(OutOfMemory);
+    };
     Ok(made)
 }
 
