@@ -1,5 +1,5 @@
 -- What a loop over a list makes, one item further.
-use Rattle.std.proofs.Common.{◌≡◌, ℕ, ◌+◌, ◌<◌, List, [], ◌∷◌, ◌++◌, length, get_or, take, drop, append_assoc, sym, ap, subst, ◌∙◌}
+use Rattle.std.proofs.Common.{◌≡◌, ℕ, ◌+◌, ◌<◌, List, [], ◌∷◌, ◌++◌, length, get_or, take, drop, sym, ap, subst, ◌∙◌}
 use Rattle.std.specs.Prelude.{fold}
 use Rattle.std.specs.List.{flat_map}
 use Rattle.std.proofs.lemmas.List.{take_more, drop_more, flat_map_more}
@@ -14,13 +14,6 @@ gathered f xs i x old new within is before after =
 pub folded : {X B : Type 0} (f : B → X → B) (start : B) (xs : List X) (i : ℕ) (d : X) (old new : B)
     → i < length xs → old ≡ fold f start (take i xs) → new ≡ f old (get_or xs i d) → new ≡ fold f start (take (i + 1) xs)
 folded f start xs i d old new within before after = after ∙ ap (λ b. f b (get_or xs i d)) before ∙ sym (fold_more f start xs i d within)
-
--- one item more behind others
-pub one_behind : {A : Type 0} (xs : List A) (i : ℕ) (x item : A) (front old new : List A)
-    → i < length xs → x ≡ get_or xs i x → item ≡ x → old ≡ front ++ take i xs → new ≡ old ++ (item ∷ []) → new ≡ front ++ take (i + 1) xs
-one_behind xs i x item front old new within is same before after =
-    after ∙ ap (λ l. l ++ (item ∷ [])) before ∙ append_assoc front (take i xs) (item ∷ [])
-    ∙ ap (λ l. front ++ l) (ap (λ y. take i xs ++ (y ∷ [])) (same ∙ is) ∙ sym (take_more xs i x within))
 
 -- what holds of an item in front of those behind it holds from its place on
 pub from_here : {A : Type 0} (P : List A → Type 0) (xs : List A) (i : ℕ) (x : A) → i < length xs → x ≡ get_or xs i x → P (x ∷ drop (i + 1) xs) → P (drop i xs)

@@ -20,4 +20,4 @@ AreAccepted given number = (fewer : ℕ) → fewer < number → IsAccepted (setu
 
 -- the refusal names the first file with whose objects it breaks a rule
 abbrev pub IsBlamedFor : Given → SetupRefusal → Type 0
-IsBlamedFor given refusal = IsBlamed given.revision.now given.time.now given.policy.now given.trees.now given.authorize refusal
+IsBlamedFor given = IsBlamed given.revision.now given.time.now given.policy.now given.trees.now given.authorize

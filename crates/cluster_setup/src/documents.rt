@@ -1,4 +1,4 @@
-ghost use Rattle.std.specs.Prelude.{◌≡◌, ◌++◌, IfOk, OnOk, codes};
+ghost use Rattle.std.specs.Prelude.{◌≡◌, IfOk, OnOk, codes};
 ghost use Rattle.base_types.specs.Matching.{combined};
 ghost use Rattle.cluster_setup.specs.Documents.{NamesAdded};
 ghost use Rattle.cluster_setup.specs.Files.{word};
@@ -79,25 +79,13 @@ impl<'a> Document<'a> {
     }
 }
 
-// Puts files, each with the names of its entries, behind others.
-fn add_documents<'a>(
-    alloc: Global,
-    documents: &mut Vec<Document<'a>>,
-    trees: &'a [Tree],
-) -> Result<(), OutOfMemory>
-    ensures { OnOk result (documents.new.items ≡ documents.old.items ++ trees.now) }
-{
-    for tree in trees {
-        documents.push(Document::new(alloc, tree)?)?;
-    }
-    Ok(())
-}
-
 /// Files with the names of their entries.
 pub fn documents_of<'a>(alloc: Global, trees: &'a [Tree]) -> Result<Vec<Document<'a>>, OutOfMemory>
     ensures { IfOk result (λ documents. documents.items ≡ trees.now) }
 {
     let mut documents = Vec::new(alloc);
-    add_documents(alloc, &mut documents, trees)?;
+    for tree in trees {
+        documents.push(Document::new(alloc, tree)?)?;
+    }
     Ok(documents)
 }

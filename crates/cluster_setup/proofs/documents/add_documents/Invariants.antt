@@ -1,5 +1,0 @@
-use Rattle.std.proofs.Common.{◌≡◌, ◌++◌, take}
-use Rattle.cluster_setup.proofs.documents.add_documents.Given as goal
-
-abbrev pub invariant-loop-tree : goal.invariant-loop-tree
-invariant-loop-tree l = l.documents.items ≡ l.initial.documents.items ++ take l.tree-index l.trees
