@@ -1,5 +1,5 @@
-ghost use Rattle.std.specs.Prelude.{◌≡◌, ◌<◌, ◌+◌, ◌&&◌, [], ◌∷◌, List, None, Some, drop, length, is_some, bytes_eq, codes};
-ghost use Rattle.std.specs.Prelude.{IfOk, OnOk, if◌then◌else◌, slice_get};
+ghost use Rattle.std.specs.Prelude.{◌≡◌, ◌<◌, ◌+◌, ◌&&◌, ◌∷◌, List, None, Some, drop, length, is_some, bytes_eq, codes};
+ghost use Rattle.std.specs.Prelude.{[], IfOk, OnOk, slice_get};
 ghost use Rattle.base_types.specs.Meaning.{Meaning};
 ghost use Rattle.cluster_setup.specs.Files.{is_listing, list_revision, metadata_word, or_empty, start_word};
 ghost use Rattle.cluster_setup.specs.Found.{is_listed_again};
