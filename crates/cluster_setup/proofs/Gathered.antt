@@ -1,8 +1,8 @@
 -- What a loop over a list makes, one item further.
-use Rattle.std.proofs.Common.{◌≡◌, ℕ, ◌+◌, ◌<◌, List, [], ◌∷◌, ◌++◌, length, get_or, take, sym, ap, ◌∙◌}
+use Rattle.std.proofs.Common.{◌≡◌, ℕ, ◌+◌, ◌<◌, List, [], ◌∷◌, ◌++◌, length, get_or, take, drop, sym, ap, subst, ◌∙◌}
 use Rattle.std.specs.Prelude.{fold}
 use Rattle.std.specs.List.{flat_map}
-use Rattle.std.proofs.lemmas.List.{take_more, flat_map_more}
+use Rattle.std.proofs.lemmas.List.{take_more, drop_more, flat_map_more}
 use Rattle.std.proofs.lemmas.List.Sums.{fold_more}
 
 pub gathered : {X A : Type 0} (f : X → List A) (xs : List X) (i : ℕ) (x : X) (old new : List A)
@@ -14,3 +14,7 @@ gathered f xs i x old new within is before after =
 pub folded : {X B : Type 0} (f : B → X → B) (start : B) (xs : List X) (i : ℕ) (d : X) (old new : B)
     → i < length xs → old ≡ fold f start (take i xs) → new ≡ f old (get_or xs i d) → new ≡ fold f start (take (i + 1) xs)
 folded f start xs i d old new within before after = after ∙ ap (λ b. f b (get_or xs i d)) before ∙ sym (fold_more f start xs i d within)
+
+-- what holds of an item in front of those behind it holds from its place on
+pub from_here : {A : Type 0} (P : List A → Type 0) (xs : List A) (i : ℕ) (x : A) → i < length xs → x ≡ get_or xs i x → P (x ∷ drop (i + 1) xs) → P (drop i xs)
+from_here P xs i x within is held = subst P (ap (λ y. y ∷ drop (i + 1) xs) is ∙ sym (drop_more xs i x within)) held

@@ -1,12 +1,13 @@
 -- Of which resources there are lists, and with which file first something is wrong.
 use Rattle.std.proofs.Common.{◌≡◌, ℕ, ◌+◌, ◌<◌, List, [], ◌∷◌, length, drop, get_or, Bool, true, false, cond, not, ◌&&◌, ◌||◌, Option, Some, None, bytes_eq, codes, if◌then◌else◌, refl, sym, ◌∙◌, ap, subst, arith}
-use Rattle.std.specs.Prelude.{is_none, is_some, option_map}
+use Rattle.std.specs.Prelude.{is_none, is_some, option_map, slice_get}
 use Rattle.std.specs.BTreeSet.{BTreeSet, Updates, contains_by}
 use Rattle.std.specs.List.{list_any}
 use Rattle.std.specs.Ordering.{is_eq}
 use Rattle.std.proofs.lemmas.List.{at_drop_more, drop_all, drop_more}
 use Rattle.std.proofs.lemmas.Option.{slice_get-get_or}
 use Rattle.base_types.specs.Meaning.{Meaning}
+use Rattle.base_types.proofs.Found.{same_some}
 use Rattle.cluster_setup.specs.declared.fault.FileFault.{FileFault}
 use Rattle.cluster_setup.specs.declared.fault.FileFault.TheVariants.{Pages, Twice, Revision}
 use Rattle.cluster_setup.specs.declared.fault.SetupRefusal.{SetupRefusal}
@@ -165,3 +166,13 @@ pub listed_more : (set : BTreeSet Names) (trees : List Meaning) (at : ℕ) (tree
     → AreListed set (tree ∷ drop (at + 1) trees) → AreListed set (drop at trees)
 listed_more set trees at tree within is held =
     subst (AreListed set) (ap (λ t. t ∷ drop (at + 1) trees) is ∙ sym (drop_more trees at tree within)) held
+
+-- what is wrong with the file at a place, told by the files behind it
+pub refused_told : (trees later : List Meaning) (at : ℕ) (item tree : Meaning) (fault : Option FileFault) → at < length trees → item ≡ get_or trees at item
+    → later ≡ drop (at + 1) trees → fault ≡ file_fault trees later item → slice_get trees at ≡ Some tree
+    → refused_or trees later fault None ≡ refused_or trees (drop (at + 1) trees) (file_fault trees (drop (at + 1) trees) tree) None
+refused_told trees later at item tree fault within is behind told there =
+    let same : item ≡ tree = same_some item tree (ap (λ t. Some t) is ∙ sym (slice_get-get_or trees at item within) ∙ there) in
+    ap (λ f. refused_or trees later f None) told
+    ∙ ap (λ l. refused_or trees l (file_fault trees l item) None) behind
+    ∙ ap (λ t. refused_or trees (drop (at + 1) trees) (file_fault trees (drop (at + 1) trees) t) None) same

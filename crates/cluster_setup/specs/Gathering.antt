@@ -18,13 +18,17 @@ SomeLong (bytes ∷ others) = (most_file < length bytes) ⊎ SomeLong others
 abbrev pub TellsAll : List (List ℕ) → (List ℕ → Option (List ℕ)) → (List ℕ → List ℕ) → Type 0
 TellsAll names left files = (name : List ℕ) → Contains names name → left name ≡ Some (files name)
 
+-- what is left of each other name is as it was
+abbrev pub LeavesOthers : List (List ℕ) → (old left : List ℕ → Option (List ℕ)) → Type 0
+LeavesOthers names old left = (other : List ℕ) → (Contains names other → ⊥) → left other ≡ old other
+
 -- files of these names were read up to the first that is too long, and put behind others; the faults are those of the desk
 pub record AreGathered {A : Type 0} (names before now : List (List ℕ)) (old left : List ℕ → Option (List ℕ)) (faults_before faults_now : ℕ) (found : Result A WholeStop) : Type 0 where
   pub read : OnOk found ((told : List ℕ → List ℕ) → TellsAll names old told → (now ≡ before ++ map told names) × (SomeLong (map told names) → ⊥))
   pub long : IsErrOf found TooLong → (told : List ℕ → List ℕ) → TellsAll names old told → SomeLong (map told names)
   pub fault : IsErrOf found ReadFault → Rose faults_before faults_now
   pub counted : faults_before ≤ faults_now
-  pub others : (other : List ℕ) → (Contains names other → ⊥) → left other ≡ old other
+  pub others : LeavesOthers names old left
 
 -- a policy and files of these names were read up to the first that is too long
 pub record AreGiven (policy : List ℕ) (names : List (List ℕ)) (old left : List ℕ → Option (List ℕ)) (faults_before faults_now : ℕ) (found : Result GivenFiles WholeStop) : Type 0 where
@@ -32,4 +36,4 @@ pub record AreGiven (policy : List ℕ) (names : List (List ℕ)) (old left : Li
       → (given.policy ≡ told policy) × (given.files.items ≡ map told names) × (SomeLong (given.policy ∷ given.files.items) → ⊥))
   pub long : IsErrOf found TooLong → (told : List ℕ → List ℕ) → TellsAll (policy ∷ names) old told → SomeLong (map told (policy ∷ names))
   pub fault : IsErrOf found ReadFault → Rose faults_before faults_now
-  pub others : (other : List ℕ) → (Contains (policy ∷ names) other → ⊥) → left other ≡ old other
+  pub others : LeavesOthers (policy ∷ names) old left

@@ -10,7 +10,7 @@ use Rattle.std.specs.List.{find}
 use Rattle.base_types.specs.Meaning.{Meaning}
 use Rattle.base_types.specs.Texts.{◌>>=◌}
 use Rattle.cluster_setup.specs.declared.finding.Found.{Found}
-use Rattle.cluster_setup.specs.Files.{word, group_of}
+use Rattle.cluster_setup.specs.Files.{word, group_of, is_listing}
 use Rattle.cluster_setup.specs.Found.{found_in, is_entry_for, is_listed_again, source_of}
 use Rattle.cluster_setup.specs.Refusing.{file_fault, first_refused, refused_or}
 
@@ -55,6 +55,10 @@ AreEntries known document entries behind = (list : Meaning) (kind : List ℕ) �
 abbrev pub AreListed : BTreeSet Names → List Meaning → Type 0
 AreListed listed files = (list : Meaning)
     → contains_by (by_names (group_of (word (codes "apiVersion") list)) (word (codes "kind") list)) listed ≡ is_listed_again files list
+
+-- the file is a list, and a later one is another of the same resource
+abbrev pub is_listed_twice : List Meaning → Meaning → Bool
+is_listed_twice later tree = is_listing tree && is_listed_again later tree
 
 -- of the files from a place on, the first with which something is wrong stands here
 abbrev pub IsFirstWrong : List Meaning → ℕ → Option ℕ → Type 0

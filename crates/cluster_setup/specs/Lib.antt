@@ -9,6 +9,7 @@ pub mod Making
 pub mod Names
 pub mod Parts
 pub mod Refusing
+pub mod Shown
 pub mod Table
 pub mod Telling
 pub mod Told

@@ -1,11 +1,14 @@
 -- Parts of what is made, as the code puts them together.
 use Rattle.std.specs.Borrow.{Bor}
 use Rattle.std.specs.Prelude.{ℕ, pos, Bool, List, fold, map, codes}
+use Rattle.std.specs.List.{flat_map}
 use Rattle.base_types.specs.Edits.{put}
 use Rattle.base_types.specs.Meaning.{Meaning, flag, whole, items, Fields, no_fields, kids_of}
 use Rattle.cluster_setup.specs.declared.shapes.Shape.{Shape}
 use Rattle.cluster_setup.specs.Files.{group_of, version_of, word}
-use Rattle.cluster_setup.specs.Making.{say, shape, start_tree, with_idle, with_lag}
+use Rattle.cluster_setup.specs.declared.table.Form.{Form}
+use Rattle.cluster_setup.specs.Making.{entries_of, is_namespaced, objects_of, say, shape, shapes_of, start_tree, subresources_of, with_idle, with_lag}
+use Rattle.cluster_setup.specs.Table.{patch_of}
 
 -- the members with these texts at these names
 abbrev pub said : List (Bor (List ℕ) × Bor (List ℕ)) → Fields
@@ -38,6 +41,11 @@ with_rules namespaced patch shapes subresources fields =
     (say (codes "objectPatch") patch
     (put (codes "namespaced") (flag namespaced) fields)))
 
+-- how the resource of an entry is judged
+abbrev pub with_rules_of : Meaning → Meaning → Form → Fields → Fields
+with_rules_of document entry form fields =
+    with_rules (is_namespaced entry) (patch_of form) (shapes_of form) (subresources_of document (word (codes "name") entry) form) fields
+
 -- where a log begins, and whether decisions are judged
 abbrev pub with_start : List ℕ → List ℕ → Bool → Fields → Fields
 with_start revision time authorize fields =
@@ -46,7 +54,12 @@ with_start revision time authorize fields =
     (put (codes "start") (start_tree revision time)
     (put (codes "version") (whole (pos 1)) fields)))
 
+-- what is tracked, as these files tell of it, and what was there
+abbrev pub with_lists : List Meaning → List Meaning → List Meaning → Fields → Fields
+with_lists told trees shown fields =
+    put (codes "snapshot") (items (kids_of (flat_map (objects_of told) shown)))
+    (put (codes "resources") (items (kids_of (flat_map (entries_of told) trees))) fields)
+
 -- what is recorded, what is tracked, and what was there
 abbrev pub with_content : Meaning → List Meaning → List Meaning → Fields → Fields
-with_content policy resources objects fields =
-    put (codes "snapshot") (items (kids_of objects)) (put (codes "resources") (items (kids_of resources)) (put (codes "policy") policy fields))
+with_content policy trees shown fields = with_lists trees trees shown (put (codes "policy") policy fields)

@@ -14,11 +14,15 @@ use Rattle.cluster_setup.specs.Found.{source_of, is_elsewhere, is_listed_again}
 abbrev pub is_at_start : List Meaning → Meaning → Bool
 is_at_start trees list = is_some (list_revision list) && bytes_eq (metadata_word (codes "resourceVersion") list) (or_empty (start_word trees))
 
+-- what is wrong with a list of a resource that no document has in the list's version
+abbrev pub unfound : List Meaning → Meaning → FileFault
+unfound trees list = if is_elsewhere trees list then Version else Unknown
+
 -- what is wrong with a list among all files, in front of those that are left
 abbrev pub list_fault : List Meaning → List Meaning → Meaning → Option FileFault
 list_fault trees later list =
     if has_more list then Some Pages
-    else (if is_none (source_of trees list) then Some (if is_elsewhere trees list then Version else Unknown)
+    else (if is_none (source_of trees list) then Some (unfound trees list)
     else (if is_listed_again later list then Some Twice
     else (if is_at_start trees list then None else Some Revision)))
 

@@ -1,7 +1,7 @@
-ghost use Rattle.std.specs.Prelude.{◌≡◌, ◌≢◌, ◌∷◌, ℕ, List, true, Contains, IfOk, IsErrOf, IsOk, map, string_bytes};
+ghost use Rattle.std.specs.Prelude.{◌≡◌, ◌≢◌, ◌∷◌, ℕ, List, true, IfOk, IsErrOf, IsOk, map, string_bytes};
 ghost use Rattle.edge_io.specs.Faults.{Rose};
 ghost use Rattle.cluster_setup.specs.Answering.{AnswersMade, IsMadeText};
-ghost use Rattle.cluster_setup.specs.Gathering.{TellsAll};
+ghost use Rattle.cluster_setup.specs.Gathering.{LeavesOthers, TellsAll};
 ghost use Rattle.cluster_setup.specs.Names.{are_distinct};
 ghost use Rattle.cluster_setup.specs.Telling.{refusal_words};
 ghost use Rattle.verdict_text.specs.Words.{ended};
@@ -37,9 +37,10 @@ pub fn make_named<D: Desk>(
         → TellsAll (policy.now ∷ map string_bytes files.now) (D.left desk.old) told
         → AnswersMade authorize time.now (told policy.now) (map string_bytes files.now)
         (map told (map string_bytes files.now)) result }
-    ensures fault { IsErrOf result WholeStop.ReadFault → Rose (D.faults desk.old) (D.faults desk.new) }
-    ensures others { (other : List ℕ) → (Contains (policy.now ∷ map string_bytes files.now) other → ⊥)
-        → D.left desk.new other ≡ D.left desk.old other }
+    ensures fault { IsErrOf result WholeStop.ReadFault
+        → Rose (D.faults desk.old) (D.faults desk.new) }
+    ensures others { LeavesOthers (policy.now ∷ map string_bytes files.now)
+        (D.left desk.old) (D.left desk.new) }
 {
     match read_given(alloc, desk, policy, files) {
         Ok(given) => match made_text(alloc, authorize, time, files, &given) {
@@ -77,7 +78,8 @@ fn refusal_line(
     names: &[String],
     refusal: SetupRefusal,
 ) -> Result<Bytes, OutOfMemory>
-    ensures line { IfOk result (λ line. line ≡ ended (refusal_words (map string_bytes names.now) refusal)) }
+    ensures line { IfOk result (λ line.
+        line ≡ ended (refusal_words (map string_bytes names.now) refusal)) }
     ensures memory { IsOk result → refusal ≢ SetupRefusal.OutOfMemory }
 {
     let line = line_of(refusal_words(alloc, names, refusal)?)?;

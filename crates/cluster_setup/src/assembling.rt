@@ -1,11 +1,11 @@
 ghost use Rattle.std.specs.Prelude.{◌≡◌, IfOk, OnOk};
 ghost use Rattle.base_types.specs.Meaning.{fields_of};
-ghost use Rattle.std.specs.List.{flat_map};
-ghost use Rattle.cluster_setup.specs.Making.{entries_of, objects_of, start_tree, setup_tree, with_lag};
-ghost use Rattle.cluster_setup.specs.Parts.{with_content, with_start};
+ghost use Rattle.cluster_setup.specs.Shown.{setup_from};
+ghost use Rattle.cluster_setup.specs.Making.{start_tree, with_lag};
+ghost use Rattle.cluster_setup.specs.Parts.{with_content, with_lists, with_start};
 
 use crate::building::{flag, object, put, said, whole};
-use crate::documents::documents_of;
+use crate::documents::{Document, documents_of};
 use crate::entries::entries_in;
 use crate::objects::objects_in;
 use crate::sources::Sources;
@@ -46,14 +46,46 @@ fn add_lag(alloc: Global, fields: &mut MemberList, authorize: bool) -> Result<()
 
 // Says where a log begins, and whether decisions are judged.
 fn add_start(alloc: Global, fields: &mut MemberList, given: Given<'_>) -> Result<(), OutOfMemory>
-    ensures { OnOk result (fields_of fields.new ≡ with_start given.entry.revision.now given.entry.time.now
-        given.entry.authorize (fields_of fields.old)) }
+    ensures { OnOk result (fields_of fields.new ≡ with_start given.entry.revision.now
+        given.entry.time.now given.entry.authorize (fields_of fields.old)) }
 {
     put(alloc, fields, "version", whole(1))?;
     let start = start_tree(alloc, given.revision, given.time)?;
     put(alloc, fields, "start", start)?;
     put(alloc, fields, "authorize", flag(given.authorize))?;
     add_lag(alloc, fields, given.authorize)
+}
+
+// Says what is tracked, and what was there, by where resources are told.
+fn add_found<'a>(
+    alloc: Global,
+    fields: &mut MemberList,
+    sources: &Sources<'a>,
+    trees: &'a [Tree],
+    shown: &'a [Tree],
+) -> Result<(), OutOfMemory>
+    ensures { OnOk result (fields_of fields.new
+        ≡ with_lists sources.now trees.now shown.now (fields_of fields.old)) }
+{
+    let entries = entries_in(alloc, sources, trees)?;
+    put(alloc, fields, "resources", entries)?;
+    let objects = objects_in(alloc, sources, shown)?;
+    put(alloc, fields, "snapshot", objects)
+}
+
+// Says what is tracked, and what was there, by all files.
+fn add_told<'a>(
+    alloc: Global,
+    fields: &mut MemberList,
+    documents: &'a [Document<'a>],
+    trees: &'a [Tree],
+    shown: &'a [Tree],
+) -> Result<(), OutOfMemory>
+    ensures { OnOk result (fields_of fields.new
+        ≡ with_lists documents.now trees.now shown.now (fields_of fields.old)) }
+{
+    let sources = Sources::new(alloc, documents)?;
+    add_found(alloc, fields, &sources, trees, shown)
 }
 
 // Says what is recorded, what is tracked, and what was there.
@@ -64,16 +96,11 @@ fn add_content<'a>(
     shown: &'a [Tree],
 ) -> Result<(), OutOfMemory>
     ensures { OnOk result (fields_of fields.new ≡ with_content given.entry.policy.now
-        (flat_map (entries_of given.entry.trees.now) given.entry.trees.now)
-        (flat_map (objects_of given.entry.trees.now) shown.now) (fields_of fields.old)) }
+        given.entry.trees.now shown.now (fields_of fields.old)) }
 {
     put(alloc, fields, "policy", copy(alloc, given.policy)?)?;
     let documents = documents_of(alloc, given.trees)?;
-    let sources = Sources::new(alloc, documents.as_slice())?;
-    let entries = entries_in(alloc, &sources, given.trees)?;
-    put(alloc, fields, "resources", entries)?;
-    let objects = objects_in(alloc, &sources, shown)?;
-    put(alloc, fields, "snapshot", objects)
+    add_told(alloc, fields, documents.as_slice(), given.trees, shown)
 }
 
 /// The setup of all files' resources, with the objects of some of them.
@@ -82,8 +109,7 @@ pub fn setup_tree<'a>(
     given: Given<'a>,
     shown: &'a [Tree],
 ) -> Result<Tree, OutOfMemory>
-    ensures { IfOk result (λ tree. tree ≡ setup_tree given.entry.revision.now given.entry.time.now
-        given.entry.policy.now given.entry.trees.now shown.now given.entry.authorize) }
+    ensures { IfOk result (λ tree. tree ≡ setup_from given.entry shown.now) }
 {
     let mut fields = said(alloc, &[("kind", "PastSetup")])?;
     add_start(alloc, &mut fields, given)?;

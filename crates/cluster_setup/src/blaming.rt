@@ -1,9 +1,9 @@
-ghost use Rattle.std.specs.Prelude.{◌≡◌, ◌≤◌, ◌<◌, ℕ, length, take, All, IfOk, IfErr};
+ghost use Rattle.std.specs.Prelude.{◌≡◌, ◌≤◌, length, All, IfOk, IfErr};
 ghost use Rattle.base_types.specs.Values.{InRange};
 ghost use Rattle.setup_file.specs.declared.fault.SetupRule.{SetupRule as AnyRule};
 ghost use Rattle.setup_file.specs.declared.fault.SetupFault.TheVariants.{Rule};
-ghost use Rattle.cluster_setup.specs.Answers.{Breaks, IsAccepted, IsBlamed, OrMemory, blamed};
-ghost use Rattle.cluster_setup.specs.Making.{setup_tree};
+ghost use Rattle.cluster_setup.specs.Answers.{Breaks, IsAccepted, OrMemory, blamed};
+ghost use Rattle.cluster_setup.specs.Shown.{AreAccepted, IsBlamedFor, setup_from, setup_up_to};
 
 use crate::assembling::Given;
 use crate::fault::{FileFault, SetupRefusal};
@@ -25,14 +25,10 @@ fn blamed(number: usize, rule: SetupRule) -> SetupRefusal
 // The refusal of a setup that breaks a rule with the objects of as many files, and none with those of fewer.
 fn fault_blamed(given: Given<'_>, number: usize, fault: SetupFault) -> SetupRefusal
     requires within { number ≤ length given.trees.now }
-    requires before { (fewer : ℕ) → fewer < number
-        → IsAccepted (setup_tree given.revision.now given.time.now given.policy.now given.trees.now
-        (take fewer given.trees.now) given.authorize) }
+    requires before { AreAccepted given number }
     requires broken { (rule : AnyRule) → fault ≡ Rule rule
-        → Breaks (setup_tree given.revision.now given.time.now given.policy.now given.trees.now
-        (take number given.trees.now) given.authorize) rule }
-    ensures { OrMemory (IsBlamed given.entry.revision.now given.entry.time.now given.entry.policy.now
-        given.entry.trees.now given.entry.authorize) result }
+        → Breaks (setup_up_to given number) rule }
+    ensures { OrMemory (IsBlamedFor given.entry) result }
 {
     match fault {
         SetupFault::Rule(rule) => blamed(number, rule),
@@ -45,14 +41,9 @@ fn try_with(alloc: Global, given: Given<'_>, number: usize) -> Result<(), SetupR
     requires policy { InRange given.policy.now }
     requires trees { All InRange given.trees.now }
     requires within { number ≤ length given.trees.now }
-    requires before { (fewer : ℕ) → fewer < number
-        → IsAccepted (setup_tree given.revision.now given.time.now given.policy.now given.trees.now
-        (take fewer given.trees.now) given.authorize) }
-    ensures accepted { IfOk result (λ done. IsAccepted (setup_tree given.entry.revision.now
-        given.entry.time.now given.entry.policy.now given.entry.trees.now (take number given.entry.trees.now)
-        given.entry.authorize)) }
-    ensures cause { IfErr result (OrMemory (IsBlamed given.entry.revision.now given.entry.time.now
-        given.entry.policy.now given.entry.trees.now given.entry.authorize)) }
+    requires before { AreAccepted given number }
+    ensures accepted { IfOk result (λ done. IsAccepted (setup_up_to given.entry number)) }
+    ensures cause { IfErr result (OrMemory (IsBlamedFor given.entry)) }
 {
     match accept_shown(alloc, given, &given.trees[..number]) {
         Ok(_) => Ok(()),
@@ -64,11 +55,9 @@ fn try_with(alloc: Global, given: Given<'_>, number: usize) -> Result<(), SetupR
 fn try_fewer(alloc: Global, given: Given<'_>) -> Result<(), SetupRefusal>
     requires policy { InRange given.policy.now }
     requires trees { All InRange given.trees.now }
-    ensures accepted { IfOk result (λ done. (fewer : ℕ) → fewer < length given.entry.trees.now
-        → IsAccepted (setup_tree given.entry.revision.now given.entry.time.now given.entry.policy.now
-        given.entry.trees.now (take fewer given.entry.trees.now) given.entry.authorize)) }
-    ensures cause { IfErr result (OrMemory (IsBlamed given.entry.revision.now given.entry.time.now
-        given.entry.policy.now given.entry.trees.now given.entry.authorize)) }
+    ensures accepted { IfOk result (λ done.
+        AreAccepted given.entry (length given.entry.trees.now)) }
+    ensures cause { IfErr result (OrMemory (IsBlamedFor given.entry)) }
 {
     for number in 0..given.trees.len() {
         try_with(alloc, given, number)?;
@@ -81,10 +70,8 @@ pub fn refuse(alloc: Global, given: Given<'_>, fault: SetupFault) -> SetupRefusa
     requires policy { InRange given.policy.now }
     requires trees { All InRange given.trees.now }
     requires broken { (rule : AnyRule) → fault ≡ Rule rule
-        → Breaks (setup_tree given.revision.now given.time.now given.policy.now given.trees.now
-        given.trees.now given.authorize) rule }
-    ensures { OrMemory (IsBlamed given.entry.revision.now given.entry.time.now given.entry.policy.now
-        given.entry.trees.now given.entry.authorize) result }
+        → Breaks (setup_from given given.trees.now) rule }
+    ensures { OrMemory (IsBlamedFor given.entry) result }
 {
     match try_fewer(alloc, given) {
         Ok(_) => fault_blamed(given, given.trees.len(), fault),

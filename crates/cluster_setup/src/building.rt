@@ -71,8 +71,11 @@ pub fn put(
 ) -> Result<(), OutOfMemory>
     ensures { OnOk result (fields_of fields.new ≡ put name.now value (fields_of fields.old)) }
 {
-    let name = Text::from_str(alloc, name)?;
-    fields.put(name, value)?;
+    let Ok(name) = Text::from_str(alloc, name) else {
+        drop(value);
+        return Err(OutOfMemory);
+    };
+    drop(fields.put(name, value)?);
     Ok(())
 }
 

@@ -5,7 +5,7 @@ ghost use Rattle.cluster_setup.specs.Files.{word};
 ghost use Rattle.cluster_setup.specs.Making.{shapes_of, status_shapes_of, same_subresource, idle_subresource};
 ghost use Rattle.cluster_setup.specs.Making.{with_status, with_idle, subresources_of};
 ghost use Rattle.cluster_setup.specs.Making.{is_namespaced, entry_of, form_for, entries_of};
-ghost use Rattle.cluster_setup.specs.Parts.{names_of, with_all_idle, with_rules};
+ghost use Rattle.cluster_setup.specs.Parts.{names_of, with_all_idle, with_rules_of};
 ghost use Rattle.cluster_setup.specs.Table.{patch_of};
 
 use crate::building::{flag, items, object, put, said, say};
@@ -24,7 +24,8 @@ const IDLE: [&str; 6] = ["log", "exec", "attach", "portforward", "proxy", "token
 
 // The subresource that writes its object's status.
 fn status_subresource(alloc: Global, form: Form) -> Result<Tree, OutOfMemory>
-    ensures { IfOk result (λ tree. tree ≡ same_subresource (codes "status") (status_shapes_of form)) }
+    ensures { IfOk result (λ tree.
+        tree ≡ same_subresource (codes "status") (status_shapes_of form)) }
 {
     let mut fields = said(alloc, &[("name", "status"), ("effect", "same")])?;
     let shapes = shape_list(alloc, status_shapes_of(form))?;
@@ -47,7 +48,8 @@ fn add_status(
     resource: &str,
     form: Form,
 ) -> Result<(), OutOfMemory>
-    ensures { OnOk result (list.new.items ≡ with_status document.now resource.now form list.old.items) }
+    ensures { OnOk result (list.new.items
+        ≡ with_status document.now resource.now form list.old.items) }
 {
     if !document.is_served(alloc, resource, "status")? {
         return Ok(());
@@ -63,7 +65,8 @@ fn add_idle(
     resource: &str,
     name: &str,
 ) -> Result<(), OutOfMemory>
-    ensures { OnOk result (list.new.items ≡ with_idle document.now resource.now name.now list.old.items) }
+    ensures { OnOk result (list.new.items
+        ≡ with_idle document.now resource.now name.now list.old.items) }
 {
     if !document.is_served(alloc, resource, name)? {
         return Ok(());
@@ -79,7 +82,8 @@ fn add_all_idle(
     resource: &str,
     names: &[&str],
 ) -> Result<(), OutOfMemory>
-    ensures { OnOk result (list.new.items ≡ with_all_idle document.now resource.now names.now list.old.items) }
+    ensures { OnOk result (list.new.items
+        ≡ with_all_idle document.now resource.now names.now list.old.items) }
 {
     for name in names {
         add_idle(alloc, list, document, resource, *name)?;
@@ -118,9 +122,8 @@ fn add_rules(
     found: Found<'_>,
     form: Form,
 ) -> Result<(), OutOfMemory>
-    ensures { OnOk result (fields_of fields.new ≡ with_rules (is_namespaced found.entry.entry.now)
-        (patch_of form) (shapes_of form)
-        (subresources_of found.entry.document.now (word (codes "name") found.entry.entry.now) form) (fields_of fields.old)) }
+    ensures { OnOk result (fields_of fields.new ≡ with_rules_of found.entry.document.now
+        found.entry.entry.now form (fields_of fields.old)) }
 {
     let Found { document, entry } = found;
     put(alloc, fields, "namespaced", flag(is_namespaced(entry)))?;
@@ -157,7 +160,8 @@ fn entry_of(
     list_kind: &str,
     form: Form,
 ) -> Result<Tree, OutOfMemory>
-    ensures { IfOk result (λ tree. tree ≡ entry_of found.entry.document.now found.entry.entry.now list_kind.now form) }
+    ensures { IfOk result (λ tree. tree ≡ entry_of found.entry.document.now
+        found.entry.entry.now list_kind.now form) }
 {
     let mut fields = names_of(alloc, found, list_kind)?;
     add_rules(alloc, &mut fields, found, form)?;
@@ -180,7 +184,8 @@ fn add_entry<'a>(
     sources: &Sources<'a>,
     list: &'a Tree,
 ) -> Result<(), OutOfMemory>
-    ensures { OnOk result (entries.new.items ≡ entries.old.items ++ entries_of sources.now list.now) }
+    ensures { OnOk result (entries.new.items
+        ≡ entries.old.items ++ entries_of sources.now list.now) }
 {
     let Some(found) = sources.found_for(list) else {
         return Ok(());
@@ -196,7 +201,8 @@ pub fn entries_in<'a>(
     sources: &Sources<'a>,
     trees: &'a [Tree],
 ) -> Result<Tree, OutOfMemory>
-    ensures { IfOk result (λ entries. entries ≡ items (kids_of (flat_map (entries_of sources.now) trees.now))) }
+    ensures { IfOk result (λ entries.
+        entries ≡ items (kids_of (flat_map (entries_of sources.now) trees.now))) }
 {
     let mut entries = Vec::new(alloc);
     for list in trees {

@@ -50,8 +50,8 @@ fn read_files<D: Desk>(
     given: &mut Vec<Bytes>,
 ) -> Result<(), WholeStop>
     requires { are_distinct (map string_bytes names.now) ≡ true }
-    ensures { AreGathered (map string_bytes names.now) given.old.items given.new.items (D.left desk.old)
-        (D.left desk.new) (D.faults desk.old) (D.faults desk.new) result }
+    ensures { AreGathered (map string_bytes names.now) given.old.items given.new.items
+        (D.left desk.old) (D.left desk.new) (D.faults desk.old) (D.faults desk.new) result }
 {
     for name in names {
         match read_input(alloc, desk, name, MOST_FILE) {

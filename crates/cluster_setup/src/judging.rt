@@ -5,7 +5,7 @@ ghost use Rattle.setup_file.specs.Reading.{IsTreeOf};
 ghost use Rattle.setup_file.specs.declared.fault.SetupRule.{SetupRule as AnyRule};
 ghost use Rattle.setup_file.specs.declared.fault.SetupFault.TheVariants.{Rule};
 ghost use Rattle.cluster_setup.specs.Answers.{json_line, IsAccepted, IsTextOf, Breaks};
-ghost use Rattle.cluster_setup.specs.Making.{setup_tree};
+ghost use Rattle.cluster_setup.specs.Shown.{setup_from};
 
 use crate::assembling::{Given, setup_tree};
 use crate::telling::line_of;
@@ -19,7 +19,8 @@ use std::alloc::Global;
 /// The tree of a JSON text whose numbers are whole.
 pub fn read_tree(alloc: Global, bytes: &[u8]) -> Result<Option<Tree>, OutOfMemory>
     ensures some { IfOk result (λ found. IfSome found (IsTreeOf bytes.now)) }
-    ensures none { IfOk result (λ found. IfNone found ((tree : Meaning) → IsTreeOf bytes.now tree → ⊥)) }
+    ensures none { IfOk result (λ found.
+        IfNone found ((tree : Meaning) → IsTreeOf bytes.now tree → ⊥)) }
     ensures range { IfOk result (λ found. IfSome found InRange) }
 {
     let value = match Value::from_slice(alloc, bytes) {
@@ -27,7 +28,9 @@ pub fn read_tree(alloc: Global, bytes: &[u8]) -> Result<Option<Tree>, OutOfMemor
         Err(fault) if fault.is_memory() => return Err(OutOfMemory),
         Err(_) => return Ok(None),
     };
-    match from_value(alloc, &value) {
+    let found = from_value(alloc, &value);
+    drop(value);
+    match found {
         Ok(tree) => Ok(Some(tree)),
         Err(TreeFault::Fraction) => Ok(None),
         Err(TreeFault::OutOfMemory) => Err(OutOfMemory),
@@ -39,7 +42,11 @@ fn is_tree_of(alloc: Global, bytes: &[u8], tree: &Tree) -> Result<bool, OutOfMem
     ensures { IfOk result (λ is. IsTrue is ↔ IsTreeOf bytes.now tree.now) }
 {
     match read_tree(alloc, bytes)? {
-        Some(found) => Ok(equal(&found, tree)),
+        Some(found) => {
+            let is = equal(&found, tree);
+            drop(found);
+            Ok(is)
+        }
         None => Ok(false),
     }
 }
@@ -50,7 +57,10 @@ fn print(alloc: Global, tree: &Tree) -> Result<String, OutOfMemory>
     requires { InRange tree.now }
     ensures { IfOk result (λ text. string_bytes text ≡ json_line tree.now) }
 {
-    line_of(to_value(alloc, tree)?.to_string(alloc)?)
+    let value = to_value(alloc, tree)?;
+    let text = value.to_string(alloc);
+    drop(value);
+    line_of(text?)
 }
 
 // The line of a setup's tree, or the rule that it breaks. It is read again as it stands, with its newline.
@@ -82,12 +92,13 @@ pub fn accept_shown<'a>(
     requires policy { InRange given.policy.now }
     requires trees { All InRange given.trees.now }
     requires shown { All InRange shown.now }
-    ensures text { IfOk result (λ text. IsTextOf (setup_tree given.entry.revision.now given.entry.time.now
-        given.entry.policy.now given.entry.trees.now shown.now given.entry.authorize) (string_bytes text)) }
+    ensures text { IfOk result (λ text.
+        IsTextOf (setup_from given.entry shown.now) (string_bytes text)) }
     ensures broken { (rule : AnyRule) → result ≡ Err (Rule rule)
-        → Breaks (setup_tree given.entry.revision.now given.entry.time.now given.entry.policy.now
-        given.entry.trees.now shown.now given.entry.authorize) rule }
+        → Breaks (setup_from given.entry shown.now) rule }
 {
     let tree = setup_tree(alloc, given, shown)?;
-    accept(alloc, &tree)
+    let accepted = accept(alloc, &tree);
+    drop(tree);
+    accepted
 }

@@ -6,9 +6,9 @@ ghost use Rattle.base_types.specs.Meaning.{Meaning};
 ghost use Rattle.base_types.specs.Values.{InRange};
 ghost use Rattle.timestamps.specs.Timestamps.{moment_of};
 ghost use Rattle.setup_file.specs.Reading.{IsTreeOf};
-ghost use Rattle.cluster_setup.specs.Answers.{IsTextOf, IsBlamed, IsPolicy, IsSetupText, IsRefused, IsMade};
+ghost use Rattle.cluster_setup.specs.Answers.{IsTextOf, IsPolicy, IsSetupText, IsRefused, IsMade};
 ghost use Rattle.cluster_setup.specs.Answers.{IsReadOut, IsUnread, Refuses, OrMemory};
-ghost use Rattle.cluster_setup.specs.Making.{setup_tree};
+ghost use Rattle.cluster_setup.specs.Shown.{IsBlamedFor, setup_from};
 ghost use Rattle.cluster_setup.specs.Refusing.{AreTrees, IsFirstBroken, first_refused};
 ghost use Rattle.cluster_setup.specs.Told.{Tells};
 
@@ -100,15 +100,21 @@ fn is_policy(alloc: Global, tree: &Tree) -> Result<bool, OutOfMemory>
 // Reads an audit policy.
 fn policy_of(alloc: Global, bytes: &[u8]) -> Result<Option<Tree>, OutOfMemory>
     ensures some { IfOk result (λ found. IfSome found (IsPolicy bytes.now)) }
-    ensures none { IfOk result (λ found. IfNone found ((tree : Meaning) → IsPolicy bytes.now tree → ⊥)) }
+    ensures none { IfOk result (λ found.
+        IfNone found ((tree : Meaning) → IsPolicy bytes.now tree → ⊥)) }
     ensures range { IfOk result (λ found. IfSome found InRange) }
 {
     let Some(tree) = read_tree(alloc, bytes)? else {
         return Ok(None);
     };
-    if is_policy(alloc, &tree)? {
+    let Ok(is) = is_policy(alloc, &tree) else {
+        drop(tree);
+        return Err(OutOfMemory);
+    };
+    if is {
         Ok(Some(tree))
     } else {
+        drop(tree);
         Ok(None)
     }
 }
@@ -117,10 +123,9 @@ fn policy_of(alloc: Global, bytes: &[u8]) -> Result<Option<Tree>, OutOfMemory>
 fn judged(alloc: Global, given: Given<'_>) -> Result<String, SetupRefusal>
     requires policy { InRange given.policy.now }
     requires trees { All InRange given.trees.now }
-    ensures made { IfOk result (λ text. IsTextOf (setup_tree given.entry.revision.now given.entry.time.now
-        given.entry.policy.now given.entry.trees.now given.entry.trees.now given.entry.authorize) (string_bytes text)) }
-    ensures cause { IfErr result (OrMemory (IsBlamed given.entry.revision.now given.entry.time.now
-        given.entry.policy.now given.entry.trees.now given.entry.authorize)) }
+    ensures made { IfOk result (λ text.
+        IsTextOf (setup_from given.entry given.entry.trees.now) (string_bytes text)) }
+    ensures cause { IfErr result (OrMemory (IsBlamedFor given.entry)) }
 {
     match accept_shown(alloc, given, given.trees) {
         Ok(text) => Ok(text),
@@ -139,7 +144,8 @@ fn begun(
     requires policy { InRange policy.now }
     requires trees { All InRange trees.now }
     requires sound { first_refused trees.now trees.now ≡ None }
-    ensures made { IfOk result (λ text. IsSetupText time.now policy.now trees.now authorize (string_bytes text)) }
+    ensures made { IfOk result (λ text.
+        IsSetupText time.now policy.now trees.now authorize (string_bytes text)) }
     ensures cause { IfErr result (OrMemory (IsRefused time.now policy.now trees.now authorize)) }
 {
     match start_word(trees) {
@@ -167,7 +173,8 @@ fn setup_of(
 ) -> Result<String, SetupRefusal>
     requires policy { InRange policy.now }
     requires trees { All InRange trees.now }
-    ensures made { IfOk result (λ text. IsSetupText time.now policy.now trees.now authorize (string_bytes text)) }
+    ensures made { IfOk result (λ text.
+        IsSetupText time.now policy.now trees.now authorize (string_bytes text)) }
     ensures cause { IfErr result (OrMemory (IsRefused time.now policy.now trees.now authorize)) }
 {
     match first_refused(alloc, trees) {
@@ -188,7 +195,8 @@ fn read_out(
     authorize: bool,
 ) -> Result<String, SetupRefusal>
     requires { InRange policy.now }
-    ensures made { IfOk result (λ text. IsReadOut time.now policy.now files.now authorize (string_bytes text)) }
+    ensures made { IfOk result (λ text.
+        IsReadOut time.now policy.now files.now authorize (string_bytes text)) }
     ensures cause { IfErr result (OrMemory (IsUnread time.now policy.now files.now authorize)) }
 {
     match read_files(alloc, files) {
@@ -206,12 +214,17 @@ fn governed(
     authorize: bool,
 ) -> Result<String, SetupRefusal>
     requires { is_some (moment_of time.now) ≡ true }
-    ensures made { IfOk result (λ text. IsMade time.now policy.now files.now authorize (string_bytes text)) }
+    ensures made { IfOk result (λ text.
+        IsMade time.now policy.now files.now authorize (string_bytes text)) }
     ensures cause { IfErr result (OrMemory (Refuses time.now policy.now files.now authorize)) }
 {
     match policy_of(alloc, policy) {
         Ok(found) => match found {
-            Some(tree) => read_out(alloc, time, &tree, files, authorize),
+            Some(tree) => {
+                let made = read_out(alloc, time, &tree, files, authorize);
+                drop(tree);
+                made
+            }
             None => Err(SetupRefusal::Policy),
         },
         Err(_) => Err(SetupRefusal::OutOfMemory),
@@ -230,8 +243,10 @@ pub fn make_setup(
     files: &[Bytes],
     authorize: bool,
 ) -> Result<String, SetupRefusal>
-    ensures made { IfOk result (λ text. IsMade time.now policy.now files.now authorize (string_bytes text)) }
-    ensures told { IfOk result (λ text. Tells time.now policy.now files.now authorize (string_bytes text)) }
+    ensures made { IfOk result (λ text.
+        IsMade time.now policy.now files.now authorize (string_bytes text)) }
+    ensures told { IfOk result (λ text.
+        Tells time.now policy.now files.now authorize (string_bytes text)) }
     ensures cause { IfErr result (OrMemory (Refuses time.now policy.now files.now authorize)) }
 {
     match read_moment(time) {

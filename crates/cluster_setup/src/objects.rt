@@ -42,7 +42,10 @@ fn whole_item(alloc: Global, kind: &str, version: &str, item: &Tree) -> Result<T
     ensures { IfOk result (λ made. made ≡ whole_item kind.now version.now item.now) }
 {
     let mut made = copy(alloc, item)?;
-    complete(alloc, &mut made, kind, version)?;
+    let Ok(()) = complete(alloc, &mut made, kind, version) else {
+        drop(made);
+        return Err(OutOfMemory);
+    };
     Ok(made)
 }
 
@@ -54,7 +57,8 @@ fn object_entry(
     version: &str,
     item: &Tree,
 ) -> Result<Tree, OutOfMemory>
-    ensures { IfOk result (λ made. made ≡ object_entry group.now name.now kind.now version.now item.now) }
+    ensures { IfOk result (λ made.
+        made ≡ object_entry group.now name.now kind.now version.now item.now) }
 {
     let mut fields = said(alloc, &[("group", group), ("resource", name)])?;
     let whole = whole_item(alloc, kind, version, item)?;
@@ -72,8 +76,8 @@ fn add_items(
     version: &str,
     list: &[Tree],
 ) -> Result<(), OutOfMemory>
-    ensures { OnOk result (objects.new.items
-        ≡ objects.old.items ++ map (object_entry group.now name.now kind.now version.now) list.now) }
+    ensures { OnOk result (objects.new.items ≡ objects.old.items
+        ++ map (object_entry group.now name.now kind.now version.now) list.now) }
 {
     for item in list {
         objects.push(object_entry(alloc, group, name, kind, version, item)?)?;
@@ -88,7 +92,8 @@ fn add_objects<'a>(
     sources: &Sources<'a>,
     list: &'a Tree,
 ) -> Result<(), OutOfMemory>
-    ensures { OnOk result (objects.new.items ≡ objects.old.items ++ objects_of sources.now list.now) }
+    ensures { OnOk result (objects.new.items
+        ≡ objects.old.items ++ objects_of sources.now list.now) }
 {
     let Some(found) = sources.found_for(list) else {
         return Ok(());
@@ -113,7 +118,8 @@ pub fn objects_in<'a>(
     sources: &Sources<'a>,
     shown: &'a [Tree],
 ) -> Result<Tree, OutOfMemory>
-    ensures { IfOk result (λ objects. objects ≡ items (kids_of (flat_map (objects_of sources.now) shown.now))) }
+    ensures { IfOk result (λ objects.
+        objects ≡ items (kids_of (flat_map (objects_of sources.now) shown.now))) }
 {
     let mut objects = Vec::new(alloc);
     for list in shown {

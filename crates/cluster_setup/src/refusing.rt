@@ -1,12 +1,12 @@
 ghost use Rattle.std.specs.Prelude.{◌≡◌, ◌<◌, ◌+◌, ◌&&◌, ◌∷◌, List, None, Some, drop, length, is_some, bytes_eq, codes};
-ghost use Rattle.std.specs.Prelude.{IfOk, OnOk, if◌then◌else◌, slice_get};
+ghost use Rattle.std.specs.Prelude.{[], IfOk, OnOk, slice_get};
 ghost use Rattle.base_types.specs.Meaning.{Meaning};
 ghost use Rattle.cluster_setup.specs.Files.{is_listing, list_revision, metadata_word, or_empty, start_word};
-ghost use Rattle.cluster_setup.specs.Found.{is_elsewhere, is_listed_again};
-ghost use Rattle.cluster_setup.specs.Indexed.{AreListed, IsFirstWrong};
-ghost use Rattle.cluster_setup.specs.Refusing.{list_fault, file_fault, first_refused, refused_or};
+ghost use Rattle.cluster_setup.specs.Found.{is_listed_again};
+ghost use Rattle.cluster_setup.specs.Indexed.{AreListed, IsFirstWrong, is_listed_twice};
+ghost use Rattle.cluster_setup.specs.Refusing.{list_fault, file_fault, first_refused, refused_or, unfound};
 
-use crate::documents::documents_of;
+use crate::documents::{Document, documents_of};
 use crate::fault::{FileFault, SetupRefusal};
 use crate::files::{has_more, is_discovery, is_listing, list_revision, start_word};
 use crate::finding::{is_elsewhere, is_listed_again, source_of};
@@ -30,7 +30,7 @@ fn is_at(start: &str, list: &Tree) -> bool
 
 // What is wrong with a list of a resource that some document may have in another version.
 fn unfound(trees: &[Tree], list: &Tree) -> FileFault
-    ensures { result ≡ (if is_elsewhere trees.now list.now then FileFault.Version else FileFault.Unknown) }
+    ensures { result ≡ unfound trees.now list.now }
 {
     if is_elsewhere(trees, list) {
         FileFault::Version
@@ -103,7 +103,7 @@ fn is_list_wrong<'a>(sources: &Sources<'a>, start: &str, again: bool, list: &'a 
 // Whether something is wrong with a file; it is told whether it is a list, as is a file behind it, of one resource.
 fn is_wrong<'a>(sources: &Sources<'a>, start: &str, again: bool, tree: &'a Tree) -> bool
     requires { start.now ≡ or_empty (start_word sources.now) }
-    ensures { (later : List Meaning) → again ≡ (is_listing tree.now && is_listed_again later tree.now)
+    ensures { (later : List Meaning) → again ≡ is_listed_twice later tree.now
         → result ≡ is_some (file_fault sources.now later tree.now) }
 {
     if is_discovery(tree) {
@@ -119,7 +119,7 @@ fn is_wrong<'a>(sources: &Sources<'a>, start: &str, again: bool, tree: &'a Tree)
 // Puts a file in front of those behind it. Says whether it is a list of which a file behind it is another.
 fn add_listed<'a>(behind: &mut Listed<'a>, tree: &'a Tree) -> Result<bool, OutOfMemory>
     ensures again { IfOk result (λ again. (later : List Meaning) → AreListed behind.old later
-        → again ≡ (is_listing tree.now && is_listed_again later tree.now)) }
+        → again ≡ is_listed_twice later tree.now) }
     ensures listed { OnOk result ((later : List Meaning) → AreListed behind.old later
         → AreListed behind.new (tree.now ∷ later)) }
 {
@@ -131,23 +131,48 @@ fn add_listed<'a>(behind: &mut Listed<'a>, tree: &'a Tree) -> Result<bool, OutOf
     Ok(!added)
 }
 
+// Where the first file stands with which something is wrong; no list was looked at before.
+fn first_among<'a>(
+    sources: &Sources<'a>,
+    behind: &mut Listed<'a>,
+    trees: &'a [Tree],
+) -> Result<Option<usize>, OutOfMemory>
+    requires told { sources.now ≡ trees.now }
+    requires none { AreListed behind.old [] }
+    ensures { IfOk result (IsFirstWrong trees.now 0) }
+{
+    let start = start_of(trees);
+    let mut first = None;
+    for at in (0..trees.len()).rev() {
+        let tree = &trees[at];
+        let again = add_listed(behind, tree)?;
+        if is_wrong(sources, start, again, tree) {
+            first = Some(at);
+        }
+    }
+    Ok(first)
+}
+
+// The same, of files with the names of their entries.
+fn first_told<'a>(
+    alloc: Global,
+    documents: &'a [Document<'a>],
+    trees: &'a [Tree],
+) -> Result<Option<usize>, OutOfMemory>
+    requires { documents.now ≡ trees.now }
+    ensures { IfOk result (IsFirstWrong trees.now 0) }
+{
+    let sources = Sources::new(alloc, documents)?;
+    let mut behind = BTreeSet::new(alloc);
+    first_among(&sources, &mut behind, trees)
+}
+
 // Where the first file stands with which something is wrong.
 fn first_wrong(alloc: Global, trees: &[Tree]) -> Result<Option<usize>, OutOfMemory>
     ensures { IfOk result (IsFirstWrong trees.now 0) }
 {
     let documents = documents_of(alloc, trees)?;
-    let sources = Sources::new(alloc, documents.as_slice())?;
-    let start = start_of(trees);
-    let mut behind = BTreeSet::new(alloc);
-    let mut first = None;
-    for at in (0..trees.len()).rev() {
-        let tree = &trees[at];
-        let again = add_listed(&mut behind, tree)?;
-        if is_wrong(&sources, start, again, tree) {
-            first = Some(at);
-        }
-    }
-    Ok(first)
+    first_told(alloc, documents.as_slice(), trees)
 }
 
 // Why the file at a place is refused. Only of this file all causes are looked for, each among all other files.

@@ -1,7 +1,7 @@
 ghost use Rattle.std.specs.Prelude.{◌≡◌, ◌∷◌, List, IfOk, OnOk, option_map};
 ghost use Rattle.base_types.specs.Meaning.{Meaning};
 ghost use Rattle.cluster_setup.specs.Found.{found_for};
-ghost use Rattle.cluster_setup.specs.Indexed.{AreEntries, AreSources, source_found};
+ghost use Rattle.cluster_setup.specs.Indexed.{AreEntries, AreSources, pair_of, source_found};
 
 use crate::documents::Document;
 use crate::files::{is_discovery, is_listing};
@@ -45,7 +45,8 @@ fn add_entry<'a>(
     document: &'a Document<'a>,
     entry: &'a Tree,
 ) -> Result<(), OutOfMemory>
-    ensures { OnOk result ((later behind : List Meaning) → AreEntries entries.old document.now later behind
+    ensures { OnOk result ((later behind : List Meaning)
+        → AreEntries entries.old document.now later behind
         → AreEntries entries.new document.now (entry.now ∷ later) behind) }
 {
     if !is_whole_name(word(entry, "name")) {
@@ -76,7 +77,8 @@ fn add_document<'a>(
 }
 
 impl<'a> Sources<'a> {
-    /// These files with their map. They are put in from the last to the first, so that the first of a version and kind stays.
+    /// These files with their map. They are put in from the last to the first, so that the first of a version and
+    /// kind stays.
     pub fn new(alloc: Global, documents: &'a [Document<'a>]) -> Result<Sources<'a>, OutOfMemory>
         ensures { IfOk result (λ sources. sources ≡ documents.now) }
     {
@@ -89,7 +91,7 @@ impl<'a> Sources<'a> {
 
     /// The document that has a list's resource in the list's version, and its entry there.
     pub fn source_found(&self, list: &'a Tree) -> Option<Found<'a>>
-        ensures { option_map (λ found. (found.document.now, found.entry.now)) result ≡ source_found self.now list.now }
+        ensures { option_map pair_of result ≡ source_found self.now list.now }
     {
         let Some(kind) = word(list, "kind").strip_suffix("List") else {
             return None;
@@ -100,7 +102,7 @@ impl<'a> Sources<'a> {
 
     /// The document and its entry of the resource whose list a file is.
     pub fn found_for(&self, list: &'a Tree) -> Option<Found<'a>>
-        ensures { option_map (λ found. (found.document.now, found.entry.now)) result ≡ found_for self.now list.now }
+        ensures { option_map pair_of result ≡ found_for self.now list.now }
     {
         if !is_listing(list) {
             return None;

@@ -54,7 +54,8 @@ fn resources_words(alloc: Global, rule: SetupRule) -> Result<String, OutOfMemory
 }
 
 fn file_words(alloc: Global, name: &str, code: FileFault) -> Result<String, OutOfMemory>
-    ensures { IfOk result (λ text. string_bytes text ≡ codes "file " ++ (name.now ++ (codes " " ++ code_word code))) }
+    ensures { IfOk result (λ text. string_bytes text
+        ≡ codes "file " ++ (name.now ++ (codes " " ++ code_word code))) }
 {
     let word = code_word(alloc, code)?;
     Ok(format!(in alloc; "file {} {}", name, word.as_str())?)
@@ -68,7 +69,8 @@ pub fn refusal_words(
     names: &[String],
     refusal: SetupRefusal,
 ) -> Result<String, OutOfMemory>
-    ensures words { IfOk result (λ text. string_bytes text ≡ refusal_words (map string_bytes names.now) refusal) }
+    ensures words { IfOk result (λ text. string_bytes text
+        ≡ refusal_words (map string_bytes names.now) refusal) }
     ensures memory { IsOk result → refusal ≢ SetupRefusal.OutOfMemory }
 {
     match refusal {

@@ -1,6 +1,6 @@
-use Rattle.std.proofs.Common.{ℕ, take, arith}
+use Rattle.std.proofs.Common.{arith}
 use Rattle.cluster_setup.specs.Answers.{IsAccepted}
-use Rattle.cluster_setup.specs.Making.{setup_tree}
+use Rattle.cluster_setup.specs.Shown.{setup_up_to}
 use Rattle.cluster_setup.proofs.Causes.{one_more}
 use Rattle.cluster_setup.proofs.blaming.try_fewer.Goals as goal
 
@@ -9,6 +9,4 @@ loop-number-init c = λ fewer lt. absurd (omega (arith, lt))
 
 pub loop-number-preserved : goal.loop-number-preserved
 loop-number-preserved c =
-    let g = c.args.given in
-    one_more (λ (k : ℕ). IsAccepted (setup_tree g.revision.now g.time.now g.policy.now g.trees.now (take k g.trees.now) g.authorize)) c.loop-number.number c.loop-number.invariant
-    c.in_ok-try_with.ensures.accepted
+    one_more (λ k. IsAccepted (setup_up_to c.args.given k)) c.loop-number.number c.loop-number.invariant c.in_ok-try_with.ensures.accepted

@@ -1,35 +1,5 @@
-use Rattle.std.proofs.Common.{◌≡◌, ◌+◌, ◌-◌, ◌<◌, length, drop, arith, rules, sym, subst, ◌∙◌}
-use Rattle.std.specs.Prelude.{is_some}
-use Rattle.cluster_setup.specs.Indexed.{AreListed, IsFirstWrong}
-use Rattle.cluster_setup.specs.Refusing.{file_fault}
-use Rattle.cluster_setup.proofs.ListedFacts.{listed_more, wrong_here, wrong_later}
+use Rattle.std.proofs.Common.{◌∙◌}
 use Rattle.cluster_setup.proofs.refusing.first_wrong.Goals as goal
 
-pub loop-at-preserved-then-is_wrong : goal.loop-at-preserved-then-is_wrong
-loop-at-preserved-then-is_wrong c =
-    let trees = c.args.trees.now in
-    let tree = c.index-trees-at.result in
-    let at = c.loop-at.at - 1 in
-    let within : at < length trees = search (rules, arith) in
-    let more : at + 1 ≡ c.loop-at.at = omega (arith, c.loop-at-test.true) in
-    let held = subst (λ n. AreListed c.loop-at.behind (drop n trees)) (sym more) c.loop-at.invariant.0 in
-    let wrong = subst (λ all. c.is_wrong.result ≡ is_some (file_fault all (drop (at + 1) trees) tree)) (c.in_ok-sources.ensures ∙ c.as_slice.ensures.value ∙ c.in_ok-documents.ensures)
-    (c.is_wrong.ensures (drop (at + 1) trees) (c.in_ok-again.ensures.again (drop (at + 1) trees) held)) in (
-      listed_more c.add_listed.new.behind trees at tree within c.index-trees-at.is (c.in_ok-again.ensures.listed (drop (at + 1) trees) held),
-      wrong_here trees at tree within c.index-trees-at.is (sym wrong ∙ c.if-is_wrong.true),
-    )
-
-pub loop-at-preserved : goal.loop-at-preserved
-loop-at-preserved c =
-    let trees = c.args.trees.now in
-    let tree = c.index-trees-at.result in
-    let at = c.loop-at.at - 1 in
-    let within : at < length trees = search (rules, arith) in
-    let more : at + 1 ≡ c.loop-at.at = omega (arith, c.loop-at-test.true) in
-    let held = subst (λ n. AreListed c.loop-at.behind (drop n trees)) (sym more) c.loop-at.invariant.0 in
-    let wrong = subst (λ all. c.is_wrong.result ≡ is_some (file_fault all (drop (at + 1) trees) tree)) (c.in_ok-sources.ensures ∙ c.as_slice.ensures.value ∙ c.in_ok-documents.ensures)
-    (c.is_wrong.ensures (drop (at + 1) trees) (c.in_ok-again.ensures.again (drop (at + 1) trees) held)) in (
-      listed_more c.add_listed.new.behind trees at tree within c.index-trees-at.is (c.in_ok-again.ensures.listed (drop (at + 1) trees) held),
-      wrong_later trees at tree c.loop-at.first within c.index-trees-at.is (sym wrong ∙ c.if-is_wrong.false)
-          (subst (λ n. IsFirstWrong trees n c.loop-at.first) (sym more) c.loop-at.invariant.1),
-    )
+pub first_told-requires : goal.first_told-requires
+first_told-requires c = c.as_slice.ensures.value ∙ c.in_ok-documents.ensures
