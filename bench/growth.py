@@ -1,12 +1,13 @@
 #!/usr/bin/env python3
 """Looks how time grows with logs that are made to be slow.
 
-growth.py PROGRAM [--sizes LIST] [--kinds LIST] [--most SECONDS] [--keep FOLDER]
+growth.py PROGRAM [--companion PROGRAM] [--sizes LIST] [--kinds LIST] [--most SECONDS] [--keep FOLDER]
 
 A writer of requests chooses much of an audit log. Each kind of log below leans on one search of the program. For each
 kind and each size (by default 1000,10000,100000) a setup and a log are made and judged; a line tells the bytes, the
 processor time of all threads, the peak of memory, and by how much the time grew since the size before. n log n grows by
-13 at most for ten times the size. A kind stops where a run takes longer than --most seconds (by default 120).
+13 at most for ten times the size. A kind stops where a run takes longer than --most seconds (by default 120). The last
+two kinds are sifted by the companion (`sift --left`), where it is given.
 
   plain      creates, updates and reads, for comparison
   prefixes   unrecorded creates, each with another generateName
@@ -25,6 +26,8 @@ processor time of all threads, the peak of memory, and by how much the time grew
   clouded    unrecorded writes that changed nothing, each with a revision right behind, and reads whose windows stay open
   names      one object, written over and over
   subjects   bindings that all name one group
+  sift_ids   one line as large as the others together, and these have its audit ID and stage, and differ from it
+  sift_lists EventLists of up to 20,000 events each, delivered twice
 """
 import argparse
 import os
@@ -293,13 +296,29 @@ def bindings(log, size):
     log.setup["policy"]["rules"] = [{"level": "Request", "users": ["p"]}, {"level": "RequestResponse"}]
 
 
+def sift_ids(log, size):
+    large = config_map("c", "x" * min(300 * size, 16_000_000))
+    log.event("create", COLLECTION, 201, large, None, level="Request", auditID="a")
+    for number in range(size - 1):
+        log.event("get", COLLECTION + "/c%d" % number, 200, None, None, level="Metadata", auditID="a")
+
+
+def sift_lists(log, size):
+    for number in range(size // 2):
+        log.write("c%d" % number, "a")
+    lists = [compact({"kind": "EventList", "apiVersion": "audit.k8s.io/v1", "items": []})[:-2]
+             + ",".join(log.lines[at:at + 20000]) + "]}" for at in range(0, size // 2, 20000)]  # a line has 16 MiB
+    log.lines = lists * 2
+
+
+SIFTED = {it.__name__: it for it in (sift_ids, sift_lists)}
 KINDS = {it.__name__: it for it in (plain, prefixes, nested, namespaces, decisions, ends, product, bindings, pages, inserts,
                                     members, spans, absent, resources, clouded, names, subjects)}
 
 
-def judged(program, folder):
+def answered(words, folder):
     """Processor seconds of all threads, peak kilobytes, and the first words of the answer."""
-    ran = subprocess.Popen([program, "judge", "setup.json", "log.json"], cwd=folder, stdout=subprocess.PIPE)
+    ran = subprocess.Popen(words, cwd=folder, stdout=subprocess.PIPE)
     text = ran.stdout.read(80)
     while ran.stdout.read(1 << 20):
         pass
@@ -310,23 +329,26 @@ def judged(program, folder):
 def main():
     words = argparse.ArgumentParser(description=__doc__, formatter_class=argparse.RawDescriptionHelpFormatter)
     words.add_argument("program")
+    words.add_argument("--companion", default="")
     words.add_argument("--sizes", default="1000,10000,100000")
-    words.add_argument("--kinds", default=",".join(KINDS))
+    words.add_argument("--kinds", default="")
     words.add_argument("--most", type=float, default=120)
     words.add_argument("--keep", default="")
     asked = words.parse_args()
-    for kind in asked.kinds.split(","):
+    judge = [os.path.abspath(asked.program), "judge", "setup.json", "log.json"]
+    sift = [os.path.abspath(asked.companion), "sift", "--left", "log.json"]
+    for kind in asked.kinds.split(",") if asked.kinds else [*KINDS, *(SIFTED if asked.companion else ())]:
         before = None
         for size in map(int, asked.sizes.split(",")):
             folder = os.path.join(asked.keep, f"{kind}-{size}") if asked.keep else tempfile.mkdtemp()
             os.makedirs(folder, exist_ok=True)
             log = Log()
-            KINDS[kind](log, size)
+            (KINDS | SIFTED)[kind](log, size)
             for name, text in (("setup.json", compact(log.setup) + "\n"), ("log.json", "\n".join(log.lines) + "\n")):
                 with open(os.path.join(folder, name), "w") as file:
                     file.write(text)
             length = os.path.getsize(os.path.join(folder, "log.json"))
-            taken, peak, answer = judged(os.path.abspath(asked.program), folder)
+            taken, peak, answer = answered(sift if kind in SIFTED else judge, folder)
             grown = "" if before is None else f", {taken / before:.1f} times"
             print(f"{kind:10} {size:7} events {length / 1e6:7.1f} MB {taken:8.2f} s {peak / 1024:7.0f} MB{grown}  {answer}",
                   flush=True)

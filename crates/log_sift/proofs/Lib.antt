@@ -1,8 +1,8 @@
-pub mod CompareFacts
 pub mod CutFacts
 pub mod DistinctFacts
+pub mod EventFacts
+pub mod FoundFacts
 pub mod FrontFacts
-pub mod HomeFacts
 pub mod KeepingFacts
 pub mod LongFacts
 pub mod LoopFacts

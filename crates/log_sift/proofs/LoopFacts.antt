@@ -15,9 +15,8 @@ use Rattle.log_sift.specs.declared.answer.LeftLine.{LeftLine}
 use Rattle.log_sift.specs.declared.answer.Stretch.{Stretch}
 use Rattle.log_sift.specs.declared.answer.Sifting.{Sifting}
 use Rattle.log_sift.specs.declared.recalling.EventIdentity.{EventIdentity}
-use Rattle.log_sift.specs.declared.recalling.Home.{Home}
 use Rattle.log_sift.specs.Cutting.{BeginsWith, line_texts}
-use Rattle.log_sift.specs.Recalling.{AreHomes, SiftsAt}
+use Rattle.log_sift.specs.Recalling.{SiftsBehind, entries_of}
 use Rattle.log_sift.specs.Sift.{SiftsLines}
 use Rattle.log_sift.specs.Sifted.{IsSifting, LiesInLog, count_of, count_stays, kept_text, left_line, left_lines, noted, staying, stays_from, stays_of, stretches_text, with_stretch}
 
@@ -30,14 +29,14 @@ pub record GoesOn (log : List ℕ) (sifting : Sifting) (number from start : ℕ)
   pub kept : count_stays all ≡ sifting.kept + count_stays fates
 
 -- the lines before an index were sifted, and from another on all of them stay
-pub record HasSifted (log : List ℕ) (entries : List (EventIdentity × Home)) (sifting : Sifting) (number from start : ℕ) : Type 0 where
+pub record HasSifted (log : List ℕ) (entries : List (EventIdentity × Event)) (sifting : Sifting) (number from start : ℕ) : Type 0 where
   pub first : from ≤ start
   pub last : start ≤ length log
   pub few : number ≤ start
   pub fewer : sifting.kept ≤ number
   pub within : All (LiesInLog log) sifting.stays
   pub events : List Event
-  pub homes : AreHomes log entries events
+  pub are : entries ≡ entries_of events
   pub goes_on : (fates : List Fate) (after : List Event) → SiftsLines events (lines_of (drop start log)) fates after → GoesOn log sifting number from start fates after
 
 lt_true : (a b : ℕ) → a < b → nat_lt a b ≡ true
@@ -132,28 +131,28 @@ goes_on_before log line sifting number from start next fate fates after first se
 }
 
 -- a line more is sifted
-pub has_sifted : (log line : List ℕ) (entries after : List (EventIdentity × Home)) (sifting : Sifting) (number from start next : ℕ) (fate : Fate) → HasSifted log entries sifting number from start
-    → start < next → next ≤ length log → BeginsWith (drop start log) line (slice_range log start next) (drop next log) → SiftsAt log entries after line fate
+pub has_sifted : (log line : List ℕ) (entries after : List (EventIdentity × Event)) (sifting : Sifting) (number from start next : ℕ) (fate : Fate) → HasSifted log entries sifting number from start
+    → start < next → next ≤ length log → BeginsWith (drop start log) line (slice_range log start next) (drop next log) → SiftsBehind entries after line fate
     → HasSifted log after (noted sifting from start (number + 1) fate) (number + 1) (stays_from from next fate) next
 has_sifted log line entries after sifting number from start next fate has further last begins sifts =
     let f = has.first in
     let l = has.last in
     let n = has.few in
     let second : start ≤ next = omega (arith, further) in
-    let here = sifts has.events has.homes in record {
+    let here = sifts has.events has.are in record {
       first = from_first from start next fate f second;
       last = last;
       few = omega (arith, n, further);
       fewer = kept_few sifting from start number fate has.fewer;
       within = noted_within log sifting from start (number + 1) fate has.within f l;
       events = here.0;
-      homes = here.1;
+      are = here.1;
       goes_on = λ fates kept rest. goes_on_before log line sifting number from start next fate fates kept f second begins
           (has.goes_on (fate ∷ fates) kept (subst (λ lines. SiftsLines has.events lines (fate ∷ fates) kept) (sym begins.lines) (here.0, here.2, rest)));
     }
 
 -- all lines are sifted
-pub all_sifted : (log : List ℕ) (entries : List (EventIdentity × Home)) (sifting told : Sifting) (number from start : ℕ) → HasSifted log entries sifting number from start → length log ≤ start
+pub all_sifted : (log : List ℕ) (entries : List (EventIdentity × Event)) (sifting told : Sifting) (number from start : ℕ) → HasSifted log entries sifting number from start → length log ≤ start
     → told ≡ record sifting { stays = with_stretch sifting.stays from start } → (fates : List Fate) × IsSifting log fates told
 all_sifted log entries sifting told number from start has past is =
     let over : drop start log ≡ [] = drop_all start log past in

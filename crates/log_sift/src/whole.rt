@@ -5,7 +5,7 @@ ghost use Rattle.log_sift.specs.Sifted.{IsSifting, noted, stays_from, with_stret
 use crate::answer::{Fate, LeftLine, LeftLines, Sifting, Stretch, Stretches};
 use crate::cutting::cut_line;
 use crate::keeping::sift_line;
-use crate::recalling::Homes;
+use crate::recalling::KeptEvents;
 use base_types::OutOfMemory;
 use hash_seed::{Seed, Seeded};
 use std::alloc::Global;
@@ -62,10 +62,10 @@ fn stays_from(from: usize, next: usize, fate: Fate) -> usize
 fn sift_lines(
     alloc: Global,
     log: &[u8],
-    homes: &mut Homes,
+    events: &mut KeptEvents,
     sifting: &mut Sifting,
 ) -> Result<(), OutOfMemory>
-    requires homes { homes.old.entries ≡ [] }
+    requires events { events.old.entries ≡ [] }
     requires sifting { sifting.old ≡ record { stays = []; left = []; kept = 0 } }
     ensures { OnOk result ((fates : List Became) × IsSifting log.now fates sifting.new) }
 {
@@ -74,7 +74,7 @@ fn sift_lines(
     let mut start = 0;
     'lines: while start < log.len() {
         let cut = cut_line(log, start);
-        let fate = sift_line(alloc, log, homes, start, cut.end)?;
+        let fate = sift_line(alloc, events, &log[start..cut.end])?;
         number += 1;
         note(sifting, from, start, number, fate)?;
         from = stays_from(from, cut.next, fate);
@@ -95,14 +95,14 @@ fn seed_of(log: &[u8]) -> Seed {
 pub fn sift(alloc: Global, log: &[u8]) -> Result<Sifting, OutOfMemory>
     ensures { IfOk result (λ sifting. (fates : List Became) × IsSifting log.now fates sifting) }
 {
-    let mut homes = Homes::with_hasher(alloc, Seeded::new(seed_of(log)));
+    let mut events = KeptEvents::with_hasher(alloc, Seeded::new(seed_of(log)));
     let mut sifting = Sifting {
         stays: Stretches::new(alloc),
         left: LeftLines::new(alloc),
         kept: 0,
     };
-    let sifted = sift_lines(alloc, log, &mut homes, &mut sifting);
-    drop(homes);
+    let sifted = sift_lines(alloc, log, &mut events, &mut sifting);
+    drop(events);
     match sifted {
         Ok(()) => Ok(sifting),
         Err(OutOfMemory) => Err(OutOfMemory),

@@ -1,4 +1,4 @@
-use Rattle.std.proofs.Common.{◌≡◌, ◌++◌, length, None}
+use Rattle.std.proofs.Common.{◌≡◌, ◌++◌, None}
 use Rattle.std.specs.Vec.Iter.{into_iter_items}
 use Rattle.log_intake.specs.Steps.{InOrder}
 use Rattle.log_sift.specs.Recalling.{Moves}
@@ -8,6 +8,5 @@ use Rattle.log_sift.proofs.keeping.keep_events.Given as goal
 abbrev pub invariant-loop-event : goal.invariant-loop-event
 invariant-loop-event l = record {
   all : l.fn.events ≡ l.yielded ++ into_iter_items l.event-iterator;
-  item : l.item ≡ length l.yielded;
-  moves : Moves l.log l.initial.homes.entries l.homes.entries (λ kept. InOrder KeepsEvent kept l.yielded) None;
+  moves : Moves l.initial.kept.entries l.kept.entries (λ kept. InOrder KeepsEvent kept l.yielded) None;
 }
