@@ -37,6 +37,7 @@ fn is_same(a: &Event, b: &Event) -> bool
 pub fn compare(earlier: &Event, mut event: Event) -> Option<LeftCause>
     ensures { Compares earlier.now event result }
 {
+    // All but the number is compared.
     event.line = earlier.line;
     if is_same(earlier, &event) {
         return None;
