@@ -1,13 +1,14 @@
 -- Bytes are the text of one tree at most, and what a setup's text is read as tells of its tree.
-use Rattle.std.proofs.Common.{◌≡◌, ℕ, inl, inr, List, Some, Ok, Err, sym, ap, ◌∙◌}
+use Rattle.std.proofs.Common.{◌≡◌, ℕ, inl, inr, List, Some, Result, Ok, Err, IfOk, String, Global, string_bytes, sym, ap, subst, ◌∙◌}
 use Rattle.serde_json.specs.Data.{Data}
 use Rattle.serde_json.specs.Read.{read}
 use Rattle.base_types.specs.Meaning.{Meaning}
 use Rattle.base_types.specs.Values.{of_data}
+use Rattle.setup_file.specs.declared.fault.SetupFault.{SetupFault}
 use Rattle.setup_file.specs.declared.fault.SetupRule.{SetupRule}
 use Rattle.setup_file.specs.Reading.{IsTreeOf, ReadsAs, setup_of}
 use Rattle.base_types.proofs.Found.{same_some}
-use Rattle.cluster_setup.specs.Answers.{json_line, IsAccepted, Breaks}
+use Rattle.cluster_setup.specs.Answers.{json_line, IsAccepted, IsTextOf, Breaks}
 
 same_data : (bytes : List ℕ) (d e : Data) → read bytes ≡ Some d → read bytes ≡ Some e → d ≡ e
 same_data bytes d e p q = same_some d e (sym p ∙ q)
@@ -24,3 +25,9 @@ broken_from bytes tree rule own (inr none) = absurd (none.0 tree own)
 
 pub reads_as : (tree : Meaning) → (accepted : IsAccepted tree) → ReadsAs (json_line tree) (Ok accepted.setup)
 reads_as tree accepted = inl (tree, accepted.read, accepted.is)
+
+-- the line of a tree that is accepted is that of what the tree is
+pub shown_text : (result : Result (String Global) SetupFault) (tree made : Meaning) → tree ≡ made → IfOk result (λ text. string_bytes text ≡ json_line tree)
+    → IfOk result (λ text. IsAccepted tree) → IfOk result (λ text. IsTextOf made (string_bytes text))
+shown_text (Ok text) tree made same is accepted = record { is = is ∙ ap json_line same; accepted = subst IsAccepted same accepted }
+shown_text (Err fault) tree made same is accepted = tt

@@ -1,7 +1,5 @@
-use Rattle.std.proofs.Common.{◌≡◌, map, string_bytes, Global, subst, refl, rules}
-use Rattle.cluster_setup.specs.Answering.{IsMadeText}
+use Rattle.std.proofs.Common.{◌≡◌, subst, refl, rules}
 use Rattle.cluster_setup.specs.Answers.{Refuses}
-use Rattle.cluster_setup.specs.declared.answering.MadeText.TheVariants.{Refused}
 use Rattle.cluster_setup.proofs.AnsweringFacts.{no_memory}
 use Rattle.cluster_setup.proofs.answering.made_text.Goals as goal
 

@@ -1,4 +1,4 @@
-use Rattle.std.proofs.Common.{◌≡◌, Err, map, string_bytes, Global, ap}
+use Rattle.std.proofs.Common.{Err, map, string_bytes, Global, ap}
 use Rattle.edge_io.specs.declared.whole.WholeStop.{WholeStop}
 use Rattle.cluster_setup.proofs.AnsweringFacts.{made_of_told, stopped_made}
 use Rattle.cluster_setup.proofs.answering.make_named.Goals as goal
