@@ -4,10 +4,14 @@ use Rattle.std.specs.Option.{option_or}
 use Rattle.std.proofs.lemmas.Option.{slice_get_within}
 use Rattle.history_model.proofs.Members.{apart, at_in, in_at}
 use Rattle.base_types.specs.Meaning.{Meaning}
+use Rattle.base_types.specs.declared.key.ObjectKey.{ObjectKey}
 use Rattle.object_past.specs.declared.version.Version.{Version}
 use Rattle.version_store.specs.Known.{Known}
 use Rattle.history_query.proofs.Alike.{AreAlikeFrom, IsAlikeSince, IsAmong, IsFirstAlike, alike_more, alike_none, alike_past, alike_whole}
-use Rattle.history_query.specs.Blaming.{IsSameAt, IsSince, value_pointed}
+use Rattle.history_query.specs.Appending.{Appends}
+use Rattle.history_query.specs.Blaming.{IsBlame, IsBlameOf, IsSameAt, IsSince, value_pointed}
+use Rattle.history_query.specs.Sights.{IsSight}
+use Rattle.history_query.specs.declared.sight.ObjectSight.{ObjectSight}
 
 -- another version of the version's key, at or below its revision
 abbrev pub IsBefore : Version → Version → Type 0
@@ -76,3 +80,8 @@ since_whole known pointer v since rising known_is so_far = record {
 
     first : IsFirstAlike (λ (w : Version). w.revision) (IsBefore v) (IsSameAt known.trees pointer v) known.versions (length known.versions) (unwrap_or since v)
     first = alike_whole (λ (w : Version). w.revision) (IsBefore v) (IsSameAt known.trees pointer v) known.versions (length known.versions) v since (among v known_is) (refl, omega arith) alone so_far
+
+-- what is told of one sight of the object
+pub blame_told : (known : Known) (key : ObjectKey) (pointer : List (List ℕ)) (place : ℕ) (sight : ObjectSight) (old new : List ℕ) → IsSight known key place sight
+    → Appends (IsBlameOf known pointer sight) old new → Appends (IsBlame known key pointer place) old new
+blame_told known key pointer place sight old new is blamed = record { told = blamed.told; is = (sight, is, blamed.is); behind = blamed.behind }

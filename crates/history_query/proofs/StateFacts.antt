@@ -1,16 +1,15 @@
 -- The texts of keys, one after another.
-use Rattle.std.proofs.Common.{◌≡◌, ℕ, ◌+◌, ◌<◌, Bool, Bor, Option, None, List, [], ◌∷◌, ◌++◌, length, get_or, take, append-nil, refl, sym, ap, ◌∙◌, subst}
+use Rattle.std.proofs.Common.{◌≡◌, ℕ, ◌+◌, ◌<◌, List, [], ◌∷◌, ◌++◌, length, get_or, take, append-nil, refl, sym, ap, ◌∙◌, subst}
 use Rattle.std.proofs.lemmas.List.{flat_map_more, take_more}
 use Rattle.std.proofs.lemmas.Slice.Zip.{all_zipped_more}
 use Rattle.std.specs.List.{AllZip, flat_map}
 use Rattle.base_types.specs.declared.key.ObjectKey.{ObjectKey}
-use Rattle.object_past.specs.declared.version.Version.{Version}
 use Rattle.version_store.specs.Keyed.{AreKeys}
 use Rattle.version_store.specs.Known.{Known}
 use Rattle.history_query.specs.Appending.{Appends}
 use Rattle.history_query.specs.Sights.{IsSight}
-use Rattle.history_query.specs.States.{IsKeyText, IsStateOf}
-use Rattle.history_query.specs.declared.sight.ObjectSight.TheVariants.{Told}
+use Rattle.history_query.specs.States.{IsKeyText, IsStateOf, key_text}
+use Rattle.history_query.specs.declared.sight.ObjectSight.{ObjectSight}
 
 -- the texts of these keys are put behind what was there
 pub record AreTexts (known : Known) (place : ℕ) (keys : List ObjectKey) (old new : List ℕ) : Type 0 where
@@ -41,11 +40,7 @@ texts_whole known place keys old new are h = record {
   behind = h.joined;
 }
 
--- nothing of an object that can only be absent
-pub nothing_told : (known : Known) (place : ℕ) (key : ObjectKey) (present : Option (Bor Version)) (absent : Bool) (old : List ℕ) → present ≡ None
-    → IsSight known key place (Told present absent) → Appends (IsKeyText known place key) old old
-nothing_told known place key present absent old none is = record {
-  told = [];
-  is = (Told None absent, subst (λ p. IsSight known key place (Told p absent)) none is, refl);
-  behind = sym (append-nil old);
-}
+-- of one key
+pub key_told : (known : Known) (place : ℕ) (key : ObjectKey) (sight : ObjectSight) (old new : List ℕ) → IsSight known key place sight → new ≡ old ++ key_text key sight
+    → Appends (IsKeyText known place key) old new
+key_told known place key sight old new is behind = record { told = key_text key sight; is = (sight, is, refl); behind = behind }

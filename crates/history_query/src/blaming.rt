@@ -6,7 +6,7 @@ ghost use Rattle.history_query.specs.Blaming.{value_text};
 
 use crate::json::append_json;
 use crate::sight::{ObjectSight, sight_of};
-use crate::telling::{append_user, append_who, is_untold};
+use crate::telling::{append_piece, append_user, append_who, is_untold};
 use base_types::json::Pointer;
 use base_types::{Bytes, ObjectKey, OutOfMemory};
 use node_pool::{NodeId, Pool};
@@ -46,14 +46,13 @@ fn append_blame(
         (string_bytes text.old) (string_bytes text.new)) }
 {
     match sight_of(context, key, place) {
-        ObjectSight::Clouded => text.push_str("clouded\n")?,
-        ObjectSight::Told { present: None, .. } => text.push_str("absent\n")?,
+        ObjectSight::Clouded => append_piece(text, "clouded\n"),
+        ObjectSight::Told { present: None, .. } => append_piece(text, "absent\n"),
         ObjectSight::Told {
             present: Some(version),
             ..
-        } => append_origin(alloc, text, context, pointer, version)?,
+        } => append_origin(alloc, text, context, pointer, version),
     }
-    Ok(())
 }
 
 // The value in a version, and where it comes from.
@@ -69,8 +68,7 @@ fn append_origin(
         (string_bytes text.old) (string_bytes text.new)) }
 {
     append_value(alloc, text, context, value_in(context, pointer, version))?;
-    append_since(alloc, text, context, since_of(context, pointer, version))?;
-    Ok(())
+    append_since(alloc, text, context, since_of(context, pointer, version))
 }
 
 fn append_value(
@@ -84,10 +82,9 @@ fn append_value(
         ++ value_text (option_and_then (λ node. slice_get context.now.trees node.0) value)) }
 {
     match value {
-        Some(node) => append_tree(alloc, text, context, node)?,
-        None => text.push_str("no value\n")?,
+        Some(node) => append_tree(alloc, text, context, node),
+        None => append_piece(text, "no value\n"),
     }
-    Ok(())
 }
 
 fn append_tree(
@@ -101,9 +98,7 @@ fn append_tree(
         (slice_get context.now.trees node.0)) }
 {
     text.push_str("value ")?;
-    append_json(alloc, text, context.pool(), node)?;
-    text.push_str("\n")?;
-    Ok(())
+    append_json(alloc, text, context.pool(), node)
 }
 
 fn append_since(
@@ -116,11 +111,8 @@ fn append_since(
         ++ since_text context.now.events context.now.log since.now) }
 {
     write!(text, "since {} ", since.revision.get())?;
-    append_who(text, context, since.maker)?;
-    text.push_str(" ")?;
-    append_user(alloc, text, context, since.maker)?;
-    text.push_str("\n")?;
-    Ok(())
+    append_who(text, context.log(), since.maker)?;
+    append_user(alloc, text, context, since.maker)
 }
 
 // The first version from which on, up to this one, each is one of the same object with the same value.

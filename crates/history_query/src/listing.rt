@@ -3,11 +3,12 @@ ghost use Rattle.history_query.specs.Versions.{IsVersionsText, version_lines, re
 ghost use Rattle.history_query.specs.Versions.{version_text, versions_text};
 
 use crate::sight::removal_behind;
-use crate::telling::{append_who, is_tracked, line_at};
+use crate::telling::{append_piece, append_who, is_tracked, line_at};
 use base_types::{Bytes, ObjectKey, OutOfMemory, escape};
 use object_past::{Removal, Version};
 use std::alloc::Global;
 use version_store::Context;
+use write_groups::LogEvent;
 
 /// All versions of a key by revision, each with its uid and who wrote it, and behind the last one of each object that
 /// was removed the range of its removal.
@@ -50,40 +51,37 @@ fn append_lines(
     ensures { OnOk result (string_bytes text.new ≡ string_bytes text.old
         ++ version_lines context.now version.now) }
 {
-    append_version(alloc, text, context, version)?;
-    if let Some(removal) = removal_behind(context.past(), version) {
-        append_removal(text, context, removal)?;
+    let log = context.log();
+    append_version(alloc, text, log, version)?;
+    match removal_behind(context.past(), version) {
+        Some(removal) => append_removal(text, log, removal),
+        None => Ok(()),
     }
-    Ok(())
 }
 
 fn append_version(
     alloc: Global,
     text: &mut String,
-    context: &Context,
+    log: &[LogEvent],
     version: &Version,
 ) -> Result<(), OutOfMemory>
     ensures { OnOk result (string_bytes text.new ≡ string_bytes text.old
-        ++ version_text context.now.log version.now) }
+        ++ version_text log.now version.now) }
 {
     let uid = escape(alloc, &version.uid)?;
     let revision = version.revision.get();
-    write!(text, "{revision} {} ", uid.as_str())?;
-    append_who(text, context, version.maker)?;
-    text.push_str("\n")?;
-    Ok(())
+    let wrote = write!(text, "{revision} {} ", uid.as_str());
+    drop(uid);
+    wrote?;
+    append_who(text, log, version.maker)?;
+    append_piece(text, "\n")
 }
 
-fn append_removal(
-    text: &mut String,
-    context: &Context,
-    removal: &Removal,
-) -> Result<(), OutOfMemory>
+fn append_removal(text: &mut String, log: &[LogEvent], removal: &Removal) -> Result<(), OutOfMemory>
     ensures { OnOk result (string_bytes text.new ≡ string_bytes text.old
-        ++ removal_text context.now.log (Some removal.now)) }
+        ++ removal_text log.now (Some removal.now)) }
 {
     let range = removal.range;
-    let line = line_at(context, range.event);
-    writeln!(text, "removed {} {} {line}", range.low, range.high)?;
-    Ok(())
+    let line = line_at(log, range.event);
+    Ok(writeln!(text, "removed {} {} {line}", range.low, range.high)?)
 }

@@ -4,7 +4,7 @@ ghost use Rattle.history_query.specs.Shown.{ShowsKnown};
 
 use crate::json::append_json;
 use crate::sight::{ObjectSight, sight_of};
-use crate::telling::is_untold;
+use crate::telling::{append_piece, is_untold};
 use base_types::{Bytes, ObjectKey, OutOfMemory};
 use object_past::Version;
 use std::alloc::Global;
@@ -39,13 +39,12 @@ fn append_sight(
         ++ sight_text context.now.trees sight.entry) }
 {
     match sight {
-        ObjectSight::Clouded => text.push_str("clouded\n")?,
+        ObjectSight::Clouded => append_piece(text, "clouded\n"),
         ObjectSight::Told { present, absent } => {
             append_present(alloc, text, context, present)?;
-            append_absent(text, absent)?;
+            append_absent(text, absent)
         }
     }
-    Ok(())
 }
 
 fn append_present(
@@ -58,10 +57,10 @@ fn append_present(
     ensures { OnOk result (string_bytes text.new ≡ string_bytes text.old
         ++ present_text context.now.trees (option_map (λ version. version.now) present.entry)) }
 {
-    if let Some(version) = present {
-        append_version(alloc, text, context, version)?;
+    match present {
+        Some(version) => append_version(alloc, text, context, version),
+        None => Ok(()),
     }
-    Ok(())
 }
 
 fn append_version(
@@ -77,16 +76,14 @@ fn append_version(
     // For the proof alone: the pool has the tree of each version.
     let _versions = context.versions();
     write!(text, "present {} ", version.revision.get())?;
-    append_json(alloc, text, context.pool(), version.node)?;
-    text.push_str("\n")?;
-    Ok(())
+    append_json(alloc, text, context.pool(), version.node)
 }
 
 fn append_absent(text: &mut String, absent: bool) -> Result<(), OutOfMemory>
     ensures { OnOk result (string_bytes text.new ≡ string_bytes text.old ++ absent_text absent) }
 {
     if absent {
-        text.push_str("absent\n")?;
+        return append_piece(text, "absent\n");
     }
     Ok(())
 }

@@ -1,7 +1,8 @@
-ghost use Rattle.std.specs.Prelude.{◌≡◌, ◌++◌, ◌∷◌, [], codes, IfOk, OnOk, string_bytes};
+ghost use Rattle.std.specs.Prelude.{◌≡◌, ◌++◌, ◌∷◌, [], codes, IfOk, OnOk, option_map, string_bytes};
 ghost use Rattle.base_types.specs.Keys.{key_spelling};
 ghost use Rattle.history_query.specs.Appending.{Appends};
-ghost use Rattle.history_query.specs.States.{IsKeyText, IsStateOf, IsStateText, presence_text, presence_word};
+ghost use Rattle.history_query.specs.States.{IsKeyText, IsStateOf, IsStateText, key_text, presence_text};
+ghost use Rattle.history_query.specs.States.{presence_word};
 ghost use Rattle.verdict_text.specs.Words.{ended, spaced};
 ghost use Rattle.version_store.specs.Keyed.{AreKeys};
 
@@ -43,7 +44,7 @@ fn append_keys(
     Ok(())
 }
 
-// What can be told of a key, nothing where its object can only be absent.
+// What can be told of a key.
 fn append_key(
     alloc: Global,
     text: &mut String,
@@ -54,15 +55,22 @@ fn append_key(
     ensures { OnOk result (Appends (IsKeyText context.now place key.now) (string_bytes text.old)
         (string_bytes text.new)) }
 {
-    match sight_of(context, key, place) {
-        ObjectSight::Clouded => append_clouded(alloc, text, key)?,
-        ObjectSight::Told {
-            present: Some(version),
-            absent,
-        } => append_presence(alloc, text, key, version, absent)?,
-        ObjectSight::Told { present: None, .. } => {}
+    append_key_sight(alloc, text, key, sight_of(context, key, place))
+}
+
+fn append_key_sight(
+    alloc: Global,
+    text: &mut String,
+    key: &ObjectKey,
+    sight: ObjectSight<'_>,
+) -> Result<(), OutOfMemory>
+    ensures { OnOk result (string_bytes text.new ≡ string_bytes text.old
+        ++ key_text key.now sight.entry) }
+{
+    match sight {
+        ObjectSight::Clouded => append_clouded(alloc, text, key),
+        ObjectSight::Told { present, absent } => append_presence(alloc, text, key, present, absent),
     }
-    Ok(())
 }
 
 fn append_clouded(alloc: Global, text: &mut String, key: &ObjectKey) -> Result<(), OutOfMemory>
@@ -70,25 +78,31 @@ fn append_clouded(alloc: Global, text: &mut String, key: &ObjectKey) -> Result<(
         ++ ended (spaced (codes "clouded" ∷ key_spelling key.now ∷ []))) }
 {
     let spelled = key_text(alloc, key)?;
-    writeln!(text, "clouded {}", spelled.as_str())?;
-    Ok(())
+    let wrote = writeln!(text, "clouded {}", spelled.as_str());
+    drop(spelled);
+    Ok(wrote?)
 }
 
+// Nothing where the object can only be absent.
 fn append_presence(
     alloc: Global,
     text: &mut String,
     key: &ObjectKey,
-    version: &Version,
+    present: Option<&Version>,
     absent: bool,
 ) -> Result<(), OutOfMemory>
     ensures { OnOk result (string_bytes text.new ≡ string_bytes text.old ++ presence_text key.now
-        (Some version.now) absent) }
+        (option_map (λ version. version.now) present.entry) absent) }
 {
+    let Some(version) = present else {
+        return Ok(());
+    };
     let word = presence_word(absent);
     let spelled = key_text(alloc, key)?;
     let revision = version.revision.get();
-    writeln!(text, "{word} {} {revision}", spelled.as_str())?;
-    Ok(())
+    let wrote = writeln!(text, "{word} {} {revision}", spelled.as_str());
+    drop(spelled);
+    Ok(wrote?)
 }
 
 fn presence_word(absent: bool) -> &'static str

@@ -1,12 +1,16 @@
-ghost use Rattle.std.specs.Prelude.{◌≡◌, ◌<◌, ◌↔◌, ◌++◌, IsTrue, OnOk, slice_get, string_bytes};
+ghost use Rattle.std.specs.Prelude.{◌≡◌, ◌<◌, ◌↔◌, ◌++◌, codes, IsTrue, OnOk, option_map, string_bytes};
+ghost use Rattle.base_types.specs.Escapes.{escaped};
 ghost use Rattle.history_query.specs.Telling.{IsBelowStart, IsTracked, IsUntold, user_or_none, user_text, who_text};
+ghost use Rattle.verdict_text.specs.Words.{ended};
 ghost use Rattle.write_groups.specs.Lines.{line_at};
 
-use base_types::{ObjectKey, OutOfMemory, escape};
+use audit_event::Event;
+use base_types::{ObjectKey, OutOfMemory, Text, escape};
 use object_past::Maker;
 use setup_file::{Setup, Tracked};
-use std::alloc::Global;
+use std::alloc::{AllocError, Global};
 use version_store::Context;
+use write_groups::LogEvent;
 
 fn is_of(tracked: &Tracked, key: &ObjectKey) -> bool
     ensures { IsTrue result ↔ ((tracked.now.group ≡ key.now.group)
@@ -37,29 +41,58 @@ pub fn is_untold(context: &Context, key: &ObjectKey, place: u64) -> bool
 }
 
 /// The line of the event of this number.
-pub fn line_at(context: &Context, number: u32) -> u64
-    ensures { result ≡ line_at context.now.log number }
+pub fn line_at(log: &[LogEvent], number: u32) -> u64
+    ensures { result ≡ line_at log.now number }
 {
-    match context.log().get(number as usize) {
+    match log.get(number as usize) {
         Some(event) => event.line,
         None => 0,
     }
 }
 
-/// Appends the line of the write that made a version, `snapshot` or `unknown`.
-pub fn append_who(text: &mut String, context: &Context, maker: Maker) -> Result<(), OutOfMemory>
-    ensures { OnOk result (string_bytes text.new ≡ string_bytes text.old
-        ++ who_text context.now.log maker) }
+/// Appends a piece of a text.
+pub fn append_piece(text: &mut String, piece: &str) -> Result<(), OutOfMemory>
+    ensures { OnOk result (string_bytes text.new ≡ string_bytes text.old ++ piece.now) }
 {
-    match maker {
-        Maker::Snapshot => text.push_str("snapshot")?,
-        Maker::Event(number) => write!(text, "{}", line_at(context, number))?,
-        Maker::Unknown => text.push_str("unknown")?,
-    }
-    Ok(())
+    Ok(text.push_str(piece)?)
 }
 
-/// Appends who authenticated for that write, or `-` where no line tells of it.
+/// Appends the line of the write that made a version, `snapshot` or `unknown`.
+pub fn append_who(text: &mut String, log: &[LogEvent], maker: Maker) -> Result<(), AllocError>
+    ensures { OnOk result (string_bytes text.new ≡ string_bytes text.old
+        ++ who_text log.now maker) }
+{
+    match maker {
+        Maker::Snapshot => text.push_str("snapshot"),
+        Maker::Event(number) => write!(text, "{}", line_at(log, number)),
+        Maker::Unknown => text.push_str("unknown"),
+    }
+}
+
+// The event that made a version, where a line tells of it.
+fn write_of(context: &Context, maker: Maker) -> Option<&Event>
+    ensures { user_text context.now.events maker
+        ≡ user_or_none (option_map (λ event. event.now) result) }
+{
+    match maker {
+        Maker::Event(number) => context.events().get(number as usize),
+        Maker::Snapshot => None,
+        Maker::Unknown => None,
+    }
+}
+
+// Appends a name as the last word of a line.
+fn append_name(alloc: Global, text: &mut String, name: &Text) -> Result<(), OutOfMemory>
+    ensures { OnOk result (string_bytes text.new
+        ≡ string_bytes text.old ++ ended (codes " " ++ escaped name.now)) }
+{
+    let word = escape(alloc, name)?;
+    let wrote = writeln!(text, " {}", word.as_str());
+    drop(word);
+    Ok(wrote?)
+}
+
+/// Appends as the last word of a line who authenticated for that write, or `-` where no line tells of it.
 pub fn append_user(
     alloc: Global,
     text: &mut String,
@@ -67,29 +100,10 @@ pub fn append_user(
     maker: Maker,
 ) -> Result<(), OutOfMemory>
     ensures { OnOk result (string_bytes text.new ≡ string_bytes text.old
-        ++ user_text context.now.events maker) }
+        ++ ended (codes " " ++ user_text context.now.events maker)) }
 {
-    match maker {
-        Maker::Event(number) => append_author(alloc, text, context, number)?,
-        Maker::Snapshot => text.push_str("-")?,
-        Maker::Unknown => text.push_str("-")?,
+    match write_of(context, maker) {
+        Some(event) => append_name(alloc, text, &event.user.name),
+        None => append_piece(text, " -\n"),
     }
-    Ok(())
-}
-
-// Appends who authenticated for the event of this number.
-fn append_author(
-    alloc: Global,
-    text: &mut String,
-    context: &Context,
-    number: u32,
-) -> Result<(), OutOfMemory>
-    ensures { OnOk result (string_bytes text.new ≡ string_bytes text.old ++ user_or_none
-        (slice_get context.now.events number)) }
-{
-    match context.events().get(number as usize) {
-        Some(event) => text.push_str(escape(alloc, &event.user.name)?.as_str())?,
-        None => text.push_str("-")?,
-    }
-    Ok(())
 }

@@ -20,7 +20,7 @@ use Rattle.history_model.specs.Runs.{IsStep}
 use Rattle.history_model.specs.States.{Cut, cuts}
 use Rattle.history_model.specs.Words.{Word, Makes, Removes, At, Strays, Nothing, word}
 use Rattle.serial_machine.proofs.Unmade.{lt_true, true_lt}
-use Rattle.serial_machine.specs.Ordered.{puts_above, placed_puts, placed_removal, placed_removals, placed_at, reply_before, replies_from, placed_replies}
+use Rattle.serial_machine.specs.Ordered.{puts_above, versions_above, placed_puts, placed_removal, placed_removals, placed_at, reply_before, replies_from, placed_replies}
 
 pub pairs_append : {X : Type 0} (R : X → X → Type 0) (xs ys : List X) → AllPairs R xs → AllPairs R ys → ((x y : X) → Contains xs x → Contains ys y → R x y) → AllPairs R (xs ++ ys)
 pairs_append R [] ys p q across = q
@@ -44,7 +44,7 @@ put_from start (x ∷ xs) step c = go (nat_lt start x.revision) refl c (λ d. pu
     more : (v : Version) × (step ≡ Put v) × Contains xs v × (start < v.revision) → (v : Version) × (step ≡ Put v) × Contains (x ∷ xs) v × (start < v.revision)
     more (v, e, d, l) = (v, e, there x v xs d, l)
 
-    go : (t : Bool) → nat_lt start x.revision ≡ t → Contains (cond t (Put x ∷ puts_above start xs) (puts_above start xs)) step
+    go : (t : Bool) → nat_lt start x.revision ≡ t → Contains (map Put (cond t (x ∷ versions_above start xs) (versions_above start xs))) step
         → (Contains (puts_above start xs) step → (v : Version) × (step ≡ Put v) × Contains xs v × (start < v.revision))
         → (v : Version) × (step ≡ Put v) × Contains (x ∷ xs) v × (start < v.revision)
     go true t d rest = by (in_cons (Put x) (puts_above start xs) step d)
@@ -59,7 +59,7 @@ put_in start [] v c l = absurd (not_in_none c)
 put_in start (x ∷ xs) v c l = go (nat_lt start x.revision) refl (in_cons x xs v c) (λ d. put_in start xs v d l)
   where
     go : (t : Bool) → nat_lt start x.revision ≡ t → (x ≡ v) ⊎ Contains xs v → (Contains xs v → Contains (puts_above start xs) (Put v))
-        → Contains (cond t (Put x ∷ puts_above start xs) (puts_above start xs)) (Put v)
+        → Contains (map Put (cond t (x ∷ versions_above start xs) (versions_above start xs))) (Put v)
     go true t (inl e) rest = subst (λ z. Contains (Put x ∷ puts_above start xs) (Put z)) e (here (Put x) (puts_above start xs))
     go true t (inr d) rest = there (Put x) (Put v) (puts_above start xs) (rest d)
     go false t (inl e) rest = absurd (true≢false (sym (true_lt start v.revision l) ∙ ap (λ (z : Version). nat_lt start z.revision) (sym e) ∙ t))
@@ -80,7 +80,7 @@ puts_apart start (x ∷ xs) rising = go (nat_lt start x.revision) (puts_apart st
         by : (v : Version) × (step ≡ Put v) × Contains xs v × (start < v.revision) → ⊥
         by (v, p, d, l) = let same : x ≡ v = cc (e, p) in omega (arith, all_at (λ (z : Version). x.revision < z.revision) xs v (pairs_head (λ a b. a.revision < b.revision) x xs rising) d, ap (λ (z : Version). z.revision) same)
 
-    go : (t : Bool) → AllPairs (λ (a b : Step). a ≢ b) (puts_above start xs) → AllPairs (λ (a b : Step). a ≢ b) (cond t (Put x ∷ puts_above start xs) (puts_above start xs))
+    go : (t : Bool) → AllPairs (λ (a b : Step). a ≢ b) (puts_above start xs) → AllPairs (λ (a b : Step). a ≢ b) (map Put (cond t (x ∷ versions_above start xs) (versions_above start xs)))
     go true rest = pairs_cons (λ (a b : Step). a ≢ b) (Put x) (puts_above start xs) (all_from (λ b. Put x ≢ b) (puts_above start xs) other) rest
     go false rest = rest
 

@@ -15,8 +15,8 @@ use Rattle.history_model.specs.Words.{Word, Makes, Removes, At, Strays, Nothing,
 use Rattle.serial_machine.specs.Checks.{check_code}
 use Rattle.serial_machine.specs.Held.{HasMade, end_of_steps, unmade_puts}
 use Rattle.serial_machine.specs.Places.{AreOutOfCaches}
-use Rattle.serial_machine.specs.declared.entry.StepFault.{StepFault}
-use Rattle.serial_machine.specs.declared.entry.StepFault.TheVariants as fault
+use Rattle.serial_machine.specs.declared.fault.CheckFault.{CheckFault}
+use Rattle.serial_machine.specs.declared.fault.CheckFault.TheVariants as fault
 use Rattle.serial_machine.specs.declared.machine.Machine.{Machine}
 
 -- the line is that of this event, with its words
@@ -70,7 +70,7 @@ pub data IsWrong (h : History) (done : List Step) (placed : PlacedLine) (code : 
       → ((other : Reason) → HasStepCode h (map_before h done step) step other → code_number reason ≤ code_number other) → IsWrong h done placed code
 
 -- the fault is that of the line; want of memory says nothing
-abbrev pub IsFaultOfLine : History → List Step → PlacedLine → StepFault → Type 0
+abbrev pub IsFaultOfLine : History → List Step → PlacedLine → CheckFault → Type 0
 IsFaultOfLine h done placed (fault.Wrong line code) = (line ≡ placed.line) × IsWrong h done placed (check_code code)
 IsFaultOfLine h done placed fault.OutOfMemory = Unit {0}
 

@@ -1,5 +1,5 @@
 -- The steps of a placement, and the order in which they are made.
-use Rattle.std.specs.Prelude.{◌≡◌, ℕ, zero, suc, ◌+◌, Bool, true, false, if◌then◌else◌, nat_lt, List, [], ◌∷◌, Option, Some, None, map, All, length, option_and_then, slice_get}
+use Rattle.std.specs.Prelude.{◌≡◌, ℕ, zero, suc, ◌+◌, Bool, true, false, nat_lt, List, [], ◌∷◌, Option, Some, None, filter, map, All, length, option_and_then, slice_get}
 use Rattle.std.specs.Ordering.{ordering_then, bool_cmp, nat_cmp}
 use Rattle.std.specs.declared.cmp.Ordering.{Ordering}
 use Rattle.base_types.specs.declared.placed.PlacedAnswer.{PlacedAnswer}
@@ -14,10 +14,12 @@ use Rattle.serial_machine.specs.Stepping.{step_of}
 use Rattle.serial_machine.specs.declared.rows.Row.{Row}
 use Rattle.serial_machine.specs.declared.rows.StepTurn.{StepTurn}
 
+abbrev pub versions_above : ℕ → List Version → List Version
+versions_above start versions = filter (λ v. nat_lt start v.revision) versions
+
 -- the writes of all versions above the start
 abbrev pub puts_above : ℕ → List Version → List Step
-puts_above start [] = []
-puts_above start (v ∷ versions) = if nat_lt start v.revision then Put v ∷ puts_above start versions else puts_above start versions
+puts_above start versions = map Put (versions_above start versions)
 
 abbrev pub placed_puts : History → List Step
 placed_puts h = puts_above h.start h.versions

@@ -11,7 +11,7 @@ ghost use Rattle.version_store.specs.Histories.{history_of};
 use crate::checking::check;
 use crate::fault::{CheckFault, WrongCode};
 use base_types::{Bytes, OutOfMemory, Placement};
-use std::alloc::Global;
+use std::alloc::{AllocError, Global};
 use version_store::Context;
 
 /// What a placement comes to that is checked.
@@ -37,37 +37,25 @@ pub fn verify(
     }
 }
 
-fn code_text(alloc: Global, code: WrongCode) -> Result<String, OutOfMemory>
-    ensures { IfOk result (λ text. string_bytes text ≡ code_text code) }
-{
-    let text = match code {
-        WrongCode::V1 => format!(in alloc; "V1")?,
-        WrongCode::V2 => format!(in alloc; "V2")?,
-        WrongCode::Judged(reason) => {
-            let number = reason.number();
-            format!(in alloc; "U{number}")?
-        }
-    };
-    Ok(text)
-}
-
-fn wrong_text(alloc: Global, line: u64, code: WrongCode) -> Result<String, OutOfMemory>
+fn wrong_text(alloc: Global, line: u64, code: WrongCode) -> Result<String, AllocError>
     ensures { IfOk result (λ text. string_bytes text
         ≡ ended (spaced (codes "wrong" ∷ decimal line ∷ code_text code ∷ []))) }
 {
-    let name = code_text(alloc, code)?;
-    let text = format!(in alloc; "wrong {line} {}\n", name.as_str())?;
-    Ok(text)
+    match code {
+        WrongCode::V1 => format!(in alloc; "wrong {line} V1\n"),
+        WrongCode::V2 => format!(in alloc; "wrong {line} V2\n"),
+        WrongCode::Judged(reason) => {
+            let number = reason.number();
+            format!(in alloc; "wrong {line} U{number}\n")
+        }
+    }
 }
 
-fn checked_text(alloc: Global, checked: &Checked) -> Result<String, OutOfMemory>
+fn checked_text(alloc: Global, checked: &Checked) -> Result<String, AllocError>
     ensures { IfOk result (λ text. string_bytes text ≡ checked_text checked.now) }
 {
     match checked {
-        Checked::Holds => {
-            let text = format!(in alloc; "holds\n")?;
-            Ok(text)
-        }
+        Checked::Holds => format!(in alloc; "holds\n"),
         Checked::Wrong { line, code } => wrong_text(alloc, *line, *code),
     }
 }

@@ -13,7 +13,7 @@ ghost use Rattle.serial_machine.specs.Stepping.{step_of};
 ghost use Rattle.version_store.specs.Histories.{history_of};
 ghost use Rattle.write_groups.specs.declared.event.LogEvent.{LogEvent};
 
-use crate::fault::WrongCode;
+use crate::fault::{CheckFault, StepFault, WrongCode};
 use crate::lines::has_words;
 use crate::machine::Machine;
 use crate::places::{answer_place, decision_places, is_out_of_caches, is_outside};
@@ -21,31 +21,10 @@ use crate::scene::{Scene, has_no_maker};
 use crate::step::Step;
 use crate::verdicts::verdict;
 use crate::words::{PlacementWord, removal_by, word_at};
-use base_types::{OutOfMemory, PlacedLine, Reason};
+use base_types::{PlacedLine, Reason};
 use object_past::Version;
-use std::alloc::Global;
-use thiserror::Error;
 use version_store::Context;
 use write_groups::LogEvent;
-
-/// Why a machine doesn't make a line of a placement.
-#[derive(Clone, Copy, Debug, PartialEq, Eq, Error)]
-pub enum StepFault {
-    #[error("line {line} of the placement is wrong")]
-    Wrong { line: u64, code: WrongCode },
-    #[error("out of memory")]
-    OutOfMemory,
-}
-
-impl From<OutOfMemory> for StepFault {
-    ghost use Rattle.serial_machine.specs.declared.entry.StepFault.TheVariants as fault;
-
-    ghost from_gives = { λ _ made. made ≡ fault.OutOfMemory };
-
-    fn from(_: OutOfMemory) -> StepFault {
-        StepFault::OutOfMemory
-    }
-}
 
 // The number of the event of this line.
 fn number_at(log: &[LogEvent], line: u64) -> Option<u32>
@@ -148,7 +127,6 @@ fn strays(context: &Context, number: u32) -> bool
 
 // The line's step, where the line is right; none where its event says nothing.
 fn right_step<'a>(
-    alloc: Global,
     context: &'a Context,
     machine: &Machine,
     placed: &PlacedLine,
@@ -163,19 +141,19 @@ fn right_step<'a>(
 {
     let line = placed.line;
     let Some(number) = event_of_line(context, placed) else {
-        return Err(StepFault::Wrong {
+        return Err(CheckFault::Wrong {
             line,
             code: WrongCode::V1,
         });
     };
     if is_astray(context, placed, number) {
-        return Err(StepFault::Wrong {
+        return Err(CheckFault::Wrong {
             line,
             code: WrongCode::V2,
         });
     }
     if strays(context, number) {
-        return Err(StepFault::Wrong {
+        return Err(CheckFault::Wrong {
             line,
             code: WrongCode::Judged(Reason::U3),
         });
@@ -188,8 +166,8 @@ fn right_step<'a>(
         machine,
         upto: step.place(),
     };
-    if let Some(code) = verdict(alloc, scene, step)? {
-        return Err(StepFault::Wrong {
+    if let Some(code) = verdict(scene, step)? {
+        return Err(CheckFault::Wrong {
             line,
             code: WrongCode::Judged(code),
         });
@@ -241,12 +219,7 @@ impl Machine {
 
     /// Makes the line of a placement: puts the versions without a maker up to its place, and then makes its step. The
     /// context is that of the machine. A line that is wrong, and want of memory, leave the machine as it was.
-    pub fn step(
-        &mut self,
-        alloc: Global,
-        context: &Context,
-        placed: &PlacedLine,
-    ) -> Result<(), StepFault>
+    pub fn step(&mut self, context: &Context, placed: &PlacedLine) -> Result<(), StepFault>
         requires { (done : List model.Step) × HasMade (history_of context.now) self.old done
             × StandsBehind (history_of context.now) done placed.now }
         ensures made { OnOk result ((done : List model.Step)
@@ -257,7 +230,7 @@ impl Machine {
             → IsFaultOfLine (history_of context.now) done placed.now fault) }
         ensures as_before { OnErr result (self.new ≡ self.old) }
     {
-        if let Some(step) = right_step(alloc, context, self, placed)? {
+        if let Some(step) = right_step(context, self, placed)? {
             self.put_unmade(context, step.place());
             self.make(step);
         }

@@ -4,7 +4,7 @@ use base_types::{OutOfMemory, Reason};
 use thiserror::Error;
 
 /// What is wrong with a line of a placement.
-#[derive(Clone, Copy, Debug, PartialEq, Eq)]
+#[derive(Clone, Copy, Debug)]
 pub enum WrongCode {
     /// The placement or the log lacks the line, or the line doesn't have the words of its event.
     V1,
@@ -14,15 +14,18 @@ pub enum WrongCode {
     Judged(Reason),
 }
 
-/// Why a placement doesn't hold.
-#[derive(Clone, Copy, Debug, PartialEq, Eq, Error)]
+/// Why a placement doesn't hold, or a machine doesn't make a line of one.
+#[derive(Clone, Copy, Debug, Error)]
 pub enum CheckFault {
-    /// The first fault.
+    /// Of a placement the first fault, of a line the only one.
     #[error("line {line} of the placement is wrong")]
     Wrong { line: u64, code: WrongCode },
     #[error("out of memory")]
     OutOfMemory,
 }
+
+/// Why a machine doesn't make a line of a placement.
+pub type StepFault = CheckFault;
 
 impl From<OutOfMemory> for CheckFault {
     ghost use Rattle.serial_machine.specs.declared.fault.CheckFault.TheVariants as fault;

@@ -23,6 +23,5 @@ mod words;
 
 pub use checked::{Checked, one_answer_law, print_checked, verify};
 pub use checking::check;
-pub use entry::StepFault;
-pub use fault::{CheckFault, WrongCode};
+pub use fault::{CheckFault, StepFault, WrongCode};
 pub use machine::Machine;

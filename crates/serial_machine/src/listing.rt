@@ -9,7 +9,6 @@ use crate::replies::is_shown;
 use crate::scene::Scene;
 use crate::shown::{shown_keys, unshown_keys};
 use base_types::{ObjectKey, OutOfMemory};
-use std::alloc::Global;
 use write_groups::{Item, Listing};
 
 // Whether the list of this number rightly shows the item.
@@ -87,7 +86,6 @@ fn are_lacked(
 
 /// Whether the list that the event of this number was answered with is right at the place.
 pub fn is_list_right(
-    alloc: Global,
     scene: Scene<'_>,
     number: u32,
     place: u64,
@@ -101,6 +99,7 @@ pub fn is_list_right(
     if place != listing.revision.get() {
         return Ok(false);
     }
+    let alloc = scene.machine.alloc;
     let Some(shown) = shown_keys(alloc, listing.items.as_slice())? else {
         return Ok(false);
     };

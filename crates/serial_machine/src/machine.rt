@@ -20,9 +20,11 @@ use version_store::Context;
 /// Of each key that ever has an object, the revision of the object that is there.
 pub type Objects = BTreeMap<ObjectKey, Option<u64>>;
 
-/// The serial API machine: the objects of a cluster, which one step after another changes. The steps take no memory.
+/// The serial API machine: the objects of a cluster, which one step after another changes. The steps take no memory;
+/// the judgement of some does, by the allocator of the start.
 #[derive(Drop)]
 pub struct Machine {
+    pub(crate) alloc: Global,
     pub(crate) objects: Objects,
     // Where the last step was.
     pub(crate) place: u64,
@@ -89,6 +91,7 @@ impl Machine {
             let _none = objects.insert(key.clone()?, revision)?;
         }
         Ok(Machine {
+            alloc,
             objects,
             place: start,
         })

@@ -16,7 +16,6 @@ use crate::listing::is_list_right;
 use crate::scene::Scene;
 use base_types::{ObjectKey, OutOfMemory, Reason};
 use object_past::Version;
-use std::alloc::Global;
 use version_store::Context;
 use write_groups::{Item, LogEvent, Preconditions, Shown};
 
@@ -117,7 +116,6 @@ fn is_other(scene: Scene<'_>, key: &ObjectKey, place: u64, asked: &Preconditions
 
 // Whether the answer is right at the place.
 fn is_right(
-    alloc: Global,
     scene: Scene<'_>,
     number: u32,
     event: &LogEvent,
@@ -141,7 +139,7 @@ fn is_right(
         Shown::SawNone { key } => Ok(is_absent(scene, key, place)),
         Shown::SawSome { key } => Ok(is_present(scene, key, place)),
         Shown::SawOther { key } => Ok(is_other(scene, key, place, &event.preconditions)),
-        Shown::Listed { listing } => is_list_right(alloc, scene, number, place, listing),
+        Shown::Listed { listing } => is_list_right(scene, number, place, listing),
         Shown::Free => Ok(true),
         Shown::Aside => Ok(true),
     }
@@ -185,7 +183,6 @@ fn wrong_code(context: &Context, number: u32, event: &LogEvent) -> Reason
 
 /// The least code why the event's answer isn't right at the place.
 pub fn reply_verdict(
-    alloc: Global,
     scene: Scene<'_>,
     number: u32,
     event: &LogEvent,
@@ -197,7 +194,7 @@ pub fn reply_verdict(
     ensures { IfOk result (IsVerdictOn (history_of scene.entry.context.now)
         (scene_objects scene.entry) (model.Reply number (event_of event.now) place)) }
 {
-    if is_right(alloc, scene, number, event, place)? {
+    if is_right(scene, number, event, place)? {
         return Ok(None);
     }
     Ok(Some(wrong_code(scene.context, number, event)))

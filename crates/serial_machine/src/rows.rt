@@ -133,7 +133,7 @@ fn removal_rows<'a>(
 {
     let log = context.log();
     let removals = context.past().removals();
-    let mut rows = Vec::with_capacity(alloc, removals.len())?;
+    let mut rows = Vec::new(alloc);
     for removal in removals {
         let place = line_place(lines, removal.range.event);
         rows.push(removal_row(log, removal, place))?;
@@ -141,16 +141,25 @@ fn removal_rows<'a>(
     Ok(rows)
 }
 
+fn placed_at(answer: PlacedAnswer) -> Option<u64>
+    ensures { result ≡ placed_at answer }
+{
+    match answer {
+        PlacedAnswer::Made(_) => None,
+        PlacedAnswer::Removed(_) => None,
+        PlacedAnswer::At(place) => Some(place),
+        PlacedAnswer::Nowhere => None,
+    }
+}
+
 // Where the line of this number puts an answer.
 fn answer_at(lines: &[PlacedLine], number: u32) -> Option<u64>
     ensures { result ≡ option_and_then (λ line. placed_at line.answer)
         (slice_get lines.now number) }
 {
-    match lines.get(number as usize)?.answer {
-        PlacedAnswer::Made(_) => None,
-        PlacedAnswer::Removed(_) => None,
-        PlacedAnswer::At(place) => Some(place),
-        PlacedAnswer::Nowhere => None,
+    match lines.get(number as usize) {
+        Some(line) => placed_at(line.answer),
+        None => None,
     }
 }
 

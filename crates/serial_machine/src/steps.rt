@@ -20,7 +20,6 @@ use version_store::Context;
 
 // Why the step isn't allowed on the objects that the machine holds.
 fn step_verdict(
-    alloc: Global,
     context: &Context,
     machine: &Machine,
     step: Step<'_>,
@@ -37,12 +36,11 @@ fn step_verdict(
         machine,
         upto: machine.place,
     };
-    verdict(alloc, scene, step)
+    verdict(scene, step)
 }
 
 // Makes one step after another, up to the first that isn't allowed.
 fn run(
-    alloc: Global,
     context: &Context,
     machine: Machine,
     rows: &[Row<'_>],
@@ -57,7 +55,7 @@ fn run(
 {
     let mut machine = machine;
     for row in rows {
-        if let Some(code) = step_verdict(alloc, context, &machine, row.step)? {
+        if let Some(code) = step_verdict(context, &machine, row.step)? {
             return Ok(Some((row.turn.line, code)));
         }
         machine.make(row.step);
@@ -80,5 +78,5 @@ pub fn steps_fault(
 {
     let rows = rows_of(alloc, context, lines)?;
     let machine = Machine::start(alloc, context)?;
-    run(alloc, context, machine, &rows)
+    run(context, machine, &rows)
 }

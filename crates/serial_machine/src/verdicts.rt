@@ -14,16 +14,11 @@ use crate::scene::Scene;
 use crate::step::{Step, event_at};
 use base_types::{ObjectKey, OutOfMemory, Range, Reason, Revision, Text};
 use object_past::{Maker, Removal, Version};
-use std::alloc::Global;
 use version_store::Context;
 use write_groups::LogEvent;
 
 // Why the version's maker can't have made it of the object before it.
-fn put_verdict(
-    alloc: Global,
-    scene: Scene<'_>,
-    version: &Version,
-) -> Result<Option<Reason>, OutOfMemory>
+fn put_verdict(scene: Scene<'_>, version: &Version) -> Result<Option<Reason>, OutOfMemory>
     requires { Contains (history_of scene.context.now).versions (version_of version.now) }
     ensures { IfOk result (IsVerdictOn (history_of scene.entry.context.now)
         (scene_objects scene.entry) (model.Put (version_of version.now))) }
@@ -33,7 +28,9 @@ fn put_verdict(
     match version.maker {
         Maker::Event(number) => {
             let before = scene.object(&version.key);
-            scene.context.making_fault(alloc, number, before)
+            scene
+                .context
+                .making_fault(scene.machine.alloc, number, before)
         }
         Maker::Snapshot => Ok(None),
         Maker::Unknown => Ok(None),
@@ -107,23 +104,19 @@ fn remove_verdict(scene: Scene<'_>, removal: &Removal) -> Option<Reason>
 }
 
 /// The least code why the step isn't allowed on the objects of the scene; None where it is.
-pub fn verdict(
-    alloc: Global,
-    scene: Scene<'_>,
-    step: Step<'_>,
-) -> Result<Option<Reason>, OutOfMemory>
+pub fn verdict(scene: Scene<'_>, step: Step<'_>) -> Result<Option<Reason>, OutOfMemory>
     requires known { IsOfHistory (history_of scene.context.now) (step_of step) }
     requires rooms { HasRooms (history_of scene.context.now) scene.machine.now.objects }
     ensures { IfOk result (IsVerdictOn (history_of scene.entry.context.now)
         (scene_objects scene.entry) (step_of step.entry)) }
 {
     match step {
-        Step::Put(version) => put_verdict(alloc, scene, version),
+        Step::Put(version) => put_verdict(scene, version),
         Step::Remove { removal, place: _ } => Ok(remove_verdict(scene, removal)),
         Step::Reply {
             number,
             event,
             place,
-        } => reply_verdict(alloc, scene, number, event, place),
+        } => reply_verdict(scene, number, event, place),
     }
 }
