@@ -5,7 +5,8 @@ one byte alone once.
     python3 bench/faults.py crates/kubepast/out/kubepast [crates/companion/out/companion] [--every N] [--jobs N]
 
 A run has to end with the text and status of the run without faults, or with 8 (no memory), 5 (a read failed) or 6 (a write
-failed); with 8 and 5 nothing was written, with 6 a beginning of the text. A signal or a hang is a failure. It needs `cc`.
+failed); with 8 and 5 nothing was written, with 6 a beginning of the text. A word that isn't UTF-8 has to end with `usage` and
+2. A signal or a hang is a failure. It needs `cc`.
 """
 
 import argparse
@@ -21,6 +22,13 @@ HERE = os.path.dirname(os.path.abspath(__file__))
 EXAMPLES = os.path.join(os.path.dirname(HERE), "examples")
 KINDS = {"alloc": 0, "read": 1, "write": 2, "short-read": 1, "short-write": 2}
 SECONDS = 20
+NOT_TEXT = b"\xff"
+
+
+def shown(word):
+    if isinstance(word, bytes):
+        return repr(word)
+    return os.path.relpath(word, EXAMPLES) if word.startswith(EXAMPLES) else word
 
 
 class Bench:
@@ -91,6 +99,7 @@ def question_cases(program):
     yield [program, "blame", *read, key, "/data", place], None
     yield [program, "can", *read, place, *user, "get", "/api/v1/namespaces/shop/configmaps/prices"], None
     yield [program], None
+    yield [program, "judge", read[0], NOT_TEXT], None
 
 
 def companion_cases(program):
@@ -98,6 +107,7 @@ def companion_cases(program):
     setup, log = os.path.join(folder, "setup.json"), os.path.join(folder, "explained.json")
     broken = os.path.join(folder, "unexplained.json")
     yield [program, "explain", "U10"], None
+    yield [program, "explain", NOT_TEXT], None
     yield [program, "sift", log], None
     yield [program, "sift", "--left", "-"], log
     yield [program, "picture", setup, log], None
@@ -118,6 +128,8 @@ def try_case(bench, pool, words, given, every):
     """Tries one case with each fault, prints a line for it, and returns the counts by kind and status, and the failures."""
     status, text, counts = bench.run(words, given)
     whole, found, wrong = (status, text), collections.Counter(), []
+    if NOT_TEXT in words and whole != (2, b"usage\n"):
+        wrong.append(("words", 0, status, text[:60]))
     for kind, which in KINDS.items():
         numbers = range(1, counts[which] + 1, every if kind == "alloc" else 1)
         runs = {at: pool.submit(tried, bench, words, given, kind, at, whole) for at in numbers}
@@ -126,8 +138,8 @@ def try_case(bench, pool, words, given, every):
             found[kind, ended] += 1
             if not right:
                 wrong.append((kind, at, ended, told[:60]))
-    shown = " ".join(os.path.relpath(word, EXAMPLES) if word.startswith(EXAMPLES) else word for word in words[1:])
-    print(f"{os.path.basename(words[0])} {shown}: status {status}, allocations {counts[0]}, reads {counts[1]}, writes {counts[2]}, wrong {len(wrong)}", flush=True)
+    said = " ".join(shown(word) for word in words[1:])
+    print(f"{os.path.basename(words[0])} {said}: status {status}, allocations {counts[0]}, reads {counts[1]}, writes {counts[2]}, wrong {len(wrong)}", flush=True)
     for kind, at, ended, told in wrong[:5]:
         print(f"  {kind} {at}: {ended} {told!r}")
     return found, len(wrong)

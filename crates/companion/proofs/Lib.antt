@@ -1,3 +1,4 @@
 pub mod ReportedFacts
 pub mod RunFacts
 pub mod PicturingFacts
+pub mod ProcessFacts

@@ -1,5 +1,6 @@
 pub mod Making
 pub mod Picturing
+pub mod Process
 pub mod Program
 pub mod Reported
 pub mod Running

@@ -3,3 +3,4 @@ pub mod PrintedHoldsFacts
 pub mod ReportedFacts
 pub mod RunFacts
 pub mod MadeFacts
+pub mod ProcessFacts

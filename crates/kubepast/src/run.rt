@@ -1,6 +1,8 @@
 ghost use Rattle.std.specs.Prelude.{◌≡◌, ℕ, List, Some, map, string_bytes};
 ghost use Rattle.std.specs.Io.KnownBytes.{Appends};
 ghost use Rattle.command_words.specs.Command.{IsAsked, Judge, TellsWords};
+ghost use Rattle.context_laws.specs.Classes.{IsByTable};
+ghost use Rattle.context_laws.specs.Deciding.{DecidesByChoice};
 ghost use Rattle.log_verdict.specs.Answers.{IsPlacementText};
 ghost use Rattle.log_verdict.specs.Endings.{IsAnswered};
 ghost use Rattle.kubepast.specs.Program.{Concludes, IsAnswer, IsOfTable};
@@ -9,6 +11,7 @@ ghost use Rattle.kubepast.specs.Running.{ReadsDesk, StatusTells};
 use crate::reporting::report_of;
 use command_words::read_words;
 use context_intake::Stop;
+use context_laws::{class_law, deciding_law};
 use edge_io::{Desk, Sink, end_with};
 use judge_pool::Gate;
 use log_verdict::{Gates, Report};
@@ -46,7 +49,13 @@ pub fn run<R: Threads + Sync, D: Desk, K: Sink, G: Gate, H: Gate>(
         → IsAsked (map string_bytes words.now) (Some (Judge setup log)) → result ≡ 0
         → (text : List ℕ) × IsPlacementText text
         × Appends (K.written out.old) (K.written out.new) text }
+
+    // Of the history that a setup and a log tell, in `answer`.
+    ensures decided { DecidesByChoice }
+    ensures classes { IsByTable }
 {
+    deciding_law();
+    class_law();
     let gates = Gates {
         events: gate,
         lines,

@@ -12,8 +12,9 @@ mod writes;
 
 use crate::tests::answers::expect_row;
 use crate::tests::edges::{
-    SEEN, a_line_too_long, check_deep, check_pieces, check_reads, check_refusal_before_fault,
-    check_repeated, check_writes, cut_logs,
+    HELD, LAST_EVENT, LAST_PLACED, PLACED, REQUESTED, SEEN, a_line_too_long, check_deep,
+    check_faults, check_pieces, check_refusal_before_fault, check_repeated, cut_logs,
+    cut_placement, cut_setup,
 };
 use crate::tests::meeting::two_lines_and_two_events_at_once;
 use std::marker::Sync;
@@ -62,22 +63,44 @@ fn long_row() -> &'static str {
     reads::LONG
 }
 
+// Of each command rows that nothing refuses before all is read, from the first on.
+static COMMANDS: [(&str, usize); 7] = [
+    (reads::LONG, 1),
+    (second::STRICT, 3),
+    (second::PLACEMENTS, 4),
+    (histories::OBJECTS, 5),
+    (histories::VALUES, 7),
+    (histories::RIGHTS, 5),
+    (writes::MADE, 2),
+];
+
 #[test]
-fn faults_cuts_and_limits(rt: HostRuntime) {
-    check_pieces(&rt, SEEN, 1);
-    check_reads(&rt, long_row(), 20);
-    check_writes(&rt, long_row());
+fn faults(rt: HostRuntime) {
+    for (table, rows) in &COMMANDS {
+        check_faults(&rt, table, *rows);
+    }
     check_refusal_before_fault(&rt);
+}
+
+#[test]
+fn cuts_and_limits(rt: HostRuntime) {
+    check_pieces(&rt, SEEN, 1);
     cut_logs(&rt, SEEN);
     cut_logs(&rt, long_row());
+    cut_setup(&rt, long_row());
+    cut_placement(&rt, long_row());
     check_deep(
         &rt,
+        REQUESTED,
         120,
         "\ntells explained 2\ntells 1 made 11 none\ntells 2 at 11 none",
     );
-    check_deep(&rt, 130, "\ntells malformed 2 M1\nstatus 4");
-    check_deep(&rt, 10_000, "\ntells malformed 2 M1\nstatus 4");
-    check_repeated(&rt);
+    check_deep(&rt, REQUESTED, 130, "\ntells malformed 2 M1\nstatus 4");
+    check_deep(&rt, REQUESTED, 10_000, "\ntells malformed 2 M1\nstatus 4");
+    check_deep(&rt, HELD, 120, "}}\ntells explained 0");
+    check_deep(&rt, HELD, 130, "}}\ntells setup S1\nstatus 3");
+    check_repeated(&rt, SEEN, LAST_EVENT);
+    check_repeated(&rt, PLACED, LAST_PLACED);
     a_line_too_long(&rt);
 }
 

@@ -1,7 +1,7 @@
 // Reads and writes that fail, logs that break off, and input that is deep or long.
 
 use crate::tests::answers::{Edge, expect, expect_row, reading, steady, writing};
-use crate::tests::row::{log_of, put_told, wanted_of};
+use crate::tests::row::{log_of, put_told, setup_of, told, wanted_of};
 use crate::tests::texts::{put, put_number, put_often, text_of};
 use std::marker::Sync;
 use std::process::Abort;
@@ -28,9 +28,31 @@ pub fn check_pieces<R: Threads + Sync + Abort + AllocGlobal>(rt: &R, row: &str, 
     expect_at(rt, row, reading(cut, 0), wanted.as_str());
 }
 
-/// So many reads of 512 bytes take the setup and the log of a row, the two that find their ends among them. Each fails
-/// in turn, and then one that isn't made.
-pub fn check_reads<R: Threads + Sync + Abort + AllocGlobal>(rt: &R, row: &str, reads: u64) {
+// How many reads of 512 bytes find the end of so many bytes.
+fn reads_to_end(bytes: usize) -> u64 {
+    let whole = bytes.saturating_add(511) / 512;
+    (whole as u64).saturating_add(1)
+}
+
+// How many reads of 512 bytes find the ends of all that the words of a row name. `make` reads nothing.
+fn reads_of(rt: &(impl Abort + AllocGlobal), row: &str) -> u64 {
+    if told(row, "words", "").starts_with("make") {
+        return 0;
+    }
+    let setup = reads_to_end(setup_of(rt, row).len());
+    let log = reads_to_end(log_of(rt, row).len());
+    let placement = lines_of(rt, row, "places");
+    let both = setup.saturating_add(log);
+    if placement.is_empty() {
+        both
+    } else {
+        both.saturating_add(reads_to_end(placement.len()))
+    }
+}
+
+/// Each read of 512 bytes fails in turn, and then one that isn't made.
+pub fn check_reads<R: Threads + Sync + Abort + AllocGlobal>(rt: &R, row: &str) {
+    let reads = reads_of(rt, row);
     for call in 1..=reads {
         expect_at(rt, row, reading(512, call), "5 read fault\n");
     }
@@ -39,10 +61,10 @@ pub fn check_reads<R: Threads + Sync + Abort + AllocGlobal>(rt: &R, row: &str, r
     expect_at(rt, row, behind, wanted.as_str());
 }
 
-// The lines that a row tells.
-fn lines_of(rt: &(impl Abort + AllocGlobal), row: &str) -> String {
+// The rests of a row's lines with this word.
+fn lines_of(rt: &(impl Abort + AllocGlobal), row: &str, word: &str) -> String {
     let mut lines = String::new(rt.alloc());
-    put_told(rt, &mut lines, row, "tells");
+    put_told(rt, &mut lines, row, word);
     lines
 }
 
@@ -55,7 +77,7 @@ fn check_write<R: Threads + Sync + Abort + AllocGlobal>(rt: &R, row: &str, call:
 
 /// Each write fails in turn. It takes seven bytes of the text.
 pub fn check_writes<R: Threads + Sync + Abort + AllocGlobal>(rt: &R, row: &str) {
-    let text = lines_of(rt, row);
+    let text = lines_of(rt, row, "tells");
     let mut call = 0u64;
     for at in 0..text.len() {
         if at % 7 == 0 {
@@ -63,6 +85,14 @@ pub fn check_writes<R: Threads + Sync + Abort + AllocGlobal>(rt: &R, row: &str) 
             call = call.saturating_add(1);
             check_write(rt, row, call, front);
         }
+    }
+}
+
+/// The first so many rows of a table: each read fails in turn, and then each write.
+pub fn check_faults<R: Threads + Sync + Abort + AllocGlobal>(rt: &R, table: &str, rows: usize) {
+    for row in table.split("\n\n").take(rows) {
+        check_reads(rt, row);
+        check_writes(rt, row);
     }
 }
 
@@ -116,7 +146,7 @@ fn check_cut<R: Threads + Sync + Abort + AllocGlobal>(
 /// The log of an explained row is cut behind each seventh byte, and before and behind each newline.
 pub fn cut_logs<R: Threads + Sync + Abort + AllocGlobal>(rt: &R, row: &str) {
     let log = log_of(rt, row);
-    let tells = lines_of(rt, row);
+    let tells = lines_of(rt, row, "tells");
     for at in 0..=log.len() {
         let (front, behind) = log.as_str().split_at_checked(at).expect(rt, "a place");
         let whole = are_lines(front, behind);
@@ -126,22 +156,90 @@ pub fn cut_logs<R: Threads + Sync + Abort + AllocGlobal>(rt: &R, row: &str) {
     }
 }
 
-const OPENED: &str = r#"event a1 create configmaps 01 02 201 new|a|x cm|a|A|11|x
+/// The setup of a row is cut at each byte. It has the name of the log here, of which nothing is read then.
+pub fn cut_setup<R: Threads + Sync + Abort + AllocGlobal>(rt: &R, row: &str) {
+    let setup = setup_of(rt, row);
+    for at in 0..setup.len() {
+        let (front, _behind) = setup.as_str().split_at_checked(at).expect(rt, "a place");
+        expect(rt, "words judge l s", front, steady(), "3 setup S1\n");
+    }
+}
+
+// A row that checks what has the name of the log as a placement of the row's log, which has the placement's name.
+fn exchanged(rt: &(impl Abort + AllocGlobal), row: &str) -> String {
+    let mut other = text_of(rt, "words verify s p l\n");
+    put(rt, &mut other, row);
+    let log = log_of(rt, row);
+    for line in log.lines() {
+        put(rt, &mut other, "\nplaces ");
+        put(rt, &mut other, line);
+    }
+    other
+}
+
+/// The placement of an explained row is cut at each byte, and refused at the line that breaks off or is missing.
+pub fn cut_placement<R: Threads + Sync + Abort + AllocGlobal>(rt: &R, row: &str) {
+    let other = exchanged(rt, row);
+    let placement = lines_of(rt, row, "tells");
+    for at in 0..placement.len() {
+        let (front, _behind) = placement
+            .as_str()
+            .split_at_checked(at)
+            .expect(rt, "a place");
+        let mut wanted = text_of(rt, "4 placement ");
+        put_number(rt, &mut wanted, front.split('\n').count());
+        put(rt, &mut wanted, "\n");
+        expect(rt, other.as_str(), front, steady(), wanted.as_str());
+    }
+    expect(
+        rt,
+        other.as_str(),
+        placement.as_str(),
+        steady(),
+        "0 holds\n",
+    );
+}
+
+/// A log whose second line goes on with a request.
+pub const REQUESTED: &str = r#"event a1 create configmaps 01 02 201 new|a|x cm|a|A|11|x
 event a2 get configmaps/a 03 04 200 - cm|a|A|11|x "requestObject":"#;
 
-/// The second line of a log has lists within lists.
-pub fn check_deep<R: Threads + Sync + Abort + AllocGlobal>(rt: &R, depth: usize, wanted: &str) {
-    let mut row = text_of(rt, OPENED);
+/// A setup whose snapshot has an object that goes on.
+pub const HELD: &str =
+    r#"holds /configmaps {"kind":"ConfigMap","apiVersion":"v1","metadata":{"name":"a","namespace":"d","uid":"A","resourceVersion":"9"},"data":{"k":"x","n":"#;
+
+/// A row has lists within lists, so many.
+pub fn check_deep<R: Threads + Sync + Abort + AllocGlobal>(
+    rt: &R,
+    front: &str,
+    depth: usize,
+    behind: &str,
+) {
+    let mut row = text_of(rt, front);
     put_often(rt, &mut row, "[", depth);
     put_often(rt, &mut row, "]", depth);
-    put(rt, &mut row, wanted);
+    put(rt, &mut row, behind);
     expect_row(rt, row.as_str());
 }
 
-/// The last line of a log stands there many times.
-pub fn check_repeated<R: Threads + Sync + Abort + AllocGlobal>(rt: &R) {
-    let mut row = text_of(rt, SEEN);
-    let line = "\nevent a2 get configmaps/a 03 04 200 - cm|a|A|11|x";
+/// The last line of a log.
+pub const LAST_EVENT: &str = "\nevent a2 get configmaps/a 03 04 200 - cm|a|A|11|x";
+
+/// A placement that lacks its last line.
+pub const PLACED: &str = r#"words verify s l p
+event a1 create configmaps 01 02 201 new|a|x cm|a|A|11|x
+event a2 get configmaps/a 03 04 200 - cm|a|A|11|x
+places explained 2
+places 1 made 11 none
+tells placement 4
+status 4"#;
+
+/// That line, which may stand there once.
+pub const LAST_PLACED: &str = "\nplaces 2 at 11 none";
+
+/// A line stands in a row many times more.
+pub fn check_repeated<R: Threads + Sync + Abort + AllocGlobal>(rt: &R, front: &str, line: &str) {
+    let mut row = text_of(rt, front);
     put_often(rt, &mut row, line, 1_000);
     expect_row(rt, row.as_str());
 }

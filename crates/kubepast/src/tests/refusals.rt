@@ -62,6 +62,17 @@ holds /configmaps cm|a|A|11|x
 tells setup S13
 status 3
 
+row an object of the snapshot twice
+holds /configmaps cm|a|A|9|x
+holds /configmaps cm|a|A|9|x
+tells setup S13
+status 3
+
+row a fraction in an object of the snapshot
+holds /configmaps {"kind":"ConfigMap","apiVersion":"v1","metadata":{"name":"a","namespace":"d","uid":"A","resourceVersion":"9"},"data":{"n":1.5}}
+tells setup S1
+status 3
+
 row a checkpoint below the start
 checks list|9+
 tells setup S15
