@@ -75,10 +75,14 @@ object_rows log low versions removals =
     ++ (rest_text most_versions (length (since low versions)) (codes "Later versions that aren't listed")
     ++ rest_text most_rows (length removals) (codes "Removals that aren't listed")))))
 
+-- the object's key, before the rows
+unfoldable pub object_name : ObjectKey → List ℕ
+object_name key = shown (fixed BEFORE_OBJECT.now ∷ told (key_spelling key) ∷ fixed BEHIND_OBJECT.now ∷ [])
+
 unfoldable pub object_text : Known → Option ObjectKey → ℕ → List ℕ
 object_text known None low = shown (fixed NO_OBJECT.now ∷ [])
 object_text known (Some key) low =
-    shown (fixed BEFORE_OBJECT.now ∷ told (key_spelling key) ∷ fixed BEHIND_OBJECT.now ∷ [])
+    object_name key
     ++ object_rows known.log low (versions_of known key) (removals_of known key)
 
 -- of the event with this line, whose window begins at the place `low`

@@ -36,7 +36,7 @@ pub fn push_caches(
         ++ caches_text context.now finding.now) }
 {
     if finding.reason.number() == 14 {
-        push_caches_section(alloc, text, context, finding.low, finding.high)?;
+        return push_caches_section(alloc, text, context, finding.low, finding.high);
     }
     Ok(())
 }
@@ -52,13 +52,10 @@ fn push_caches_section(
     ensures { OnOk result (string_bytes text.new ≡ string_bytes text.old
         ++ caches_section context.now low high) }
 {
+    write!(text, "{BEFORE_CACHES}{low} to {high}{BEHIND_RANGE}")?;
     let come = all_come(alloc, context, low, high)?;
     let gone = all_gone(alloc, context, low, high)?;
-    text.push_str(BEFORE_CACHES)?;
-    write!(text, "{low} to {high}")?;
-    text.push_str(BEHIND_RANGE)?;
-    push_caches_rows(alloc, text, context.log(), come.as_slice(), gone.as_slice())?;
-    Ok(())
+    push_caches_rows(alloc, text, context.log(), come.as_slice(), gone.as_slice())
 }
 
 #[tactic(auto, unfolding(crate::specs::Caches::caches_rows))]
@@ -86,8 +83,7 @@ fn push_caches_rows(
         MOST_ROWS,
         gone.len(),
         "Roles and bindings that may have gone, but aren't listed",
-    )?;
-    Ok(())
+    )
 }
 
 fn has_come(low: u64, high: u64, version: &Version) -> bool

@@ -18,8 +18,7 @@ pub fn push_heading(
         ++ heading_text finding.now) }
 {
     push_verdict(text, finding)?;
-    push_guide(alloc, text, finding.reason)?;
-    Ok(())
+    push_guide(alloc, text, finding.reason)
 }
 
 #[tactic(auto, unfolding(crate::specs::Heading::verdict_text))]

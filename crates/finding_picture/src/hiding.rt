@@ -58,11 +58,9 @@ fn push_all(alloc: Global, text: &mut String, context: &Context) -> Result<(), O
     ensures { OnOk result (string_bytes text.new ≡ string_bytes text.old
         ++ hiding_text context.now None) }
 {
+    write!(text, "{BEFORE_HIDING}{HIDING_COLUMNS}")?;
     let writes = unrecorded_in(alloc, context.log())?;
-    text.push_str(BEFORE_HIDING)?;
-    text.push_str(HIDING_COLUMNS)?;
-    push_hiding_rows(text, context, writes.as_slice())?;
-    Ok(())
+    push_hiding_rows(text, context, writes.as_slice())
 }
 
 #[tactic(auto, unfolding(crate::specs::Hiding::hiding_text))]
@@ -78,8 +76,7 @@ fn push_own(
     let log = context.log();
     let own = hiding_in(alloc, log, key)?;
     let all = unrecorded_in(alloc, log)?;
-    push_own_rows(text, context, own.as_slice(), all.as_slice())?;
-    Ok(())
+    push_own_rows(text, context, own.as_slice(), all.as_slice())
 }
 
 #[tactic(auto, unfolding(crate::specs::Hiding::own_rows))]
@@ -93,16 +90,14 @@ fn push_own_rows(
         ++ own_rows (history_of context.now) (map (λ event. event.now) own.now)
         (map (λ event. event.now) all.now)) }
 {
-    text.push_str(BEFORE_OWN)?;
-    text.push_str(HIDING_COLUMNS)?;
+    write!(text, "{BEFORE_OWN}{HIDING_COLUMNS}")?;
     push_hiding_rows(text, context, own)?;
     push_rest(
         text,
         own.len(),
         all.len(),
         "Other unrecorded writes, of other objects alone",
-    )?;
-    Ok(())
+    )
 }
 
 // The first of these as rows, and how many others there are.
@@ -122,8 +117,7 @@ fn push_hiding_rows(
         MOST_ROWS,
         writes.len(),
         "Unrecorded writes that aren't listed",
-    )?;
-    Ok(())
+    )
 }
 
 fn is_unrecorded(event: &LogEvent) -> bool
@@ -198,10 +192,10 @@ fn push_hidden(text: &mut String, context: &Context, event: &LogEvent) -> Result
     ensures { OnOk result (string_bytes text.new ≡ string_bytes text.old ++ hidden_row
         (history_of context.now) event.now) }
 {
-    if let Shown::Opaque { cover } = &event.answer {
-        push_cover(text, event.line, low_of(context, event), cover)?;
+    match &event.answer {
+        Shown::Opaque { cover } => push_cover(text, event.line, low_of(context, event), cover),
+        _ => Ok(()),
     }
-    Ok(())
 }
 
 // The lowest place of an event's window.

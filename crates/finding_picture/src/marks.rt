@@ -64,15 +64,14 @@ pub fn push_mark(
             revision,
             line,
             key,
-        } => push_tick(text, axis, *revision, *line, key, user_on(context, *line))?,
+        } => push_tick(text, axis, *revision, *line, key, user_on(context, *line)),
         WriteLine::Removed {
             low,
             high,
             line,
             key,
-        } => push_range(text, axis, *low, *high, *line, key, user_on(context, *line))?,
+        } => push_range(text, axis, *low, *high, *line, key, user_on(context, *line)),
     }
-    Ok(())
 }
 
 #[tactic(auto, unfolding(crate::specs::Marks::tick_text))]

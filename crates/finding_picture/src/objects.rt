@@ -1,7 +1,8 @@
 ghost use Rattle.std.specs.Prelude.{◌≡◌, ◌++◌, IfOk, OnOk, Some, map, option_map, string_bytes};
 ghost use Rattle.std.specs.List.{flat_map};
-ghost use Rattle.finding_picture.specs.Objects.{answer_key, key_on, logged_on, maker_text, object_rows};
-ghost use Rattle.finding_picture.specs.Objects.{object_section, object_text, removal_row, removals_of, version_row};
+ghost use Rattle.finding_picture.specs.Objects.{answer_key, key_on, logged_on, maker_text, object_name};
+ghost use Rattle.finding_picture.specs.Objects.{object_rows, object_section, object_text, removal_row, removals_of};
+ghost use Rattle.finding_picture.specs.Objects.{version_row};
 ghost use Rattle.version_store.specs.Known.{versions_of};
 
 use crate::lasting::since;
@@ -61,18 +62,27 @@ fn push_object(
     ensures { OnOk result (string_bytes text.new ≡ string_bytes text.old
         ++ object_text context.now (Some key.now) low) }
 {
-    let name = key_text(alloc, key)?;
+    push_object_name(alloc, text, key)?;
     let versions = versions_of(alloc, context, key)?;
     let removals = removals_of(alloc, context, key)?;
-    text.push_str(BEFORE_OBJECT)?;
-    write!(text, "{}", Told(name.as_str()))?;
-    text.push_str(BEHIND_OBJECT)?;
     push_object_rows(
         text,
         context.log(),
         low,
         versions.as_slice(),
         removals.as_slice(),
+    )
+}
+
+#[tactic(auto, unfolding(crate::specs::Objects::object_name))]
+fn push_object_name(alloc: Global, text: &mut String, key: &ObjectKey) -> Result<(), OutOfMemory>
+    ensures { OnOk result (string_bytes text.new ≡ string_bytes text.old ++ object_name key.now) }
+{
+    let name = key_text(alloc, key)?;
+    write!(
+        text,
+        "{BEFORE_OBJECT}{}{BEHIND_OBJECT}",
+        Told(name.as_str())
     )?;
     Ok(())
 }
@@ -144,8 +154,7 @@ fn push_object_rows(
         MOST_ROWS,
         removals.len(),
         "Removals that aren't listed",
-    )?;
-    Ok(())
+    )
 }
 
 /// The object that the answer of the event with this line speaks of, where it is one.

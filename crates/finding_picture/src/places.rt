@@ -49,8 +49,7 @@ pub fn push_places(
     let key = key_on(context.log(), finding.line);
     let own = versions_on(alloc, &axis, versions, key)?;
     let drawn = since(finding.low, own.as_slice());
-    push_drawing(text, context, &axis, finding, key, drawn)?;
-    Ok(())
+    push_drawing(text, context, &axis, finding, key, drawn)
 }
 
 #[tactic(auto, unfolding(crate::specs::Places::drawing_text))]
@@ -81,8 +80,7 @@ fn push_drawing(
         MOST_SEGMENTS,
         drawn.len(),
         "Versions that aren't drawn",
-    )?;
-    Ok(())
+    )
 }
 
 #[tactic(auto, unfolding(crate::specs::Places::band_text))]
@@ -92,12 +90,10 @@ fn push_band(text: &mut String, finding: &Finding<'_>) -> Result<(), OutOfMemory
     let count = finding.writes.len();
     let low = finding.low;
     let high = finding.high;
-    text.push_str(BEFORE_PLACES)?;
-    write!(text, "{count} writes, from place {low} to place {high}")?;
-    text.push_str(BAND_AND_AXIS)?;
     writeln!(
         text,
-        "{low}</text>\n<text x=\"920\" y=\"22\" text-anchor=\"end\">{high}</text>"
+        "{BEFORE_PLACES}{count} writes, from place {low} to place {high}{BAND_AND_AXIS}{low}</text>\n\
+        <text x=\"920\" y=\"22\" text-anchor=\"end\">{high}</text>"
     )?;
     Ok(())
 }

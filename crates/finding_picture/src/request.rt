@@ -39,22 +39,13 @@ fn push_event(text: &mut String, event: Option<&Event>) -> Result<(), OutOfMemor
     ensures { OnOk result (string_bytes text.new ≡ string_bytes text.old ++ event_text
         (option_map (λ event. event.now) event.entry)) }
 {
-    match event {
-        Some(event) => push_recorded(text, event)?,
-        None => text.push_str(CHECKPOINT)?,
-    }
-    Ok(())
-}
-
-#[tactic(auto, unfolding(crate::specs::Requests::event_text))]
-fn push_recorded(text: &mut String, event: &Event) -> Result<(), OutOfMemory>
-    ensures { OnOk result (string_bytes text.new ≡ string_bytes text.old
-        ++ event_text (Some event.now)) }
-{
+    let Some(event) = event else {
+        text.push_str(CHECKPOINT)?;
+        return Ok(());
+    };
     text.push_str("<h2>The event</h2>\n<dl>\n")?;
     push_asked(text, event)?;
-    push_answered(text, event)?;
-    Ok(())
+    push_answered(text, event)
 }
 
 #[tactic(auto, unfolding(crate::specs::Requests::asked_text))]
@@ -65,8 +56,7 @@ fn push_asked(text: &mut String, event: &Event) -> Result<(), OutOfMemory>
     push_entry(text, "Path", &event.attrs.path)?;
     push_query(text, event.attrs.query.as_slice())?;
     push_user(text, "User", &event.user)?;
-    push_impersonated(text, &event.impersonated)?;
-    Ok(())
+    push_impersonated(text, &event.impersonated)
 }
 
 #[tactic(auto, unfolding(crate::specs::Requests::answered_text))]
@@ -77,8 +67,7 @@ fn push_answered(text: &mut String, event: &Event) -> Result<(), OutOfMemory>
     push_time(text, "Received", event.received)?;
     push_time(text, "Staged", event.staged)?;
     push_status(text, &event.status)?;
-    push_decision(text, event.decision)?;
-    Ok(())
+    push_decision(text, event.decision)
 }
 
 // A name of the program's own, and a text of the input.
@@ -132,8 +121,7 @@ fn push_user(text: &mut String, name: &str, user: &User) -> Result<(), OutOfMemo
         ++ user_text name.now user.now) }
 {
     push_entry(text, name, &user.name)?;
-    push_groups(text, user.groups.as_slice())?;
-    Ok(())
+    push_groups(text, user.groups.as_slice())
 }
 
 fn push_groups(text: &mut String, groups: &[Text]) -> Result<(), OutOfMemory>
@@ -151,10 +139,10 @@ fn push_impersonated(text: &mut String, user: &Option<User>) -> Result<(), OutOf
     ensures { OnOk result (string_bytes text.new ≡ string_bytes text.old
         ++ impersonated_text user.now) }
 {
-    if let Some(user) = user {
-        push_user(text, "Impersonated user", user)?;
+    match user {
+        Some(user) => push_user(text, "Impersonated user", user),
+        None => Ok(()),
     }
-    Ok(())
 }
 
 #[tactic(auto, unfolding(crate::specs::Requests::status_text))]

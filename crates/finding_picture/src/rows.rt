@@ -27,8 +27,7 @@ pub fn push_rows(
     )?;
     push_each(text, context, writes)?;
     text.push_str("</table>\n")?;
-    push_rest(text, MOST_WRITES, writes.len(), "Writes that aren't listed")?;
-    Ok(())
+    push_rest(text, MOST_WRITES, writes.len(), "Writes that aren't listed")
 }
 
 fn push_each(text: &mut String, context: &Context, writes: &[WriteLine]) -> Result<(), OutOfMemory>
@@ -53,7 +52,7 @@ fn push_row(text: &mut String, context: &Context, write: &WriteLine) -> Result<(
             key,
         } => {
             write!(text, "<tr><td>made {revision} ")?;
-            push_author(text, context, *line, key)?;
+            push_author(text, context, *line, key)
         }
         WriteLine::Removed {
             low,
@@ -62,10 +61,9 @@ fn push_row(text: &mut String, context: &Context, write: &WriteLine) -> Result<(
             key,
         } => {
             write!(text, "<tr><td>removed from {low} to {high} ")?;
-            push_author(text, context, *line, key)?;
+            push_author(text, context, *line, key)
         }
     }
-    Ok(())
 }
 
 // Line, object, user and times of a write.
@@ -84,28 +82,19 @@ fn push_author(
         "</td><td>{line}</td><td><code>{}</code></td>",
         Told(key.as_str())
     )?;
-    push_cells(text, event_on(context, line))?;
-    Ok(())
+    push_cells(text, event_on(context, line))
 }
 
+// Who wrote, and when it was received and answered.
 #[tactic(auto, unfolding(crate::specs::Rows::event_cells))]
 fn push_cells(text: &mut String, event: Option<&Event>) -> Result<(), OutOfMemory>
     ensures { OnOk result (string_bytes text.new ≡ string_bytes text.old ++ event_cells
         (option_map (λ event. event.now) event.entry)) }
 {
-    match event {
-        Some(event) => push_event_cells(text, event)?,
-        None => text.push_str("<td>-</td><td>-</td><td>-</td></tr>\n")?,
-    }
-    Ok(())
-}
-
-// Who wrote, and when it was received and answered.
-#[tactic(auto, unfolding(crate::specs::Rows::event_cells))]
-fn push_event_cells(text: &mut String, event: &Event) -> Result<(), OutOfMemory>
-    ensures { OnOk result (string_bytes text.new ≡ string_bytes text.old
-        ++ event_cells (Some event.now)) }
-{
+    let Some(event) = event else {
+        text.push_str("<td>-</td><td>-</td><td>-</td></tr>\n")?;
+        return Ok(());
+    };
     write!(text, "<td>{}</td><td>", Told(event.user.name.as_str()))?;
     push_moment(text, event.received)?;
     text.push_str("</td><td>")?;

@@ -61,11 +61,11 @@ pub fn push_segments(
         ++ segments_text axis.now (option_map (λ key. key.now) key.entry)
         (map (λ v. v.now) versions.now)) }
 {
-    if let Some(_) = key {
-        text.push_str("<text x=\"40\" y=\"102\">versions of the event's object</text>\n")?;
-        push_boxes(text, axis, first_of(versions, MOST_SEGMENTS))?;
-    }
-    Ok(())
+    let Some(_) = key else {
+        return Ok(());
+    };
+    text.push_str("<text x=\"40\" y=\"102\">versions of the event's object</text>\n")?;
+    push_boxes(text, axis, first_of(versions, MOST_SEGMENTS))
 }
 
 fn push_boxes(text: &mut String, axis: &Axis, versions: &[&Version]) -> Result<(), OutOfMemory>

@@ -12,12 +12,12 @@ pub fn push_showing(text: &mut String, event: Option<&LogEvent>) -> Result<(), O
     ensures { OnOk result (string_bytes text.new ≡ string_bytes text.old ++ showing_text
         (option_map (λ event. event.now) event.entry)) }
 {
-    if let Some(event) = event {
-        push_wanted_revision(text, event.preconditions.revision)?;
-        push_wanted_uid(text, &event.preconditions.uid)?;
-        push_answer(text, &event.answer)?;
-    }
-    Ok(())
+    let Some(event) = event else {
+        return Ok(());
+    };
+    push_wanted_revision(text, event.preconditions.revision)?;
+    push_wanted_uid(text, &event.preconditions.uid)?;
+    push_answer(text, &event.answer)
 }
 
 #[tactic(auto, unfolding(crate::specs::Showing::wanted_revision))]

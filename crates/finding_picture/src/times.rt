@@ -30,7 +30,7 @@ pub const TIMES_AXIS: &str = r#"<line class="axis" x1="40" y1="154" x2="920" y2=
 pub const BEHIND_TIMES: &str = "</text>\n</svg>\n</figure>\n";
 
 /// Appends the drawing of the event and of these writes over the line of time; nothing for a checkpoint.
-#[tactic(auto, unfolding(crate::specs::Times::times_text))]
+#[tactic(auto, unfolding(crate::specs::Times::times_text, crate::specs::Times::times_section))]
 pub fn push_times(
     text: &mut String,
     context: &Context,
@@ -40,30 +40,16 @@ pub fn push_times(
     ensures { OnOk result (string_bytes text.new ≡ string_bytes text.old
         ++ times_text context.now.events (option_map (λ event. event.now) event.entry) writes.now) }
 {
-    if let Some(event) = event {
-        push_section(text, context, event, writes)?;
-    }
-    Ok(())
-}
-
-#[tactic(auto, unfolding(crate::specs::Times::times_section))]
-fn push_section(
-    text: &mut String,
-    context: &Context,
-    event: &Event,
-    writes: &[WriteLine],
-) -> Result<(), OutOfMemory>
-    ensures { OnOk result (string_bytes text.new ≡ string_bytes text.old
-        ++ times_section context.now.events event.now writes.now) }
-{
+    let Some(event) = event else {
+        return Ok(());
+    };
     let axis = times_axis(context, event, writes);
     push_band(text, &axis, event)?;
     push_span(text, event)?;
     text.push_str("</text>\n")?;
     push_bars(text, context, &axis, writes)?;
     push_ends(text, &axis)?;
-    push_rest(text, MOST_BARS, writes.len(), "Writes that aren't drawn")?;
-    Ok(())
+    push_rest(text, MOST_BARS, writes.len(), "Writes that aren't drawn")
 }
 
 // The axis with the moments of its ends.
@@ -156,8 +142,7 @@ fn push_span(text: &mut String, event: &Event) -> Result<(), OutOfMemory>
 {
     push_moment(text, event.received)?;
     text.push_str(" to ")?;
-    push_moment(text, event.staged)?;
-    Ok(())
+    push_moment(text, event.staged)
 }
 
 #[tactic(auto, unfolding(crate::specs::Times::times_band))]
@@ -204,22 +189,9 @@ fn push_bar(
     ensures { OnOk result (string_bytes text.new ≡ string_bytes text.old ++ bar_text axis.now line
         (option_map (λ event. event.now) event.entry)) }
 {
-    if let Some(event) = event {
-        push_event_bar(text, axis, line, event)?;
-    }
-    Ok(())
-}
-
-#[tactic(auto, unfolding(crate::specs::Times::bar_text))]
-fn push_event_bar(
-    text: &mut String,
-    axis: &Axis,
-    line: u64,
-    event: &Event,
-) -> Result<(), OutOfMemory>
-    ensures { OnOk result (string_bytes text.new ≡ string_bytes text.old
-        ++ bar_text axis.now line (Some event.now)) }
-{
+    let Some(event) = event else {
+        return Ok(());
+    };
     let low = instant(event.received);
     let x = axis.position(low);
     let y = 34 + line % 10 * 12;
