@@ -21,7 +21,8 @@ pub fn with_chains(
     requires events { AreLogEvents events.now }
     ensures chains { IfOk result (λ chained. chained ≡ with_chains setup events.now) }
     ensures sound { IfOk result IsSound }
-    ensures few { IfOk result (λ chained. length chained.checkpoints ≤ length setup.checkpoints + length events.now) }
+    ensures few { IfOk result (λ chained. length chained.checkpoints
+        ≤ length setup.checkpoints + length events.now) }
 {
     let found = chains(alloc, &setup, events, seed)?;
     let mut chained = setup;

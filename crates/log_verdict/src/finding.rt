@@ -38,10 +38,10 @@ pub fn unexplained(
 // The places that an event was judged at for a code.
 fn shown_window(context: &Context, event: u32, reason: Reason) -> Window
     requires { event < length context.now.log }
-    ensures low { (e : model.Event) → IsEvent (history_of context.now) event e → result.low ≡ shown_low
-        (history_of context.now) e reason }
-    ensures high { (e : model.Event) → IsEvent (history_of context.now) event e → result.high ≡ shown_high
-        (history_of context.now) e reason }
+    ensures low { (e : model.Event) → IsEvent (history_of context.now) event e
+        → result.low ≡ shown_low (history_of context.now) e reason }
+    ensures high { (e : model.Event) → IsEvent (history_of context.now) event e
+        → result.high ≡ shown_high (history_of context.now) e reason }
 {
     if reason == Reason::U14 {
         return decision_window(context, event);

@@ -55,7 +55,8 @@ pub struct Report {
 /// The report of what a setup and a log come to.
 pub fn judged_report(alloc: Global, judged: &Judged) -> Result<Report, OutOfMemory>
     ensures report { IfOk result (λ report. report_answer report ≡ judged_answer judged.now) }
-    ensures printed { IfOk result (λ report. status_number report.status ≡ 0 → IsPlacementText report.text) }
+    ensures printed { IfOk result (λ report. status_number report.status ≡ 0
+        → IsPlacementText report.text) }
 {
     match judged {
         Judged::Refused(refusal) => refusal_report(alloc, *refusal),
