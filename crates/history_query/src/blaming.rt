@@ -112,7 +112,7 @@ fn append_since(
 {
     write!(text, "since {} ", since.revision.get())?;
     append_who(text, context.log(), since.maker)?;
-    append_user(alloc, text, context, since.maker)
+    append_user(alloc, text, context.events(), since.maker)
 }
 
 // The first version from which on, up to this one, each is one of the same object with the same value.

@@ -70,12 +70,11 @@ pub fn append_who(text: &mut String, log: &[LogEvent], maker: Maker) -> Result<(
 }
 
 // The event that made a version, where a line tells of it.
-fn write_of(context: &Context, maker: Maker) -> Option<&Event>
-    ensures { user_text context.now.events maker
-        ≡ user_or_none (option_map (λ event. event.now) result) }
+fn write_of(events: &[Event], maker: Maker) -> Option<&Event>
+    ensures { user_text events.now maker ≡ user_or_none (option_map (λ event. event.now) result) }
 {
     match maker {
-        Maker::Event(number) => context.events().get(number as usize),
+        Maker::Event(number) => events.get(number as usize),
         Maker::Snapshot => None,
         Maker::Unknown => None,
     }
@@ -96,13 +95,13 @@ fn append_name(alloc: Global, text: &mut String, name: &Text) -> Result<(), OutO
 pub fn append_user(
     alloc: Global,
     text: &mut String,
-    context: &Context,
+    events: &[Event],
     maker: Maker,
 ) -> Result<(), OutOfMemory>
     ensures { OnOk result (string_bytes text.new ≡ string_bytes text.old
-        ++ ended (codes " " ++ user_text context.now.events maker)) }
+        ++ ended (codes " " ++ user_text events.now maker)) }
 {
-    match write_of(context, maker) {
+    match write_of(events, maker) {
         Some(event) => append_name(alloc, text, &event.user.name),
         None => append_piece(text, " -\n"),
     }
