@@ -63,6 +63,11 @@ fn long_row() -> &'static str {
     reads::LONG
 }
 
+// A removal, a write, and a read with its decision.
+fn decided_row() -> &'static str {
+    reads::DECISIONS.split("\n\n").next().unwrap_or("")
+}
+
 // Of each command rows that nothing refuses before all is read, from the first on.
 static COMMANDS: [(&str, usize); 7] = [
     (reads::LONG, 1),
@@ -87,8 +92,8 @@ fn cuts_and_limits(rt: HostRuntime) {
     check_pieces(&rt, SEEN, 1);
     cut_logs(&rt, SEEN);
     cut_logs(&rt, long_row());
-    cut_setup(&rt, long_row());
-    cut_placement(&rt, long_row());
+    cut_setup(&rt, "holds /configmaps cm|a|A|9|x\nchecks list|16+");
+    cut_placement(&rt, decided_row());
     check_deep(
         &rt,
         REQUESTED,
