@@ -1,3 +1,4 @@
+mod Joining
 mod Keeping
 mod Pairs
 mod Ranking

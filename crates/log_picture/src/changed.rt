@@ -80,8 +80,7 @@ pub fn append_changes(
         CHANGE_LIMIT,
         changes.len(),
         "Other objects that changed",
-    )?;
-    Ok(())
+    )
 }
 
 fn append_rows(alloc: Global, text: &mut String, changes: &[Changed]) -> Result<(), OutOfMemory>

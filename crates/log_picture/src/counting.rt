@@ -47,8 +47,7 @@ pub fn append_counts(text: &mut String, log: &[LogEvent]) -> Result<(), OutOfMem
 {
     text.push_str(COUNTS_HEAD)?;
     append_kinds(text, log, &KINDS)?;
-    append_totals(text, log)?;
-    Ok(())
+    append_totals(text, log)
 }
 
 #[tactic(auto, unfolding(crate::specs::Counts::totals_text))]

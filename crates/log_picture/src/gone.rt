@@ -73,8 +73,7 @@ pub fn append_removals(
         removals,
         REMOVAL_LIMIT,
         "Removals that aren't listed",
-    )?;
-    Ok(())
+    )
 }
 
 #[tactic(auto, unfolding(crate::specs::Gone::removals_table))]

@@ -175,8 +175,7 @@ pub fn append_time(
         ++ time_text axis.now events.now log.now) }
 {
     let marked = marked_of(alloc, events, log)?;
-    append_marked(alloc, text, axis, marked.as_slice())?;
-    Ok(())
+    append_marked(alloc, text, axis, marked.as_slice())
 }
 
 #[tactic(auto, unfolding(crate::specs::Lanes::marked_text))]
@@ -210,8 +209,7 @@ fn append_drawn(
     let drawn = spread(alloc, marked, EVENT_LIMIT)?;
     append_drawing(text, axis, drawn.as_slice())?;
     push_rest(text, drawn.len(), marked.len(), "Events that aren't drawn")?;
-    append_events(text, drawn.as_slice())?;
-    Ok(())
+    append_events(text, drawn.as_slice())
 }
 
 #[tactic(auto, unfolding(crate::specs::Lanes::time_drawing))]
@@ -221,8 +219,7 @@ fn append_drawing(text: &mut String, axis: &Axis, drawn: &[Marked<'_>]) -> Resul
 {
     text.push_str(TIME_HEAD)?;
     append_marks(text, axis, drawn)?;
-    append_axis(text, axis)?;
-    Ok(())
+    append_axis(text, axis)
 }
 
 fn append_marks(text: &mut String, axis: &Axis, drawn: &[Marked<'_>]) -> Result<(), OutOfMemory>
@@ -247,8 +244,7 @@ fn append_event_marks(
 {
     let x = axis.position(receipt(event));
     append_mark(text, x, event, form_of(kind_of(&logged.answer)))?;
-    append_mark(text, x, event, decision_form(logged.decision))?;
-    Ok(())
+    append_mark(text, x, event, decision_form(logged.decision))
 }
 
 #[tactic(auto, unfolding(crate::specs::Lanes::mark_text))]
@@ -262,10 +258,9 @@ fn append_mark(
         ++ mark_text x event.now form) }
 {
     match form {
-        Some(form) => append_form(text, x, event, form)?,
-        None => {}
+        Some(form) => append_form(text, x, event, form),
+        None => Ok(()),
     }
-    Ok(())
 }
 
 #[tactic(auto, unfolding(crate::specs::Lanes::form_mark))]
@@ -328,8 +323,7 @@ fn append_axis_low(text: &mut String, axis: &Axis) -> Result<(), OutOfMemory>
     text.push_str(
         "<line class=\"axis\" x1=\"150\" y1=\"198\" x2=\"930\" y2=\"198\"/>\n<text x=\"150\" y=\"216\">",
     )?;
-    push_moment(text, moment_at(axis.low))?;
-    Ok(())
+    push_moment(text, moment_at(axis.low))
 }
 
 #[tactic(auto, unfolding(crate::specs::Lanes::axis_high_text))]

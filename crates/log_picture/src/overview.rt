@@ -85,8 +85,7 @@ pub fn append_overview(text: &mut String, overview: Overview) -> Result<(), OutO
 {
     append_first(text, overview)?;
     append_receipts_or_none(text, overview)?;
-    append_last(text, overview)?;
-    Ok(())
+    append_last(text, overview)
 }
 
 #[tactic(auto, unfolding(crate::specs::Overview::receipts_or_none))]
@@ -109,8 +108,7 @@ fn append_receipts(text: &mut String, overview: Overview) -> Result<(), OutOfMem
 {
     push_moment(text, moment_at(overview.first))?;
     text.push_str("</dd>\n<dt>Last receipt</dt><dd>")?;
-    push_moment(text, moment_at(overview.last))?;
-    Ok(())
+    push_moment(text, moment_at(overview.last))
 }
 
 #[tactic(auto, unfolding(crate::specs::Overview::first_text))]
@@ -122,10 +120,10 @@ fn append_first(text: &mut String, overview: Overview) -> Result<(), OutOfMemory
         checkpoints,
         ..
     } = overview;
-    text.push_str(OVERVIEW_HEAD)?;
     write!(
         text,
-        "<dt>Events</dt><dd>{events}</dd>\n<dt>Checkpoints</dt><dd>{checkpoints}</dd>\n<dt>First receipt</dt><dd>"
+        "{OVERVIEW_HEAD}<dt>Events</dt><dd>{events}</dd>\n<dt>Checkpoints</dt><dd>{checkpoints}</dd>\n\
+        <dt>First receipt</dt><dd>"
     )?;
     Ok(())
 }

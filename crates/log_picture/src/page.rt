@@ -154,8 +154,7 @@ fn append_sections(
     let overview = overview_of(context);
     append_events(alloc, text, context, overview)?;
     append_changes(alloc, text, changes)?;
-    append_objects(alloc, text, context, overview, lines, unrecorded_writes)?;
-    Ok(())
+    append_objects(alloc, text, context, overview, lines, unrecorded_writes)
 }
 
 // Appends the verdict, how the events were judged, and the log over time.
@@ -173,8 +172,7 @@ fn append_events(
     let axis = time_axis(overview);
     append_overview(text, overview)?;
     append_counts(text, log)?;
-    append_time(alloc, text, &axis, context.events(), log)?;
-    Ok(())
+    append_time(alloc, text, &axis, context.events(), log)
 }
 
 // Appends the history by revision, and the removals.
@@ -201,6 +199,5 @@ fn append_objects(
         unrecorded_writes,
     };
     append_history(alloc, text, &drawn)?;
-    append_removals(alloc, text, log, lines, removals.as_slice())?;
-    Ok(())
+    append_removals(alloc, text, log, lines, removals.as_slice())
 }

@@ -1,7 +1,7 @@
 ghost use Rattle.std.specs.Prelude.{◌≡◌, ◌++◌, IfOk, OnOk, flat_map, map, string_bytes};
 ghost use Rattle.log_picture.specs.Revised.{axis_text, bar_text, bar_width, unrecorded_mark, history_drawing};
 ghost use Rattle.log_picture.specs.Revised.{history_marks, history_text, is_written, left_out_text, range_text};
-ghost use Rattle.log_picture.specs.Revised.{rect_text, removal_mark, tick_text, version_mark, written_versions};
+ghost use Rattle.log_picture.specs.Revised.{removal_mark, version_mark, written_versions};
 
 use crate::limits::{REMOVAL_LIMIT, UNRECORDED_LIMIT, VERSION_LIMIT};
 use crate::spreading::{append_rest, spread};
@@ -82,8 +82,7 @@ pub fn append_history(
     append_drawing(alloc, text, drawn)?;
     append_left_out(alloc, text, drawn)?;
     append_versions(alloc, text, drawn.log, drawn.versions)?;
-    append_unrecorded(alloc, text, drawn.unrecorded_writes)?;
-    Ok(())
+    append_unrecorded(alloc, text, drawn.unrecorded_writes)
 }
 
 #[tactic(auto, unfolding(crate::specs::Revised::history_drawing))]
@@ -95,8 +94,7 @@ fn append_drawing(alloc: Global, text: &mut String, drawn: &Drawn<'_>) -> Result
 {
     text.push_str(HISTORY_HEAD)?;
     append_history_marks(alloc, text, drawn)?;
-    append_axis(text, &drawn.axis)?;
-    Ok(())
+    append_axis(text, &drawn.axis)
 }
 
 #[tactic(auto, unfolding(crate::specs::Revised::history_marks))]
@@ -116,8 +114,7 @@ fn append_history_marks(
     let unrecorded_writes = spread(alloc, drawn.unrecorded_writes, UNRECORDED_LIMIT)?;
     append_version_marks(alloc, text, axis, versions.as_slice())?;
     append_removal_marks(alloc, text, axis, drawn.log, removals.as_slice())?;
-    append_unrecorded_marks(text, axis, unrecorded_writes.as_slice())?;
-    Ok(())
+    append_unrecorded_marks(text, axis, unrecorded_writes.as_slice())
 }
 
 fn append_version_marks(
@@ -135,6 +132,7 @@ fn append_version_marks(
     Ok(())
 }
 
+#[tactic(auto, unfolding(crate::specs::Revised::tick_text))]
 fn append_version_mark(
     alloc: Global,
     text: &mut String,
@@ -147,19 +145,10 @@ fn append_version_mark(
     let revision = version.revision.get();
     let x = axis.position(revision);
     let key = key_text(alloc, &version.key)?;
-    append_tick(text, x, revision, key.as_str())?;
-    Ok(())
-}
-
-#[tactic(auto, unfolding(crate::specs::Revised::tick_text))]
-fn append_tick(text: &mut String, x: u64, revision: u64, key: &str) -> Result<(), OutOfMemory>
-    ensures { OnOk result (string_bytes text.new ≡ string_bytes text.old
-        ++ tick_text x revision key.now) }
-{
     writeln!(
         text,
         "<line class=\"tick\" x1=\"{x}\" y1=\"20\" x2=\"{x}\" y2=\"44\"><title>Revision {revision}: {}</title></line>",
-        Told(key)
+        Told(key.as_str())
     )?;
     Ok(())
 }
@@ -203,10 +192,10 @@ fn append_removal_mark(
     let line = line_at(log, range.event);
     let key = key_text(alloc, &removal.key)?;
     append_bar(text, axis, range)?;
-    append_range(text, line, range.low, range.high, key.as_str())?;
-    Ok(())
+    append_range(text, line, range.low, range.high, key.as_str())
 }
 
+#[tactic(auto, unfolding(crate::specs::Revised::rect_text))]
 fn append_bar(text: &mut String, axis: &Axis, range: Range) -> Result<(), OutOfMemory>
     ensures { OnOk result (string_bytes text.new ≡ string_bytes text.old
         ++ bar_text axis.now range) }
@@ -214,14 +203,6 @@ fn append_bar(text: &mut String, axis: &Axis, range: Range) -> Result<(), OutOfM
     let x = axis.position(range.low);
     let y = 62 + range.event % 6 * 11;
     let width = bar_width(axis, range.low, range.high);
-    append_rect(text, x, y, width)?;
-    Ok(())
-}
-
-#[tactic(auto, unfolding(crate::specs::Revised::rect_text))]
-fn append_rect(text: &mut String, x: u64, y: u32, width: u64) -> Result<(), OutOfMemory>
-    ensures { OnOk result (string_bytes text.new ≡ string_bytes text.old ++ rect_text x y width) }
-{
     write!(
         text,
         "<rect class=\"bar\" x=\"{x}\" y=\"{y}\" width=\"{width}\" height=\"8\"><title>Line "
@@ -321,6 +302,5 @@ fn append_left_out(alloc: Global, text: &mut String, drawn: &Drawn<'_>) -> Resul
         drawn.unrecorded_writes,
         UNRECORDED_LIMIT,
         "Unrecorded writes that aren't drawn",
-    )?;
-    Ok(())
+    )
 }

@@ -203,8 +203,7 @@ fn append_event_row(text: &mut String, event: &Event, logged: &LogEvent) -> Resu
 {
     write!(text, "<tr><td>{}</td><td>", event.line)?;
     push_moment(text, event.received)?;
-    append_asked(text, event, logged)?;
-    Ok(())
+    append_asked(text, event, logged)
 }
 
 #[tactic(auto, unfolding(crate::specs::Lanes::asked_cells))]
