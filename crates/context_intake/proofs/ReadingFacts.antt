@@ -1,11 +1,14 @@
 -- What a setup and a log tell, wherever their reading stops.
-use Rattle.std.proofs.Common.{◌≡◌, ◌≤◌, ℕ, List, Option, Some, Result, Ok, Err, IfOk, IsErrOf, length, refl, sym, ◌∙◌, ap, subst}
+use Rattle.std.proofs.Common.{◌≡◌, ◌≢◌, ◌≤◌, ℕ, List, [], Option, Some, Result, Ok, Err, IfOk, IsErrOf, length, refl, sym, ◌∙◌, ap, subst, arith}
 use Rattle.std.proofs.lemmas.Result.{IfOk-weaker}
 use Rattle.audit_event.specs.declared.event.Event.{Event}
+use Rattle.edge_io.specs.Faults.{Rose}
+use Rattle.edge_io.specs.Whole.{TakesWhole}
+use Rattle.edge_io.proofs.TakenFacts.{taken_nothing}
 use Rattle.log_intake.specs.Log.{IsLogRead}
-use Rattle.log_intake.specs.Setup.{AnswersSetup, IsSetupRead, StaysWithin, TakesSetup}
+use Rattle.log_intake.specs.Setup.{AnswersSetup, IsSetupRead, ReadsSetup, StaysWithin, TakesSetup, most_setup}
 use Rattle.log_intake.specs.Taking as taking
-use Rattle.log_intake.specs.Taking.{AnswersLog, TakesLog}
+use Rattle.log_intake.specs.Taking.{AnswersLog, ReadsLog, TakesLog}
 use Rattle.log_intake.specs.declared.stop.LogStop.{LogStop}
 use Rattle.log_intake.specs.declared.stop.LogStop.TheVariants as log_stop
 use Rattle.log_intake.specs.declared.stop.SetupStop.{SetupStop}
@@ -15,11 +18,13 @@ use Rattle.setup_file.specs.declared.setup.Setup.{Setup}
 use Rattle.version_store.specs.LogTrees.{pooled}
 use Rattle.context_intake.specs.Contexts.{IsFoundIn, IsRefused, IsToldBy, RefusesNothing, most_nodes, of_log, of_pool, of_setup, with_chains}
 use Rattle.context_intake.specs.Refusals.{IsSetupStopOf, IsStopOf}
+use Rattle.context_intake.specs.Taking.{ReadsSetupAndLog, TakesSetupAndLog}
 use Rattle.context_intake.specs.declared.refusal.Refusal.{Refusal}
 use Rattle.context_intake.specs.declared.stop.Stop.{Stop}
 use Rattle.context_intake.specs.declared.stop.Stop.TheVariants.{OutOfMemory, ReadFault}
 use Rattle.context_intake.specs.declared.told.Told.{Told}
 use Rattle.context_intake.specs.declared.told.Told.TheVariants.{Context, Refused}
+use Rattle.context_intake.proofs.OneContextFacts.{setup_one_way}
 
 -- the setup was refused for its bytes
 setup_answered : (bytes : List ℕ) (stop : SetupStop) (refusal : Refusal) → AnswersSetup bytes (Err stop) → IsSetupStopOf stop refusal → IsSetupRead bytes (Err stop)
@@ -75,7 +80,17 @@ module _ (left : List ℕ → Option (List ℕ)) (setup log : List ℕ) (result 
       (λ told f s l ts tl. found_told s l read events told (reads s ts) (answers l (same ∙ tl)) f)
       found
 
--- of a log of which nothing was read
+-- of a name of which nothing was read
+pub whole_untouched : (most : ℕ) (old now : Option (List ℕ)) (fine : Type 0) → now ≡ old → TakesWhole most old now fine
+whole_untouched most old now fine same = subst (λ n. TakesWhole most old n fine) (sym same) (record {
+  front = [];
+  piece = [];
+  taken = taken_nothing old;
+  within = omega arith;
+  short = omega arith;
+  blameless = λ _. refl;
+})
+
 pub log_untouched : (old now : Option (List ℕ)) (fine : Type 0) → now ≡ old → TakesLog old now fine
 log_untouched old now fine same = subst (λ n. TakesLog old n fine) (sym same) (takes_nothing old fine)
 
@@ -100,6 +115,85 @@ log_as old middle now fine fine' same weaker t = subst (λ o. TakesLog o now fin
   within = t.within;
   blameless = λ is. t.blameless (weaker is);
 })
+
+log_upto : (old middle now : Option (List ℕ)) (fine fine' : Type 0) → now ≡ middle → (fine' → fine) → TakesLog old middle fine → TakesLog old now fine'
+log_upto old middle now fine fine' same weaker t = subst (λ n. TakesLog old n fine') (sym same) (record {
+  front = t.front;
+  batch = t.batch;
+  taken = t.taken;
+  admitted = t.admitted;
+  short = t.short;
+  within = t.within;
+  blameless = λ is. t.blameless (weaker is);
+})
+
+-- what was taken of both, where only other names were read since
+pub taken_upto : (setup log : List ℕ) (old middle now : List ℕ → Option (List ℕ)) (fine fine' : Type 0) → now setup ≡ middle setup → now log ≡ middle log → (fine' → fine)
+    → TakesSetupAndLog setup log old middle fine → TakesSetupAndLog setup log old now fine'
+taken_upto setup log old middle now fine fine' same_setup same_log weaker t = record {
+  setup_taken = setup_as (old setup) (middle setup) (now setup) fine fine' same_setup weaker t.setup_taken;
+  log_taken = log_upto (old log) (middle log) (now log) fine fine' same_log weaker t.log_taken;
+  log_left = λ of_setup refusal told refused. same_log ∙ t.log_left of_setup refusal told refused;
+}
+
+pub rose_from : (old middle now : ℕ) → old ≤ middle → Rose middle now → Rose old now
+rose_from old middle now counted rose = omega (arith, counted, rose)
+
+-- a call that passes on what was read, and answers a read fault where the reading does
+pub reads_on : {setup log : List ℕ} {old now : List ℕ → Option (List ℕ)} {faults_before faults_now : ℕ} (result : Result Told Stop) (read_fault : Type 0) → (read_fault → IsErrOf result ReadFault)
+    → ReadsSetupAndLog setup log old now faults_before faults_now (RefusesNothing result) (IsErrOf result ReadFault) → ReadsSetupAndLog setup log old now faults_before faults_now read_fault read_fault
+reads_on {setup = setup} {log = log} {old = old} {now = now} result read_fault failed reads = record {
+  fault = λ is. reads.fault (failed is);
+  counted = reads.counted;
+  taken = taken_upto setup log old now now (RefusesNothing result) read_fault refl refl (λ is. subst RefusesNothing (sym (failed is)) tt) reads.taken;
+  others = reads.others;
+}
+
+-- the two names of a desk, by one call each
+module _ (setup log : List ℕ) (differ : setup ≢ log) (fine read_fault : Type 0) where
+  pub reads_none : (left : List ℕ → Option (List ℕ)) (faults : ℕ) → (read_fault → ⊥) → ReadsSetupAndLog setup log left left faults faults fine read_fault
+  reads_none left faults never = record {
+    fault = λ is. absurd (never is);
+    counted = omega arith;
+    taken = record {
+      setup_taken = whole_untouched most_setup (left setup) (left setup) fine refl;
+      log_taken = log_untouched (left log) (left log) fine refl;
+      log_left = λ of_setup refusal told refused. refl;
+    };
+    others = λ other not_setup not_log. refl;
+  }
+
+  -- a setup that was read alone
+  pub reads_setup : (old now : List ℕ → Option (List ℕ)) (faults_before faults_now : ℕ) (answer : Result Setup SetupStop) → ReadsSetup (old setup) (now setup) faults_before faults_now answer
+      → ((other : List ℕ) → other ≢ setup → now other ≡ old other) → (fine → StaysWithin answer) → (read_fault → IsErrOf answer setup_stop.ReadFault)
+      → ReadsSetupAndLog setup log old now faults_before faults_now fine read_fault
+  reads_setup old now faults_before faults_now answer reads others within failed = record {
+    fault = λ is. reads.fault (failed is);
+    counted = reads.counted;
+    taken = record {
+      setup_taken = setup_as (old setup) (now setup) (now setup) (StaysWithin answer) fine refl within reads.taken;
+      log_taken = log_untouched (old log) (now log) fine (others log (λ same. differ (sym same)));
+      log_left = λ of_setup refusal told refused. others log (λ same. differ (sym same));
+    };
+    others = λ other not_setup not_log. others other not_setup;
+  }
+
+  -- a log behind a setup that was read
+  pub reads_log : (old middle now : List ℕ → Option (List ℕ)) (faults_before faults_between faults_now : ℕ) (read : Setup) (answer : Result (List Event) LogStop)
+      → ReadsSetup (old setup) (middle setup) faults_before faults_between (Ok read) → ((other : List ℕ) → other ≢ setup → middle other ≡ old other)
+      → ReadsLog (middle log) (now log) faults_between faults_now answer → ((other : List ℕ) → other ≢ log → now other ≡ middle other)
+      → (fine → taking.RefusesNothing answer) → (read_fault → IsErrOf answer log_stop.ReadFault)
+      → ReadsSetupAndLog setup log old now faults_before faults_now fine read_fault
+  reads_log old middle now faults_before faults_between faults_now read answer reads others log_reads log_others refuses failed = record {
+    fault = λ is. rose_from faults_before faults_between faults_now reads.counted (log_reads.fault (failed is));
+    counted = (let first = reads.counted in let second = log_reads.counted in omega (arith, first, second));
+    taken = record {
+      setup_taken = setup_as (old setup) (middle setup) (now setup) (StaysWithin (Ok read)) fine (log_others setup differ) (λ is. tt) reads.taken;
+      log_taken = log_as (old log) (middle log) (now log) (taking.RefusesNothing answer) fine (others log (λ same. differ (sym same))) refuses log_reads.taken;
+      log_left = λ of_setup refusal told refused. absurd (setup_one_way of_setup read refusal (reads.answers of_setup told) refused);
+    };
+    others = λ other not_setup not_log. log_others other not_log ∙ others other not_setup;
+  }
 
 -- a refusal isn't passed on where nothing is refused
 refused_nothing : (result : Result Told Stop) (IsOf : Refusal → Type 0) (Q : Type 0) → IfOk result (λ told. (refusal : Refusal) × IsOf refusal × (told ≡ Refused refusal)) → (IsErrOf result ReadFault → Q) → RefusesNothing result → Q

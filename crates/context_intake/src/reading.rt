@@ -1,11 +1,10 @@
 ghost use Rattle.std.specs.Prelude.{◌≡◌, ◌≢◌, ◌≤◌, ℕ, List, Some, IfOk, IsErrOf, length};
 ghost use Rattle.std.specs.Io.KnownBytes.{IsAtEnd};
 ghost use Rattle.context_intake.specs.Contexts.{IsFoundIn, IsToldBy, RefusesNothing, with_chains};
-ghost use Rattle.context_intake.specs.Refusals.{IsSetupRefused, IsSetupStopOf, IsStopOf};
-ghost use Rattle.edge_io.specs.Faults.{Rose};
+ghost use Rattle.context_intake.specs.Refusals.{IsSetupStopOf, IsStopOf};
+ghost use Rattle.context_intake.specs.Taking.{ReadsSetupAndLog};
 ghost use Rattle.log_intake.specs.Kept.{AreLogEvents};
-ghost use Rattle.log_intake.specs.Setup.{TakesSetup, most_checkpoints};
-ghost use Rattle.log_intake.specs.Taking.{TakesLog};
+ghost use Rattle.log_intake.specs.Setup.{most_checkpoints};
 ghost use Rattle.setup_file.specs.Sound.{IsSound};
 ghost use Rattle.version_store.specs.Known.{Known};
 
@@ -35,20 +34,14 @@ pub fn read_context<R: Threads + Sync, D: Desk, H: Gate>(
     lines: &H,
 ) -> Result<Told, Stop>
     requires { setup.now ≢ log.now }
-    ensures told { IfOk result (λ told. (of_setup of_log : List ℕ) → D.left desk.old setup.now ≡ Some of_setup
-        → D.left desk.old log.now ≡ Some of_log
+    ensures told { IfOk result (λ told. (of_setup of_log : List ℕ)
+        → D.left desk.old setup.now ≡ Some of_setup → D.left desk.old log.now ≡ Some of_log
         → IsToldBy of_setup of_log told) }
     ensures whole { IfOk result (λ told. (known : Known) → told ≡ Told.Context known
         → IsAtEnd (D.left desk.new setup.now) × IsAtEnd (D.left desk.new log.now)) }
-    ensures fault { IsErrOf result Stop.ReadFault → Rose (D.faults desk.old) (D.faults desk.new) }
-    ensures counted { D.faults desk.old ≤ D.faults desk.new }
-    ensures setup_taken { TakesSetup (D.left desk.old setup.now) (D.left desk.new setup.now) (RefusesNothing result) }
-    ensures log_taken { TakesLog (D.left desk.old log.now) (D.left desk.new log.now) (RefusesNothing result) }
-    ensures log_left { (of_setup : List ℕ) (refusal : Refusal) → D.left desk.old setup.now ≡ Some of_setup
-        → IsSetupRefused of_setup refusal
-        → D.left desk.new log.now ≡ D.left desk.old log.now }
-    ensures others { (other : List ℕ) → other ≢ setup.now → other ≢ log.now
-        → D.left desk.new other ≡ D.left desk.old other }
+    ensures reads { ReadsSetupAndLog setup.now log.now (D.left desk.old) (D.left desk.new)
+        (D.faults desk.old) (D.faults desk.new) (RefusesNothing result)
+        (IsErrOf result Stop.ReadFault) }
 {
     let Ok(mut buffer) = piece_buffer(alloc) else {
         return Err(Stop::OutOfMemory);

@@ -1,17 +1,13 @@
 -- A command's report, of what was judged or checked.
-use Rattle.std.proofs.Common.{◌≡◌, ◌≢◌, ◌⊎◌, ℕ, List, Option, Some, Result, Ok, Err, IfOk, IsErrOf, inl, inr, refl, sym, ◌∙◌, ap, subst, arith}
+use Rattle.std.proofs.Common.{◌≡◌, ◌⊎◌, ℕ, List, Option, Some, Result, Ok, Err, IfOk, IsErrOf, inl, inr, refl, sym, ◌∙◌, ap, subst, arith}
 use Rattle.std.specs.Io.KnownBytes.{IsAtEnd}
 use Rattle.base_types.specs.declared.placed.Outcome.{Outcome}
-use Rattle.context_intake.specs.Contexts.{IsRefused}
+use Rattle.context_intake.specs.Taking.{ReadsSetupAndLog}
 use Rattle.context_intake.specs.declared.refusal.Refusal.{Refusal}
 use Rattle.context_intake.specs.declared.refusal.Refusal.TheVariants.{BrokenSetup, MalformedLog, PastLimit}
 use Rattle.context_intake.specs.declared.stop.Stop.{Stop}
 use Rattle.context_intake.specs.declared.stop.Stop.TheVariants.{OutOfMemory, ReadFault}
 use Rattle.context_intake.proofs.ReadingFacts.{log_as, setup_as}
-use Rattle.edge_io.specs.Faults.{Rose}
-use Rattle.edge_io.specs.Whole.{TakesWhole}
-use Rattle.log_intake.specs.Setup.{TakesSetup}
-use Rattle.log_intake.specs.Taking.{TakesLog}
 use Rattle.history_query.specs.declared.question.Question.{Question}
 use Rattle.serial_machine.specs.declared.checked.Checked.{Checked}
 use Rattle.log_verdict.specs.Answering.{IsHistory}
@@ -19,11 +15,11 @@ use Rattle.command_words.specs.Command.{Ask, Judge, Make, Strict, Tells, Verify}
 use Rattle.log_verdict.specs.Answers.{Answer, history_answer, judged_answer, refusal_answer, report_answer, strictly_answer, verified_answer}
 use Rattle.log_verdict.specs.Judging.{IsJudged}
 use Rattle.kubepast.specs.Program.{IsAnswerTo}
-use Rattle.context_intake.specs.Refusals.{IsSetupRefused}
 use Rattle.kubepast.specs.Reported.{PrintsPlacement, IsReported, HasVerdictStatus}
 use Rattle.log_verdict.specs.Strictly as strict
 use Rattle.log_verdict.specs.Strictly.{IsStrictlyJudged}
-use Rattle.log_verdict.specs.Verifying.{IsReadLast, IsVerified, most_placement}
+use Rattle.log_verdict.specs.Taking.{ReadsSetupLogAndPlacement}
+use Rattle.log_verdict.specs.Verifying.{IsVerified, most_placement}
 use Rattle.log_verdict.specs.declared.asking.Answered.{Answered}
 use Rattle.log_verdict.specs.declared.asking.Answered.TheVariants as answered
 use Rattle.log_verdict.specs.declared.judged.Judged.{Judged}
@@ -125,95 +121,89 @@ module _ (old now : List ℕ → Option (List ℕ)) (untouched : Type 0) (before
   pub judge_reported : (inner : Result Judged Stop) → IsPassed judged_answer inner result
       → IfOk inner (λ judged. (s l : List ℕ) → old setup ≡ Some s → old log ≡ Some l → IsJudged s l judged)
       → IfOk inner (λ judged. (outcome : Outcome) → judged ≡ Verdict outcome → IsAtEnd (now setup) × IsAtEnd (now log))
-      → (IsErrOf inner ReadFault → Rose before after) → TakesSetup (old setup) (now setup) (IsErrOf inner ReadFault) → TakesLog (old log) (now log) (IsErrOf inner ReadFault)
-      → ((s : List ℕ) (refusal : Refusal) → old setup ≡ Some s → IsSetupRefused s refusal → now log ≡ old log) → ((name : List ℕ) → name ≢ setup → name ≢ log → now name ≡ old name) → IfOk result (PrintsPlacement (Judge setup log))
+      → ReadsSetupAndLog setup log old now before after (IsErrOf inner ReadFault) (IsErrOf inner ReadFault) → IfOk result (PrintsPlacement (Judge setup log))
       → IsReported (Judge setup log) old now untouched before after result
-  judge_reported inner passed is ends fault setup_taken log_taken log_left others printed = record {
+  judge_reported inner passed is ends reads printed = record {
     answered = of_report judged_answer inner result _ (λ report. (files : List ℕ → List ℕ) → Tells (Judge setup log) old files → IsAnswerTo (Some (Judge setup log)) files (report_answer report)) passed is
         (λ judged report told judges files tells. (judged, judges (files setup) (files log) (tells setup (inl refl)) (tells log (inr refl)), told));
-    fault = λ failed. fault (failed_read judged_answer inner result passed failed);
+    fault = λ failed. reads.fault (failed_read judged_answer inner result passed failed);
     taken = record {
       whole = of_report judged_answer inner result _ (λ report. HasVerdictStatus report → IsAtEnd (now setup) × IsAtEnd (now log)) passed ends
           (λ judged report told ended. judged_end (IsAtEnd (now setup) × IsAtEnd (now log)) judged report told ended);
-      setup_taken = setup_as (old setup) (now setup) (now setup) (IsErrOf inner ReadFault) (IsErrOf result ReadFault) refl (failed_read judged_answer inner result passed) setup_taken;
-      log_taken = log_as (old log) (old log) (now log) (IsErrOf inner ReadFault) (IsErrOf result ReadFault) refl (failed_read judged_answer inner result passed) log_taken;
-      log_left = log_left;
+      setup_taken = setup_as (old setup) (now setup) (now setup) (IsErrOf inner ReadFault) (IsErrOf result ReadFault) refl (failed_read judged_answer inner result passed) reads.taken.setup_taken;
+      log_taken = log_as (old log) (old log) (now log) (IsErrOf inner ReadFault) (IsErrOf result ReadFault) refl (failed_read judged_answer inner result passed) reads.taken.log_taken;
+      log_left = reads.taken.log_left;
     };
-    others = λ name unread. others name (λ e. unread (inl e)) (λ e. unread (inr e));
+    others = λ name unread. reads.others name (λ e. unread (inl e)) (λ e. unread (inr e));
     printed = printed;
   }
 
   pub strictly_reported : (inner : Result StrictlyJudged Stop) → IsPassed strictly_answer inner result
       → IfOk inner (λ found. (s l : List ℕ) → old setup ≡ Some s → old log ≡ Some l → IsStrictlyJudged s l found)
       → IfOk inner (λ found. strict.IsVerdict found → IsAtEnd (now setup) × IsAtEnd (now log))
-      → (IsErrOf inner ReadFault → Rose before after) → TakesSetup (old setup) (now setup) (IsErrOf inner ReadFault) → TakesLog (old log) (now log) (IsErrOf inner ReadFault)
-      → ((s : List ℕ) (refusal : Refusal) → old setup ≡ Some s → IsSetupRefused s refusal → now log ≡ old log) → ((name : List ℕ) → name ≢ setup → name ≢ log → now name ≡ old name)
+      → ReadsSetupAndLog setup log old now before after (IsErrOf inner ReadFault) (IsErrOf inner ReadFault)
       → IsReported (Strict setup log) old now untouched before after result
-  strictly_reported inner passed is ends fault setup_taken log_taken log_left others = record {
+  strictly_reported inner passed is ends reads = record {
     answered = of_report strictly_answer inner result _ (λ report. (files : List ℕ → List ℕ) → Tells (Strict setup log) old files → IsAnswerTo (Some (Strict setup log)) files (report_answer report)) passed is
         (λ found report told judges files tells. (found, judges (files setup) (files log) (tells setup (inl refl)) (tells log (inr refl)), told));
-    fault = λ failed. fault (failed_read strictly_answer inner result passed failed);
+    fault = λ failed. reads.fault (failed_read strictly_answer inner result passed failed);
     taken = record {
       whole = of_report strictly_answer inner result _ (λ report. HasVerdictStatus report → IsAtEnd (now setup) × IsAtEnd (now log)) passed ends
           (λ found report told ended. strictly_end (IsAtEnd (now setup) × IsAtEnd (now log)) found report told ended);
-      setup_taken = setup_as (old setup) (now setup) (now setup) (IsErrOf inner ReadFault) (IsErrOf result ReadFault) refl (failed_read strictly_answer inner result passed) setup_taken;
-      log_taken = log_as (old log) (old log) (now log) (IsErrOf inner ReadFault) (IsErrOf result ReadFault) refl (failed_read strictly_answer inner result passed) log_taken;
-      log_left = log_left;
+      setup_taken = setup_as (old setup) (now setup) (now setup) (IsErrOf inner ReadFault) (IsErrOf result ReadFault) refl (failed_read strictly_answer inner result passed) reads.taken.setup_taken;
+      log_taken = log_as (old log) (old log) (now log) (IsErrOf inner ReadFault) (IsErrOf result ReadFault) refl (failed_read strictly_answer inner result passed) reads.taken.log_taken;
+      log_left = reads.taken.log_left;
     };
-    others = λ name unread. others name (λ e. unread (inl e)) (λ e. unread (inr e));
+    others = λ name unread. reads.others name (λ e. unread (inl e)) (λ e. unread (inr e));
     printed = unprinted result;
   }
 
   pub verify_reported : (placement : List ℕ) (inner : Result Verified Stop) → IsPassed verified_answer inner result
       → IfOk inner (λ found. (s l p : List ℕ) → old setup ≡ Some s → old log ≡ Some l → old placement ≡ Some p → IsVerified s l p found)
       → IfOk inner (λ found. (checked : Checked) → found ≡ verified.Judged checked → IsAtEnd (now setup) × IsAtEnd (now log) × IsAtEnd (now placement))
-      → (IsErrOf inner ReadFault → Rose before after) → TakesSetup (old setup) (now setup) (IsErrOf inner ReadFault) → TakesLog (old log) (now log) (IsErrOf inner ReadFault)
-      → TakesWhole most_placement (old placement) (now placement) (IsErrOf inner ReadFault)
-      → ((s l : List ℕ) (refusal : Refusal) → old setup ≡ Some s → old log ≡ Some l → IsRefused s l refusal → now placement ≡ old placement) → IsReadLast (now setup) (now log) (old placement) (now placement)
-      → ((s : List ℕ) (refusal : Refusal) → old setup ≡ Some s → IsSetupRefused s refusal → now log ≡ old log) → ((name : List ℕ) → name ≢ setup → name ≢ log → name ≢ placement → now name ≡ old name)
+      → ReadsSetupLogAndPlacement setup log placement old now before after (IsErrOf inner ReadFault)
       → IsReported (Verify setup log placement) old now untouched before after result
-  verify_reported placement inner passed is ends fault setup_taken log_taken placement_taken left last log_left others = record {
+  verify_reported placement inner passed is ends reads = record {
     answered = of_report verified_answer inner result _ (λ report. (files : List ℕ → List ℕ) → Tells (Verify setup log placement) old files → IsAnswerTo (Some (Verify setup log placement)) files (report_answer report)) passed is
         (λ found report told judges files tells. (found, judges (files setup) (files log) (files placement) (tells setup (inl refl)) (tells log (inr (inl refl))) (tells placement (inr (inr refl))), told));
-    fault = λ failed. fault (failed_read verified_answer inner result passed failed);
+    fault = λ failed. reads.fault (failed_read verified_answer inner result passed failed);
     taken = (
       record {
         whole = of_report verified_answer inner result _ (λ report. HasVerdictStatus report → IsAtEnd (now setup) × IsAtEnd (now log)) passed ends
             (λ found report told ended. verified_end (IsAtEnd (now setup) × IsAtEnd (now log)) found report told (λ checked same. let all = ended checked same in (all.0, all.1)));
-        setup_taken = setup_as (old setup) (now setup) (now setup) (IsErrOf inner ReadFault) (IsErrOf result ReadFault) refl (failed_read verified_answer inner result passed) setup_taken;
-        log_taken = log_as (old log) (old log) (now log) (IsErrOf inner ReadFault) (IsErrOf result ReadFault) refl (failed_read verified_answer inner result passed) log_taken;
-        log_left = log_left;
+        setup_taken = setup_as (old setup) (now setup) (now setup) (IsErrOf inner ReadFault) (IsErrOf result ReadFault) refl (failed_read verified_answer inner result passed) reads.taken.setup_taken;
+        log_taken = log_as (old log) (old log) (now log) (IsErrOf inner ReadFault) (IsErrOf result ReadFault) refl (failed_read verified_answer inner result passed) reads.taken.log_taken;
+        log_left = reads.taken.log_left;
       },
       record {
         whole = of_report verified_answer inner result _ (λ report. HasVerdictStatus report → IsAtEnd (now placement)) passed ends
             (λ found report told ended. verified_end (IsAtEnd (now placement)) found report told (λ checked same. let all = ended checked same in all.2));
-        taken = whole_from most_placement (old placement) (old placement) (now placement) (IsErrOf inner ReadFault) (IsErrOf result ReadFault) refl (failed_read verified_answer inner result passed) placement_taken;
-        left = left;
-        after = last;
+        taken = whole_from most_placement (old placement) (old placement) (now placement) (IsErrOf inner ReadFault) (IsErrOf result ReadFault) refl (failed_read verified_answer inner result passed) reads.placement_taken;
+        left = reads.placement_left;
+        after = reads.placement_after;
       },
     );
-    others = λ name unread. others name (λ e. unread (inl e)) (λ e. unread (inr (inl e))) (λ e. unread (inr (inr e)));
+    others = λ name unread. reads.others name (λ e. unread (inl e)) (λ e. unread (inr (inl e))) (λ e. unread (inr (inr e)));
     printed = unprinted result;
   }
 
   pub ask_reported : (question : Question) (inner : Result Answered Stop) → IsPassed history_answer inner result
       → IfOk inner (λ found. (s l : List ℕ) → old setup ≡ Some s → old log ≡ Some l → IsHistory s l question found)
       → IfOk inner (λ found. (text : List ℕ) → found ≡ answered.History text → IsAtEnd (now setup) × IsAtEnd (now log))
-      → (IsErrOf inner ReadFault → Rose before after) → TakesSetup (old setup) (now setup) (IsErrOf inner ReadFault) → TakesLog (old log) (now log) (IsErrOf inner ReadFault)
-      → ((s : List ℕ) (refusal : Refusal) → old setup ≡ Some s → IsSetupRefused s refusal → now log ≡ old log) → ((name : List ℕ) → name ≢ setup → name ≢ log → now name ≡ old name)
+      → ReadsSetupAndLog setup log old now before after (IsErrOf inner ReadFault) (IsErrOf inner ReadFault)
       → IsReported (Ask setup log question) old now untouched before after result
-  ask_reported question inner passed is ends fault setup_taken log_taken log_left others = record {
+  ask_reported question inner passed is ends reads = record {
     answered = of_report history_answer inner result _ (λ report. (files : List ℕ → List ℕ) → Tells (Ask setup log question) old files → IsAnswerTo (Some (Ask setup log question)) files (report_answer report)) passed is
         (λ found report told answers files tells. (found, answers (files setup) (files log) (tells setup (inl refl)) (tells log (inr refl)), told));
-    fault = λ failed. fault (failed_read history_answer inner result passed failed);
+    fault = λ failed. reads.fault (failed_read history_answer inner result passed failed);
     taken = record {
       whole = of_report history_answer inner result _ (λ report. HasVerdictStatus report → IsAtEnd (now setup) × IsAtEnd (now log)) passed ends
           (λ found report told ended. history_end (IsAtEnd (now setup) × IsAtEnd (now log)) found report told ended);
-      setup_taken = setup_as (old setup) (now setup) (now setup) (IsErrOf inner ReadFault) (IsErrOf result ReadFault) refl (failed_read history_answer inner result passed) setup_taken;
-      log_taken = log_as (old log) (old log) (now log) (IsErrOf inner ReadFault) (IsErrOf result ReadFault) refl (failed_read history_answer inner result passed) log_taken;
-      log_left = log_left;
+      setup_taken = setup_as (old setup) (now setup) (now setup) (IsErrOf inner ReadFault) (IsErrOf result ReadFault) refl (failed_read history_answer inner result passed) reads.taken.setup_taken;
+      log_taken = log_as (old log) (old log) (now log) (IsErrOf inner ReadFault) (IsErrOf result ReadFault) refl (failed_read history_answer inner result passed) reads.taken.log_taken;
+      log_left = reads.taken.log_left;
     };
-    others = λ name unread. others name (λ e. unread (inl e)) (λ e. unread (inr e));
+    others = λ name unread. reads.others name (λ e. unread (inl e)) (λ e. unread (inr e));
     printed = unprinted result;
   }
 

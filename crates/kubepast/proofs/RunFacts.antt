@@ -3,7 +3,7 @@ use Rattle.std.proofs.Common.{◌≡◌, ℕ, List, Option, Some, None, Result, 
 use Rattle.std.specs.Io.KnownBytes.{Appends, IsAtEnd, Keeps}
 use Rattle.context_intake.specs.Contexts.{IsRefused}
 use Rattle.context_intake.specs.declared.refusal.Refusal.{Refusal}
-use Rattle.context_intake.proofs.ReadingFacts.{log_as, log_untouched, setup_as}
+use Rattle.context_intake.proofs.ReadingFacts.{log_as, log_untouched, setup_as, whole_untouched}
 use Rattle.edge_io.specs.Faults.{Rose}
 use Rattle.edge_io.specs.Whole.{TakesWhole}
 use Rattle.log_intake.specs.Setup.{TakesSetup, most_setup}
@@ -18,7 +18,7 @@ use Rattle.kubepast.specs.Reported.{HasVerdictStatus, IsReported, PrintsPlacemen
 use Rattle.kubepast.specs.Running.{IsVerdictStatus, ReadsDesk, ReadsNames, ReadsPlacement, StatusTells}
 use Rattle.log_verdict.specs.Verifying.{IsReadLast, most_placement}
 use Rattle.command_words.proofs.AskedFacts.{one_command}
-use Rattle.log_verdict.proofs.VerifyingFacts.{whole_from, whole_untouched}
+use Rattle.log_verdict.proofs.VerifyingFacts.{whole_from}
 use Rattle.log_verdict.specs.declared.report.Report.{Report}
 use Rattle.log_verdict.specs.declared.report.Status.{Status}
 use Rattle.log_verdict.specs.declared.report.Status.TheVariants.{Explained, Unexplained, SetupRefused, LogRefused, LimitPassed}

@@ -1,9 +1,7 @@
 -- What a setup and a log come to.
-use Rattle.std.proofs.Common.{◌≡◌, ℕ, List, Result, IsErrOf, refl, sym, ◌∙◌, subst}
+use Rattle.std.proofs.Common.{◌≡◌, ℕ, List, refl, sym, ◌∙◌, subst}
 use Rattle.base_types.specs.declared.placed.Outcome.{Outcome}
-use Rattle.context_intake.specs.Contexts.{IsToldBy, RefusesNothing}
-use Rattle.context_intake.specs.declared.stop.Stop.{Stop}
-use Rattle.context_intake.specs.declared.stop.Stop.TheVariants.{ReadFault}
+use Rattle.context_intake.specs.Contexts.{IsToldBy}
 use Rattle.context_intake.specs.declared.told.Told.{Told}
 use Rattle.context_intake.specs.declared.told.Told.TheVariants as told
 use Rattle.version_store.specs.Known.{Known}
@@ -20,7 +18,3 @@ judged_told setup log (told.Context known) judged is (outcome, found, same) = su
 pub verdict_told : (found : Told) (judged : Judged) (outcome : Outcome) → IsJudgedFrom found judged → judged ≡ Verdict outcome → (known : Known) × (found ≡ told.Context known)
 verdict_told (told.Refused refusal) judged outcome from is = absurd (let no : Refused refusal ≡ Verdict outcome = sym from ∙ is in cc)
 verdict_told (told.Context known) judged outcome from is = (known, refl)
-
--- a failed read refuses nothing
-pub nothing_refused : (result : Result Told Stop) (fine : Type 0) → (fine → IsErrOf result ReadFault) → fine → RefusesNothing result
-nothing_refused result fine failed is = subst RefusesNothing (sym (failed is)) tt

@@ -1,18 +1,18 @@
 -- What a placement comes to, of what a setup and a log tell.
-use Rattle.std.proofs.Common.{◌≡◌, ◌≤◌, ℕ, inl, inr, List, [], Option, Result, Ok, refl, sym, subst, arith}
+use Rattle.std.proofs.Common.{◌≡◌, ◌≢◌, ℕ, inl, inr, List, Option, Result, Ok, refl, sym, subst}
 use Rattle.std.specs.Io.KnownBytes.{IsAtEnd}
-use Rattle.edge_io.specs.Faults.{Rose}
 use Rattle.edge_io.specs.Whole.{TakesWhole}
-use Rattle.edge_io.proofs.TakenFacts.{taken_nothing}
-use Rattle.log_intake.specs.Taking.{TakesLog}
 use Rattle.context_intake.specs.Contexts.{IsOfContext, IsRefused, IsToldBy, RefusesNothing}
+use Rattle.context_intake.specs.Taking.{ReadsSetupAndLog}
 use Rattle.context_intake.specs.declared.stop.Stop.{Stop}
 use Rattle.context_intake.specs.declared.refusal.Refusal.{Refusal}
 use Rattle.context_intake.specs.declared.told.Told.{Told}
 use Rattle.context_intake.specs.declared.told.Told.TheVariants as told
 use Rattle.context_intake.proofs.OneContextFacts.{one_way}
+use Rattle.context_intake.proofs.ReadingFacts.{whole_untouched}
 use Rattle.version_store.specs.Known.{Known}
-use Rattle.log_verdict.specs.Verifying.{IsReadLast, IsVerified, IsVerifiedFrom}
+use Rattle.log_verdict.specs.Taking.{ReadsSetupLogAndPlacement}
+use Rattle.log_verdict.specs.Verifying.{IsReadLast, IsVerified, IsVerifiedFrom, most_placement}
 use Rattle.log_verdict.specs.declared.verified.Verified.{Verified}
 use Rattle.log_verdict.specs.declared.verified.Verified.TheVariants.{Refused, TooLong, Misspelt, Judged}
 
@@ -37,17 +37,6 @@ pub read_last : (found : Told) (setup log old now : Option (List ℕ)) → ((IsO
 read_last (told.Refused refusal) setup log old now left ends = inl (left (λ none. none))
 read_last (told.Context known) setup log old now left ends = inr (ends known refl)
 
--- of a name of which nothing was read
-pub whole_untouched : (most : ℕ) (old now : Option (List ℕ)) (fine : Type 0) → now ≡ old → TakesWhole most old now fine
-whole_untouched most old now fine same = subst (λ n. TakesWhole most old n fine) (sym same) (record {
-  front = [];
-  piece = [];
-  taken = taken_nothing old;
-  within = omega arith;
-  short = omega arith;
-  blameless = λ _. refl;
-})
-
 -- what was taken of a name, by all reads
 pub whole_from : (most : ℕ) (old middle now : Option (List ℕ)) (fine fine' : Type 0) → middle ≡ old → (fine' → fine) → TakesWhole most middle now fine → TakesWhole most old now fine'
 whole_from most old middle now fine fine' same weaker t = subst (λ o. TakesWhole most o now fine') same (record {
@@ -59,21 +48,22 @@ whole_from most old middle now fine fine' same weaker t = subst (λ o. TakesWhol
   blameless = λ is. t.blameless (weaker is);
 })
 
-pub log_upto : (old middle now : Option (List ℕ)) (fine fine' : Type 0) → now ≡ middle → (fine' → fine) → TakesLog old middle fine → TakesLog old now fine'
-log_upto old middle now fine fine' same weaker t = subst (λ n. TakesLog old n fine') (sym same) (record {
-  front = t.front;
-  batch = t.batch;
-  taken = t.taken;
-  admitted = t.admitted;
-  short = t.short;
-  within = t.within;
-  blameless = λ is. t.blameless (weaker is);
-})
-
 -- a context refuses nothing
 pub context_nothing : (result : Result Told Stop) (found : Told) → result ≡ Ok found → IsOfContext found → RefusesNothing result
 context_nothing result (told.Refused refusal) same context = absurd context
 context_nothing result (told.Context known) same context = subst RefusesNothing (sym same) tt
 
-pub rose_from : (old middle now : ℕ) → old ≤ middle → Rose middle now → Rose old now
-rose_from old middle now counted rose = omega (arith, counted, rose)
+-- the placement wasn't read
+pub placement_unread : {setup log : List ℕ} {old now : List ℕ → Option (List ℕ)} {faults_before faults_now : ℕ} {read_fault : Type 0} (placement : List ℕ) → placement ≢ setup → placement ≢ log
+    → ReadsSetupAndLog setup log old now faults_before faults_now read_fault read_fault → ReadsSetupLogAndPlacement setup log placement old now faults_before faults_now read_fault
+placement_unread {old = old} {now = now} {read_fault = read_fault} placement not_setup not_log reads =
+    let untouched : now placement ≡ old placement = reads.others placement not_setup not_log in
+    record {
+      fault = reads.fault;
+      counted = reads.counted;
+      taken = reads.taken;
+      placement_taken = whole_untouched most_placement (old placement) (now placement) read_fault untouched;
+      placement_left = λ of_setup of_log refusal told_setup told_log refused. untouched;
+      placement_after = inl untouched;
+      others = λ other other_setup other_log other_placement. reads.others other other_setup other_log;
+    }

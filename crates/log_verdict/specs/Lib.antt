@@ -5,4 +5,5 @@ pub mod Findings
 pub mod Judging
 pub mod Placing
 pub mod Strictly
+pub mod Taking
 pub mod Verifying

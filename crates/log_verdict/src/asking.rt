@@ -1,9 +1,6 @@
-ghost use Rattle.std.specs.Prelude.{◌≡◌, ◌≢◌, ◌≤◌, ℕ, List, Some, IfOk, IsErrOf};
+ghost use Rattle.std.specs.Prelude.{◌≡◌, ◌≢◌, ℕ, List, Some, IfOk, IsErrOf};
 ghost use Rattle.std.specs.Io.KnownBytes.{IsAtEnd};
-ghost use Rattle.context_intake.specs.Refusals.{IsSetupRefused};
-ghost use Rattle.edge_io.specs.Faults.{Rose};
-ghost use Rattle.log_intake.specs.Setup.{TakesSetup};
-ghost use Rattle.log_intake.specs.Taking.{TakesLog};
+ghost use Rattle.context_intake.specs.Taking.{ReadsSetupAndLog};
 ghost use Rattle.log_verdict.specs.Answering.{IsHistory, IsHistoryFrom};
 
 use base_types::{Bytes, OutOfMemory};
@@ -41,16 +38,9 @@ pub fn ask<R: Threads + Sync, D: Desk, H: Gate>(
         → IsHistory of_setup of_log question.now found) }
     ensures whole { IfOk result (λ found. (text : List ℕ) → found ≡ Answered.History text
         → IsAtEnd (D.left desk.new setup.now) × IsAtEnd (D.left desk.new log.now)) }
-    ensures fault { IsErrOf result Stop.ReadFault → Rose (D.faults desk.old) (D.faults desk.new) }
-    ensures counted { D.faults desk.old ≤ D.faults desk.new }
-    ensures setup_taken { TakesSetup (D.left desk.old setup.now) (D.left desk.new setup.now)
+    ensures reads { ReadsSetupAndLog setup.now log.now (D.left desk.old) (D.left desk.new)
+        (D.faults desk.old) (D.faults desk.new) (IsErrOf result Stop.ReadFault)
         (IsErrOf result Stop.ReadFault) }
-    ensures log_taken { TakesLog (D.left desk.old log.now) (D.left desk.new log.now) (IsErrOf result Stop.ReadFault) }
-    ensures log_left { (of_setup : List ℕ) (refusal : Refusal) → D.left desk.old setup.now ≡ Some of_setup
-        → IsSetupRefused of_setup refusal
-        → D.left desk.new log.now ≡ D.left desk.old log.now }
-    ensures others { (other : List ℕ) → other ≢ setup.now → other ≢ log.now
-        → D.left desk.new other ≡ D.left desk.old other }
 {
     let found = read_context(rt, alloc, desk, setup, log, lines)?;
     let told = ManuallyDrop::new(found);

@@ -1,16 +1,13 @@
-ghost use Rattle.std.specs.Prelude.{◌≡◌, ◌≢◌, ◌≤◌, ℕ, List, Some, IfOk, IsErrOf};
+ghost use Rattle.std.specs.Prelude.{◌≡◌, ◌≢◌, ℕ, List, Some, IfOk, IsErrOf};
 ghost use Rattle.std.specs.Io.KnownBytes.{IsAtEnd};
 ghost use Rattle.base_types.specs.declared.placed.Outcome.{Outcome};
-ghost use Rattle.context_intake.specs.Refusals.{IsSetupRefused};
-ghost use Rattle.edge_io.specs.Faults.{Rose};
-ghost use Rattle.log_intake.specs.Setup.{TakesSetup};
-ghost use Rattle.log_intake.specs.Taking.{TakesLog};
+ghost use Rattle.context_intake.specs.Taking.{ReadsSetupAndLog};
 ghost use Rattle.log_verdict.specs.Judging.{IsJudged, IsJudgedFrom};
 
 use crate::judged::Judged;
 use crate::outcome::outcome_of;
 use base_types::OutOfMemory;
-use context_intake::{Refusal, Stop, Told, read_context};
+use context_intake::{Stop, Told, read_context};
 use edge_io::Desk;
 use judge_pool::Gate;
 use std::alloc::Global;
@@ -41,16 +38,9 @@ pub fn judge<R: Threads + Sync, D: Desk, G: Gate, H: Gate>(
         → IsJudged of_setup of_log judged) }
     ensures whole { IfOk result (λ judged. (outcome : Outcome) → judged ≡ Judged.Verdict outcome
         → IsAtEnd (D.left desk.new setup.now) × IsAtEnd (D.left desk.new log.now)) }
-    ensures fault { IsErrOf result Stop.ReadFault → Rose (D.faults desk.old) (D.faults desk.new) }
-    ensures counted { D.faults desk.old ≤ D.faults desk.new }
-    ensures setup_taken { TakesSetup (D.left desk.old setup.now) (D.left desk.new setup.now)
+    ensures reads { ReadsSetupAndLog setup.now log.now (D.left desk.old) (D.left desk.new)
+        (D.faults desk.old) (D.faults desk.new) (IsErrOf result Stop.ReadFault)
         (IsErrOf result Stop.ReadFault) }
-    ensures log_taken { TakesLog (D.left desk.old log.now) (D.left desk.new log.now) (IsErrOf result Stop.ReadFault) }
-    ensures log_left { (of_setup : List ℕ) (refusal : Refusal) → D.left desk.old setup.now ≡ Some of_setup
-        → IsSetupRefused of_setup refusal
-        → D.left desk.new log.now ≡ D.left desk.old log.now }
-    ensures others { (other : List ℕ) → other ≢ setup.now → other ≢ log.now
-        → D.left desk.new other ≡ D.left desk.old other }
 {
     let found = read_context(rt, alloc, desk, setup, log, gates.lines)?;
     let told = ManuallyDrop::new(found);

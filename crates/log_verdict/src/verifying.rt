@@ -1,17 +1,15 @@
 ghost use Rattle.std.specs.Prelude.{◌≡◌, ◌≢◌, ◌≤◌, ℕ, List, Some, IfOk, IsErrOf, length};
 ghost use Rattle.std.specs.Io.KnownBytes.{IsAtEnd};
-ghost use Rattle.context_intake.specs.Contexts.{IsOfContext, IsRefused};
-ghost use Rattle.context_intake.specs.Refusals.{IsSetupRefused};
+ghost use Rattle.context_intake.specs.Contexts.{IsOfContext};
 ghost use Rattle.edge_io.specs.Faults.{Rose};
 ghost use Rattle.edge_io.specs.Whole.{TakesWhole};
-ghost use Rattle.log_intake.specs.Setup.{TakesSetup};
-ghost use Rattle.log_intake.specs.Taking.{TakesLog};
-ghost use Rattle.log_verdict.specs.Verifying.{IsOfText, IsReadLast, IsVerified, IsVerifiedBy, IsVerifiedFrom};
+ghost use Rattle.log_verdict.specs.Taking.{ReadsSetupLogAndPlacement};
+ghost use Rattle.log_verdict.specs.Verifying.{IsOfText, IsVerified, IsVerifiedBy, IsVerifiedFrom};
 ghost use Rattle.log_verdict.specs.Verifying.{most_placement};
 
 use crate::verified::Verified;
 use base_types::OutOfMemory;
-use context_intake::{Refusal, Stop, Told, read_context};
+use context_intake::{Stop, Told, read_context};
 use edge_io::{Desk, WholeStop, piece_buffer, read_whole};
 use judge_pool::Gate;
 use serial_machine::{Checked, verify as check_again};
@@ -40,29 +38,16 @@ pub fn verify<R: Threads + Sync, D: Desk, H: Gate>(
     requires not_setup { placement.now ≢ setup.now }
     requires not_log { placement.now ≢ log.now }
     ensures verified { IfOk result (λ verified. (of_setup of_log of_placement : List ℕ)
-        → D.left desk.old setup.now ≡ Some of_setup
-        → D.left desk.old log.now ≡ Some of_log → D.left desk.old placement.now ≡ Some of_placement
+        → D.left desk.old setup.now ≡ Some of_setup → D.left desk.old log.now ≡ Some of_log
+        → D.left desk.old placement.now ≡ Some of_placement
         → IsVerified of_setup of_log of_placement verified) }
-    ensures whole { IfOk result (λ verified. (checked : Checked) → verified ≡ Verified.Judged checked
+    ensures whole { IfOk result (λ verified. (checked : Checked)
+        → verified ≡ Verified.Judged checked
         → IsAtEnd (D.left desk.new setup.now) × IsAtEnd (D.left desk.new log.now)
         × IsAtEnd (D.left desk.new placement.now)) }
-    ensures fault { IsErrOf result Stop.ReadFault → Rose (D.faults desk.old) (D.faults desk.new) }
-    ensures counted { D.faults desk.old ≤ D.faults desk.new }
-    ensures setup_taken { TakesSetup (D.left desk.old setup.now) (D.left desk.new setup.now)
+    ensures reads { ReadsSetupLogAndPlacement setup.now log.now placement.now (D.left desk.old)
+        (D.left desk.new) (D.faults desk.old) (D.faults desk.new)
         (IsErrOf result Stop.ReadFault) }
-    ensures log_taken { TakesLog (D.left desk.old log.now) (D.left desk.new log.now) (IsErrOf result Stop.ReadFault) }
-    ensures placement_taken { TakesWhole most_placement (D.left desk.old placement.now)
-        (D.left desk.new placement.now) (IsErrOf result Stop.ReadFault) }
-    ensures placement_left { (of_setup of_log : List ℕ) (refusal : Refusal)
-        → D.left desk.old setup.now ≡ Some of_setup → D.left desk.old log.now ≡ Some of_log
-        → IsRefused of_setup of_log refusal → D.left desk.new placement.now ≡ D.left desk.old placement.now }
-    ensures placement_after { IsReadLast (D.left desk.new setup.now) (D.left desk.new log.now)
-        (D.left desk.old placement.now) (D.left desk.new placement.now) }
-    ensures log_left { (of_setup : List ℕ) (refusal : Refusal) → D.left desk.old setup.now ≡ Some of_setup
-        → IsSetupRefused of_setup refusal
-        → D.left desk.new log.now ≡ D.left desk.old log.now }
-    ensures others { (other : List ℕ) → other ≢ setup.now → other ≢ log.now → other ≢ placement.now
-        → D.left desk.new other ≡ D.left desk.old other }
 {
     let found = read_context(rt, alloc, desk, setup, log, lines)?;
     let told = ManuallyDrop::new(found);
@@ -77,16 +62,20 @@ fn verified_of<D: Desk>(
     told: &Told,
 ) -> Result<Verified, Stop>
     ensures verified { IfOk result (λ verified. (of_placement : List ℕ)
-        → D.left desk.old placement.now ≡ Some of_placement → IsVerifiedFrom told.now of_placement verified) }
-    ensures whole { IfOk result (λ verified. (checked : Checked) → verified ≡ Verified.Judged checked
+        → D.left desk.old placement.now ≡ Some of_placement
+        → IsVerifiedFrom told.now of_placement verified) }
+    ensures whole { IfOk result (λ verified. (checked : Checked)
+        → verified ≡ Verified.Judged checked
         → IsOfContext told.now × IsAtEnd (D.left desk.new placement.now)) }
-    ensures fault { IsErrOf result Stop.ReadFault → IsOfContext told.now × Rose (D.faults desk.old)
-        (D.faults desk.new) }
+    ensures fault { IsErrOf result Stop.ReadFault
+        → IsOfContext told.now × Rose (D.faults desk.old) (D.faults desk.new) }
     ensures counted { D.faults desk.old ≤ D.faults desk.new }
-    ensures taken { TakesWhole most_placement (D.left desk.old placement.now) (D.left desk.new placement.now)
-        (IsErrOf result Stop.ReadFault) }
-    ensures left { (IsOfContext told.now → ⊥) → D.left desk.new placement.now ≡ D.left desk.old placement.now }
-    ensures others { (other : List ℕ) → other ≢ placement.now → D.left desk.new other ≡ D.left desk.old other }
+    ensures taken { TakesWhole most_placement (D.left desk.old placement.now)
+        (D.left desk.new placement.now) (IsErrOf result Stop.ReadFault) }
+    ensures left { (IsOfContext told.now → ⊥)
+        → D.left desk.new placement.now ≡ D.left desk.old placement.now }
+    ensures others { (other : List ℕ) → other ≢ placement.now
+        → D.left desk.new other ≡ D.left desk.old other }
 {
     match told {
         Told::Refused(refusal) => Ok(Verified::Refused(*refusal)),
@@ -102,14 +91,16 @@ fn check_named<D: Desk>(
     context: &Context,
 ) -> Result<Verified, Stop>
     ensures verified { IfOk result (λ verified. (of_placement : List ℕ)
-        → D.left desk.old placement.now ≡ Some of_placement → IsVerifiedBy context.now of_placement verified) }
-    ensures whole { IfOk result (λ verified. (checked : Checked) → verified ≡ Verified.Judged checked
-        → IsAtEnd (D.left desk.new placement.now)) }
+        → D.left desk.old placement.now ≡ Some of_placement
+        → IsVerifiedBy context.now of_placement verified) }
+    ensures whole { IfOk result (λ verified. (checked : Checked)
+        → verified ≡ Verified.Judged checked → IsAtEnd (D.left desk.new placement.now)) }
     ensures fault { IsErrOf result Stop.ReadFault → Rose (D.faults desk.old) (D.faults desk.new) }
     ensures counted { D.faults desk.old ≤ D.faults desk.new }
-    ensures taken { TakesWhole most_placement (D.left desk.old placement.now) (D.left desk.new placement.now)
-        (IsErrOf result Stop.ReadFault) }
-    ensures others { (other : List ℕ) → other ≢ placement.now → D.left desk.new other ≡ D.left desk.old other }
+    ensures taken { TakesWhole most_placement (D.left desk.old placement.now)
+        (D.left desk.new placement.now) (IsErrOf result Stop.ReadFault) }
+    ensures others { (other : List ℕ) → other ≢ placement.now
+        → D.left desk.new other ≡ D.left desk.old other }
 {
     let Ok(mut buffer) = piece_buffer(alloc) else {
         return Err(Stop::OutOfMemory);

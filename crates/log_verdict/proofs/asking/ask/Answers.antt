@@ -1,17 +1,15 @@
-use Rattle.std.proofs.Common.{◌≡◌, Ok, Err, refl, ◌∙◌, subst, rules}
-use Rattle.context_intake.specs.Contexts.{RefusesNothing}
-use Rattle.context_intake.proofs.ReadingFacts.{log_as, setup_as}
+use Rattle.std.proofs.Common.{◌≡◌, Ok, Err, ◌∙◌, subst, rules}
+use Rattle.context_intake.proofs.ReadingFacts.{reads_on}
 use Rattle.context_intake.specs.declared.stop.Stop.TheVariants.{ReadFault}
 use Rattle.log_verdict.specs.Answering.{IsHistoryFrom}
 use Rattle.log_verdict.proofs.AskingFacts.{history_context, history_told}
-use Rattle.log_verdict.proofs.JudgingFacts.{nothing_refused}
 use Rattle.log_verdict.proofs.asking.ask.Goals as goal
 
-pub returns-in_err-found-clause-setup_taken : goal.returns-in_err-found-clause-setup_taken
-returns-in_err-found-clause-setup_taken g c = setup_as _ _ _ (RefusesNothing c.read_context.result) _ refl (nothing_refused c.read_context.result _ (search rules)) c.read_context.ensures.setup_taken
+pub returns-in_err-found-clause-reads : goal.returns-in_err-found-clause-reads
+returns-in_err-found-clause-reads g c = reads_on c.read_context.result _ (search rules) c.read_context.ensures.reads
 
-pub returns-in_err-found-clause-log_taken : goal.returns-in_err-found-clause-log_taken
-returns-in_err-found-clause-log_taken g c = log_as _ _ _ (RefusesNothing c.read_context.result) _ refl (nothing_refused c.read_context.result _ (search rules)) c.read_context.ensures.log_taken
+pub returns-in_err-answered-clause-reads : goal.returns-in_err-answered-clause-reads
+returns-in_err-answered-clause-reads g c = reads_on c.read_context.result _ (search rules) c.read_context.ensures.reads
 
 pub returns-clause-answered : goal.returns-clause-answered
 returns-clause-answered g c = λ s l ts tl.
@@ -24,8 +22,5 @@ returns-clause-whole g c = λ text is.
     (subst (λ t. IsHistoryFrom t c.args.question.now c.in_ok-answered.answered) (c.deref.ensures ∙ c.new-told.ensures) c.in_ok-answered.ensures) is in
     c.in_ok-found.ensures.whole told.0 told.1
 
-pub returns-clause-setup_taken : goal.returns-clause-setup_taken
-returns-clause-setup_taken g c = setup_as _ _ _ (RefusesNothing c.read_context.result) _ refl (λ is. absurd (let no : Ok c.in_ok-answered.answered ≡ Err ReadFault = is in cc)) c.read_context.ensures.setup_taken
-
-pub returns-clause-log_taken : goal.returns-clause-log_taken
-returns-clause-log_taken g c = log_as _ _ _ (RefusesNothing c.read_context.result) _ refl (λ is. absurd (let no : Ok c.in_ok-answered.answered ≡ Err ReadFault = is in cc)) c.read_context.ensures.log_taken
+pub returns-clause-reads : goal.returns-clause-reads
+returns-clause-reads g c = reads_on c.read_context.result _ (λ is. absurd (let no : Ok c.in_ok-answered.answered ≡ Err ReadFault = is in cc)) c.read_context.ensures.reads

@@ -1,16 +1,15 @@
-use Rattle.std.proofs.Common.{◌≡◌, Ok, Err, refl, ◌∙◌, subst, rules}
-use Rattle.context_intake.specs.Contexts.{RefusesNothing}
-use Rattle.context_intake.proofs.ReadingFacts.{log_as, setup_as}
+use Rattle.std.proofs.Common.{◌≡◌, Ok, Err, ◌∙◌, subst, rules}
+use Rattle.context_intake.proofs.ReadingFacts.{reads_on}
 use Rattle.context_intake.specs.declared.stop.Stop.TheVariants.{ReadFault}
 use Rattle.log_verdict.specs.Judging.{IsJudgedFrom}
-use Rattle.log_verdict.proofs.JudgingFacts.{judged_told, nothing_refused, verdict_told}
+use Rattle.log_verdict.proofs.JudgingFacts.{judged_told, verdict_told}
 use Rattle.log_verdict.proofs.judging.judge.Goals as goal
 
-pub returns-in_err-found-clause-setup_taken : goal.returns-in_err-found-clause-setup_taken
-returns-in_err-found-clause-setup_taken g c = setup_as _ _ _ (RefusesNothing c.read_context.result) _ refl (nothing_refused c.read_context.result _ (search rules)) c.read_context.ensures.setup_taken
+pub returns-in_err-found-clause-reads : goal.returns-in_err-found-clause-reads
+returns-in_err-found-clause-reads g c = reads_on c.read_context.result _ (search rules) c.read_context.ensures.reads
 
-pub returns-in_err-found-clause-log_taken : goal.returns-in_err-found-clause-log_taken
-returns-in_err-found-clause-log_taken g c = log_as _ _ _ (RefusesNothing c.read_context.result) _ refl (nothing_refused c.read_context.result _ (search rules)) c.read_context.ensures.log_taken
+pub returns-in_err-judged-clause-reads : goal.returns-in_err-judged-clause-reads
+returns-in_err-judged-clause-reads g c = reads_on c.read_context.result _ (search rules) c.read_context.ensures.reads
 
 pub returns-clause-judged : goal.returns-clause-judged
 returns-clause-judged g c = λ s l ts tl.
@@ -21,8 +20,5 @@ returns-clause-whole g c = λ outcome is.
     let told = verdict_told c.in_ok-found.found c.in_ok-judged.judged outcome (subst (λ t. IsJudgedFrom t c.in_ok-judged.judged) (c.deref.ensures ∙ c.new-told.ensures) c.in_ok-judged.ensures) is in
     c.in_ok-found.ensures.whole told.0 told.1
 
-pub returns-clause-setup_taken : goal.returns-clause-setup_taken
-returns-clause-setup_taken g c = setup_as _ _ _ (RefusesNothing c.read_context.result) _ refl (λ is. absurd (let no : Ok c.in_ok-judged.judged ≡ Err ReadFault = is in cc)) c.read_context.ensures.setup_taken
-
-pub returns-clause-log_taken : goal.returns-clause-log_taken
-returns-clause-log_taken g c = log_as _ _ _ (RefusesNothing c.read_context.result) _ refl (λ is. absurd (let no : Ok c.in_ok-judged.judged ≡ Err ReadFault = is in cc)) c.read_context.ensures.log_taken
+pub returns-clause-reads : goal.returns-clause-reads
+returns-clause-reads g c = reads_on c.read_context.result _ (λ is. absurd (let no : Ok c.in_ok-judged.judged ≡ Err ReadFault = is in cc)) c.read_context.ensures.reads

@@ -1,8 +1,9 @@
 use Rattle.std.proofs.Common.{◌≡◌, Ok, Err, refl, sym, subst}
 use Rattle.edge_io.specs.Whole.{StaysWithin}
+use Rattle.context_intake.proofs.ReadingFacts.{whole_untouched}
 use Rattle.context_intake.specs.declared.stop.Stop.TheVariants.{OutOfMemory, ReadFault}
 use Rattle.log_verdict.specs.declared.verified.Verified.TheVariants.{TooLong}
-use Rattle.log_verdict.proofs.VerifyingFacts.{whole_from, whole_untouched}
+use Rattle.log_verdict.proofs.VerifyingFacts.{whole_from}
 use Rattle.log_verdict.proofs.verifying.check_named.Goals as goal
 
 pub returns-in_default-clause-taken : goal.returns-in_default-clause-taken
