@@ -1,7 +1,7 @@
 #!/usr/bin/env python3
 """Tries wrong bodies that were planted by hand, and tells which of them the contracts let through.
 
-planted.py [CRATE..] [--jobs N]
+planted.py [CRATE..] [--jobs N] [--together]
 
 docs/planted/CRATE.edits lists wrong bodies of a crate: after its first line, for each a line `== NAME` and the lines of
 a must-fail edit (`file:`, and pairs of `old:` and `new:`). For each crate (by default each that has a list, lowest
@@ -14,6 +14,10 @@ first) the list takes the place of the must-fail edits of all crates, in a copy 
 
 and at the end how many there are of each. Some are refused for less than a broken contract, which the line then says:
 where a proof names what the edit takes away, or where the prover comes to a limit of its own.
+
+With --together the edits of different functions' bodies share a check of the crate, since a body is held to its own
+contract and to those of what it calls, whatever their bodies are. What the prover then says of a function's own lines
+is said of its edit; each edit of which it says nothing there, or that changes more than one body, is tried alone.
 
 --jobs N tries N crates at a time (by default 1), each in a copy of its own. One rt uses all processors, unless RT_JOBS
 says how many. What lies below a crate is taken from other checkouts on the machine that have proved it, and else proved
@@ -81,6 +85,92 @@ def told_by(output, crate):
     return told
 
 
+def bodies(text):
+    """The bodies of the functions in a file of source as `rt fmt` writes it: for each the lines from its `{` to its `}`."""
+    found, lines, at = [], text.split("\n"), 0
+    while at < len(lines):
+        head = re.match(r"( *)(?:pub(?:\([a-z]+\))? )?(?:const )?fn \w", lines[at])
+        if head:
+            indent = head[1]
+            begin = next((it for it in range(at, len(lines))
+                          if lines[it] == indent + "{" or re.match(rf"{indent}\S.*[{{]$", lines[it])), None)
+            end = next((it for it in range(begin + 1, len(lines)) if lines[it] == indent + "}"), None) if begin is not None else None
+            if end is not None:
+                found.append((begin + 1, end + 1))
+        at += 1
+    return found
+
+
+def in_bodies(folder, lines):
+    """The files that an edit changes, as pairs of old and new texts, and the one body (a file, and a number of it) that holds
+    all of it; None where there is no such body."""
+    path, pairs, place = None, [], None
+    for line in lines:
+        if line.startswith("file: "):
+            path = line[6:].strip()
+        elif line.startswith("old: "):
+            old = line[5:]
+        elif line.startswith("new:"):
+            with open(os.path.join(folder, path), encoding="utf-8") as file:
+                text = file.read()
+            if text.count(old) != 1 or not path.startswith("src/"):
+                return None
+            row = text[:text.index(old)].count("\n") + 1
+            at = next((number for number, (begin, end) in enumerate(bodies(text)) if begin < row < end), None)
+            if at is None or place not in (None, (path, at)):
+                return None
+            place = path, at
+            pairs.append((old, line[4:].removeprefix(" ")))
+    return (place, pairs) if place else None
+
+
+def groups(folder, edits):
+    """Edits of different bodies, group by group: for each the edit's name, its place and its pairs."""
+    left = {name: it for name, lines in edits.items() if name != CONTROL and (it := in_bodies(folder, lines))}
+    while left:
+        group, places = [], set()
+        for name, (place, pairs) in left.items():
+            if place not in places and len(group) < 12:
+                places.add(place)
+                group.append((name, place, pairs))
+        for name, _, _ in group:
+            del left[name]
+        if len(group) > 1:
+            yield group
+
+
+def refused_together(room, crate, edits):
+    """What the prover refuses of the edits that share a check, by their names: what it says first of the function."""
+    folder, told = os.path.join(room, "crates", crate), {}
+    for group in groups(folder, edits):
+        paths = {place[0] for _, place, _ in group}
+        texts = {}
+        for path in paths:
+            with open(os.path.join(folder, path), encoding="utf-8") as file:
+                texts[path] = file.read()
+        changed = dict(texts)
+        for _, (path, _), pairs in group:
+            for old, new in pairs:
+                changed[path] = changed[path].replace(old, new)
+        for path in paths:
+            with open(os.path.join(folder, path), "w", encoding="utf-8") as file:
+                file.write(changed[path])
+        ran = subprocess.run(["rt", "check"], cwd=folder, stdin=subprocess.DEVNULL, stdout=subprocess.PIPE,
+                             stderr=subprocess.STDOUT, errors="replace")
+        for path in paths:
+            with open(os.path.join(folder, path), "w", encoding="utf-8") as file:
+                file.write(texts[path])
+        if not re.search(r"^logic=not-proved", ran.stdout, re.M):
+            continue
+        said = re.findall(r"^(?:\./)?(src/\S+?):(\d+):\d+: error: (.*)", ran.stdout, re.M)
+        for name, (path, number), _ in group:
+            begin, end = bodies(changed[path])[number]
+            words = next((words for file, row, words in said if file == path and begin <= int(row) <= end), None)
+            if words:
+                told[name] = "refused", words
+    return told
+
+
 def tried(room, crate, edits):
     """The kind of each edit of the list, and the words to it."""
     folder = os.path.join(room, "crates", crate, "must-fail")
@@ -99,7 +189,7 @@ def tried(room, crate, edits):
     return {name: tuple(told.get(name, ("bad", "rt said nothing of it: " + last))) for name in edits if name != CONTROL}
 
 
-def work(crates, lists, counts, printing):
+def work(crates, lists, counts, printing, together):
     """Tries the crates that are left, one after the other, in one copy."""
     with tempfile.TemporaryDirectory(prefix="planted-") as room:
         copy_to(room)
@@ -108,7 +198,10 @@ def work(crates, lists, counts, printing):
                 crate = crates.get_nowait()
             except queue.Empty:
                 return
-            results = tried(room, crate, lists[crate])
+            results = refused_together(room, crate, lists[crate]) if together else {}
+            left = {name: it for name, it in lists[crate].items() if name not in results}
+            # (one that is proved without its edits, and that alone, needs no check of its own)
+            results |= tried(room, crate, left) if len(left) > 1 else {}
             with printing:
                 for name, (kind, words) in results.items():
                     counts[kind] += 1
@@ -119,6 +212,7 @@ def main():
     words = argparse.ArgumentParser(description=__doc__, formatter_class=argparse.RawDescriptionHelpFormatter)
     words.add_argument("crates", nargs="*")
     words.add_argument("--jobs", type=int, default=1)
+    words.add_argument("--together", action="store_true")
     asked = words.parse_args()
     with open(os.path.join(ROOT, "crates.txt"), encoding="utf-8") as file:
         order = [line.split(":")[0].split()[0] for line in file if line.split("#")[0].strip()]
@@ -130,7 +224,7 @@ def main():
     crates, counts, printing = queue.Queue(), {"refused": 0, "proved": 0, "bad": 0}, threading.Lock()
     for crate in lists:
         crates.put(crate)
-    threads = [threading.Thread(target=work, args=(crates, lists, counts, printing))
+    threads = [threading.Thread(target=work, args=(crates, lists, counts, printing, asked.together))
                for _ in range(max(1, min(asked.jobs, len(lists))))]
     for thread in threads:
         thread.start()
