@@ -1,6 +1,7 @@
 ghost use Rattle.std.specs.Prelude.{◌≡◌, ◌≤◌};
 
 use crate::listed::Listed;
+use crate::shared::Shared;
 
 /// Why an event can't be explained.
 #[derive(Clone, Copy, Debug, PartialEq, Eq, PartialOrd, Ord)]
@@ -82,6 +83,8 @@ pub struct Claim {
     /// The code of the event's answer where its bounds can't be met.
     pub reason: Reason,
 }
+
+impl Shared for Claim {}
 
 /// The claims of all events, by event number.
 pub type Claims = Listed<Claim>;

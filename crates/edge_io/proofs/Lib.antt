@@ -1,4 +1,5 @@
 mod NamedFiles
+mod SourceFacts
 pub mod TakenFacts
 pub mod WholeFacts
 pub mod WrittenFacts

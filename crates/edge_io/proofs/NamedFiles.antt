@@ -9,7 +9,7 @@ use Rattle.std.proofs.lemmas.List.{get_or-set_same, get_or-set_other, length-set
 use Rattle.edge_io.specs.Files.{HeldFile, left_of}
 
 -- a name that differs is not the file's
-other_name : (a b : List ℕ) → a ≢ b → bytes_eq a b ≡ false
+pub other_name : (a b : List ℕ) → a ≢ b → bytes_eq a b ≡ false
 other_name a b differs = go (bytes_eq a b) refl
   where
     go : (t : Bool) → bytes_eq a b ≡ t → bytes_eq a b ≡ false

@@ -1,4 +1,7 @@
-ghost use Rattle.std.specs.Prelude.{◌≡◌, ◌≤◌, None, length, IfOk, IfSome};
+ghost use Rattle.std.specs.Prelude.{◌≡◌, ◌≢◌, ℕ, ◌<◌, ◌≤◌, List, None, length, IfOk, OnOk, OnErr};
+ghost use Rattle.std.specs.Io.{ReadsAtMost};
+ghost use Rattle.std.specs.Io.KnownBytes.{ReadConsumes, WriteAppends};
+ghost use Rattle.edge_io.specs.Sources.{left_of_source, left_of_name, IsOpened};
 
 use crate::edge::{Desk, DeskFailed, Sink, SinkFailed};
 use base_types::OutOfMemory;
@@ -20,7 +23,8 @@ enum Source<F, I> {
     Ended,
 }
 
-/// Files by their paths, and the standard input. It tells no content.
+/// Files by their paths, and the standard input. What is left of a name is told while it is open, as far as its reader
+/// tells it; the system's readers tell nothing.
 #[derive(Drop)]
 pub struct FileDesk<'a, R: Files + Input> {
     rt: &'a R,
@@ -45,11 +49,57 @@ impl<'a, R: Files + Input> FileDesk<'a, R> {
     }
 }
 
-fn open_source<R: Files + Input>(rt: &R, name: &str) -> io::Result<Source<R::File, R::Reader>> {
+// What a reader gives of what it has left.
+fn read_reader<S: Read>(reader: &mut S, into: &mut [u8]) -> Result<usize, DeskFailed>
+    ensures bound { ReadsAtMost result into.new }
+    ensures bytes { ReadConsumes (S.remaining reader.old) (S.remaining reader.new) result into.new }
+{
+    match reader.read(into) {
+        Ok(count) => Ok(count),
+        Err(_) => Err(DeskFailed),
+    }
+}
+
+fn open_source<R: Files + Input>(rt: &R, name: &str) -> io::Result<Source<R::File, R::Reader>>
+    ensures { IfOk result (IsOpened Source.Unopened) }
+{
     if name == STANDARD_INPUT {
         return Ok(Source::Input(rt.reader()));
     }
     Ok(Source::File(fs::open(rt, name)?))
+}
+
+// Opens what wasn't opened yet.
+fn open_unopened<R: Files + Input>(
+    rt: &R,
+    source: &mut Source<R::File, R::Reader>,
+    name: &str,
+) -> Result<(), DeskFailed>
+    ensures opened { OnOk result (IsOpened source.old source.new) }
+    ensures failed { OnErr result (source.new ≡ source.old) }
+{
+    if let Source::Unopened = source {
+        match open_source(rt, name) {
+            Ok(opened) => *source = opened,
+            Err(_) => return Err(DeskFailed),
+        }
+    }
+    Ok(())
+}
+
+fn read_opened<F: Read, I: Read>(
+    source: &mut Source<F, I>,
+    into: &mut [u8],
+) -> Result<usize, DeskFailed>
+    ensures bound { ReadsAtMost result into.new }
+    ensures bytes { ReadConsumes (left_of_source F.remaining I.remaining source.old)
+        (left_of_source F.remaining I.remaining source.new) result into.new }
+{
+    match source {
+        Source::Unopened | Source::Ended => Ok(0),
+        Source::File(file) => read_reader(file, into),
+        Source::Input(input) => read_reader(input, into),
+    }
 }
 
 fn read_source<R: Files + Input>(
@@ -57,17 +107,13 @@ fn read_source<R: Files + Input>(
     source: &mut Source<R::File, R::Reader>,
     name: &str,
     into: &mut [u8],
-) -> io::Result<usize>
-    ensures { IfOk result (λ n. n ≤ length into.new) }
+) -> Result<usize, DeskFailed>
+    ensures bound { ReadsAtMost result into.new }
+    ensures bytes { ReadConsumes (left_of_source R.File.remaining R.Reader.remaining source.old)
+        (left_of_source R.File.remaining R.Reader.remaining source.new) result into.new }
 {
-    if let Source::Unopened = source {
-        *source = open_source(rt, name)?;
-    }
-    let count = match source {
-        Source::Unopened | Source::Ended => 0,
-        Source::File(file) => file.read(into)?,
-        Source::Input(input) => input.read(into)?,
-    };
+    open_unopened(rt, source, name)?;
+    let count = read_opened(source, into)?;
     if count == 0 && !into.is_empty() {
         *source = Source::Ended;
     }
@@ -79,22 +125,30 @@ fn read_named<R: Files + Input>(
     sources: &mut BTreeMap<String, Source<R::File, R::Reader>>,
     name: &str,
     into: &mut [u8],
-) -> Option<usize>
-    ensures { IfSome result (λ n. n ≤ length into.new) }
+) -> Result<usize, DeskFailed>
+    ensures bound { ReadsAtMost result into.new }
+    ensures bytes { ReadConsumes (left_of_name R.File.remaining R.Reader.remaining sources.old name.now)
+        (left_of_name R.File.remaining R.Reader.remaining sources.new name.now) result into.new }
+    ensures others { (other : List ℕ) → other ≢ name.now → left_of_name R.File.remaining R.Reader.remaining sources.new
+        other ≡ left_of_name R.File.remaining R.Reader.remaining sources.old other }
 {
-    let source = sources.get_mut(name)?;
-    read_source(rt, source, name, into).ok()
+    match sources.get_mut(name) {
+        Some(source) => read_source(rt, source, name, into),
+        None => Err(DeskFailed),
+    }
 }
 
 impl<'a, R: Files + Input> Desk for FileDesk<'a, R> {
-    ghost left = { λ _ _. None };
+    ghost use Rattle.edge_io.specs.Sources.{left_of_name};
+
+    ghost left = { λ desk name. left_of_name R.File.remaining R.Reader.remaining desk.sources name };
 
     ghost faults = { λ desk. desk.faults };
 
     fn read(&mut self, name: &str, into: &mut [u8]) -> Result<usize, DeskFailed> {
         match read_named(self.rt, &mut self.sources, name, into) {
-            Some(count) => Ok(count),
-            None => {
+            Ok(count) => Ok(count),
+            Err(DeskFailed) => {
                 self.faults = self.faults.saturating_add(1);
                 Err(DeskFailed)
             }
@@ -117,15 +171,26 @@ impl<'a, R: Print> StdSink<'a, R> {
     }
 }
 
+// Writes bytes of the front of a piece to a writer, and says how many: at least one.
+fn write_some<W: Write>(to: &mut W, piece: &[u8]) -> Result<usize, SinkFailed>
+    ensures bound { IfOk result (λ n. (0 < n) × (n ≤ length piece.now)) }
+    ensures bytes { WriteAppends (W.contents to.old) (W.contents to.new) result piece.now }
+{
+    match to.write(piece) {
+        Ok(count) if count > 0 => Ok(count),
+        _ => Err(SinkFailed),
+    }
+}
+
 impl<'a, R: Print> Sink for StdSink<'a, R> {
     ghost written = { λ _. None };
 
     ghost faults = { λ sink. sink.faults };
 
     fn write(&mut self, piece: &[u8]) -> Result<usize, SinkFailed> {
-        match self.rt.write_some(piece) {
-            Ok(count) if count > 0 => Ok(count),
-            _ => {
+        match write_some(&mut io::writer(self.rt), piece) {
+            Ok(count) => Ok(count),
+            Err(SinkFailed) => {
                 self.faults = self.faults.saturating_add(1);
                 Err(SinkFailed)
             }

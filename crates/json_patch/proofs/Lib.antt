@@ -1,5 +1,6 @@
 mod Examples
 pub mod Counting
+pub mod Deepening
 pub mod Finding
 pub mod Joins
 pub mod Listing

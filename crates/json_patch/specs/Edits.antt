@@ -1,6 +1,6 @@
 -- A change under the last token of a target location, and what it does to the size of a document.
 use Rattle.std.specs.Prelude.{◌≡◌, ℕ, ◌+◌, ◌≤◌, max, List, [], ◌∷◌, Option, Some, None, IsSome, Result, Ok, Err}
-use Rattle.base_types.specs.Meaning.{Meaning}
+use Rattle.base_types.specs.Meaning.{Meaning, null}
 use Rattle.json_patch.specs.declared.edit.Edit.{Edit}
 use Rattle.json_patch.specs.declared.edit.Edit.TheVariants.{Add, Remove, Replace}
 use Rattle.json_patch.specs.declared.fault.ApplyCause.{ApplyCause}
@@ -50,6 +50,12 @@ deep_of (Replace v) level = depth v + level
 abbrev pub went_of : Option Meaning → ℕ
 went_of None = 0
 went_of (Some v) = values v
+
+-- the same edit with a value that has no depth
+abbrev pub flat_of : Edit → Edit
+flat_of (Add v) = Add null
+flat_of Remove = Remove
+flat_of (Replace v) = Replace null
 
 -- a value that comes below so many containers is as deep as the document, unless something else is deeper
 abbrev pub IsAsDeep : Edit → ℕ → Meaning → Meaning → Type 0

@@ -1,9 +1,10 @@
-ghost use Rattle.std.specs.Prelude.{◌≡◌, ◌-◌, ◌^◌, min, Ok, IfOk, IfErr};
+ghost use Rattle.std.specs.Prelude.{◌≡◌, ◌-◌, ◌^◌, ◌<◌, min, length, Ok, IfOk, IfErr};
 ghost use Rattle.std.specs.Option.{ForSome};
 ghost use Rattle.base_types.specs.Meaning.{Meaning};
 ghost use Rattle.json_patch.specs.Changes.{IsChange, IsWithin, Tells, IsFaultOf};
 ghost use Rattle.json_patch.specs.Edits.{edited_at, came_of, deep_of, went_of, RefusedBy};
-ghost use Rattle.json_patch.specs.Effects.{effect, moved, copied, tested, done};
+ghost use Rattle.json_patch.specs.Effects.{effect, moved, copied, tested, done, and_then};
+ghost use Rattle.json_patch.specs.Limits.{within_limits};
 ghost use Rattle.json_patch.specs.Patches.{applied};
 ghost use Rattle.json_patch.specs.Targets.{is_proper_prefix};
 
@@ -110,7 +111,7 @@ fn size_after(count: u64, change: Change) -> Size
 fn make(alloc: Global, tree: &mut Draft, op: &Op) -> Result<Change, Refusal>
     ensures done { IfOk result (λ _. effect op.now tree.old ≡ Ok tree.new) }
     ensures change { IfOk result (IsChange tree.old tree.new) }
-    ensures refused { IfErr result (RefusedBy (effect op.now tree.old)) }
+    ensures refused { IfErr result (RefusedBy (done op.now tree.old)) }
 {
     match op {
         Op::Add { path, value } => {
@@ -131,15 +132,30 @@ fn make(alloc: Global, tree: &mut Draft, op: &Op) -> Result<Change, Refusal>
 fn change_by(alloc: Global, tree: &mut Draft, path: &[Text], edit: Edit) -> Result<Change, Refusal>
     ensures done { IfOk result (λ _. edited_at path.now edit tree.old ≡ Ok tree.new) }
     ensures change { IfOk result (IsChange tree.old tree.new) }
-    ensures refused { IfErr result (RefusedBy (edited_at path.now edit tree.old)) }
+    ensures refused { IfErr result (RefusedBy (and_then (edited_at path.now edit tree.old) within_limits)) }
 {
     let (came, depth) = coming(&edit, path.len());
+    if depth > MAX_DEPTH {
+        return Err(refuse_deep(alloc, tree, path, edit));
+    }
     let left = edit_path(alloc, tree, path, edit)?;
     Ok(Change {
         came,
         went: values_of(&left),
         depth,
     })
+}
+
+// Why an edit isn't made whose value would be too deep there: because it can't be made, or else for the depth. A value
+// without depth is put in for it, so that no document gets too deep before it is given up.
+fn refuse_deep(alloc: Global, tree: &mut Draft, path: &[Text], edit: Edit) -> Refusal
+    requires { 127 < deep_of edit (length path.now) }
+    ensures { RefusedBy (and_then (edited_at path.now edit tree.old) within_limits) result }
+{
+    match edit_path(alloc, tree, path, edit.flat()) {
+        Ok(_) => Refusal::Cause(ApplyCause::Deep),
+        Err(refusal) => refusal,
+    }
 }
 
 // How many values an edit brings, and how deep it reaches below so many containers.
@@ -174,7 +190,7 @@ fn move_value(
 ) -> Result<Change, Refusal>
     ensures done { IfOk result (λ _. moved from.now path.now tree.old ≡ Ok tree.new) }
     ensures change { IfOk result (IsChange tree.old tree.new) }
-    ensures refused { IfErr result (RefusedBy (moved from.now path.now tree.old)) }
+    ensures refused { IfErr result (RefusedBy (and_then (moved from.now path.now tree.old) within_limits)) }
 {
     if is_proper_prefix(from, path) {
         return Err(Refusal::Cause(ApplyCause::IntoItself));
@@ -190,6 +206,9 @@ fn move_value(
     } else {
         size_of(&value).depth.saturating_add(path.len() as u64)
     };
+    if depth > MAX_DEPTH {
+        return Err(refuse_deep(alloc, tree, path, Edit::Add(value)));
+    }
     let left = edit_path(alloc, tree, path, Edit::Add(value))?;
     Ok(Change {
         came: 0,
@@ -216,7 +235,7 @@ fn copy_value(
 ) -> Result<Change, Refusal>
     ensures done { IfOk result (λ _. copied from.now path.now tree.old ≡ Ok tree.new) }
     ensures change { IfOk result (IsChange tree.old tree.new) }
-    ensures refused { IfErr result (RefusedBy (copied from.now path.now tree.old)) }
+    ensures refused { IfErr result (RefusedBy (and_then (copied from.now path.now tree.old) within_limits)) }
 {
     let value = match get(tree, from)? {
         Some(value) => copy(alloc, value)?,
@@ -228,7 +247,7 @@ fn copy_value(
 fn test_value(tree: &Draft, path: &Pointer, value: &Tree) -> Result<Change, Refusal>
     ensures done { IfOk result (λ _. tested path.now value.now tree.now ≡ Ok tree.now) }
     ensures change { IfOk result (IsChange tree.now tree.now) }
-    ensures refused { IfErr result (RefusedBy (tested path.now value.now tree.now)) }
+    ensures refused { IfErr result (RefusedBy (and_then (tested path.now value.now tree.now) within_limits)) }
 {
     match get(tree, path)? {
         None => Err(Refusal::Cause(ApplyCause::NoValue)),

@@ -54,7 +54,7 @@ impl<T: Drop> From<AllocFailed<T>> for Refusal {
 }
 
 impl Edit {
-    ghost use Rattle.json_patch.specs.Edits.{missing_of};
+    ghost use Rattle.json_patch.specs.Edits.{missing_of, flat_of};
 
     // The cause where the parent of the target location isn't there. It lets the edit go.
     fn missing(self) -> ApplyCause
@@ -66,6 +66,23 @@ impl Edit {
         };
         drop(self);
         cause
+    }
+
+    /// The same edit with a value that has no depth. It lets the other value go.
+    pub fn flat(self) -> Edit
+        ensures { result ≡ flat_of self }
+    {
+        let flat = match &self {
+            Edit::Add(_) => Edit::Add(Draft {
+                node: DraftNode::Null,
+            }),
+            Edit::Remove => Edit::Remove,
+            Edit::Replace(_) => Edit::Replace(Draft {
+                node: DraftNode::Null,
+            }),
+        };
+        drop(self);
+        flat
     }
 }
 

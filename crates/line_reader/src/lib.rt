@@ -7,4 +7,4 @@ mod search;
 
 pub use line::{Line, LineFault};
 pub use reader::{LONGEST_PIECE, LineReader};
-pub use search::{LONGEST_LINE, NEWLINE, is_blank_line, is_dropped_line, is_space_byte};
+pub use search::{LONGEST_LINE, NEWLINE, is_dropped_line};

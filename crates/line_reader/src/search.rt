@@ -28,15 +28,15 @@ pub fn next_number(number: u64) -> u64
     number.saturating_add(1)
 }
 
-/// Whether a byte is a space, a tab or a carriage return.
-pub fn is_space_byte(byte: u8) -> bool
+// Whether a byte is a space, a tab or a carriage return.
+fn is_space_byte(byte: u8) -> bool
     ensures { result ≡ is_space byte }
 {
     byte == b' ' || byte == b'\t' || byte == b'\r'
 }
 
-/// Whether a line has no other bytes than these.
-pub fn is_blank_line(line: &[u8]) -> bool
+// Whether a line has no other bytes than these.
+fn is_blank_line(line: &[u8]) -> bool
     ensures { result ≡ is_blank line.now }
 {
     line.iter().all(|byte| is_space_byte(*byte))

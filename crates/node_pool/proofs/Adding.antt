@@ -84,6 +84,12 @@ pub length-insert : (limit : ℕ) (ns : List (List ℕ)) (ps : List Flat) (p : F
     → length (insert_key flat_eq ps p) ≡ length (with_tree (trees_from ns [] ps) (tree_of ns (trees_from ns [] ps) p))
 length-insert limit ns ps p kept w = sym (trees_from-length ns [] (insert_key flat_eq ps p)) ∙ ap length (trees-insert limit ns ps p kept w)
 
+-- the number at which a level is found
+pub found_level : (p : Flat) (ps : List Flat) (n : ℕ) → position (flat_eq p) ps ≡ Some n → slice_get ps n ≡ Some p
+found_level p ps n e =
+    let found = position-Some (flat_eq p) ps n p e in
+    slice_get-get_or ps n p found.0 ∙ ap Some (sym ((flat_eq-Decides p (get_or ps n p)).0 found.1))
+
 -- a level that stands at a number has its tree there
 pub number-insert : (limit : ℕ) (ns : List (List ℕ)) (ps : List Flat) (p : Flat) (n : ℕ) → AreKept limit ns ps → IsWithin ns (length (trees_from ns [] ps)) p → slice_get (insert_key flat_eq ps p) n ≡ Some p
     → slice_get (trees_from ns [] (insert_key flat_eq ps p)) n ≡ Some (tree_of ns (trees_from ns [] ps) p)

@@ -90,3 +90,10 @@ pub place-seen : (limit : ℕ) (ns : List (List ℕ)) (ps ps' : List Flat) (p : 
     → Placed old (seen limit ns ps') p r
 place-seen limit ns ps ps' p r old kept is w keys at fits full =
     subst (λ o. Placed o (seen limit ns ps') p r) is (placed-seen limit ns ps ps' p r kept (within-seen limit ns ps p old is w) keys at fits full)
+
+-- a tree that is one too many is refused as such
+pub place-above : (limit : ℕ) (ns : List (List ℕ)) (ps : List Flat) (p : Flat) (r : Result ℕ PoolFault) (old : Kept) → AreKept limit ns ps → seen limit ns ps ≡ old → IsWithin old.names (length old.trees) p
+    → (limit < length (insert_key flat_eq ps p) → r ≡ Err Full) → old.limit < length (with_tree old.trees (tree_of old.names old.trees p)) → r ≡ Err Full
+place-above limit ns ps p r old kept is w above =
+    subst (λ (o : Kept). o.limit < length (with_tree o.trees (tree_of o.names o.trees p)) → r ≡ Err Full) is
+    (λ lt. above (subst (λ k. limit < k) (sym (length-insert limit ns ps p kept (within-seen limit ns ps p old is w))) lt))

@@ -141,6 +141,8 @@ impl GrowingStore {
             level)) ≤ self.old.limit) }
         ensures full { result ≡ Err PoolFault.Full → self.old.limit < length (with_tree self.old.trees
             (tree_of self.old.names self.old.trees level)) }
+        ensures above { self.old.limit < length (with_tree self.old.trees
+            (tree_of self.old.names self.old.trees level)) → result ≡ Err PoolFault.Full }
         ensures refused { OnErr result (self.new.trees ≡ self.old.trees) }
     {
         if let Some(number) = self.standing(near, &level) {
@@ -172,6 +174,8 @@ impl GrowingStore {
             level)) ≤ self.old.limit) }
         ensures full { result ≡ Err PoolFault.Full → self.old.limit < length (with_tree self.old.trees
             (tree_of self.old.names self.old.trees level)) }
+        ensures above { self.old.limit < length (with_tree self.old.trees
+            (tree_of self.old.names self.old.trees level)) → result ≡ Err PoolFault.Full }
         ensures refused { OnErr result (self.new.trees ≡ self.old.trees) }
     {
         inserted(&mut self.levels, self.limit, level)
@@ -223,7 +227,8 @@ fn numbered(names: &mut IndexSet<Text, Seeded>, name: &Text) -> Result<usize, Ou
     Ok(number)
 }
 
-// The position of a level, which is put behind the others where it is new and there is room.
+// The position of a level, which is put behind the others where it is new and there is room. Whether there is room is
+// decided before any memory is asked for.
 fn inserted(
     levels: &mut IndexSet<Level, Seeded>,
     limit: u32,
@@ -234,12 +239,15 @@ fn inserted(
     ensures number { IfOk result (λ n. slice_get levels.new.keys n ≡ Some level) }
     ensures fits { OnOk result (length (insert_key flat_eq levels.old.keys level) ≤ limit) }
     ensures full { result ≡ Err PoolFault.Full → limit < length (insert_key flat_eq levels.old.keys level) }
+    ensures above { limit < length (insert_key flat_eq levels.old.keys level) → result ≡ Err PoolFault.Full }
     ensures refused { OnErr result (levels.new.keys ≡ levels.old.keys) }
 {
-    let (index, _) = levels.insert_full(level)?;
-    if levels.len() > limit as usize {
-        levels.truncate(limit as usize);
-        return Err(PoolFault::Full);
+    if levels.len() < limit as usize {
+        let (index, _) = levels.insert_full(level)?;
+        return Ok(index as u32);
     }
-    Ok(index as u32)
+    match levels.get_index_of(&level) {
+        Some(index) => Ok(index as u32),
+        None => Err(PoolFault::Full),
+    }
 }
