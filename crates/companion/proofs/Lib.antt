@@ -1,3 +1,4 @@
+pub mod AskedFacts
 pub mod ReportedFacts
 pub mod RunFacts
 pub mod PicturingFacts

@@ -3,8 +3,9 @@ use Rattle.std.proofs.Common.{◌≡◌, ℕ, List, Option, Some, None, Result, 
 use Rattle.base_types.specs.declared.memory.OutOfMemory.{OutOfMemory}
 use Rattle.std.specs.Io.KnownBytes.{Keeps}
 use Rattle.edge_io.specs.Endings.{Ends}
+use Rattle.log_verdict.specs.Endings.{IsAnswered}
 use Rattle.companion.specs.Process.{EndsProcess, EndsWords}
-use Rattle.companion.specs.Program.{usage_answer}
+use Rattle.companion.specs.Program.{IsOfTable, usage_answer}
 use Rattle.companion.specs.Running.{StatusTells}
 
 pub keeps_same : (known : Option (List ℕ)) → Keeps known known
@@ -13,8 +14,9 @@ keeps_same (Some bytes) = refl
 
 -- a call on files, or none for want of memory
 module _ {words : List (List ℕ)} {desk_before desk_now sink_before sink_now : ℕ} {before now : Option (List ℕ)} {status : ℕ} where
-  pub ended_words : StatusTells words desk_before desk_now sink_before sink_now before now status → EndsWords words sink_before sink_now before now status
-  ended_words told = inl (desk_before, desk_now, told)
+  pub ended_words : StatusTells words desk_before desk_now sink_before sink_now before now status → IsAnswered IsOfTable desk_before desk_now sink_before sink_now before now status
+      → EndsWords words sink_before sink_now before now status
+  ended_words told table = inl (desk_before, desk_now, told, table)
 
 -- what the arguments came to, and how the process ended
 module _ (given : Result (Option (Vec (String Global) Global)) OutOfMemory) (sink_before sink_now : ℕ) (before now : Option (List ℕ)) (exit : ℕ) where

@@ -1,9 +1,12 @@
 -- What a command comes to, of what was found for it.
 use Rattle.std.proofs.Common.{◌≡◌, ◌≢◌, ℕ, zero, ◌∷◌, Bool, Contains, map, List, Option, Some, Result, Ok, Err, IfOk, IsErrOf, codes, inl, inr, refl, sym, ◌∙◌, ap, subst, arith}
+use Rattle.std.specs.Io.KnownBytes.{IsAtEnd}
 use Rattle.cluster_setup.specs.Answering.{AnswersMade}
 use Rattle.cluster_setup.specs.Gathering.{TellsAll}
 use Rattle.cluster_setup.specs.declared.answering.MadeText.{MadeText}
 use Rattle.cluster_setup.specs.declared.answering.MadeText.TheVariants as made
+use Rattle.context_intake.proofs.ReadingFacts.{taken_upto}
+use Rattle.context_intake.specs.Taking.{ReadsSetupAndLog}
 use Rattle.context_intake.specs.declared.stop.Stop.{Stop}
 use Rattle.context_intake.specs.declared.stop.Stop.TheVariants.{OutOfMemory, ReadFault}
 use Rattle.edge_io.specs.Faults.{Rose}
@@ -14,11 +17,11 @@ use Rattle.log_sift.specs.declared.named.SiftText.{SiftText}
 use Rattle.log_verdict.specs.Answers.{answer, report_answer as verdict_answer}
 use Rattle.log_verdict.specs.declared.report.Report.{Report as Verdict}
 use Rattle.verdict_text.specs.Words.{ended}
-use Rattle.companion.specs.Picturing.{IsPictured}
+use Rattle.companion.specs.Picturing.{HasBrokenRule, HasPage, IsPictured}
 use Rattle.companion_words.specs.Command.{Asked, Picture, Reads, Setup, Sift, Tells}
 use Rattle.companion.specs.Making.{IsSetupAnswer}
 use Rattle.companion.specs.Program.{IsAnswerTo}
-use Rattle.companion.specs.Reported.{HasStretchesWithin, IsReported, TellsStop, made_answer, report_answer}
+use Rattle.companion.specs.Reported.{HasStretchesWithin, IsReported, Takes, TellsStop, made_answer, report_answer}
 use Rattle.companion.specs.Sifted.{IsSiftAnswer}
 use Rattle.companion.specs.declared.report.CommandReport.{CommandReport}
 
@@ -29,6 +32,12 @@ never_fault found is faulty = let apart : found ≡ Err ReadFault = faulty in cc
 never_both : (report : CommandReport) → ◌≡◌ {A = Result CommandReport Stop} (Ok report) (Err ReadFault) → ⊥
 never_both report same = cc
 
+abbrev ok : CommandReport → Result CommandReport Stop
+ok report = Ok report
+
+abbrev err : Stop → Result CommandReport Stop
+err stop = Err stop
+
 never_memory : (report : CommandReport) → ◌≡◌ {A = Result CommandReport Stop} (Ok report) (Err OutOfMemory) → ⊥
 never_memory report same = cc
 
@@ -36,29 +45,32 @@ never_memory report same = cc
 module _ (old now : List ℕ → Option (List ℕ)) (untouched : Type 0) (faults_before faults_now : ℕ) (asked : Asked) (limit : List ℕ) where
   stop_shown : (stop : WholeStop) (shown : Result CommandReport Stop) → TellsStop stop limit shown
       → (stop ≡ whole.TooLong → (files : List ℕ → List ℕ) → Tells asked old files → IsAnswerTo (Some asked) files (answer 7 limit))
-      → (stop ≡ whole.ReadFault → Rose faults_before faults_now) → (((name : List ℕ) → Reads asked name → ⊥) → untouched)
+      → (stop ≡ whole.ReadFault → Rose faults_before faults_now) → Takes asked old now shown → (((name : List ℕ) → Reads asked name → ⊥) → untouched)
       → ((name : List ℕ) → (Reads asked name → ⊥) → now name ≡ old name) → IsReported asked old now untouched faults_before faults_now shown
-  stop_shown whole.TooLong (Ok report) tells long fault left others = record {
+  stop_shown whole.TooLong (Ok report) tells long fault taken left others = record {
     answered = λ files told. subst (IsAnswerTo (Some asked) files) (sym tells.0) (long refl files told);
     within = tells.1;
     fault = λ no. absurd (never_both report no);
+    taken = taken;
     left = left;
     others = others;
   }
-  stop_shown whole.TooLong (Err other) tells long fault left others = absurd tells
-  stop_shown whole.ReadFault (Ok report) tells long fault left others = absurd (never_both report tells)
-  stop_shown whole.ReadFault (Err other) tells long fault left others = record {
+  stop_shown whole.TooLong (Err other) tells long fault taken left others = absurd tells
+  stop_shown whole.ReadFault (Ok report) tells long fault taken left others = absurd (never_both report tells)
+  stop_shown whole.ReadFault (Err other) tells long fault taken left others = record {
     answered = tt;
     within = tt;
     fault = λ _. fault refl;
+    taken = taken;
     left = left;
     others = others;
   }
-  stop_shown whole.OutOfMemory (Ok report) tells long fault left others = absurd (never_memory report tells)
-  stop_shown whole.OutOfMemory (Err other) tells long fault left others = record {
+  stop_shown whole.OutOfMemory (Ok report) tells long fault taken left others = absurd (never_memory report tells)
+  stop_shown whole.OutOfMemory (Err other) tells long fault taken left others = record {
     answered = tt;
     within = tt;
     fault = λ no. absurd (never_fault (Err other) tells no);
+    taken = taken;
     left = left;
     others = others;
   }
@@ -75,6 +87,7 @@ module _ (old now : List ℕ → Option (List ℕ)) (untouched : Type 0) (faults
     answered = λ files tells. subst (IsSiftAnswer left (files log)) (sym same) (sift_answer (files log) text (right (files log) (tells log refl)));
     within = within;
     fault = λ no. absurd (never_both report no);
+    taken = tt;
     left = λ none. absurd (none log refl);
     others = others;
   }
@@ -85,7 +98,7 @@ module _ (old now : List ℕ → Option (List ℕ)) (untouched : Type 0) (faults
   sift_stopped stop shown tells right fault others =
       stop_shown old now untouched faults_before faults_now (Sift left log) (ended (codes "limit input")) stop shown tells
       (λ is files told. inl (subst (λ (s : WholeStop). AnswersSift left (files log) (Err s)) is (right (files log) (told log refl)), refl))
-      fault (λ none. absurd (none log refl)) others
+      fault tt (λ none. absurd (none log refl)) others
 
 -- the setup of a policy and files
 module _ (old now : List ℕ → Option (List ℕ)) (untouched : Type 0) (faults_before faults_now : ℕ) (authorize : Bool) (time policy : List ℕ) (names : List (List ℕ)) where
@@ -106,6 +119,7 @@ module _ (old now : List ℕ → Option (List ℕ)) (untouched : Type 0) (faults
         subst (IsSetupAnswer authorize time (files policy) names (map files names)) (sym same) (setup_answer (files policy) (map files names) found (right files tells));
     within = within;
     fault = λ no. absurd (never_both report no);
+    taken = tt;
     left = untold;
     others = others;
   }
@@ -117,42 +131,58 @@ module _ (old now : List ℕ → Option (List ℕ)) (untouched : Type 0) (faults
   setup_stopped stop shown tells right fault others =
       stop_shown old now untouched faults_before faults_now (Setup authorize time policy names) (ended (codes "limit file")) stop shown tells
       (λ is files told. inl (subst (λ (s : WholeStop). AnswersMade authorize time (files policy) names (map files names) (Err s)) is (right files told), refl))
-      fault untold others
+      fault tt untold others
 
 -- the page of a verdict, or why there is none
 module _ (old now : List ℕ → Option (List ℕ)) (untouched : Type 0) (faults_before faults_now : ℕ) (setup log : List ℕ) where
   abbrev pub IsShown : Verdict → Type 0
   IsShown verdict = (of_setup of_log : List ℕ) → old setup ≡ Some of_setup → old log ≡ Some of_log → IsPictured of_setup of_log (verdict_answer verdict)
 
-  shown : (found : Result Verdict Stop) (page : Verdict) → found ≡ Ok page → IfOk found IsShown → IsShown page
-  shown found page is right = subst (λ (f : Result Verdict Stop). IfOk f IsShown) is right
+  of_page : (P : Verdict → Type 0) (found : Result Verdict Stop) (page : Verdict) → found ≡ Ok page → IfOk found P → P page
+  of_page P found page is right = subst (λ (f : Result Verdict Stop). IfOk f P) is right
 
   pub page_reported : (found : Result Verdict Stop) (page : Verdict) (report : CommandReport) → found ≡ Ok page → report_answer report ≡ verdict_answer page → HasStretchesWithin report.body
-      → IfOk found IsShown → ((other : List ℕ) → other ≢ setup → other ≢ log → now other ≡ old other)
+      → IfOk found IsShown → IfOk found (λ verdict. HasPage (verdict_answer verdict) → IsAtEnd (now setup) × IsAtEnd (now log))
+      → IfOk found (λ verdict. HasBrokenRule (verdict_answer verdict) → IsAtEnd (now setup))
+      → ReadsSetupAndLog setup log old now faults_before faults_now (IsErrOf found ReadFault) (IsErrOf found ReadFault)
       → IsReported (Picture setup log) old now untouched faults_before faults_now (Ok report)
-  page_reported found page report is same within right others = record {
+  page_reported found page report is same within right whole setup_whole reads = record {
     answered = λ files tells.
-        subst (IsPictured (files setup) (files log)) (sym same) (shown found page is right (files setup) (files log) (tells setup (inl refl)) (tells log (inr refl)));
+        subst (IsPictured (files setup) (files log)) (sym same) (of_page IsShown found page is right (files setup) (files log) (tells setup (inl refl)) (tells log (inr refl)));
     within = within;
-    fault = λ no. absurd (let never : Ok report ≡ Err ReadFault = no in cc);
+    fault = λ no. absurd (never_both report no);
+    taken = record {
+      whole = λ shows. of_page (λ verdict. HasPage (verdict_answer verdict) → IsAtEnd (now setup) × IsAtEnd (now log)) found page is whole (subst HasPage same shows);
+      setup_whole = λ broken. of_page (λ verdict. HasBrokenRule (verdict_answer verdict) → IsAtEnd (now setup)) found page is setup_whole (subst HasBrokenRule same broken);
+      taken = taken_upto setup log old now now (IsErrOf found ReadFault) (IsErrOf (ok report) ReadFault) refl refl (λ no. absurd (never_both report no)) reads.taken;
+    };
     left = λ none. absurd (none setup (inl refl));
-    others = λ name none. others name (λ is. none (inl is)) (λ is. none (inr is));
+    others = λ name none. reads.others name (λ is. none (inl is)) (λ is. none (inr is));
   }
 
-  pub stop_reported : (found : Result Verdict Stop) (stop : Stop) → found ≡ Err stop → (IsErrOf found ReadFault → Rose faults_before faults_now)
-      → ((other : List ℕ) → other ≢ setup → other ≢ log → now other ≡ old other)
+  pub stop_reported : (found : Result Verdict Stop) (stop : Stop) → found ≡ Err stop → ReadsSetupAndLog setup log old now faults_before faults_now (IsErrOf found ReadFault) (IsErrOf found ReadFault)
       → IsReported (Picture setup log) old now untouched faults_before faults_now (Err stop)
-  stop_reported found ReadFault is fault others = record {
+  stop_reported found ReadFault is reads = record {
     answered = tt;
     within = tt;
-    fault = λ _. fault is;
+    fault = λ _. reads.fault is;
+    taken = record {
+      whole = tt;
+      setup_whole = tt;
+      taken = taken_upto setup log old now now (IsErrOf found ReadFault) (IsErrOf (err ReadFault) ReadFault) refl refl (λ _. is) reads.taken;
+    };
     left = λ none. absurd (none setup (inl refl));
-    others = λ name none. others name (λ is. none (inl is)) (λ is. none (inr is));
+    others = λ name none. reads.others name (λ is. none (inl is)) (λ is. none (inr is));
   }
-  stop_reported found OutOfMemory is fault others = record {
+  stop_reported found OutOfMemory is reads = record {
     answered = tt;
     within = tt;
     fault = λ no. absurd (never_fault (Err OutOfMemory) refl no);
+    taken = record {
+      whole = tt;
+      setup_whole = tt;
+      taken = taken_upto setup log old now now (IsErrOf found ReadFault) (IsErrOf (err OutOfMemory) ReadFault) refl refl (λ no. absurd (never_fault (Err OutOfMemory) refl no)) reads.taken;
+    };
     left = λ none. absurd (none setup (inl refl));
-    others = λ name none. others name (λ is. none (inl is)) (λ is. none (inr is));
+    others = λ name none. reads.others name (λ is. none (inl is)) (λ is. none (inr is));
   }

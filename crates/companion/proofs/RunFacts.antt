@@ -1,17 +1,19 @@
 -- Answers that are passed on.
-use Rattle.std.proofs.Common.{◌≡◌, ℕ, List, Option, Some, None, Result, Ok, Err, IfOk, IsErrOf, inl, inr, refl, sym, ◌∙◌, arith}
-use Rattle.std.specs.Io.KnownBytes.{Keeps}
+use Rattle.std.proofs.Common.{◌≡◌, ◌<◌, ℕ, List, Option, Some, None, Result, Ok, Err, IfOk, IsErrOf, inl, inr, refl, sym, ◌∙◌, subst, arith}
+use Rattle.std.specs.Io.KnownBytes.{IsAtEnd, Keeps}
+use Rattle.context_intake.proofs.ReadingFacts.{taken_upto}
 use Rattle.context_intake.specs.declared.stop.Stop.{Stop}
 use Rattle.context_intake.specs.declared.stop.Stop.TheVariants.{OutOfMemory, ReadFault}
 use Rattle.edge_io.specs.Endings.{Ends}
 use Rattle.edge_io.specs.Faults.{Rose}
-use Rattle.log_verdict.specs.Answers.{Answer}
-use Rattle.log_verdict.specs.Endings.{IsAnswered}
-use Rattle.companion_words.specs.Command.{Asked, IsAsked, ReadsWords, Spells, Tells, TellsWords}
-use Rattle.companion.specs.Program.{IsAnswer, IsAnswerTo, usage_answer}
-use Rattle.companion.specs.Reported.{Concludes, IsReported, report_answer, status_number}
+use Rattle.log_verdict.specs.Answers.{Answer, answer}
+use Rattle.log_verdict.specs.Endings.{IsAnswered, IsBrokenStatus, IsVerdictStatus, ReadsNames}
+use Rattle.companion_words.specs.Command.{Asked, IsAsked, Picture, ReadsWords, Spells, Tells, TellsWords}
+use Rattle.companion.specs.Program.{IsAnswer, IsAnswerTo, IsOfTable, usage_answer}
+use Rattle.companion.specs.Reported.{Concludes, IsReported, Takes, TakesNames, body_text, report_answer, status_number}
 use Rattle.companion.specs.Running.{ReadsDesk, StatusTells}
 use Rattle.companion.specs.declared.report.CommandReport.{CommandReport}
+use Rattle.companion.proofs.AskedFacts.{one_picture}
 use Rattle.companion.specs.declared.report.ExitStatus.{ExitStatus}
 use Rattle.companion.specs.declared.report.ExitStatus.TheVariants.{Done, Unexplained, SetupRefused, LogRefused, LimitPassed}
 
@@ -43,6 +45,27 @@ apart_eight Unexplained is = omega (arith, is)
 apart_eight SetupRefused is = omega (arith, is)
 apart_eight LogRefused is = omega (arith, is)
 apart_eight LimitPassed is = omega (arith, is)
+
+-- a verdict, and that a rule is broken, are told by other statuses than faults and want of memory
+above_verdict : (status : ℕ) → 1 < status → IsVerdictStatus status → ⊥
+above_verdict status more (inl is) = omega (arith, more, is)
+above_verdict status more (inr is) = omega (arith, more, is)
+
+above_broken : (status : ℕ) → 4 < status → IsBrokenStatus status → ⊥
+above_broken status more (inl is) = omega (arith, more, is)
+above_broken status more (inr is) = omega (arith, more, is)
+
+-- a report is an answer of the table
+report_of_table : (status : ExitStatus) (text : List ℕ) → IsOfTable (answer (status_number status) text)
+report_of_table Done text = inr (inl refl)
+report_of_table Unexplained text = inr (inr (inl refl))
+report_of_table SetupRefused text = inr (inr (inr (inl refl)))
+report_of_table LogRefused text = inr (inr (inr (inr (inl refl))))
+report_of_table LimitPassed text = inr (inr (inr (inr (inr refl))))
+
+of_table : (found : Result CommandReport Stop) → IfOk found (λ report. IsOfTable (report_answer report))
+of_table (Ok report) = report_of_table report.status (body_text report.body)
+of_table (Err stop) = tt
 
 module _ (faults_before faults_now : ℕ) (before now : Option (List ℕ)) (result : ℕ) where
   pub concluded_answer : (found : Result CommandReport Stop) (IsRight : Answer → Type 0) (desk_before desk_now : ℕ) → IfOk found (λ report. IsRight (report_answer report)) → (IsErrOf found ReadFault → Rose desk_before desk_now)
@@ -78,6 +101,23 @@ module _ (faults_before faults_now : ℕ) (before now : Option (List ℕ)) (resu
   concluded_eight (Err ReadFault) (inr (part, rose, rest)) is = absurd (omega (arith, part, is))
   concluded_eight (Err OutOfMemory) ends is = ends.1
 
+  concluded_status : (found : Result CommandReport Stop) (IsOf : ℕ → Type 0) (Told : Type 0) → (IsOf 5 → ⊥) → (IsOf 6 → ⊥) → (IsOf 8 → ⊥) → IfOk found (λ report. IsOf (status_number report.status) → Told)
+      → Concludes found faults_before faults_now before now result → IsOf result → Told
+  concluded_status (Ok report) IsOf Told not_five not_six not_eight told (inl (whole, rest)) is = told (subst IsOf whole is)
+  concluded_status (Ok report) IsOf Told not_five not_six not_eight told (inr (part, rose, rest)) is = absurd (not_six (subst IsOf part is))
+  concluded_status (Err ReadFault) IsOf Told not_five not_six not_eight told (inl (whole, rest)) is = absurd (not_five (subst IsOf whole is))
+  concluded_status (Err ReadFault) IsOf Told not_five not_six not_eight told (inr (part, rose, rest)) is = absurd (not_six (subst IsOf part is))
+  concluded_status (Err OutOfMemory) IsOf Told not_five not_six not_eight told ends is = absurd (not_eight (subst IsOf ends.0 is))
+
+  -- what was taken of a setup and a log, by how the call ended
+  concluded_names : (found : Result CommandReport Stop) (setup log : List ℕ) (old left : List ℕ → Option (List ℕ)) → TakesNames setup log old left found
+      → Concludes found faults_before faults_now before now result → ReadsNames old left result setup log
+  concluded_names found setup log old left takes ends = record {
+    whole = concluded_status found IsVerdictStatus (IsAtEnd (left setup) × IsAtEnd (left log)) (above_verdict 5 (omega arith)) (above_verdict 6 (omega arith)) (above_verdict 8 (omega arith)) takes.whole ends;
+    setup_whole = concluded_status found IsBrokenStatus (IsAtEnd (left setup)) (above_broken 5 (omega arith)) (above_broken 6 (omega arith)) (above_broken 8 (omega arith)) takes.setup_whole ends;
+    taken = taken_upto setup log old left left (IsErrOf found ReadFault) (result ≡ 5) refl refl (λ is. concluded_five found ends is) takes.taken;
+  }
+
 right_answer : (words : List (List ℕ)) (asked : Asked) (old : List ℕ → Option (List ℕ)) (files : List ℕ → List ℕ) (found : Result CommandReport Stop) → Spells asked words → TellsWords words old files
     → IfOk found (λ report. (files : List ℕ → List ℕ) → Tells asked old files → IsAnswerTo (Some asked) files (report_answer report)) → IfOk found (λ report. IsAnswer words files (report_answer report))
 right_answer words asked old files (Ok report) spelled tells right = (Some asked, spelled, right files (tells asked spelled))
@@ -96,6 +136,9 @@ module _ {words : List (List ℕ)} {asked : Asked} {old now : List ℕ → Optio
   run_answer files tells =
       concluded_answer sink_before sink_now before written result found (IsAnswer words files) desk_before desk_now (right_answer words asked old files found r.spelled tells r.reported.answered) r.reported.fault r.concluded
 
+  pub run_table : IsAnswered IsOfTable desk_before desk_now sink_before sink_now before written result
+  run_table = concluded_answer sink_before sink_now before written result found IsOfTable desk_before desk_now (of_table found) r.reported.fault r.concluded
+
   pub run_status : StatusTells words desk_before desk_now sink_before sink_now before written result
   run_status = record {
     usage = λ none. absurd (none asked r.spelled);
@@ -105,8 +148,14 @@ module _ {words : List (List ℕ)} {asked : Asked} {old now : List ℕ → Optio
     memory = λ is. concluded_eight sink_before sink_now before written result found r.concluded is;
   }
 
-  pub run_read : ReadsDesk words old now untouched
+  takes_names : (setup log : List ℕ) → IsAsked words (Some (Picture setup log)) → TakesNames setup log old now found
+  takes_names setup log asks =
+      let takes : Takes (Picture setup log) old now found = subst (λ a. Takes a old now found) (one_picture words asked setup log r.spelled asks) r.reported.taken in
+      takes
+
+  pub run_read : ReadsDesk words old now untouched result
   run_read = record {
+    names = λ setup log asks. concluded_names sink_before sink_now before written result found setup log old now (takes_names setup log asks) r.concluded;
     desk_left = λ none. r.reported.left (λ name reads. none name (asked, r.spelled, reads));
     others_left = λ name none. r.reported.others name (λ reads. none (asked, r.spelled, reads));
   }
@@ -137,9 +186,10 @@ module _ {words : List (List ℕ)} {desk_before desk_now sink_before sink_now : 
     memory = λ is. absurd (two_no_eight sink_before sink_now before now status usage_answer.text ends is);
   }
 
-module _ {words : List (List ℕ)} {left : List ℕ → Option (List ℕ)} {untouched : Type 0} (same : untouched) where
-  pub usage_read : ReadsDesk words left left untouched
+module _ {words : List (List ℕ)} {left : List ℕ → Option (List ℕ)} {untouched : Type 0} {status : ℕ} (same : untouched) (none : IsAsked words None) where
+  pub usage_read : ReadsDesk words left left untouched status
   usage_read = record {
+    names = λ setup log asks. absurd (none (Picture setup log) asks);
     desk_left = λ unasked. same;
     others_left = λ name unread. refl;
   }

@@ -12,6 +12,7 @@ use Rattle.finding_picture.specs.Page as finding_page
 use Rattle.finding_picture.specs.declared.finding.Finding.{Finding}
 use Rattle.log_picture.specs.Page.{IsLogPage}
 use Rattle.log_verdict.specs.Answers.{Answer, answer, outcome_status, refusal_answer}
+use Rattle.log_verdict.specs.Endings.{IsBrokenStatus, IsVerdictStatus}
 use Rattle.log_verdict.specs.Judging.{IsOutcomeOf}
 use Rattle.version_store.specs.Known.{Known}
 
@@ -51,4 +52,8 @@ IsPictured setup log answered =
 
 -- a page is answered, and no refusal
 abbrev pub HasPage : Answer → Type 0
-HasPage answered = (answered.status ≡ 0) ⊎ (answered.status ≡ 1)
+HasPage answered = IsVerdictStatus answered.status
+
+-- a rule of the setup or of the log is broken
+abbrev pub HasBrokenRule : Answer → Type 0
+HasBrokenRule answered = IsBrokenStatus answered.status

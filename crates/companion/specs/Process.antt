@@ -4,13 +4,14 @@ use Rattle.std.specs.Global.{Global}
 use Rattle.std.specs.Io.KnownBytes.{Keeps}
 use Rattle.base_types.specs.declared.memory.OutOfMemory.{OutOfMemory}
 use Rattle.edge_io.specs.Endings.{Ends}
-use Rattle.companion.specs.Program.{usage_answer}
+use Rattle.log_verdict.specs.Endings.{IsAnswered}
+use Rattle.companion.specs.Program.{IsOfTable, usage_answer}
 use Rattle.companion.specs.Running.{StatusTells}
 
 -- as a call of the program on these words, of which the desk tells nothing; or with 8, for want of memory for their names
 abbrev pub EndsWords : List (List ℕ) → (sink_before sink_now : ℕ) → (before now : Option (List ℕ)) → (status : ℕ) → Type 0
 EndsWords words sink_before sink_now before now status =
-    ((desk_before desk_now : ℕ) × StatusTells words desk_before desk_now sink_before sink_now before now status)
+    ((desk_before desk_now : ℕ) × StatusTells words desk_before desk_now sink_before sink_now before now status × IsAnswered IsOfTable desk_before desk_now sink_before sink_now before now status)
     ⊎ ((status ≡ 8) × Keeps before now)
 
 -- on its words; like words that are no command, where an argument is no text; or with 8, for want of memory for the words

@@ -1,5 +1,5 @@
 -- The answer of the program: a status and a text, of the words and the bytes of each name.
-use Rattle.std.specs.Prelude.{◌≡◌, ℕ, List, Option, Some, None, codes, map}
+use Rattle.std.specs.Prelude.{◌≡◌, ◌⊎◌, ℕ, List, Option, Some, None, codes, map}
 use Rattle.log_verdict.specs.Answers.{Answer, answer}
 use Rattle.companion.specs.Picturing.{IsPictured}
 use Rattle.verdict_text.specs.Words.{ended}
@@ -20,3 +20,9 @@ IsAnswerTo (Some (Picture setup log)) files answered = IsPictured (files setup) 
 -- the answer to the words, whose names have these bytes
 abbrev pub IsAnswer : List (List ℕ) → (List ℕ → List ℕ) → Answer → Type 0
 IsAnswer words files answered = (asked : Option Asked) × IsAsked words asked × IsAnswerTo asked files answered
+
+-- an answer of the table, whatever was read: `usage` with 2, or some text with the status of what was done, or of a refusal
+abbrev pub IsOfTable : Answer → Type 0
+IsOfTable answered =
+    (answered ≡ usage_answer)
+    ⊎ (answered.status ≡ 0) ⊎ (answered.status ≡ 1) ⊎ (answered.status ≡ 3) ⊎ (answered.status ≡ 4) ⊎ (answered.status ≡ 7)

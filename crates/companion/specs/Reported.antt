@@ -1,6 +1,7 @@
 -- What a command comes to before it is written: its report, and what was done to the desk.
 use Rattle.std.specs.Prelude.{◌≡◌, ⊤, ℕ, List, Option, Some, Result, Ok, Err, IfOk, IsErrOf, codes}
-use Rattle.std.specs.Io.KnownBytes.{Keeps}
+use Rattle.std.specs.Io.KnownBytes.{IsAtEnd, Keeps}
+use Rattle.context_intake.specs.Taking.{TakesSetupAndLog}
 use Rattle.context_intake.specs.declared.stop.Stop.{Stop}
 use Rattle.context_intake.specs.declared.stop.Stop.TheVariants.{OutOfMemory, ReadFault}
 use Rattle.edge_io.specs.Endings.{Ends}
@@ -12,7 +13,8 @@ use Rattle.cluster_setup.specs.declared.answering.MadeText.TheVariants as made
 use Rattle.log_sift.specs.Named as sift
 use Rattle.log_verdict.specs.Answers.{Answer, answer}
 use Rattle.verdict_text.specs.Words.{ended}
-use Rattle.companion_words.specs.Command.{Asked, Reads, Tells}
+use Rattle.companion_words.specs.Command.{Asked, Explain, Picture, Reads, Setup, Sift, Tells}
+use Rattle.companion.specs.Picturing.{HasBrokenRule, HasPage}
 use Rattle.companion.specs.Program.{IsAnswerTo}
 use Rattle.companion.specs.declared.report.ReportText.{ReportText}
 use Rattle.companion.specs.declared.report.ReportText.TheVariants.{Fixed, Made, Sifted}
@@ -57,11 +59,25 @@ TellsStop whole.TooLong limit found = IsLimitReport limit found
 TellsStop whole.ReadFault limit found = found ≡ Err ReadFault
 TellsStop whole.OutOfMemory limit found = found ≡ Err OutOfMemory
 
+-- what was taken of a setup and a log: both before a page, and all of the setup before a rule is said to be broken
+pub record TakesNames (setup log : List ℕ) (old now : List ℕ → Option (List ℕ)) (found : Result CommandReport Stop) : Type 0 where
+  pub whole : IfOk found (λ report. HasPage (report_answer report) → IsAtEnd (now setup) × IsAtEnd (now log))
+  pub setup_whole : IfOk found (λ report. HasBrokenRule (report_answer report) → IsAtEnd (now setup))
+  pub taken : TakesSetupAndLog setup log old now (IsErrOf found ReadFault)
+
+-- of a setup and a log alone it is said what is taken of them
+abbrev pub Takes : Asked → (old now : List ℕ → Option (List ℕ)) → Result CommandReport Stop → Type 0
+Takes (Explain text) old now found = ⊤
+Takes (Sift left log) old now found = ⊤
+Takes (Setup authorize time policy files) old now found = ⊤
+Takes (Picture setup log) old now found = TakesNames setup log old now found
+
 -- the report is that of the command; the faults are those of the desk
 pub record IsReported (asked : Asked) (old now : List ℕ → Option (List ℕ)) (untouched : Type 0) (faults_before faults_now : ℕ) (found : Result CommandReport Stop) : Type 0 where
   pub answered : IfOk found (λ report. (files : List ℕ → List ℕ) → Tells asked old files → IsAnswerTo (Some asked) files (report_answer report))
   pub within : IfOk found (λ report. HasStretchesWithin report.body)
   pub fault : IsErrOf found ReadFault → Rose faults_before faults_now
+  pub taken : Takes asked old now found
   pub left : ((name : List ℕ) → Reads asked name → ⊥) → untouched
   pub others : (name : List ℕ) → (Reads asked name → ⊥) → now name ≡ old name
 

@@ -3,7 +3,8 @@ ghost use Rattle.std.specs.Io.KnownBytes.{IsAtEnd};
 ghost use Rattle.context_intake.specs.Taking.{ReadsSetupAndLog};
 ghost use Rattle.log_verdict.specs.Answers.{report_answer};
 ghost use Rattle.log_verdict.specs.Judging.{IsOutcomeOf};
-ghost use Rattle.companion.specs.Picturing.{HasPage, IsPage, IsPictured, IsPicturedFrom, IsPicturedOf};
+ghost use Rattle.companion.specs.Picturing.{HasBrokenRule, HasPage, IsPage, IsPictured};
+ghost use Rattle.companion.specs.Picturing.{IsPicturedFrom, IsPicturedOf};
 
 use base_types::{Bytes, OutOfMemory, Outcome};
 use context_intake::{Stop, Told, read_context};
@@ -35,6 +36,8 @@ pub fn picture<R: Threads + Sync, D: Desk, G: Gate, H: Gate>(
         → IsPictured of_setup of_log (report_answer report)) }
     ensures whole { IfOk result (λ report. HasPage (report_answer report)
         → IsAtEnd (D.left desk.new setup.now) × IsAtEnd (D.left desk.new log.now)) }
+    ensures setup_whole { IfOk result (λ report. HasBrokenRule (report_answer report)
+        → IsAtEnd (D.left desk.new setup.now)) }
     ensures reads { ReadsSetupAndLog setup.now log.now (D.left desk.old) (D.left desk.new)
         (D.faults desk.old) (D.faults desk.new) (IsErrOf result Stop.ReadFault)
         (IsErrOf result Stop.ReadFault) }

@@ -1,7 +1,7 @@
 ghost use Rattle.std.specs.Prelude.{◌≡◌, ℕ, List, IfOk, map, string_bytes};
 ghost use Rattle.companion_words.specs.Command.{TellsWords};
 ghost use Rattle.log_verdict.specs.Endings.{IsAnswered};
-ghost use Rattle.companion.specs.Program.{IsAnswer};
+ghost use Rattle.companion.specs.Program.{IsAnswer, IsOfTable};
 ghost use Rattle.companion.specs.Reported.{Concludes, HasStretchesWithin};
 ghost use Rattle.companion.specs.Running.{ReadsDesk, StatusTells};
 
@@ -36,11 +36,13 @@ pub fn run<R: Threads + Sync, D: Desk, K: Sink, G: Gate, H: Gate>(
         (K.written out.new) result }
 
     // Whether the desk tells its bytes or not.
+    ensures table { IsAnswered IsOfTable (D.faults desk.old) (D.faults desk.new) (K.faults out.old)
+        (K.faults out.new) (K.written out.old) (K.written out.new) result }
     ensures status { StatusTells (map string_bytes words.now) (D.faults desk.old)
         (D.faults desk.new) (K.faults out.old) (K.faults out.new) (K.written out.old)
         (K.written out.new) result }
     ensures read { ReadsDesk (map string_bytes words.now) (D.left desk.old) (D.left desk.new)
-        (desk.new ≡ desk.old) }
+        (desk.new ≡ desk.old) result }
 {
     let gates = Gates {
         events: gate,

@@ -1,12 +1,13 @@
 -- What a setup and a log tell, wherever their reading stops.
-use Rattle.std.proofs.Common.{◌≡◌, ◌≢◌, ◌≤◌, ℕ, List, [], Option, Some, Result, Ok, Err, IfOk, IsErrOf, length, refl, sym, ◌∙◌, ap, subst, arith}
+use Rattle.std.proofs.Common.{◌≡◌, ◌≢◌, ◌<◌, ◌≤◌, ℕ, List, [], Option, Some, Result, Ok, Err, IfOk, IsErrOf, length, refl, sym, ◌∙◌, ap, subst, arith}
 use Rattle.std.proofs.lemmas.Result.{IfOk-weaker}
+use Rattle.std.specs.Io.KnownBytes.{IsAtEnd}
 use Rattle.audit_event.specs.declared.event.Event.{Event}
 use Rattle.edge_io.specs.Faults.{Rose}
 use Rattle.edge_io.specs.Whole.{TakesWhole}
 use Rattle.edge_io.proofs.TakenFacts.{taken_nothing}
 use Rattle.log_intake.specs.Log.{IsLogRead}
-use Rattle.log_intake.specs.Setup.{AnswersSetup, IsSetupRead, ReadsSetup, StaysWithin, TakesSetup, most_setup}
+use Rattle.log_intake.specs.Setup.{AnswersSetup, IsSetupRead, IsWhole, ReadsSetup, StaysWithin, TakesSetup, most_setup}
 use Rattle.log_intake.specs.Taking as taking
 use Rattle.log_intake.specs.Taking.{AnswersLog, ReadsLog, TakesLog}
 use Rattle.log_intake.specs.declared.stop.LogStop.{LogStop}
@@ -15,10 +16,15 @@ use Rattle.log_intake.specs.declared.stop.SetupStop.{SetupStop}
 use Rattle.log_intake.specs.declared.stop.SetupStop.TheVariants as setup_stop
 use Rattle.log_intake.proofs.LogFacts.{takes_nothing}
 use Rattle.setup_file.specs.declared.setup.Setup.{Setup}
+use Rattle.version_store.specs.Known.{Known}
 use Rattle.version_store.specs.LogTrees.{pooled}
+use Rattle.version_store.specs.Told.{IsTold}
+use Rattle.version_store.specs.declared.log.fault.BuildFault.{BuildFault}
+use Rattle.version_store.specs.declared.log.fault.BuildFault.TheVariants as build_fault
+use Rattle.context_intake.specs.Built.{IsBuiltAs}
 use Rattle.context_intake.specs.Contexts.{IsFoundIn, IsRefused, IsToldBy, RefusesNothing, most_nodes, of_log, of_pool, of_setup, with_chains}
 use Rattle.context_intake.specs.Refusals.{IsSetupStopOf, IsStopOf}
-use Rattle.context_intake.specs.Taking.{ReadsSetupAndLog, TakesSetupAndLog}
+use Rattle.context_intake.specs.Taking.{IsReadBefore, IsReadFor, ReadsSetupAndLog, TakesSetupAndLog}
 use Rattle.context_intake.specs.declared.refusal.Refusal.{Refusal}
 use Rattle.context_intake.specs.declared.stop.Stop.{Stop}
 use Rattle.context_intake.specs.declared.stop.Stop.TheVariants.{OutOfMemory, ReadFault}
@@ -53,6 +59,53 @@ found_told setup log read events (Context known) setup_is log_is found = record 
   few = subst (λ s. length (pooled s known.events) ≤ most_nodes) (sym found.0) (subst (λ e. length (pooled (with_chains read events) e) ≤ most_nodes) (sym found.1) found.2);
   told = found.3;
 }
+
+-- a context was built of them, or its pool was full
+pub found_built : (setup : Setup) (events : List Event) (built : Result Known BuildFault) → IfOk built (λ known. known.setup ≡ setup) → IfOk built (λ known. known.events ≡ events) → IfOk built IsTold
+    → (built ≡ Err build_fault.PoolFull → most_nodes < length (pooled setup events)) → IfOk built (λ known. length (pooled setup events) ≤ most_nodes)
+    → (told : Told) → IsBuiltAs built told → IsFoundIn setup events told
+found_built setup events (Ok known) same_setup same_events is full fits told built_as = subst (IsFoundIn setup events) (sym built_as) (same_setup, same_events, fits, is)
+found_built setup events (Err build_fault.PoolFull) same_setup same_events is full fits told built_as = subst (IsFoundIn setup events) (sym built_as) (full refl, refl)
+found_built setup events (Err build_fault.OutOfMemory) same_setup same_events is full fits told built_as = absurd built_as
+
+-- what was read to its end before a refusal
+setup_read : (stop : SetupStop) (refusal : Refusal) (setup log : Option (List ℕ)) → (IsWhole (Err stop) → IsAtEnd setup) → IsSetupStopOf stop refusal → IsReadBefore refusal setup log
+setup_read (setup_stop.Rule rule) refusal setup log whole is = subst (λ r. IsReadBefore r setup log) (sym is) (whole tt)
+setup_read setup_stop.TooLong refusal setup log whole is = subst (λ r. IsReadBefore r setup log) (sym is) tt
+setup_read setup_stop.ReadFault refusal setup log whole is = absurd is
+setup_read setup_stop.OutOfMemory refusal setup log whole is = absurd is
+
+log_read : (stop : LogStop) (refusal : Refusal) (setup log : Option (List ℕ)) → IsAtEnd setup → IsStopOf stop refusal → IsReadBefore refusal setup log
+log_read (log_stop.Malformed line code) refusal setup log ended is = subst (λ r. IsReadBefore r setup log) (sym is) ended
+log_read log_stop.LineTooLong refusal setup log ended is = subst (λ r. IsReadBefore r setup log) (sym is) ended
+log_read log_stop.TooManyEvents refusal setup log ended is = subst (λ r. IsReadBefore r setup log) (sym is) ended
+log_read log_stop.TooLong refusal setup log ended is = subst (λ r. IsReadBefore r setup log) (sym is) ended
+log_read log_stop.ReadFault refusal setup log ended is = absurd is
+log_read log_stop.OutOfMemory refusal setup log ended is = absurd is
+
+found_read : (read : Setup) (events : List Event) (setup log : Option (List ℕ)) (told : Told) → IsAtEnd setup → IsAtEnd log → IsFoundIn read events told → IsReadFor told setup log
+found_read read events setup log (Refused refusal) setup_ended log_ended found = subst (λ r. IsReadBefore r setup log) (sym found.1) (setup_ended, log_ended)
+found_read read events setup log (Context known) setup_ended log_ended found = (setup_ended, log_ended)
+
+-- what was read to its end before what is told
+module _ (setup log : Option (List ℕ)) (result : Result Told Stop) where
+  pub read_setup : (stop : SetupStop) → (IsWhole (Err stop) → IsAtEnd setup) → IfOk result (λ told. (refusal : Refusal) × IsSetupStopOf stop refusal × (told ≡ Refused refusal)) → IfOk result (λ told. IsReadFor told setup log)
+  read_setup stop whole refused =
+      IfOk-weaker result (λ told. (refusal : Refusal) × IsSetupStopOf stop refusal × (told ≡ Refused refusal)) (λ told. IsReadFor told setup log)
+      (λ told r. subst (λ t. IsReadFor t setup log) (sym r.2) (setup_read stop r.0 setup log whole r.1))
+      refused
+
+  pub read_log : (stop : LogStop) (middle : Option (List ℕ)) → setup ≡ middle → IsAtEnd middle → IfOk result (λ told. (refusal : Refusal) × IsStopOf stop refusal × (told ≡ Refused refusal)) → IfOk result (λ told. IsReadFor told setup log)
+  read_log stop middle same ended refused =
+      IfOk-weaker result (λ told. (refusal : Refusal) × IsStopOf stop refusal × (told ≡ Refused refusal)) (λ told. IsReadFor told setup log)
+      (λ told r. subst (λ t. IsReadFor t setup log) (sym r.2) (log_read stop r.0 setup log (subst IsAtEnd (sym same) ended) r.1))
+      refused
+
+  pub read_both : (read : Setup) (events : List Event) (middle : Option (List ℕ)) → setup ≡ middle → IsAtEnd middle → IsAtEnd log → IfOk result (IsFoundIn (with_chains read events) events) → IfOk result (λ told. IsReadFor told setup log)
+  read_both read events middle same ended log_ended found =
+      IfOk-weaker result (IsFoundIn (with_chains read events) events) (λ told. IsReadFor told setup log)
+      (λ told f. found_read (with_chains read events) events setup log told (subst IsAtEnd (sym same) ended) log_ended f)
+      found
 
 module _ (left : List ℕ → Option (List ℕ)) (setup log : List ℕ) (result : Result Told Stop) where
   -- what the names tell that were asked for
@@ -136,6 +189,14 @@ taken_upto setup log old middle now fine fine' same_setup same_log weaker t = re
   log_left = λ of_setup refusal told refused. same_log ∙ t.log_left of_setup refusal told refused;
 }
 
+-- nothing of either
+pub taken_none : (setup log : List ℕ) (left : List ℕ → Option (List ℕ)) (fine : Type 0) → TakesSetupAndLog setup log left left fine
+taken_none setup log left fine = record {
+  setup_taken = whole_untouched most_setup (left setup) (left setup) fine refl;
+  log_taken = log_untouched (left log) (left log) fine refl;
+  log_left = λ of_setup refusal told refused. refl;
+}
+
 pub rose_from : (old middle now : ℕ) → old ≤ middle → Rose middle now → Rose old now
 rose_from old middle now counted rose = omega (arith, counted, rose)
 
@@ -155,11 +216,7 @@ module _ (setup log : List ℕ) (differ : setup ≢ log) (fine read_fault : Type
   reads_none left faults never = record {
     fault = λ is. absurd (never is);
     counted = omega arith;
-    taken = record {
-      setup_taken = whole_untouched most_setup (left setup) (left setup) fine refl;
-      log_taken = log_untouched (left log) (left log) fine refl;
-      log_left = λ of_setup refusal told refused. refl;
-    };
+    taken = taken_none setup log left fine;
     others = λ other not_setup not_log. refl;
   }
 

@@ -1,3 +1,4 @@
 pub mod Refusals
 pub mod Contexts
 pub mod Taking
+pub mod Built

@@ -1,10 +1,15 @@
 -- What a call that reads a setup and then a log does to a desk, whatever it answers.
-use Rattle.std.specs.Prelude.{◌≡◌, ◌≢◌, ◌≤◌, ℕ, List, Option, Some}
+use Rattle.std.specs.Prelude.{◌≡◌, ◌≢◌, ⊤, ◌≤◌, ℕ, List, Option, Some}
+use Rattle.std.specs.Io.KnownBytes.{IsAtEnd}
 use Rattle.edge_io.specs.Faults.{Rose}
 use Rattle.log_intake.specs.Setup.{TakesSetup}
 use Rattle.log_intake.specs.Taking.{TakesLog}
 use Rattle.context_intake.specs.Refusals.{IsSetupRefused}
+use Rattle.context_intake.specs.declared.refusal.Limit.TheVariants.{SetupSize, LineSize, EventCount, InputSize, PoolSize}
 use Rattle.context_intake.specs.declared.refusal.Refusal.{Refusal}
+use Rattle.context_intake.specs.declared.refusal.Refusal.TheVariants.{BrokenSetup, MalformedLog, PastLimit}
+use Rattle.context_intake.specs.declared.told.Told.{Told}
+use Rattle.context_intake.specs.declared.told.Told.TheVariants.{Context, Refused}
 
 -- What was taken of the two at most, and less where nothing is refused (`fine`); of the log nothing where the setup is
 -- refused.
@@ -19,3 +24,19 @@ pub record ReadsSetupAndLog (setup log : List ℕ) (old now : List ℕ → Optio
   pub counted : faults_before ≤ faults_now
   pub taken : TakesSetupAndLog setup log old now fine
   pub others : (other : List ℕ) → other ≢ setup → other ≢ log → now other ≡ old other
+
+-- What was read to its end before this is refused: the setup, unless it is too long, and where there are too many
+-- distinct values the log too.
+abbrev pub IsReadBefore : Refusal → (setup log : Option (List ℕ)) → Type 0
+IsReadBefore (BrokenSetup rule) setup log = IsAtEnd setup
+IsReadBefore (MalformedLog line code) setup log = IsAtEnd setup
+IsReadBefore (PastLimit SetupSize) setup log = ⊤
+IsReadBefore (PastLimit LineSize) setup log = IsAtEnd setup
+IsReadBefore (PastLimit EventCount) setup log = IsAtEnd setup
+IsReadBefore (PastLimit InputSize) setup log = IsAtEnd setup
+IsReadBefore (PastLimit PoolSize) setup log = IsAtEnd setup × IsAtEnd log
+
+-- what was read to its end before this is told: both, where nothing is refused
+abbrev pub IsReadFor : Told → (setup log : Option (List ℕ)) → Type 0
+IsReadFor (Refused refusal) setup log = IsReadBefore refusal setup log
+IsReadFor (Context known) setup log = IsAtEnd setup × IsAtEnd log

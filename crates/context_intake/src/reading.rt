@@ -1,12 +1,11 @@
-ghost use Rattle.std.specs.Prelude.{◌≡◌, ◌≢◌, ◌≤◌, ℕ, List, Some, IfOk, IsErrOf, length};
-ghost use Rattle.std.specs.Io.KnownBytes.{IsAtEnd};
+ghost use Rattle.std.specs.Prelude.{◌≡◌, ◌≢◌, ◌≤◌, ℕ, List, Some, Err, IfOk, IsErrOf, length};
+ghost use Rattle.context_intake.specs.Built.{IsBuiltAs};
 ghost use Rattle.context_intake.specs.Contexts.{IsFoundIn, IsToldBy, RefusesNothing, with_chains};
 ghost use Rattle.context_intake.specs.Refusals.{IsSetupStopOf, IsStopOf};
-ghost use Rattle.context_intake.specs.Taking.{ReadsSetupAndLog};
+ghost use Rattle.context_intake.specs.Taking.{IsReadFor, ReadsSetupAndLog};
 ghost use Rattle.log_intake.specs.Kept.{AreLogEvents};
 ghost use Rattle.log_intake.specs.Setup.{most_checkpoints};
 ghost use Rattle.setup_file.specs.Sound.{IsSound};
-ghost use Rattle.version_store.specs.Known.{Known};
 
 use crate::chained::with_chains;
 use crate::refusal::{Limit, Refusal};
@@ -37,8 +36,8 @@ pub fn read_context<R: Threads + Sync, D: Desk, H: Gate>(
     ensures told { IfOk result (λ told. (of_setup of_log : List ℕ)
         → D.left desk.old setup.now ≡ Some of_setup → D.left desk.old log.now ≡ Some of_log
         → IsToldBy of_setup of_log told) }
-    ensures whole { IfOk result (λ told. (known : Known) → told ≡ Told.Context known
-        → IsAtEnd (D.left desk.new setup.now) × IsAtEnd (D.left desk.new log.now)) }
+    ensures whole { IfOk result (λ told. IsReadFor told (D.left desk.new setup.now)
+        (D.left desk.new log.now)) }
     ensures reads { ReadsSetupAndLog setup.now log.now (D.left desk.old) (D.left desk.new)
         (D.faults desk.old) (D.faults desk.new) (RefusesNothing result)
         (IsErrOf result Stop.ReadFault) }
@@ -60,6 +59,7 @@ fn refused_setup(stop: SetupStop) -> Result<Told, Stop>
     ensures refused { IfOk result (λ told. (refusal : Refusal) × IsSetupStopOf stop refusal
         × (told ≡ Told.Refused refusal)) }
     ensures fault { IsErrOf result Stop.ReadFault → stop ≡ SetupStop.ReadFault }
+    ensures memory { IsErrOf result Stop.OutOfMemory → stop ≡ SetupStop.OutOfMemory }
 {
     match stop {
         SetupStop::Rule(rule) => Ok(Told::Refused(Refusal::BrokenSetup(rule))),
@@ -73,6 +73,7 @@ fn refused_log(stop: LogStop) -> Result<Told, Stop>
     ensures refused { IfOk result (λ told. (refusal : Refusal) × IsStopOf stop refusal
         × (told ≡ Told.Refused refusal)) }
     ensures fault { IsErrOf result Stop.ReadFault → stop ≡ LogStop.ReadFault }
+    ensures memory { IsErrOf result Stop.OutOfMemory → stop ≡ LogStop.OutOfMemory }
 {
     match stop {
         LogStop::Malformed { line, code } => Ok(Told::Refused(Refusal::MalformedLog {
@@ -102,7 +103,16 @@ fn told_by<R: Threads + Sync>(
     ensures no_fault { IsErrOf result Stop.ReadFault → ⊥ }
 {
     let chained = with_chains(alloc, setup, &events, seed)?;
-    match Context::build(rt, alloc, chained, events, seed) {
+    told_of(Context::build(rt, alloc, chained, events, seed))
+}
+
+// What a context tells that was built, or why it wasn't.
+fn told_of(built: Result<Context, BuildFault>) -> Result<Told, Stop>
+    ensures told { IfOk result (IsBuiltAs built) }
+    ensures no_fault { IsErrOf result Stop.ReadFault → ⊥ }
+    ensures memory { IsErrOf result Stop.OutOfMemory → built ≡ Err BuildFault.OutOfMemory }
+{
+    match built {
         Ok(context) => Ok(Told::Context(context)),
         Err(BuildFault::PoolFull) => Ok(Told::Refused(Refusal::PastLimit(Limit::PoolSize))),
         Err(BuildFault::OutOfMemory) => Err(Stop::OutOfMemory),

@@ -1,24 +1,21 @@
 -- A command's report, of what was judged or checked.
-use Rattle.std.proofs.Common.{◌≡◌, ◌⊎◌, ℕ, List, Option, Some, Result, Ok, Err, IfOk, IsErrOf, inl, inr, refl, sym, ◌∙◌, ap, subst, arith}
+use Rattle.std.proofs.Common.{◌≡◌, ◌<◌, ◌⊎◌, ℕ, List, Option, Some, Result, Ok, Err, IfOk, IsErrOf, inl, inr, refl, sym, ◌∙◌, ap, subst, arith}
 use Rattle.std.specs.Io.KnownBytes.{IsAtEnd}
-use Rattle.base_types.specs.declared.placed.Outcome.{Outcome}
-use Rattle.context_intake.specs.Taking.{ReadsSetupAndLog}
+use Rattle.context_intake.specs.Taking.{IsReadBefore, ReadsSetupAndLog}
 use Rattle.context_intake.specs.declared.refusal.Refusal.{Refusal}
-use Rattle.context_intake.specs.declared.refusal.Refusal.TheVariants.{BrokenSetup, MalformedLog, PastLimit}
 use Rattle.context_intake.specs.declared.stop.Stop.{Stop}
 use Rattle.context_intake.specs.declared.stop.Stop.TheVariants.{OutOfMemory, ReadFault}
-use Rattle.context_intake.proofs.ReadingFacts.{log_as, setup_as}
+use Rattle.context_intake.proofs.ReadingFacts.{taken_upto}
 use Rattle.history_query.specs.declared.question.Question.{Question}
-use Rattle.serial_machine.specs.declared.checked.Checked.{Checked}
 use Rattle.log_verdict.specs.Answering.{IsHistory}
 use Rattle.command_words.specs.Command.{Ask, Judge, Make, Strict, Tells, Verify}
-use Rattle.log_verdict.specs.Answers.{Answer, history_answer, judged_answer, refusal_answer, report_answer, strictly_answer, verified_answer}
+use Rattle.log_verdict.specs.Answers.{Answer, history_answer, judged_answer, refusal_answer, report_answer, status_number, strictly_answer, verified_answer}
+use Rattle.log_verdict.specs.Endings.{IsBrokenStatus, IsVerdictStatus}
 use Rattle.log_verdict.specs.Judging.{IsJudged}
 use Rattle.kubepast.specs.Program.{IsAnswerTo}
-use Rattle.kubepast.specs.Reported.{PrintsPlacement, IsReported, HasVerdictStatus}
-use Rattle.log_verdict.specs.Strictly as strict
+use Rattle.kubepast.specs.Reported.{HasBrokenStatus, HasVerdictStatus, IsReported, PrintsPlacement}
 use Rattle.log_verdict.specs.Strictly.{IsStrictlyJudged}
-use Rattle.log_verdict.specs.Taking.{ReadsSetupLogAndPlacement}
+use Rattle.log_verdict.specs.Taking.{IsReadToAnswer, IsReadToJudge, IsReadToSettle, IsReadToVerify, ReadsSetupLogAndPlacement}
 use Rattle.log_verdict.specs.Verifying.{IsVerified, most_placement}
 use Rattle.log_verdict.specs.declared.asking.Answered.{Answered}
 use Rattle.log_verdict.specs.declared.asking.Answered.TheVariants as answered
@@ -29,6 +26,7 @@ use Rattle.log_verdict.specs.declared.strictly.StrictlyJudged.{StrictlyJudged}
 use Rattle.log_verdict.specs.declared.strictly.StrictlyJudged.TheVariants.{Plain, Settled}
 use Rattle.log_verdict.specs.declared.verified.Verified.{Verified}
 use Rattle.log_verdict.specs.declared.verified.Verified.TheVariants as verified
+use Rattle.log_verdict.proofs.RefusedFacts.{refused_apart, refused_read}
 use Rattle.log_verdict.proofs.VerifyingFacts.{whole_from}
 
 -- what is found is passed on as its answer, or memory wants
@@ -72,45 +70,63 @@ of_report answer_of (Ok found) (Ok report) P Q passed holds gives = gives found 
 of_report answer_of (Ok found) (Err stop) P Q passed holds gives = tt
 of_report answer_of (Err stop) result P Q passed holds gives = subst (λ r. IfOk r Q) (sym passed) tt
 
--- a refusal has another status than a verdict
-refused_apart : (refusal : Refusal) → ((refusal_answer refusal).status ≡ 0) ⊎ ((refusal_answer refusal).status ≡ 1) → ⊥
-refused_apart (BrokenSetup rule) (inl is) = omega (arith, is)
-refused_apart (BrokenSetup rule) (inr is) = omega (arith, is)
-refused_apart (MalformedLog line code) (inl is) = omega (arith, is)
-refused_apart (MalformedLog line code) (inr is) = omega (arith, is)
-refused_apart (PastLimit limit) (inl is) = omega (arith, is)
-refused_apart (PastLimit limit) (inr is) = omega (arith, is)
-
+-- a refusal has another status than a verdict, and where a rule is broken the setup was read to its end
 no_verdict : (refusal : Refusal) (report : Report) → report_answer report ≡ refusal_answer refusal → HasVerdictStatus report → ⊥
-no_verdict refusal report told verdict = refused_apart refusal (subst (λ (a : Answer). (a.status ≡ 0) ⊎ (a.status ≡ 1)) told verdict)
+no_verdict refusal report told verdict = refused_apart refusal (subst (λ (a : Answer). IsVerdictStatus a.status) told verdict)
 
--- each verdict's report is of an end
-judged_end : (Q : Type 0) (judged : Judged) (report : Report) → report_answer report ≡ judged_answer judged → ((outcome : Outcome) → judged ≡ Verdict outcome → Q) → HasVerdictStatus report → Q
-judged_end Q (Refused refusal) report told ends verdict = absurd (no_verdict refusal report told verdict)
-judged_end Q (Verdict outcome) report told ends verdict = ends outcome refl
+broken_setup : (refusal : Refusal) (report : Report) (setup log : Option (List ℕ)) → report_answer report ≡ refusal_answer refusal → IsReadBefore refusal setup log → HasBrokenStatus report → IsAtEnd setup
+broken_setup refusal report setup log told read broken = refused_read refusal setup log read (subst (λ (a : Answer). IsBrokenStatus a.status) told broken)
 
-strictly_end : (Q : Type 0) (found : StrictlyJudged) (report : Report) → report_answer report ≡ strictly_answer found → (strict.IsVerdict found → Q) → HasVerdictStatus report → Q
-strictly_end Q (Plain (Refused refusal)) report told ends verdict = absurd (no_verdict refusal report told verdict)
-strictly_end Q (Plain (Verdict outcome)) report told ends verdict = ends tt
-strictly_end Q (Settled outcome answer) report told ends verdict = ends tt
+-- a placement that is too long is no verdict
+another_status : (status : ℕ) → 1 < status → IsVerdictStatus status → ⊥
+another_status status more (inl is) = omega (arith, more, is)
+another_status status more (inr is) = omega (arith, more, is)
 
-verified_end : (Q : Type 0) (found : Verified) (report : Report) → report_answer report ≡ verified_answer found → ((checked : Checked) → found ≡ verified.Judged checked → Q) → HasVerdictStatus report → Q
-verified_end Q (verified.Refused refusal) report told ends verdict = absurd (no_verdict refusal report told verdict)
-verified_end Q verified.TooLong report told ends verdict = absurd (other 7 (subst (λ (a : Answer). (a.status ≡ 0) ⊎ (a.status ≡ 1)) told verdict) refl)
-  where
-    other : (status : ℕ) → (status ≡ 0) ⊎ (status ≡ 1) → status ≡ 7 → ⊥
-    other status (inl is) no_status = omega (arith, is, no_status)
-    other status (inr is) no_status = omega (arith, is, no_status)
-verified_end Q (verified.Misspelt line) report told ends verdict = absurd (other 4 (subst (λ (a : Answer). (a.status ≡ 0) ⊎ (a.status ≡ 1)) told verdict) refl)
-  where
-    other : (status : ℕ) → (status ≡ 0) ⊎ (status ≡ 1) → status ≡ 4 → ⊥
-    other status (inl is) no_status = omega (arith, is, no_status)
-    other status (inr is) no_status = omega (arith, is, no_status)
-verified_end Q (verified.Judged checked) report told ends verdict = ends checked refl
+-- what was read to its end before a report
+module _ (setup log : Option (List ℕ)) where
+  judged_whole : (judged : Judged) (report : Report) → report_answer report ≡ judged_answer judged → IsReadToJudge judged setup log → HasVerdictStatus report → IsAtEnd setup × IsAtEnd log
+  judged_whole (Refused refusal) report told read verdict = absurd (no_verdict refusal report told verdict)
+  judged_whole (Verdict outcome) report told read verdict = read
 
-history_end : (Q : Type 0) (found : Answered) (report : Report) → report_answer report ≡ history_answer found → ((text : List ℕ) → found ≡ answered.History text → Q) → HasVerdictStatus report → Q
-history_end Q (answered.Refused refusal) report told ends verdict = absurd (no_verdict refusal report told verdict)
-history_end Q (answered.History text) report told ends verdict = ends text refl
+  judged_setup : (judged : Judged) (report : Report) → report_answer report ≡ judged_answer judged → IsReadToJudge judged setup log → HasBrokenStatus report → IsAtEnd setup
+  judged_setup (Refused refusal) report told read broken = broken_setup refusal report setup log told read broken
+  judged_setup (Verdict outcome) report told read broken = read.0
+
+  strictly_whole : (found : StrictlyJudged) (report : Report) → report_answer report ≡ strictly_answer found → IsReadToSettle found setup log → HasVerdictStatus report → IsAtEnd setup × IsAtEnd log
+  strictly_whole (Plain judged) report told read verdict = judged_whole judged report told read verdict
+  strictly_whole (Settled outcome answer) report told read verdict = read
+
+  strictly_setup : (found : StrictlyJudged) (report : Report) → report_answer report ≡ strictly_answer found → IsReadToSettle found setup log → HasBrokenStatus report → IsAtEnd setup
+  strictly_setup (Plain judged) report told read broken = judged_setup judged report told read broken
+  strictly_setup (Settled outcome answer) report told read broken = read.0
+
+  history_whole : (found : Answered) (report : Report) → report_answer report ≡ history_answer found → IsReadToAnswer found setup log → HasVerdictStatus report → IsAtEnd setup × IsAtEnd log
+  history_whole (answered.Refused refusal) report told read verdict = absurd (no_verdict refusal report told verdict)
+  history_whole (answered.History text) report told read verdict = read
+
+  history_setup : (found : Answered) (report : Report) → report_answer report ≡ history_answer found → IsReadToAnswer found setup log → HasBrokenStatus report → IsAtEnd setup
+  history_setup (answered.Refused refusal) report told read broken = broken_setup refusal report setup log told read broken
+  history_setup (answered.History text) report told read broken = read.0
+
+  verified_whole : (old now : Option (List ℕ)) (found : Verified) (report : Report) → report_answer report ≡ verified_answer found → IsReadToVerify found setup log old now → HasVerdictStatus report
+      → IsAtEnd setup × IsAtEnd log × IsAtEnd now
+  verified_whole old now (verified.Refused refusal) report told read verdict = absurd (no_verdict refusal report told verdict)
+  verified_whole old now verified.TooLong report told read verdict = absurd (another_status 7 (omega arith) (subst (λ (a : Answer). IsVerdictStatus a.status) told verdict))
+  verified_whole old now (verified.Misspelt line) report told read verdict = read
+  verified_whole old now (verified.Judged checked) report told read verdict = read
+
+  verified_setup : (old now : Option (List ℕ)) (found : Verified) (report : Report) → report_answer report ≡ verified_answer found → IsReadToVerify found setup log old now → HasBrokenStatus report → IsAtEnd setup
+  verified_setup old now (verified.Refused refusal) report told read broken = broken_setup refusal report setup log told read.0 broken
+  verified_setup old now verified.TooLong report told read broken = read.0
+  verified_setup old now (verified.Misspelt line) report told read broken = read.0
+  verified_setup old now (verified.Judged checked) report told read broken = read.0
+
+  verified_text : (old now : Option (List ℕ)) (found : Verified) (report : Report) → report_answer report ≡ verified_answer found → IsReadToVerify found setup log old now → status_number report.status ≡ 4
+      → (now ≡ old) ⊎ IsAtEnd now
+  verified_text old now (verified.Refused refusal) report told read is = inl read.1
+  verified_text old now verified.TooLong report told read is = absurd (let seven = ap (λ (a : Answer). a.status) told in omega (arith, seven, is))
+  verified_text old now (verified.Misspelt line) report told read is = inr read.2
+  verified_text old now (verified.Judged checked) report told read is = inr read.2
 
 -- of another command nothing is said here
 unprinted : (result : Result Report Stop) → IfOk result (λ report. Unit {0})
@@ -120,7 +136,7 @@ unprinted (Err stop) = tt
 module _ (old now : List ℕ → Option (List ℕ)) (untouched : Type 0) (before after : ℕ) (setup log : List ℕ) (result : Result Report Stop) where
   pub judge_reported : (inner : Result Judged Stop) → IsPassed judged_answer inner result
       → IfOk inner (λ judged. (s l : List ℕ) → old setup ≡ Some s → old log ≡ Some l → IsJudged s l judged)
-      → IfOk inner (λ judged. (outcome : Outcome) → judged ≡ Verdict outcome → IsAtEnd (now setup) × IsAtEnd (now log))
+      → IfOk inner (λ judged. IsReadToJudge judged (now setup) (now log))
       → ReadsSetupAndLog setup log old now before after (IsErrOf inner ReadFault) (IsErrOf inner ReadFault) → IfOk result (PrintsPlacement (Judge setup log))
       → IsReported (Judge setup log) old now untouched before after result
   judge_reported inner passed is ends reads printed = record {
@@ -129,10 +145,9 @@ module _ (old now : List ℕ → Option (List ℕ)) (untouched : Type 0) (before
     fault = λ failed. reads.fault (failed_read judged_answer inner result passed failed);
     taken = record {
       whole = of_report judged_answer inner result _ (λ report. HasVerdictStatus report → IsAtEnd (now setup) × IsAtEnd (now log)) passed ends
-          (λ judged report told ended. judged_end (IsAtEnd (now setup) × IsAtEnd (now log)) judged report told ended);
-      setup_taken = setup_as (old setup) (now setup) (now setup) (IsErrOf inner ReadFault) (IsErrOf result ReadFault) refl (failed_read judged_answer inner result passed) reads.taken.setup_taken;
-      log_taken = log_as (old log) (old log) (now log) (IsErrOf inner ReadFault) (IsErrOf result ReadFault) refl (failed_read judged_answer inner result passed) reads.taken.log_taken;
-      log_left = reads.taken.log_left;
+          (judged_whole (now setup) (now log));
+      setup_whole = of_report judged_answer inner result _ (λ report. HasBrokenStatus report → IsAtEnd (now setup)) passed ends (judged_setup (now setup) (now log));
+      taken = taken_upto setup log old now now (IsErrOf inner ReadFault) (IsErrOf result ReadFault) refl refl (failed_read judged_answer inner result passed) reads.taken;
     };
     others = λ name unread. reads.others name (λ e. unread (inl e)) (λ e. unread (inr e));
     printed = printed;
@@ -140,7 +155,7 @@ module _ (old now : List ℕ → Option (List ℕ)) (untouched : Type 0) (before
 
   pub strictly_reported : (inner : Result StrictlyJudged Stop) → IsPassed strictly_answer inner result
       → IfOk inner (λ found. (s l : List ℕ) → old setup ≡ Some s → old log ≡ Some l → IsStrictlyJudged s l found)
-      → IfOk inner (λ found. strict.IsVerdict found → IsAtEnd (now setup) × IsAtEnd (now log))
+      → IfOk inner (λ found. IsReadToSettle found (now setup) (now log))
       → ReadsSetupAndLog setup log old now before after (IsErrOf inner ReadFault) (IsErrOf inner ReadFault)
       → IsReported (Strict setup log) old now untouched before after result
   strictly_reported inner passed is ends reads = record {
@@ -149,10 +164,9 @@ module _ (old now : List ℕ → Option (List ℕ)) (untouched : Type 0) (before
     fault = λ failed. reads.fault (failed_read strictly_answer inner result passed failed);
     taken = record {
       whole = of_report strictly_answer inner result _ (λ report. HasVerdictStatus report → IsAtEnd (now setup) × IsAtEnd (now log)) passed ends
-          (λ found report told ended. strictly_end (IsAtEnd (now setup) × IsAtEnd (now log)) found report told ended);
-      setup_taken = setup_as (old setup) (now setup) (now setup) (IsErrOf inner ReadFault) (IsErrOf result ReadFault) refl (failed_read strictly_answer inner result passed) reads.taken.setup_taken;
-      log_taken = log_as (old log) (old log) (now log) (IsErrOf inner ReadFault) (IsErrOf result ReadFault) refl (failed_read strictly_answer inner result passed) reads.taken.log_taken;
-      log_left = reads.taken.log_left;
+          (strictly_whole (now setup) (now log));
+      setup_whole = of_report strictly_answer inner result _ (λ report. HasBrokenStatus report → IsAtEnd (now setup)) passed ends (strictly_setup (now setup) (now log));
+      taken = taken_upto setup log old now now (IsErrOf inner ReadFault) (IsErrOf result ReadFault) refl refl (failed_read strictly_answer inner result passed) reads.taken;
     };
     others = λ name unread. reads.others name (λ e. unread (inl e)) (λ e. unread (inr e));
     printed = unprinted result;
@@ -160,7 +174,7 @@ module _ (old now : List ℕ → Option (List ℕ)) (untouched : Type 0) (before
 
   pub verify_reported : (placement : List ℕ) (inner : Result Verified Stop) → IsPassed verified_answer inner result
       → IfOk inner (λ found. (s l p : List ℕ) → old setup ≡ Some s → old log ≡ Some l → old placement ≡ Some p → IsVerified s l p found)
-      → IfOk inner (λ found. (checked : Checked) → found ≡ verified.Judged checked → IsAtEnd (now setup) × IsAtEnd (now log) × IsAtEnd (now placement))
+      → IfOk inner (λ found. IsReadToVerify found (now setup) (now log) (old placement) (now placement))
       → ReadsSetupLogAndPlacement setup log placement old now before after (IsErrOf inner ReadFault)
       → IsReported (Verify setup log placement) old now untouched before after result
   verify_reported placement inner passed is ends reads = record {
@@ -170,14 +184,15 @@ module _ (old now : List ℕ → Option (List ℕ)) (untouched : Type 0) (before
     taken = (
       record {
         whole = of_report verified_answer inner result _ (λ report. HasVerdictStatus report → IsAtEnd (now setup) × IsAtEnd (now log)) passed ends
-            (λ found report told ended. verified_end (IsAtEnd (now setup) × IsAtEnd (now log)) found report told (λ checked same. let all = ended checked same in (all.0, all.1)));
-        setup_taken = setup_as (old setup) (now setup) (now setup) (IsErrOf inner ReadFault) (IsErrOf result ReadFault) refl (failed_read verified_answer inner result passed) reads.taken.setup_taken;
-        log_taken = log_as (old log) (old log) (now log) (IsErrOf inner ReadFault) (IsErrOf result ReadFault) refl (failed_read verified_answer inner result passed) reads.taken.log_taken;
-        log_left = reads.taken.log_left;
+            (λ found report told read verdict. let all = verified_whole (now setup) (now log) (old placement) (now placement) found report told read verdict in (all.0, all.1));
+        setup_whole = of_report verified_answer inner result _ (λ report. HasBrokenStatus report → IsAtEnd (now setup)) passed ends (verified_setup (now setup) (now log) (old placement) (now placement));
+        taken = taken_upto setup log old now now (IsErrOf inner ReadFault) (IsErrOf result ReadFault) refl refl (failed_read verified_answer inner result passed) reads.taken;
       },
       record {
         whole = of_report verified_answer inner result _ (λ report. HasVerdictStatus report → IsAtEnd (now placement)) passed ends
-            (λ found report told ended. verified_end (IsAtEnd (now placement)) found report told (λ checked same. let all = ended checked same in all.2));
+            (λ found report told read verdict. let all = verified_whole (now setup) (now log) (old placement) (now placement) found report told read verdict in all.2);
+        misspelt = of_report verified_answer inner result _ (λ report. status_number report.status ≡ 4 → (now placement ≡ old placement) ⊎ IsAtEnd (now placement)) passed ends
+            (verified_text (now setup) (now log) (old placement) (now placement));
         taken = whole_from most_placement (old placement) (old placement) (now placement) (IsErrOf inner ReadFault) (IsErrOf result ReadFault) refl (failed_read verified_answer inner result passed) reads.placement_taken;
         left = reads.placement_left;
         after = reads.placement_after;
@@ -189,7 +204,7 @@ module _ (old now : List ℕ → Option (List ℕ)) (untouched : Type 0) (before
 
   pub ask_reported : (question : Question) (inner : Result Answered Stop) → IsPassed history_answer inner result
       → IfOk inner (λ found. (s l : List ℕ) → old setup ≡ Some s → old log ≡ Some l → IsHistory s l question found)
-      → IfOk inner (λ found. (text : List ℕ) → found ≡ answered.History text → IsAtEnd (now setup) × IsAtEnd (now log))
+      → IfOk inner (λ found. IsReadToAnswer found (now setup) (now log))
       → ReadsSetupAndLog setup log old now before after (IsErrOf inner ReadFault) (IsErrOf inner ReadFault)
       → IsReported (Ask setup log question) old now untouched before after result
   ask_reported question inner passed is ends reads = record {
@@ -198,10 +213,9 @@ module _ (old now : List ℕ → Option (List ℕ)) (untouched : Type 0) (before
     fault = λ failed. reads.fault (failed_read history_answer inner result passed failed);
     taken = record {
       whole = of_report history_answer inner result _ (λ report. HasVerdictStatus report → IsAtEnd (now setup) × IsAtEnd (now log)) passed ends
-          (λ found report told ended. history_end (IsAtEnd (now setup) × IsAtEnd (now log)) found report told ended);
-      setup_taken = setup_as (old setup) (now setup) (now setup) (IsErrOf inner ReadFault) (IsErrOf result ReadFault) refl (failed_read history_answer inner result passed) reads.taken.setup_taken;
-      log_taken = log_as (old log) (old log) (now log) (IsErrOf inner ReadFault) (IsErrOf result ReadFault) refl (failed_read history_answer inner result passed) reads.taken.log_taken;
-      log_left = reads.taken.log_left;
+          (history_whole (now setup) (now log));
+      setup_whole = of_report history_answer inner result _ (λ report. HasBrokenStatus report → IsAtEnd (now setup)) passed ends (history_setup (now setup) (now log));
+      taken = taken_upto setup log old now now (IsErrOf inner ReadFault) (IsErrOf result ReadFault) refl refl (failed_read history_answer inner result passed) reads.taken;
     };
     others = λ name unread. reads.others name (λ e. unread (inl e)) (λ e. unread (inr e));
     printed = unprinted result;

@@ -1,21 +1,18 @@
 -- Answers that are passed on.
-use Rattle.std.proofs.Common.{◌≡◌, ℕ, List, Option, Some, None, Result, Ok, Err, IfOk, IsErrOf, inl, inr, refl, sym, ◌∙◌, subst, arith}
+use Rattle.std.proofs.Common.{◌≡◌, ◌<◌, ◌⊎◌, ℕ, List, Option, Some, None, Result, Ok, Err, IfOk, IsErrOf, inl, inr, refl, sym, ◌∙◌, subst, arith}
 use Rattle.std.specs.Io.KnownBytes.{Appends, IsAtEnd, Keeps}
 use Rattle.context_intake.specs.Contexts.{IsRefused}
 use Rattle.context_intake.specs.declared.refusal.Refusal.{Refusal}
-use Rattle.context_intake.proofs.ReadingFacts.{log_as, log_untouched, setup_as, whole_untouched}
+use Rattle.context_intake.proofs.ReadingFacts.{taken_none, taken_upto, whole_untouched}
 use Rattle.edge_io.specs.Faults.{Rose}
 use Rattle.edge_io.specs.Whole.{TakesWhole}
-use Rattle.log_intake.specs.Setup.{TakesSetup, most_setup}
-use Rattle.log_intake.specs.Taking.{TakesLog}
 use Rattle.command_words.specs.Command.{Ask, Asked, AsksOf, IsAsked, IsOfNames, Judge, Make, MayWantMemory, Reads, Spells, Strict, Tells, TellsWords, Verify}
-use Rattle.log_verdict.specs.Endings.{IsAnswered}
+use Rattle.log_verdict.specs.Endings.{IsAnswered, IsBrokenStatus, IsVerdictStatus, ReadsNames}
 use Rattle.edge_io.specs.Endings.{Ends}
 use Rattle.kubepast.specs.Program.{Concludes, IsAnswer, IsAnswerTo, IsOfTable, usage_answer}
 use Rattle.log_verdict.specs.Answers.{Answer, IsPlacementText, answer, report_answer, status_number}
-use Rattle.context_intake.specs.Refusals.{IsSetupRefused}
-use Rattle.kubepast.specs.Reported.{HasVerdictStatus, IsReported, PrintsPlacement, Takes, TakesNames, TakesPlacement}
-use Rattle.kubepast.specs.Running.{IsVerdictStatus, ReadsDesk, ReadsNames, ReadsPlacement, StatusTells}
+use Rattle.kubepast.specs.Reported.{HasBrokenStatus, HasVerdictStatus, IsReported, PrintsPlacement, Takes, TakesNames, TakesPlacement}
+use Rattle.kubepast.specs.Running.{ReadsDesk, ReadsPlacement, StatusTells}
 use Rattle.log_verdict.specs.Verifying.{IsReadLast, most_placement}
 use Rattle.command_words.proofs.AskedFacts.{one_command}
 use Rattle.log_verdict.proofs.VerifyingFacts.{whole_from}
@@ -66,6 +63,15 @@ of_table : (found : Result Report Stop) → IfOk found (λ report. IsOfTable (re
 of_table (Ok report) = report_of_table report.status report.text
 of_table (Err stop) = tt
 
+-- a verdict, and that a rule is broken, are told by other statuses than faults and want of memory
+above_verdict : (status : ℕ) → 1 < status → IsVerdictStatus status → ⊥
+above_verdict status more (inl is) = omega (arith, more, is)
+above_verdict status more (inr is) = omega (arith, more, is)
+
+above_broken : (status : ℕ) → 4 < status → IsBrokenStatus status → ⊥
+above_broken status more (inl is) = omega (arith, more, is)
+above_broken status more (inr is) = omega (arith, more, is)
+
 pub keeps_same : (known : Option (List ℕ)) → Keeps known known
 keeps_same None = tt
 keeps_same (Some bytes) = refl
@@ -104,18 +110,26 @@ module _ (faults_before faults_now : ℕ) (before now : Option (List ℕ)) (resu
   concluded_eight (Err ReadFault) (inr (part, rose, rest)) is = absurd (omega (arith, part, is))
   concluded_eight (Err OutOfMemory) ends is = ends.1
 
+  concluded_status : (found : Result Report Stop) (IsOf : ℕ → Type 0) (Told : Type 0) → (IsOf 5 → ⊥) → (IsOf 6 → ⊥) → (IsOf 8 → ⊥) → IfOk found (λ report. IsOf (status_number report.status) → Told)
+      → Concludes found faults_before faults_now before now result → IsOf result → Told
+  concluded_status (Ok report) IsOf Told not_five not_six not_eight told (inl (whole, rest)) is = told (subst IsOf whole is)
+  concluded_status (Ok report) IsOf Told not_five not_six not_eight told (inr (part, rose, rest)) is = absurd (not_six (subst IsOf part is))
+  concluded_status (Err ReadFault) IsOf Told not_five not_six not_eight told (inl (whole, rest)) is = absurd (not_five (subst IsOf whole is))
+  concluded_status (Err ReadFault) IsOf Told not_five not_six not_eight told (inr (part, rose, rest)) is = absurd (not_six (subst IsOf part is))
+  concluded_status (Err OutOfMemory) IsOf Told not_five not_six not_eight told ends is = absurd (not_eight (subst IsOf ends.0 is))
+
   concluded_verdict : (found : Result Report Stop) (Told : Type 0) → IfOk found (λ report. HasVerdictStatus report → Told)
       → Concludes found faults_before faults_now before now result → IsVerdictStatus result → Told
-  concluded_verdict (Ok report) Told told (inl (whole, rest)) (inl is) = told (inl (sym whole ∙ is))
-  concluded_verdict (Ok report) Told told (inl (whole, rest)) (inr is) = told (inr (sym whole ∙ is))
-  concluded_verdict (Ok report) Told told (inr (part, rose, rest)) (inl is) = absurd (omega (arith, part, is))
-  concluded_verdict (Ok report) Told told (inr (part, rose, rest)) (inr is) = absurd (omega (arith, part, is))
-  concluded_verdict (Err ReadFault) Told told (inl (whole, rest)) (inl is) = absurd (omega (arith, whole, is))
-  concluded_verdict (Err ReadFault) Told told (inl (whole, rest)) (inr is) = absurd (omega (arith, whole, is))
-  concluded_verdict (Err ReadFault) Told told (inr (part, rose, rest)) (inl is) = absurd (omega (arith, part, is))
-  concluded_verdict (Err ReadFault) Told told (inr (part, rose, rest)) (inr is) = absurd (omega (arith, part, is))
-  concluded_verdict (Err OutOfMemory) Told told ends (inl is) = absurd (let memory = ends.0 in omega (arith, memory, is))
-  concluded_verdict (Err OutOfMemory) Told told ends (inr is) = absurd (let memory = ends.0 in omega (arith, memory, is))
+  concluded_verdict found Told told ends is = concluded_status found IsVerdictStatus Told (above_verdict 5 (omega arith)) (above_verdict 6 (omega arith)) (above_verdict 8 (omega arith)) told ends is
+
+  concluded_broken : (found : Result Report Stop) (Told : Type 0) → IfOk found (λ report. HasBrokenStatus report → Told)
+      → Concludes found faults_before faults_now before now result → IsBrokenStatus result → Told
+  concluded_broken found Told told ends is = concluded_status found IsBrokenStatus Told (above_broken 5 (omega arith)) (above_broken 6 (omega arith)) (above_broken 8 (omega arith)) told ends is
+
+  concluded_four : (found : Result Report Stop) (Told : Type 0) → IfOk found (λ report. status_number report.status ≡ 4 → Told)
+      → Concludes found faults_before faults_now before now result → result ≡ 4 → Told
+  concluded_four found Told told ends is =
+      concluded_status found (λ status. status ≡ 4) Told (λ five. omega (arith, five)) (λ six. omega (arith, six)) (λ eight. omega (arith, eight)) told ends is
 
   pub concluded_printed : (found : Result Report Stop) → IfOk found (λ report. status_number report.status ≡ 0 → IsPlacementText report.text)
       → Concludes found faults_before faults_now before now result → result ≡ 0 → (text : List ℕ) × IsPlacementText text × Appends before now text
@@ -186,9 +200,8 @@ module _ {words : List (List ℕ)} {asked : Asked} {old now : List ℕ → Optio
       let takes : TakesNames setup log old now found = takes_names setup log asks in
       record {
         whole = concluded_verdict sink_before sink_now before written result found (IsAtEnd (now setup) × IsAtEnd (now log)) takes.whole r.concluded;
-        setup_taken = setup_as (old setup) (now setup) (now setup) (IsErrOf found ReadFault) (result ≡ 5) refl failed takes.setup_taken;
-        log_taken = log_as (old log) (old log) (now log) (IsErrOf found ReadFault) (result ≡ 5) refl failed takes.log_taken;
-        log_left = takes.log_left;
+        setup_whole = concluded_broken sink_before sink_now before written result found (IsAtEnd (now setup)) takes.setup_whole r.concluded;
+        taken = taken_upto setup log old now now (IsErrOf found ReadFault) (result ≡ 5) refl refl failed takes.taken;
       }
 
   placement_read : (setup log placement : List ℕ) → IsAsked words (Some (Verify setup log placement)) → ReadsPlacement old now result setup log placement
@@ -196,6 +209,7 @@ module _ {words : List (List ℕ)} {asked : Asked} {old now : List ℕ → Optio
       let takes : TakesPlacement setup log placement old now found = takes_placement setup log placement asks in
       record {
         whole = concluded_verdict sink_before sink_now before written result found (IsAtEnd (now placement)) takes.whole r.concluded;
+        misspelt = concluded_four sink_before sink_now before written result found ((now placement ≡ old placement) ⊎ IsAtEnd (now placement)) takes.misspelt r.concluded;
         taken = whole_from most_placement (old placement) (old placement) (now placement) (IsErrOf found ReadFault) (result ≡ 5) refl failed takes.taken;
         left = takes.left;
         after = takes.after;
@@ -253,10 +267,6 @@ module _ {words : List (List ℕ)} {left : List ℕ → Option (List ℕ)} {unto
   }
 
 -- a call that lacked the memory to read its words
-eight_no_verdict : IsVerdictStatus 8 → ⊥
-eight_no_verdict (inl is) = omega (arith, is)
-eight_no_verdict (inr is) = omega (arith, is)
-
 module _ {words : List (List ℕ)} {desk_now sink_now : ℕ} {written : Option (List ℕ)} (wants : MayWantMemory words) where
   pub unread_status : StatusTells words desk_now desk_now sink_now sink_now written written 8
   unread_status = record {
@@ -270,15 +280,15 @@ module _ {words : List (List ℕ)} {desk_now sink_now : ℕ} {written : Option (
 module _ {left : List ℕ → Option (List ℕ)} where
   names_unread : (setup log : List ℕ) → ReadsNames left left 8 setup log
   names_unread setup log = record {
-    whole = λ is. absurd (eight_no_verdict is);
-    setup_taken = whole_untouched most_setup (left setup) (left setup) _ refl;
-    log_taken = log_untouched (left log) (left log) _ refl;
-    log_left = λ of_setup refusal told refused. refl;
+    whole = λ is. absurd (above_verdict 8 (omega arith) is);
+    setup_whole = λ is. absurd (above_broken 8 (omega arith) is);
+    taken = taken_none setup log left _;
   }
 
   placement_unread : (setup log placement : List ℕ) → ReadsPlacement left left 8 setup log placement
   placement_unread setup log placement = record {
-    whole = λ is. absurd (eight_no_verdict is);
+    whole = λ is. absurd (above_verdict 8 (omega arith) is);
+    misspelt = λ is. inl refl;
     taken = whole_untouched most_placement (left placement) (left placement) _ refl;
     left = λ of_setup of_log refusal told_setup told_log refused. refl;
     after = inl refl;

@@ -2,17 +2,16 @@
 use Rattle.std.specs.Prelude.{◌≡◌, ◌⊎◌, ℕ, List, Option, Some, Result, IfOk, IsErrOf}
 use Rattle.std.specs.Io.KnownBytes.{IsAtEnd}
 use Rattle.context_intake.specs.Contexts.{IsRefused}
-use Rattle.context_intake.specs.Refusals.{IsSetupRefused}
+use Rattle.context_intake.specs.Taking.{TakesSetupAndLog}
 use Rattle.context_intake.specs.declared.refusal.Refusal.{Refusal}
 use Rattle.context_intake.specs.declared.stop.Stop.{Stop}
 use Rattle.context_intake.specs.declared.stop.Stop.TheVariants.{ReadFault}
 use Rattle.edge_io.specs.Faults.{Rose}
 use Rattle.edge_io.specs.Whole.{TakesWhole}
-use Rattle.log_intake.specs.Setup.{TakesSetup}
-use Rattle.log_intake.specs.Taking.{TakesLog}
 use Rattle.command_words.specs.Command.{Ask, Asked, Judge, Make, Reads, Spells, Strict, Tells, Verify}
 use Rattle.kubepast.specs.Program.{IsAnswerTo}
 use Rattle.log_verdict.specs.Answers.{IsPlacementText, report_answer, status_number}
+use Rattle.log_verdict.specs.Endings.{IsBrokenStatus, IsVerdictStatus}
 use Rattle.log_verdict.specs.Verifying.{IsReadLast, most_placement}
 use Rattle.log_verdict.specs.declared.report.Report.{Report}
 
@@ -22,18 +21,23 @@ IsSpelled asked = (words : List (List ℕ)) × Spells asked words
 
 -- the report tells that a log is explained or not, that a placement holds or not, or what a history says
 abbrev pub HasVerdictStatus : Report → Type 0
-HasVerdictStatus report = (status_number report.status ≡ 0) ⊎ (status_number report.status ≡ 1)
+HasVerdictStatus report = IsVerdictStatus (status_number report.status)
 
--- what was taken of a setup and a log: nothing of the log where the setup is refused
+-- the report tells that a rule is broken
+abbrev pub HasBrokenStatus : Report → Type 0
+HasBrokenStatus report = IsBrokenStatus (status_number report.status)
+
+-- what was taken of a setup and a log: all of the setup before a rule is said to be broken
 pub record TakesNames (setup log : List ℕ) (old now : List ℕ → Option (List ℕ)) (found : Result Report Stop) : Type 0 where
   pub whole : IfOk found (λ report. HasVerdictStatus report → IsAtEnd (now setup) × IsAtEnd (now log))
-  pub setup_taken : TakesSetup (old setup) (now setup) (IsErrOf found ReadFault)
-  pub log_taken : TakesLog (old log) (now log) (IsErrOf found ReadFault)
-  pub log_left : (of_setup : List ℕ) (refusal : Refusal) → old setup ≡ Some of_setup → IsSetupRefused of_setup refusal → now log ≡ old log
+  pub setup_whole : IfOk found (λ report. HasBrokenStatus report → IsAtEnd (now setup))
+  pub taken : TakesSetupAndLog setup log old now (IsErrOf found ReadFault)
 
--- what was taken of a placement: nothing where the setup or the log is refused, or isn't read to its end
+-- what was taken of a placement: nothing where the setup or the log is refused, or isn't read to its end; all before a
+-- line of it is said to be wrong
 pub record TakesPlacement (setup log placement : List ℕ) (old now : List ℕ → Option (List ℕ)) (found : Result Report Stop) : Type 0 where
   pub whole : IfOk found (λ report. HasVerdictStatus report → IsAtEnd (now placement))
+  pub misspelt : IfOk found (λ report. status_number report.status ≡ 4 → (now placement ≡ old placement) ⊎ IsAtEnd (now placement))
   pub taken : TakesWhole most_placement (old placement) (now placement) (IsErrOf found ReadFault)
   pub left : (of_setup of_log : List ℕ) (refusal : Refusal) → old setup ≡ Some of_setup → old log ≡ Some of_log → IsRefused of_setup of_log refusal → now placement ≡ old placement
   pub after : IsReadLast (now setup) (now log) (old placement) (now placement)

@@ -3,13 +3,11 @@ use Rattle.std.specs.Prelude.{◌≡◌, ◌⊎◌, ℕ, List, Option, Some, Non
 use Rattle.std.specs.Io.KnownBytes.{IsAtEnd, Keeps}
 use Rattle.command_words.specs.Command.{Asked, AsksOf, IsAsked, MayWantMemory, Reads, Verify}
 use Rattle.context_intake.specs.Contexts.{IsRefused}
-use Rattle.context_intake.specs.Refusals.{IsSetupRefused}
 use Rattle.context_intake.specs.declared.refusal.Refusal.{Refusal}
 use Rattle.edge_io.specs.Endings.{Ends}
 use Rattle.edge_io.specs.Faults.{Rose}
 use Rattle.edge_io.specs.Whole.{TakesWhole}
-use Rattle.log_intake.specs.Setup.{TakesSetup}
-use Rattle.log_intake.specs.Taking.{TakesLog}
+use Rattle.log_verdict.specs.Endings.{IsVerdictStatus, ReadsNames}
 use Rattle.log_verdict.specs.Verifying.{IsReadLast, most_placement}
 use Rattle.kubepast.specs.Program.{usage_answer}
 
@@ -22,20 +20,11 @@ pub record StatusTells (words : List (List ℕ)) (desk_before desk_now sink_befo
   pub write_fault : status ≡ 6 → Rose sink_before sink_now
   pub memory : status ≡ 8 → Keeps before now
 
--- a verdict, or what a history says, was told
-abbrev pub IsVerdictStatus : ℕ → Type 0
-IsVerdictStatus status = (status ≡ 0) ⊎ (status ≡ 1)
-
--- what was taken of a setup and a log: all before a verdict, and nothing of the log where the setup is refused
-pub record ReadsNames (old now : List ℕ → Option (List ℕ)) (status : ℕ) (setup log : List ℕ) : Type 0 where
-  pub whole : IsVerdictStatus status → IsAtEnd (now setup) × IsAtEnd (now log)
-  pub setup_taken : TakesSetup (old setup) (now setup) (status ≡ 5)
-  pub log_taken : TakesLog (old log) (now log) (status ≡ 5)
-  pub log_left : (of_setup : List ℕ) (refusal : Refusal) → old setup ≡ Some of_setup → IsSetupRefused of_setup refusal → now log ≡ old log
-
--- what was taken of a placement: all before a verdict, and nothing where the setup or the log is refused, or isn't read to its end
+-- what was taken of a placement: all before a verdict and before a line of it is said to be wrong (with 4, which also says
+-- that the log is refused), and nothing where the setup or the log is refused, or isn't read to its end
 pub record ReadsPlacement (old now : List ℕ → Option (List ℕ)) (status : ℕ) (setup log placement : List ℕ) : Type 0 where
   pub whole : IsVerdictStatus status → IsAtEnd (now placement)
+  pub misspelt : status ≡ 4 → (now placement ≡ old placement) ⊎ IsAtEnd (now placement)
   pub taken : TakesWhole most_placement (old placement) (now placement) (status ≡ 5)
   pub left : (of_setup of_log : List ℕ) (refusal : Refusal) → old setup ≡ Some of_setup → old log ≡ Some of_log → IsRefused of_setup of_log refusal → now placement ≡ old placement
   pub after : IsReadLast (now setup) (now log) (old placement) (now placement)

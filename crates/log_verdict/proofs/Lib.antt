@@ -9,4 +9,5 @@ mod StrictlyFacts
 mod AskingFacts
 pub mod VerifyingFacts
 mod ReportFacts
+pub mod RefusedFacts
 pub mod OnceFacts

@@ -1,10 +1,11 @@
 -- What a setup and a log come to where moments are asked for, of what they tell.
-use Rattle.std.proofs.Common.{◌≡◌, ℕ, List, refl, sym, subst}
+use Rattle.std.proofs.Common.{◌≡◌, ℕ, List, Option, sym, subst}
 use Rattle.context_intake.specs.Contexts.{IsToldBy}
+use Rattle.context_intake.specs.Taking.{IsReadFor}
 use Rattle.context_intake.specs.declared.told.Told.{Told}
 use Rattle.context_intake.specs.declared.told.Told.TheVariants as told
-use Rattle.version_store.specs.Known.{Known}
-use Rattle.log_verdict.specs.Strictly.{IsStrictlyFrom, IsStrictlyJudged, IsVerdict}
+use Rattle.log_verdict.specs.Strictly.{IsStrictlyFrom, IsStrictlyJudged}
+use Rattle.log_verdict.specs.Taking.{IsReadToSettle}
 use Rattle.log_verdict.specs.declared.judged.Judged.TheVariants.{Refused, Verdict}
 use Rattle.log_verdict.specs.declared.strictly.StrictlyJudged.{StrictlyJudged}
 use Rattle.log_verdict.specs.declared.strictly.StrictlyJudged.TheVariants.{Plain, Settled}
@@ -15,7 +16,9 @@ strictly_told setup log (told.Context known) (Plain (Refused refusal)) is from =
 strictly_told setup log (told.Context known) (Plain (Verdict outcome)) is from = ((known, is, from.0), from.1)
 strictly_told setup log (told.Context known) (Settled outcome answer) is from = (known, is, from)
 
--- a verdict comes of a context
-pub verdict_context : (found : Told) (judged : StrictlyJudged) → IsStrictlyFrom found judged → IsVerdict judged → (known : Known) × (found ≡ told.Context known)
-verdict_context (told.Refused refusal) judged from verdict = absurd (subst IsVerdict from verdict)
-verdict_context (told.Context known) judged from verdict = (known, refl)
+-- what they tell was read for what they come to
+pub strictly_read : (setup log : Option (List ℕ)) (found : Told) (judged : StrictlyJudged) → IsReadFor found setup log → IsStrictlyFrom found judged → IsReadToSettle judged setup log
+strictly_read setup log (told.Refused refusal) judged read from = subst (λ j. IsReadToSettle j setup log) (sym from) read
+strictly_read setup log (told.Context known) (Plain (Refused refusal)) read from = absurd from
+strictly_read setup log (told.Context known) (Plain (Verdict outcome)) read from = read
+strictly_read setup log (told.Context known) (Settled outcome answer) read from = read

@@ -1,9 +1,10 @@
 -- What a placement comes to, of what a setup and a log tell.
-use Rattle.std.proofs.Common.{◌≡◌, ◌≢◌, ℕ, inl, inr, List, Option, Result, Ok, refl, sym, subst}
+use Rattle.std.proofs.Common.{◌≡◌, ◌≢◌, ℕ, inl, inr, List, Option, Result, Ok, IfOk, refl, sym, subst}
+use Rattle.std.proofs.lemmas.Result.{IfOk-weaker}
 use Rattle.std.specs.Io.KnownBytes.{IsAtEnd}
 use Rattle.edge_io.specs.Whole.{TakesWhole}
 use Rattle.context_intake.specs.Contexts.{IsOfContext, IsRefused, IsToldBy, RefusesNothing}
-use Rattle.context_intake.specs.Taking.{ReadsSetupAndLog}
+use Rattle.context_intake.specs.Taking.{IsReadFor, ReadsSetupAndLog}
 use Rattle.context_intake.specs.declared.stop.Stop.{Stop}
 use Rattle.context_intake.specs.declared.refusal.Refusal.{Refusal}
 use Rattle.context_intake.specs.declared.told.Told.{Told}
@@ -11,8 +12,8 @@ use Rattle.context_intake.specs.declared.told.Told.TheVariants as told
 use Rattle.context_intake.proofs.OneContextFacts.{one_way}
 use Rattle.context_intake.proofs.ReadingFacts.{whole_untouched}
 use Rattle.version_store.specs.Known.{Known}
-use Rattle.log_verdict.specs.Taking.{ReadsSetupLogAndPlacement}
-use Rattle.log_verdict.specs.Verifying.{IsReadLast, IsVerified, IsVerifiedFrom, most_placement}
+use Rattle.log_verdict.specs.Taking.{IsReadToVerify, IsTextRead, ReadsSetupLogAndPlacement}
+use Rattle.log_verdict.specs.Verifying.{IsOfText, IsReadLast, IsVerified, IsVerifiedFrom, most_placement}
 use Rattle.log_verdict.specs.declared.verified.Verified.{Verified}
 use Rattle.log_verdict.specs.declared.verified.Verified.TheVariants.{Refused, TooLong, Misspelt, Judged}
 
@@ -28,9 +29,31 @@ pub refused_told : (setup log : List ℕ) (refusal : Refusal) (found : Told) →
 refused_told setup log refusal (told.Refused other) refused is context = context
 refused_told setup log refusal (told.Context known) refused is context = one_way setup log refusal known refused is
 
-pub context_told : (found : Told) → IsOfContext found → (known : Known) × (found ≡ told.Context known)
-context_told (told.Refused refusal) context = absurd context
-context_told (told.Context known) context = (known, refl)
+-- a text that was read to its end
+pub text_read : (verified : Verified) (placement : Option (List ℕ)) → IsOfText verified → IsAtEnd placement → IsTextRead verified placement
+text_read (Refused refusal) placement of_text ended = of_text
+text_read TooLong placement of_text ended = tt
+text_read (Misspelt line) placement of_text ended = ended
+text_read (Judged checked) placement of_text ended = ended
+
+-- what was read to its end before a placement is checked: setup and log, and then the placement
+behind_context : (verified : Verified) (known : Known) (setup log old now : Option (List ℕ)) → IsTextRead verified now → IsReadFor (told.Context known) setup log → IsReadToVerify verified setup log old now
+behind_context (Refused refusal) known setup log old now text read = absurd text
+behind_context TooLong known setup log old now text read = read
+behind_context (Misspelt line) known setup log old now text read = (read.0, read.1, text)
+behind_context (Judged checked) known setup log old now text read = (read.0, read.1, text)
+
+pub placement_read : (result : Result Verified Stop) (known : Known) (old now : Option (List ℕ)) → IfOk result (λ verified. IsTextRead verified now)
+    → IfOk result (λ verified. (setup log : Option (List ℕ)) → IsReadFor (told.Context known) setup log → IsReadToVerify verified setup log old now)
+placement_read result known old now text =
+    IfOk-weaker result (λ verified. IsTextRead verified now) (λ verified. (setup log : Option (List ℕ)) → IsReadFor (told.Context known) setup log → IsReadToVerify verified setup log old now)
+    (λ verified is setup log. behind_context verified known setup log old now is) text
+
+-- the names as they were when the call ended
+pub read_to_verify : (verified : Verified) (setup log old now of_setup of_log of_placement : Option (List ℕ)) → of_setup ≡ setup → of_log ≡ log → old ≡ of_placement → IsReadToVerify verified setup log old now → IsReadToVerify verified of_setup of_log of_placement now
+read_to_verify verified setup log old now of_setup of_log of_placement same_setup same_log same_placement read =
+    subst (λ s. IsReadToVerify verified s of_log of_placement now) (sym same_setup) (subst (λ l. IsReadToVerify verified setup l of_placement now) (sym same_log)
+    (subst (λ p. IsReadToVerify verified setup log p now) same_placement read))
 
 -- a placement is read behind a context alone
 pub read_last : (found : Told) (setup log old now : Option (List ℕ)) → ((IsOfContext found → ⊥) → now ≡ old) → ((known : Known) → found ≡ told.Context known → IsAtEnd setup × IsAtEnd log) → IsReadLast setup log old now

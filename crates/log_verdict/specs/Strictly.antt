@@ -44,9 +44,3 @@ IsSettledFrom known (Settled outcome answer) = AreSettled known outcome answer
 abbrev pub IsStrictlyFrom : Told → StrictlyJudged → Type 0
 IsStrictlyFrom (told.Refused refusal) found = found ≡ Plain (judged.Refused refusal)
 IsStrictlyFrom (told.Context known) found = IsSettledFrom known found
-
--- the log was judged
-abbrev pub IsVerdict : StrictlyJudged → Type 0
-IsVerdict (Plain (judged.Refused refusal)) = ⊥
-IsVerdict (Plain (judged.Verdict outcome)) = Unit {0}
-IsVerdict (Settled outcome answer) = Unit {0}

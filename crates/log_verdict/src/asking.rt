@@ -1,7 +1,7 @@
 ghost use Rattle.std.specs.Prelude.{◌≡◌, ◌≢◌, ℕ, List, Some, IfOk, IsErrOf};
-ghost use Rattle.std.specs.Io.KnownBytes.{IsAtEnd};
 ghost use Rattle.context_intake.specs.Taking.{ReadsSetupAndLog};
 ghost use Rattle.log_verdict.specs.Answering.{IsHistory, IsHistoryFrom};
+ghost use Rattle.log_verdict.specs.Taking.{IsReadToAnswer};
 
 use base_types::{Bytes, OutOfMemory};
 use context_intake::{Refusal, Stop, Told, read_context};
@@ -36,8 +36,8 @@ pub fn ask<R: Threads + Sync, D: Desk, H: Gate>(
     ensures answered { IfOk result (λ found. (of_setup of_log : List ℕ)
         → D.left desk.old setup.now ≡ Some of_setup → D.left desk.old log.now ≡ Some of_log
         → IsHistory of_setup of_log question.now found) }
-    ensures whole { IfOk result (λ found. (text : List ℕ) → found ≡ Answered.History text
-        → IsAtEnd (D.left desk.new setup.now) × IsAtEnd (D.left desk.new log.now)) }
+    ensures whole { IfOk result (λ found. IsReadToAnswer found (D.left desk.new setup.now)
+        (D.left desk.new log.now)) }
     ensures reads { ReadsSetupAndLog setup.now log.now (D.left desk.old) (D.left desk.new)
         (D.faults desk.old) (D.faults desk.new) (IsErrOf result Stop.ReadFault)
         (IsErrOf result Stop.ReadFault) }

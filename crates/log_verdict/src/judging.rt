@@ -1,8 +1,7 @@
 ghost use Rattle.std.specs.Prelude.{◌≡◌, ◌≢◌, ℕ, List, Some, IfOk, IsErrOf};
-ghost use Rattle.std.specs.Io.KnownBytes.{IsAtEnd};
-ghost use Rattle.base_types.specs.declared.placed.Outcome.{Outcome};
 ghost use Rattle.context_intake.specs.Taking.{ReadsSetupAndLog};
 ghost use Rattle.log_verdict.specs.Judging.{IsJudged, IsJudgedFrom};
+ghost use Rattle.log_verdict.specs.Taking.{IsReadToJudge};
 
 use crate::judged::Judged;
 use crate::outcome::outcome_of;
@@ -36,8 +35,8 @@ pub fn judge<R: Threads + Sync, D: Desk, G: Gate, H: Gate>(
     ensures judged { IfOk result (λ judged. (of_setup of_log : List ℕ)
         → D.left desk.old setup.now ≡ Some of_setup → D.left desk.old log.now ≡ Some of_log
         → IsJudged of_setup of_log judged) }
-    ensures whole { IfOk result (λ judged. (outcome : Outcome) → judged ≡ Judged.Verdict outcome
-        → IsAtEnd (D.left desk.new setup.now) × IsAtEnd (D.left desk.new log.now)) }
+    ensures whole { IfOk result (λ judged. IsReadToJudge judged (D.left desk.new setup.now)
+        (D.left desk.new log.now)) }
     ensures reads { ReadsSetupAndLog setup.now log.now (D.left desk.old) (D.left desk.new)
         (D.faults desk.old) (D.faults desk.new) (IsErrOf result Stop.ReadFault)
         (IsErrOf result Stop.ReadFault) }

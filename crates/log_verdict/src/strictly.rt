@@ -1,8 +1,8 @@
 ghost use Rattle.std.specs.Prelude.{◌≡◌, ◌≢◌, ◌↔◌, ℕ, List, Some, IfOk, IsErrOf, IsTrue};
-ghost use Rattle.std.specs.Io.KnownBytes.{IsAtEnd};
 ghost use Rattle.context_intake.specs.Taking.{ReadsSetupAndLog};
 ghost use Rattle.log_verdict.specs.Judging.{IsOutcomeOf};
-ghost use Rattle.log_verdict.specs.Strictly.{IsExplained, IsSettledFrom, IsStrictlyFrom, IsStrictlyJudged, IsVerdict};
+ghost use Rattle.log_verdict.specs.Strictly.{IsExplained, IsSettledFrom, IsStrictlyFrom, IsStrictlyJudged};
+ghost use Rattle.log_verdict.specs.Taking.{IsReadToSettle};
 
 use crate::judged::Judged;
 use crate::judging::Gates;
@@ -44,8 +44,8 @@ pub fn judge_strictly<R: Threads + Sync, D: Desk, G: Gate, H: Gate>(
     ensures judged { IfOk result (λ judged. (of_setup of_log : List ℕ)
         → D.left desk.old setup.now ≡ Some of_setup → D.left desk.old log.now ≡ Some of_log
         → IsStrictlyJudged of_setup of_log judged) }
-    ensures whole { IfOk result (λ judged. IsVerdict judged → IsAtEnd (D.left desk.new setup.now)
-        × IsAtEnd (D.left desk.new log.now)) }
+    ensures whole { IfOk result (λ judged. IsReadToSettle judged (D.left desk.new setup.now)
+        (D.left desk.new log.now)) }
     ensures reads { ReadsSetupAndLog setup.now log.now (D.left desk.old) (D.left desk.new)
         (D.faults desk.old) (D.faults desk.new) (IsErrOf result Stop.ReadFault)
         (IsErrOf result Stop.ReadFault) }

@@ -1,9 +1,9 @@
-ghost use Rattle.std.specs.Prelude.{◌≡◌, ◌≢◌, ◌≤◌, ℕ, List, Some, IfOk, IsErrOf, length};
-ghost use Rattle.std.specs.Io.KnownBytes.{IsAtEnd};
+ghost use Rattle.std.specs.Prelude.{◌≡◌, ◌≢◌, ◌≤◌, ℕ, List, Option, Some, IfOk, IsErrOf, length};
 ghost use Rattle.context_intake.specs.Contexts.{IsOfContext};
+ghost use Rattle.context_intake.specs.Taking.{IsReadFor};
 ghost use Rattle.edge_io.specs.Faults.{Rose};
 ghost use Rattle.edge_io.specs.Whole.{TakesWhole};
-ghost use Rattle.log_verdict.specs.Taking.{ReadsSetupLogAndPlacement};
+ghost use Rattle.log_verdict.specs.Taking.{IsReadToVerify, IsTextRead, ReadsSetupLogAndPlacement};
 ghost use Rattle.log_verdict.specs.Verifying.{IsOfText, IsVerified, IsVerifiedBy, IsVerifiedFrom};
 ghost use Rattle.log_verdict.specs.Verifying.{most_placement};
 
@@ -12,7 +12,7 @@ use base_types::OutOfMemory;
 use context_intake::{Stop, Told, read_context};
 use edge_io::{Desk, WholeStop, piece_buffer, read_whole};
 use judge_pool::Gate;
-use serial_machine::{Checked, verify as check_again};
+use serial_machine::verify as check_again;
 use std::alloc::Global;
 use std::marker::Sync;
 use std::mem::ManuallyDrop;
@@ -41,10 +41,9 @@ pub fn verify<R: Threads + Sync, D: Desk, H: Gate>(
         → D.left desk.old setup.now ≡ Some of_setup → D.left desk.old log.now ≡ Some of_log
         → D.left desk.old placement.now ≡ Some of_placement
         → IsVerified of_setup of_log of_placement verified) }
-    ensures whole { IfOk result (λ verified. (checked : Checked)
-        → verified ≡ Verified.Judged checked
-        → IsAtEnd (D.left desk.new setup.now) × IsAtEnd (D.left desk.new log.now)
-        × IsAtEnd (D.left desk.new placement.now)) }
+    ensures whole { IfOk result (λ verified. IsReadToVerify verified (D.left desk.new setup.now)
+        (D.left desk.new log.now) (D.left desk.old placement.now)
+        (D.left desk.new placement.now)) }
     ensures reads { ReadsSetupLogAndPlacement setup.now log.now placement.now (D.left desk.old)
         (D.left desk.new) (D.faults desk.old) (D.faults desk.new)
         (IsErrOf result Stop.ReadFault) }
@@ -64,9 +63,9 @@ fn verified_of<D: Desk>(
     ensures verified { IfOk result (λ verified. (of_placement : List ℕ)
         → D.left desk.old placement.now ≡ Some of_placement
         → IsVerifiedFrom told.now of_placement verified) }
-    ensures whole { IfOk result (λ verified. (checked : Checked)
-        → verified ≡ Verified.Judged checked
-        → IsOfContext told.now × IsAtEnd (D.left desk.new placement.now)) }
+    ensures whole { IfOk result (λ verified. (setup log : Option (List ℕ))
+        → IsReadFor told.now setup log → IsReadToVerify verified setup log
+        (D.left desk.old placement.now) (D.left desk.new placement.now)) }
     ensures fault { IsErrOf result Stop.ReadFault
         → IsOfContext told.now × Rose (D.faults desk.old) (D.faults desk.new) }
     ensures counted { D.faults desk.old ≤ D.faults desk.new }
@@ -93,8 +92,7 @@ fn check_named<D: Desk>(
     ensures verified { IfOk result (λ verified. (of_placement : List ℕ)
         → D.left desk.old placement.now ≡ Some of_placement
         → IsVerifiedBy context.now of_placement verified) }
-    ensures whole { IfOk result (λ verified. (checked : Checked)
-        → verified ≡ Verified.Judged checked → IsAtEnd (D.left desk.new placement.now)) }
+    ensures whole { IfOk result (λ verified. IsTextRead verified (D.left desk.new placement.now)) }
     ensures fault { IsErrOf result Stop.ReadFault → Rose (D.faults desk.old) (D.faults desk.new) }
     ensures counted { D.faults desk.old ≤ D.faults desk.new }
     ensures taken { TakesWhole most_placement (D.left desk.old placement.now)

@@ -2,7 +2,7 @@ use Rattle.std.proofs.Common.{◌≡◌, Ok, Err, ◌∙◌, subst, rules}
 use Rattle.context_intake.proofs.ReadingFacts.{reads_on}
 use Rattle.context_intake.specs.declared.stop.Stop.TheVariants.{ReadFault}
 use Rattle.log_verdict.specs.Strictly.{IsStrictlyFrom}
-use Rattle.log_verdict.proofs.StrictlyFacts.{strictly_told, verdict_context}
+use Rattle.log_verdict.proofs.StrictlyFacts.{strictly_read, strictly_told}
 use Rattle.log_verdict.proofs.strictly.judge_strictly.Goals as goal
 
 pub returns-in_err-found-clause-reads : goal.returns-in_err-found-clause-reads
@@ -16,9 +16,9 @@ returns-clause-judged g c = λ s l ts tl.
     strictly_told s l c.in_ok-found.found c.in_ok-judged.judged (c.in_ok-found.ensures.told s l ts tl) (subst (λ t. IsStrictlyFrom t c.in_ok-judged.judged) (c.deref.ensures ∙ c.new-told.ensures) c.in_ok-judged.ensures)
 
 pub returns-clause-whole : goal.returns-clause-whole
-returns-clause-whole g c = λ verdict.
-    let told = verdict_context c.in_ok-found.found c.in_ok-judged.judged (subst (λ t. IsStrictlyFrom t c.in_ok-judged.judged) (c.deref.ensures ∙ c.new-told.ensures) c.in_ok-judged.ensures) verdict in
-    c.in_ok-found.ensures.whole told.0 told.1
+returns-clause-whole g c =
+    strictly_read (g.D.Desk.left c.read_context.new.desk c.args.setup.now) (g.D.Desk.left c.read_context.new.desk c.args.log.now) c.in_ok-found.found c.in_ok-judged.judged c.in_ok-found.ensures.whole
+    (subst (λ t. IsStrictlyFrom t c.in_ok-judged.judged) (c.deref.ensures ∙ c.new-told.ensures) c.in_ok-judged.ensures)
 
 pub returns-clause-reads : goal.returns-clause-reads
 returns-clause-reads g c = reads_on c.read_context.result _ (λ is. absurd (let no : Ok c.in_ok-judged.judged ≡ Err ReadFault = is in cc)) c.read_context.ensures.reads

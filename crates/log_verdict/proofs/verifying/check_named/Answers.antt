@@ -3,7 +3,7 @@ use Rattle.edge_io.specs.Whole.{StaysWithin}
 use Rattle.context_intake.proofs.ReadingFacts.{whole_untouched}
 use Rattle.context_intake.specs.declared.stop.Stop.TheVariants.{OutOfMemory, ReadFault}
 use Rattle.log_verdict.specs.declared.verified.Verified.TheVariants.{TooLong}
-use Rattle.log_verdict.proofs.VerifyingFacts.{whole_from}
+use Rattle.log_verdict.proofs.VerifyingFacts.{text_read, whole_from}
 use Rattle.log_verdict.proofs.verifying.check_named.Goals as goal
 
 pub returns-in_default-clause-taken : goal.returns-in_default-clause-taken
@@ -11,6 +11,9 @@ returns-in_default-clause-taken g c = whole_untouched _ _ _ _ refl
 
 pub returns-in_err-checked_text-in-Ok-read_whole-clause-taken : goal.returns-in_err-checked_text-in-Ok-read_whole-clause-taken
 returns-in_err-checked_text-in-Ok-read_whole-clause-taken g c = whole_from _ _ _ _ _ _ refl (λ is. tt) c.in-Ok-read_whole.ensures.reads.taken
+
+pub returns-in-Ok-read_whole-clause-whole : goal.returns-in-Ok-read_whole-clause-whole
+returns-in-Ok-read_whole-clause-whole g c = text_read c.in_ok-checked_text-in-Ok-read_whole.field-0 _ c.in_ok-checked_text-in-Ok-read_whole.ensures.told c.in-Ok-read_whole.ensures.reads.whole
 
 pub returns-in-Ok-read_whole-clause-taken : goal.returns-in-Ok-read_whole-clause-taken
 returns-in-Ok-read_whole-clause-taken g c = whole_from _ _ _ _ _ _ refl (λ is. tt) c.in-Ok-read_whole.ensures.reads.taken

@@ -2,9 +2,11 @@ use Rattle.std.proofs.Common.{refl, sym, ◌∙◌, subst, arith, rules}
 use Rattle.std.proofs.lemmas.Result.{IfOk-weaker}
 use Rattle.std.specs.Io.KnownBytes.{IsAtEnd}
 use Rattle.context_intake.specs.Contexts.{IsOfContext, RefusesNothing}
+use Rattle.context_intake.specs.Taking.{IsReadFor}
 use Rattle.context_intake.proofs.ReadingFacts.{reads_on, rose_from, taken_upto}
+use Rattle.log_verdict.specs.Taking.{IsReadToVerify}
 use Rattle.log_verdict.specs.Verifying.{IsVerifiedFrom}
-use Rattle.log_verdict.proofs.VerifyingFacts.{context_nothing, context_told, placement_unread, read_last, refused_told, verified_told, whole_from}
+use Rattle.log_verdict.proofs.VerifyingFacts.{context_nothing, placement_unread, read_last, read_to_verify, refused_told, verified_told, whole_from}
 use Rattle.log_verdict.proofs.verifying.verify.Goals as goal
 
 pub returns-in_err-found-clause-reads : goal.returns-in_err-found-clause-reads
@@ -18,11 +20,15 @@ returns-clause-verified g c =
 
 pub returns-clause-whole : goal.returns-clause-whole
 returns-clause-whole g c =
-    IfOk-weaker c.verified_of.result _ _ (λ verified ended checked is.
-    let both = ended checked is in
-    let known = context_told c.in_ok-found.found (subst IsOfContext (c.deref.ensures ∙ c.new-told.ensures) both.0) in
-    let ends = c.in_ok-found.ensures.whole known.0 known.1 in
-    (subst IsAtEnd (sym (c.verified_of.ensures.others c.args.setup.now (λ e. c.requires.not_setup (sym e)))) ends.0, subst IsAtEnd (sym (c.verified_of.ensures.others c.args.log.now (λ e. c.requires.not_log (sym e)))) ends.1, both.1))
+    let left = g.D.Desk.left in
+    let middle = left c.read_context.new.desk in
+    let now = left c.verified_of.new.desk in
+    IfOk-weaker c.verified_of.result _ (λ verified. IsReadToVerify verified (now c.args.setup.now) (now c.args.log.now) (left c.args.desk.now c.args.placement.now) (now c.args.placement.now)) (λ verified read.
+    read_to_verify verified (middle c.args.setup.now) (middle c.args.log.now) (middle c.args.placement.now) (now c.args.placement.now)
+    (now c.args.setup.now) (now c.args.log.now) (left c.args.desk.now c.args.placement.now)
+    (c.verified_of.ensures.others c.args.setup.now (λ e. c.requires.not_setup (sym e))) (c.verified_of.ensures.others c.args.log.now (λ e. c.requires.not_log (sym e)))
+    (c.in_ok-found.ensures.reads.others c.args.placement.now c.requires.not_setup c.requires.not_log)
+    (read (middle c.args.setup.now) (middle c.args.log.now) (subst (λ t. IsReadFor t (middle c.args.setup.now) (middle c.args.log.now)) (sym (c.deref.ensures ∙ c.new-told.ensures)) c.in_ok-found.ensures.whole)))
     c.verified_of.ensures.whole
 
 pub returns-clause-reads : goal.returns-clause-reads
@@ -42,6 +48,6 @@ returns-clause-reads g c =
       placement_left = λ s l refusal ts tl refused. behind.left (λ context. refused_told s l refusal c.in_ok-found.found refused (c.in_ok-found.ensures.told s l ts tl) (subst IsOfContext same_told context)) ∙ untouched;
       placement_after = read_last c.in_ok-found.found (g.D.Desk.left c.verified_of.new.desk c.args.setup.now) (g.D.Desk.left c.verified_of.new.desk c.args.log.now) (g.D.Desk.left c.args.desk.now c.args.placement.now) (g.D.Desk.left c.verified_of.new.desk c.args.placement.now)
           (λ none. behind.left (λ context. none (subst IsOfContext same_told context)) ∙ untouched)
-          (λ known is. let ends = c.in_ok-found.ensures.whole known is in (subst IsAtEnd (sym same_setup) ends.0, subst IsAtEnd (sym same_log) ends.1));
+          (λ known is. let ends = subst (λ t. IsReadFor t (g.D.Desk.left c.read_context.new.desk c.args.setup.now) (g.D.Desk.left c.read_context.new.desk c.args.log.now)) is c.in_ok-found.ensures.whole in (subst IsAtEnd (sym same_setup) ends.0, subst IsAtEnd (sym same_log) ends.1));
       others = λ other not_setup not_log not_placement. behind.others other not_placement ∙ reads.others other not_setup not_log;
     }
