@@ -1,6 +1,10 @@
-ghost use Rattle.std.specs.Prelude.{◌≡◌, IfOk, IfErr, option_map, option_and_then, codes};
+ghost use Rattle.std.specs.Prelude.{◌≡◌, ◌≢◌, [], ◌∷◌, IfOk, IfErr, OnErr, IsSome, IsTrue, codes};
+ghost use Rattle.std.specs.Prelude.{option_map, option_and_then};
 ghost use Rattle.std.specs.List.{list_all};
-ghost use Rattle.base_types.specs.Parts.{member_of, flag_of};
+ghost use Rattle.std.specs.Result.{result_ok};
+ghost use Rattle.base_types.specs.Parts.{member_of, flag_of, items_of};
+ghost use Rattle.base_types.specs.Texts.{text_at};
+ghost use Rattle.setup_file.specs.Forms.{is_form};
 ghost use Rattle.setup_file.specs.Resources.{merges_as, merges_of, entry_of, entries_in, are_apart, shape_or_root};
 ghost use Rattle.setup_file.specs.Resources.{shape_at, has_shape, effect_as, subresource_of, subresources_in};
 ghost use Rattle.setup_file.specs.Resources.{are_named_apart, subresources_or_none, tracked_of, tracked_in};
@@ -148,7 +152,8 @@ fn entry_with(
 }
 
 fn read_entry(tree: &Tree) -> Result<Option<Entry>, OutOfMemory>
-    ensures { IfOk result (λ found. found ≡ entry_of tree.now) }
+    ensures entry { IfOk result (λ found. found ≡ entry_of tree.now) }
+    ensures memory { OnErr result (IsSome (entry_of tree.now)) }
 {
     if !is_form(&ENTRY_MEMBERS, tree) {
         return Ok(None);
@@ -206,26 +211,37 @@ fn are_apart(alloc: Global, entries: &[Entry]) -> Result<bool, OutOfMemory>
     Ok(are_pairs_distinct(alloc, &resources)? && are_pairs_distinct(alloc, &kinds)?)
 }
 
+// The shape that was read, or none where the list isn't in its form.
+fn formed(read: Result<Shape, ShapeFault>) -> Result<Option<Shape>, OutOfMemory>
+    ensures shape { IfOk result (λ found. (found ≡ result_ok read) × (read ≢ Err ShapeFault.OutOfMemory)) }
+    ensures memory { OnErr result (read ≡ Err ShapeFault.OutOfMemory) }
+{
+    match read {
+        Ok(shape) => Ok(Some(shape)),
+        Err(ShapeFault::NotList) => Ok(None),
+        Err(ShapeFault::Entry { .. }) => Ok(None),
+        Err(ShapeFault::OutOfMemory) => Err(OutOfMemory),
+    }
+}
+
 fn shape_or_root(
     alloc: Global,
     root: FieldClass,
     member: Option<&Tree>,
 ) -> Result<Option<Shape>, OutOfMemory>
-    ensures { IfOk result (λ found. found ≡ shape_or_root root (option_map (λ tree. tree.now) member.entry)) }
+    ensures shape { IfOk result (λ found. found ≡ shape_or_root root (option_map (λ tree. tree.now) member.entry)) }
+    ensures memory { OnErr result (IsSome (option_map (λ tree. tree.now) member.entry)) }
 {
     let Some(list) = member else {
         let entries = ShapeEntries::new(alloc);
         return Ok(Some(Shape { root, entries }));
     };
-    match Shape::read(alloc, list, root) {
-        Ok(shape) => Ok(Some(shape)),
-        Err(ShapeFault::OutOfMemory) => Err(OutOfMemory),
-        Err(_) => Ok(None),
-    }
+    formed(Shape::read(alloc, list, root))
 }
 
 fn shape_at(alloc: Global, root: FieldClass, tree: &Tree) -> Result<Option<Shape>, OutOfMemory>
-    ensures { IfOk result (λ found. found ≡ shape_at root tree.now) }
+    ensures shape { IfOk result (λ found. found ≡ shape_at root tree.now) }
+    ensures memory { OnErr result (IsSome (member_of (codes "shapes") tree.now)) }
 {
     shape_or_root(alloc, root, tree.member("shapes"))
 }
@@ -253,7 +269,10 @@ fn effect_as(name: &str) -> Option<bool>
 }
 
 fn read_subresource(alloc: Global, tree: &Tree) -> Result<Option<Subresource>, OutOfMemory>
-    ensures { IfOk result (λ found. found ≡ subresource_of tree.now) }
+    ensures subresource { IfOk result (λ found. found ≡ subresource_of tree.now) }
+    ensures form { OnErr result (IsTrue (is_form (codes "name" ∷ codes "effect" ∷ codes "shapes" ∷ []) tree.now)) }
+    ensures name { OnErr result (IsSome (text_at (codes "name") tree.now)) }
+    ensures effect { OnErr result (IsSome (option_and_then effect_as (text_at (codes "effect") tree.now))) }
 {
     if !is_form(&["name", "effect", "shapes"], tree) {
         return Ok(None);
@@ -301,7 +320,8 @@ fn subresources_or_none(
     alloc: Global,
     member: Option<&Tree>,
 ) -> Result<Option<Subresources>, OutOfMemory>
-    ensures { IfOk result (λ found. found ≡ subresources_or_none (option_map (λ tree. tree.now) member.entry)) }
+    ensures list { IfOk result (λ found. found ≡ subresources_or_none (option_map (λ tree. tree.now) member.entry)) }
+    ensures memory { OnErr result (IsSome (option_and_then items_of (option_map (λ tree. tree.now) member.entry))) }
 {
     let Some(list) = member else {
         return Ok(Some(Subresources::new(alloc)));
@@ -350,6 +370,8 @@ fn read_all_tracked(alloc: Global, trees: &[Tree]) -> Result<Option<Listed<Track
 pub fn read_resources(alloc: Global, tree: &Tree) -> Result<TrackedList, SetupFault>
     ensures resources { IfOk result (λ resources. resources_at tree.now ≡ Ok resources) }
     ensures cause { IfErr result (IsCause (resources_at tree.now)) }
+    ensures memory { result ≡ Err SetupFault.OutOfMemory → IsSome (option_and_then items_of (member_of
+        (codes "resources") tree.now)) }
 {
     let Some(list) = tree.member("resources").and_then(Tree::as_items) else {
         return Err(SetupFault::Rule(SetupRule::S8));
