@@ -1,4 +1,4 @@
-ghost use Rattle.std.specs.Prelude.{◌≡◌, IfOk, option_map, option_and_then};
+ghost use Rattle.std.specs.Prelude.{◌≡◌, IfOk, OnErr, IsSome, option_map, option_and_then};
 ghost use Rattle.base_types.specs.Parts.{member_of};
 ghost use Rattle.audit_event.specs.Bodies.{kept};
 ghost use Rattle.answer_class.specs.Bodies.{has_items, is_positive, is_there, metadata_at, is_deleted};
@@ -90,7 +90,8 @@ pub fn body_member<'a>(body: &'a Body, name: &str) -> Option<PackedRef<'a>>
 
 /// The tree of a body that was kept.
 pub fn body_tree(alloc: Global, body: &Body) -> Result<Option<Tree>, OutOfMemory>
-    ensures { IfOk result (λ found. found ≡ kept body.now) }
+    ensures tree { IfOk result (λ found. found ≡ kept body.now) }
+    ensures memory { OnErr result (IsSome (kept body.now)) }
 {
     match body.kept() {
         Some(packed) => Ok(Some(packed.tree(alloc)?)),

@@ -1,4 +1,5 @@
-ghost use Rattle.std.specs.Prelude.{◌≡◌, IfOk};
+ghost use Rattle.std.specs.Prelude.{◌≡◌, ◌≢◌, IfOk, OnErr, IsTrue, IsFalse};
+ghost use Rattle.answer_class.specs.Requests.{is_empty};
 ghost use Rattle.answer_class.specs.Covers.{is_create, created_name, cover_name, cover_namespace, cover_of};
 
 use crate::bodies::body_member;
@@ -17,7 +18,8 @@ pub fn is_create(verb: Verb) -> bool
 
 // The names that an object may have which is to be created with this metadata.
 fn created_name(alloc: Global, metadata: Option<PackedRef<'_>>) -> Result<CoverName, OutOfMemory>
-    ensures { IfOk result (λ name. name ≡ created_name metadata.entry) }
+    ensures name { IfOk result (λ name. name ≡ created_name metadata.entry) }
+    ensures memory { OnErr result (created_name metadata.entry ≢ CoverName.Any) }
 {
     let Some(metadata) = metadata else {
         return Ok(CoverName::Any);
@@ -32,7 +34,8 @@ fn created_name(alloc: Global, metadata: Option<PackedRef<'_>>) -> Result<CoverN
 }
 
 fn cover_name(alloc: Global, event: &Event) -> Result<CoverName, OutOfMemory>
-    ensures { IfOk result (λ name. name ≡ cover_name event.now) }
+    ensures name { IfOk result (λ name. name ≡ cover_name event.now) }
+    ensures memory { OnErr result (cover_name event.now ≢ CoverName.Any) }
 {
     let attrs = &event.attrs;
     if !attrs.name.is_empty() {
@@ -49,7 +52,9 @@ fn cover_namespace(
     tracked: &Tracked,
     attrs: &RequestAttrs,
 ) -> Result<Option<Text>, OutOfMemory>
-    ensures { IfOk result (λ namespace. namespace ≡ cover_namespace tracked.now attrs.now) }
+    ensures covered { IfOk result (λ covered. covered ≡ cover_namespace tracked.now attrs.now) }
+    ensures namespaced { OnErr result (IsTrue tracked.now.namespaced) }
+    ensures memory { OnErr result (IsFalse (is_empty attrs.now.namespace)) }
 {
     if !tracked.namespaced {
         return Ok(Some(Text::new(alloc)));

@@ -1,7 +1,10 @@
-ghost use Rattle.std.specs.Prelude.{◌≡◌, IfOk, option_map, filter, codes};
+ghost use Rattle.std.specs.Prelude.{◌≡◌, ◌≢◌, ◌||◌, IfOk, OnOk, OnErr, IsSome, IsFalse};
+ghost use Rattle.std.specs.Prelude.{option_map, option_and_then, filter, codes};
+ghost use Rattle.std.specs.Result.{result_ok};
+ghost use Rattle.audit_event.specs.Bodies.{kept};
 ghost use Rattle.answer_class.specs.Lists.{not_whole, one_at_most, selected, extent_of, answered_list, answered_at};
 ghost use Rattle.answer_class.specs.Lists.{asks_revision, is_odd, is_below, is_old_list};
-ghost use Rattle.answer_class.specs.Requests.{is_filled};
+ghost use Rattle.answer_class.specs.Requests.{is_filled, has_filled};
 ghost use Rattle.label_select.specs.Readings.{selector_of};
 
 use crate::bodies::{body_member, body_tree};
@@ -45,10 +48,13 @@ pub fn one_at_most<'a>(pairs: &'a [Pair], name: &str) -> Option<Option<&'a Pair>
     Some(found)
 }
 
-fn selected(alloc: Global, text: &str) -> Result<Extent, OutOfMemory>
-    ensures { IfOk result (λ extent. extent ≡ selected (selector_of text.now)) }
+// The extent by a selector that was read; a text that is none takes nothing.
+fn extent_read(read: Result<Selector, SelectorFault>) -> Result<Extent, OutOfMemory>
+    ensures extent { IfOk result (λ extent. extent ≡ selected (result_ok read)) }
+    ensures read { OnOk result (read ≢ Err SelectorFault.OutOfMemory) }
+    ensures memory { OnErr result (read ≡ Err SelectorFault.OutOfMemory) }
 {
-    match read_selector(alloc, text) {
+    match read {
         Ok(selector) => Ok(Extent {
             whole: true,
             selector: Some(selector),
@@ -58,9 +64,19 @@ fn selected(alloc: Global, text: &str) -> Result<Extent, OutOfMemory>
     }
 }
 
+fn selected(alloc: Global, text: &str) -> Result<Extent, OutOfMemory>
+    ensures { IfOk result (λ extent. extent ≡ selected (selector_of text.now)) }
+{
+    extent_read(read_selector(alloc, text))
+}
+
 /// Whether a list that was answered is whole, where `rest` tells if more pages follow.
 pub fn extent_of(alloc: Global, attrs: &RequestAttrs, rest: bool) -> Result<Extent, OutOfMemory>
-    ensures { IfOk result (λ extent. extent ≡ extent_of attrs.now rest) }
+    ensures extent { IfOk result (λ extent. extent ≡ extent_of attrs.now rest) }
+    ensures whole { OnErr result (IsFalse (rest || has_filled (codes "fieldSelector") attrs.now
+        || has_filled (codes "continue") attrs.now)) }
+    ensures memory { OnErr result (IsSome (option_and_then (λ found. found) (one_at_most
+        (filter (is_filled (codes "labelSelector")) attrs.now.query)))) }
 {
     if rest || has_filled(attrs, "fieldSelector") || has_filled(attrs, "continue") {
         return Ok(not_whole());
@@ -81,7 +97,8 @@ pub fn answered_list(
     tracked: &Tracked,
     event: &Event,
 ) -> Result<Option<ListRead>, OutOfMemory>
-    ensures { IfOk result (λ found. found ≡ answered_list tracked.now event.now) }
+    ensures list { IfOk result (λ found. found ≡ answered_list tracked.now event.now) }
+    ensures memory { OnErr result (IsSome (kept event.now.response)) }
 {
     let attrs = &event.attrs;
     match body_tree(alloc, &event.response)? {
