@@ -1,8 +1,14 @@
-ghost use Rattle.std.specs.Prelude.{◌≡◌, IfOk, IfErr, option_map};
+ghost use Rattle.std.specs.Prelude.{◌≡◌, ◌≢◌, ◌||◌, IfOk, OnOk, OnErr, IsSome, IsTrue, IsFalse};
+ghost use Rattle.std.specs.Prelude.{is_some, option_map};
+ghost use Rattle.audit_event.specs.Bodies.{kept};
+ghost use Rattle.base_types.specs.Parts.{items_of};
 ghost use Rattle.json_patch.specs.Reading.{patch_of};
 ghost use Rattle.setup_file.specs.declared.setup.Tracked.{Tracked as Resource};
-ghost use Rattle.request_bodies.specs.Asked.{asked_by_object, asked_by_operations, asked_by_json_patch};
-ghost use Rattle.request_bodies.specs.Asked.{asked_by_merge_patch, asked_by_patch, asked_by, asked_of};
+ghost use Rattle.setup_file.specs.Requests.{is_merge_patch};
+ghost use Rattle.request_bodies.specs.Requests.{is_of_another, is_created};
+ghost use Rattle.request_bodies.specs.Asked.{patched, asked_by_object, asked_by_operations};
+ghost use Rattle.request_bodies.specs.Asked.{asked_by_json_patch, asked_by_merge_patch, asked_by_patch};
+ghost use Rattle.request_bodies.specs.Asked.{asked_by, asked_of};
 
 use crate::patched::{is_of_managed, merged, typed, untyped};
 use crate::requests::{Write, is_created, is_of_another, write_of};
@@ -28,12 +34,26 @@ pub enum Asking {
 }
 
 fn asked_by_object(alloc: Global, tracked: &Tracked, body: &Packed) -> Result<Asking, OutOfMemory>
-    ensures { IfOk result (λ asking. asking ≡ asked_by_object tracked.now body.now) }
+    ensures asking { IfOk result (λ asking. asking ≡ asked_by_object tracked.now body.now) }
+    ensures memory { OnErr result (IsFalse (is_of_another tracked.now body.now)) }
 {
     if is_of_another(tracked, &body.root()) {
         return Ok(Asking::NotJudged);
     }
     Ok(Asking::Whole(stored_form(body.tree(alloc)?)))
+}
+
+// A patch that can't be applied asks for nothing that there could be.
+fn asked_by_applied(applied: Result<Tree, ApplyFault>) -> Result<Asking, OutOfMemory>
+    ensures asking { IfOk result (λ asking. asking ≡ patched applied) }
+    ensures applied { OnOk result (applied ≢ Err ApplyFault.OutOfMemory) }
+    ensures memory { OnErr result (applied ≡ Err ApplyFault.OutOfMemory) }
+{
+    match applied {
+        Ok(made) => Ok(Asking::Whole(untyped(made))),
+        Err(ApplyFault::Operation { .. }) => Ok(Asking::Wrong),
+        Err(ApplyFault::OutOfMemory) => Err(OutOfMemory),
+    }
 }
 
 fn asked_by_operations(
@@ -42,17 +62,28 @@ fn asked_by_operations(
     patch: &Patch,
     old: Option<&Tree>,
 ) -> Result<Asking, OutOfMemory>
-    ensures { IfOk result (λ asking. asking ≡ asked_by_operations tracked.now patch.now
+    ensures asking { IfOk result (λ asking. asking ≡ asked_by_operations tracked.now patch.now
         (option_map (λ tree. tree.now) old.entry)) }
+    ensures memory { OnErr result (IsSome (option_map (λ tree. tree.now) old.entry)) }
 {
     let Some(old) = old else {
         return Ok(Asking::Wrong);
     };
     let old = typed(alloc, tracked, old)?;
-    match apply(alloc, &old, patch) {
-        Ok(made) => Ok(Asking::Whole(untyped(made))),
-        Err(ApplyFault::Operation { .. }) => Ok(Asking::Wrong),
-        Err(ApplyFault::OutOfMemory) => Err(OutOfMemory),
+    asked_by_applied(apply(alloc, &old, patch))
+}
+
+// A patch that can't be read asks for nothing that there could be.
+fn asked_by_unread(fault: PatchFault) -> Result<Asking, OutOfMemory>
+    ensures asking { IfOk result (λ asking. asking ≡ Asking.Wrong) }
+    ensures fault { OnOk result (fault ≢ PatchFault.OutOfMemory) }
+    ensures memory { OnErr result (fault ≡ PatchFault.OutOfMemory) }
+{
+    match fault {
+        PatchFault::NotList => Ok(Asking::Wrong),
+        PatchFault::TooMany => Ok(Asking::Wrong),
+        PatchFault::BadOperation { .. } => Ok(Asking::Wrong),
+        PatchFault::OutOfMemory => Err(OutOfMemory),
     }
 }
 
@@ -67,10 +98,7 @@ fn asked_by_json_patch(
 {
     let patch = match read_patch(alloc, body) {
         Ok(patch) => patch,
-        Err(PatchFault::NotList) => return Ok(Asking::Wrong),
-        Err(PatchFault::TooMany) => return Ok(Asking::Wrong),
-        Err(PatchFault::BadOperation { .. }) => return Ok(Asking::Wrong),
-        Err(PatchFault::OutOfMemory) => return Err(OutOfMemory),
+        Err(fault) => return asked_by_unread(fault),
     };
     if is_of_managed(&patch) {
         return Ok(Asking::NotJudged);
@@ -83,8 +111,9 @@ fn asked_by_merge_patch(
     body: &Tree,
     old: Option<&Tree>,
 ) -> Result<Asking, OutOfMemory>
-    ensures { IfOk result (λ asking. (tracked : Resource) → asking ≡ asked_by_merge_patch tracked body.now
-        (option_map (λ tree. tree.now) old.entry)) }
+    ensures asking { IfOk result (λ asking. (tracked : Resource) → asking ≡ asked_by_merge_patch
+        tracked body.now (option_map (λ tree. tree.now) old.entry)) }
+    ensures memory { OnErr result (IsSome (option_map (λ tree. tree.now) old.entry)) }
 {
     match old {
         Some(old) => Ok(Asking::Whole(merged(alloc, old, body)?)),
@@ -99,8 +128,10 @@ fn asked_by_patch(
     body: &Packed,
     old: Option<&Tree>,
 ) -> Result<Asking, OutOfMemory>
-    ensures { IfOk result (λ asking. asking ≡ asked_by_patch tracked.now event.now body.now
+    ensures asking { IfOk result (λ asking. asking ≡ asked_by_patch tracked.now event.now body.now
         (option_map (λ tree. tree.now) old.entry)) }
+    ensures memory { OnErr result (IsTrue (is_some (items_of body.now)
+        || is_merge_patch tracked.now event.now.attrs body.now)) }
 {
     let root = body.root();
     if root.as_items().is_some() {
@@ -120,8 +151,11 @@ fn asked_by(
     body: &Packed,
     old: Option<&Tree>,
 ) -> Result<Asking, OutOfMemory>
-    ensures { IfOk result (λ asking. asking ≡ asked_by write tracked.now event.now body.now
+    ensures asking { IfOk result (λ asking. asking ≡ asked_by write tracked.now event.now body.now
         (option_map (λ tree. tree.now) old.entry)) }
+    ensures memory { OnErr result ((write ≢ Write.Delete) × (write ≢ Write.Other)) }
+    ensures created { OnErr result (write ≡ Write.Patch
+        → IsFalse (is_created event.now.status.code)) }
 {
     match write {
         Write::Put => asked_by_object(alloc, tracked, body),
@@ -143,8 +177,9 @@ pub fn asked_of(
     event: &Event,
     old: Option<&Tree>,
 ) -> Result<Asking, OutOfMemory>
-    ensures { IfOk result (λ asking. asking ≡ asked_of tracked.now event.now
+    ensures asking { IfOk result (λ asking. asking ≡ asked_of tracked.now event.now
         (option_map (λ tree. tree.now) old.entry)) }
+    ensures memory { OnErr result (IsSome (kept event.now.request)) }
 {
     let Some(body) = event.request.kept() else {
         return Ok(Asking::NotJudged);
