@@ -1,8 +1,10 @@
-ghost use Rattle.std.specs.Prelude.{◌≡◌, ◌+◌, ◌<◌, true, length, take, IfOk, OnOk, option_map};
+ghost use Rattle.std.specs.Prelude.{◌≡◌, ◌+◌, ◌<◌, true, length, take, IfOk, OnOk, OnErr, IsSome};
+ghost use Rattle.std.specs.Prelude.{Some, option_map, slice_get};
 ghost use Rattle.std.specs.Option.{option_map_or};
 ghost use Rattle.page_chains.specs.Chains.{key_with, comes_before};
 ghost use Rattle.page_chains.specs.Finding.{asked_key, known, FindsFirst};
-ghost use Rattle.page_chains.specs.Links.{IsLink, AreLinks};
+ghost use Rattle.page_chains.specs.Links.{LeadsTo, IsLink, AreLinks};
+ghost use Rattle.page_chains.specs.declared.page.Page.{Page};
 
 use crate::page::{Asked, Page, PageKey};
 use base_types::{OutOfMemory, Text};
@@ -27,7 +29,8 @@ fn key_with(page: &Page, token: &Text) -> Result<PageKey, OutOfMemory>
 
 // The key by which a page was asked for.
 fn asked_key(page: &Page) -> Result<Option<PageKey>, OutOfMemory>
-    ensures { IfOk result (λ key. key ≡ asked_key page.now) }
+    ensures key { IfOk result (λ key. key ≡ asked_key page.now) }
+    ensures memory { OnErr result (IsSome (asked_key page.now)) }
 {
     match &page.asked {
         Asked::Next(token) => Ok(Some(key_with(page, token)?)),
@@ -68,7 +71,10 @@ fn is_sooner(pages: &[Page], places: &Places, key: &PageKey, page: &Page) -> boo
 fn keep_sooner(pages: &[Page], places: &mut Places, place: usize) -> Result<(), OutOfMemory>
     requires within { place < length pages.now }
     requires first { FindsFirst (⟦<PageKey as PartialEq>⟧.eq) pages.now (take place pages.now) places.old }
-    ensures { OnOk result (FindsFirst (⟦<PageKey as PartialEq>⟧.eq) pages.now (take (place + 1) pages.now) places.new) }
+    ensures first { OnOk result (FindsFirst (⟦<PageKey as PartialEq>⟧.eq) pages.now
+        (take (place + 1) pages.now) places.new) }
+    ensures memory { OnErr result ((page : Page) → slice_get pages.now place ≡ Some page
+        → IsSome (asked_key page)) }
 {
     let page = &pages[place];
     let Some(key) = asked_key(page)? else {
@@ -91,21 +97,34 @@ fn first_places(alloc: Global, pages: &[Page], seed: Seed) -> Result<Places, Out
     Ok(places)
 }
 
+// The place that is known for a key, or this one where none is.
+fn known_place(pages: &[Page], places: &Places, key: &PageKey, place: usize) -> usize
+    requires { place < length pages.now }
+    ensures within { result < length pages.now }
+    ensures leads { LeadsTo pages.now place result (known (⟦<PageKey as PartialEq>⟧.eq)
+        pages.now places.now key.now) }
+{
+    match places.get(key) {
+        Some(next) if *next < pages.len() => *next,
+        _ => place,
+    }
+}
+
 // The place of the page that follows one, which is its own place where none follows.
 fn link_of(pages: &[Page], places: &Places, place: usize) -> Result<usize, OutOfMemory>
     requires within { place < length pages.now }
     requires first { FindsFirst (⟦<PageKey as PartialEq>⟧.eq) pages.now pages.now places.now }
     ensures within { IfOk result (λ to. to < length pages.now) }
     ensures leads { IfOk result (λ to. IsLink pages.now place to) }
+    ensures memory { OnErr result ((page : Page) → slice_get pages.now place ≡ Some page
+        → IsSome page.token) }
 {
     let page = &pages[place];
     let Some(token) = &page.token else {
         return Ok(place);
     };
-    match places.get(&key_with(page, token)?) {
-        Some(next) if *next < pages.len() => Ok(*next),
-        _ => Ok(place),
-    }
+    let key = key_with(page, token)?;
+    Ok(known_place(pages, places, &key, place))
 }
 
 /// Where each page leads to.

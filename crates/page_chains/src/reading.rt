@@ -1,4 +1,5 @@
-ghost use Rattle.std.specs.Prelude.{◌≡◌, ◌≤◌, length, IfOk, filter, codes, option_map, option_and_then};
+ghost use Rattle.std.specs.Prelude.{◌≡◌, ◌≢◌, ◌≤◌, length, IfOk, OnErr, IsSome};
+ghost use Rattle.std.specs.Prelude.{filter, codes, option_map, option_and_then};
 ghost use Rattle.page_chains.specs.Joints.{joint_of};
 ghost use Rattle.page_chains.specs.Pages.{token_of, asked_by, asked_of, is_first, is_selective, page_in};
 ghost use Rattle.page_chains.specs.Parts.{part_of, parts_of};
@@ -20,7 +21,9 @@ fn token_of(event: &Event) -> Option<&str>
 
 #[tactic(auto, using(crate::proofs::ReadingLemmas::asked_as))]
 fn asked_of(attrs: &RequestAttrs) -> Result<Asked, OutOfMemory>
-    ensures { IfOk result (λ asked. asked ≡ asked_of attrs.now) }
+    ensures asked { IfOk result (λ asked. asked ≡ asked_of attrs.now) }
+    ensures first { OnErr result (asked_of attrs.now ≢ Asked.First) }
+    ensures unclear { OnErr result (asked_of attrs.now ≢ Asked.Unclear) }
 {
     match one_at_most(attrs.query.as_slice(), "continue") {
         Some(Some(pair)) => Ok(Asked::Next(pair.value.clone()?)),
@@ -46,7 +49,8 @@ fn is_selective(attrs: &RequestAttrs) -> bool
 }
 
 fn token_copied(alloc: Global, event: &Event) -> Result<Option<Text>, OutOfMemory>
-    ensures { IfOk result (λ token. token ≡ token_of event.now) }
+    ensures token { IfOk result (λ token. token ≡ token_of event.now) }
+    ensures memory { OnErr result (IsSome (token_of event.now)) }
 {
     match token_of(event) {
         Some(token) => Ok(Some(Text::from_str(alloc, token)?)),
