@@ -38,6 +38,8 @@ LISTS = os.path.join(ROOT, "docs", "planted")
 # A change of a comment, which a proved crate bears: without it, a crate that isn't proved would seem to refuse all.
 CONTROL = "as_it_stands"
 CONTROL_LINES = ["old: #![tactic(auto)]", "new: #![tactic(auto)] // as it stands"]
+# So many edits share a check at most: the prover searches for a proof of each in vain.
+TOGETHER = 12
 KINDS = {"refused, as it must be": "refused", "NOT REFUSED": "proved", "BAD EDIT": "bad", "NOT TRIED": "bad"}
 
 
@@ -85,87 +87,91 @@ def told_by(output, crate):
     return told
 
 
+def text_of(path):
+    with open(path, encoding="utf-8") as file:
+        return file.read()
+
+
+def write(path, text):
+    with open(path, "w", encoding="utf-8") as file:
+        file.write(text)
+
+
 def bodies(text):
-    """The bodies of the functions in a file of source as `rt fmt` writes it: for each the lines from its `{` to its `}`."""
-    found, lines, at = [], text.split("\n"), 0
-    while at < len(lines):
-        head = re.match(r"( *)(?:pub(?:\([a-z]+\))? )?(?:const )?fn \w", lines[at])
-        if head:
-            indent = head[1]
-            begin = next((it for it in range(at, len(lines))
-                          if lines[it] == indent + "{" or re.match(rf"{indent}\S.*[{{]$", lines[it])), None)
-            end = next((it for it in range(begin + 1, len(lines)) if lines[it] == indent + "}"), None) if begin is not None else None
-            if end is not None:
-                found.append((begin + 1, end + 1))
-        at += 1
+    """The functions of a file that `rt fmt` wrote: for each its first row, and those of its `{` and `}`."""
+    found, rows = [], text.split("\n")
+    for at, row in enumerate(rows):
+        head = re.match(r"( *)(?:pub(?:\([a-z]+\))? )?(?:const )?fn \w", row)
+        if not head:
+            continue
+        opens, closes = re.compile(head[1] + r"(?:\S.*)?\{$"), head[1] + "}"
+        begin = next((it for it in range(at, len(rows)) if opens.match(rows[it])), len(rows))
+        end = next((it for it in range(begin + 1, len(rows)) if rows[it] == closes), None)
+        if end is not None:
+            found.append((at + 1, begin + 1, end + 1))
     return found
 
 
-def in_bodies(folder, lines):
-    """The files that an edit changes, as pairs of old and new texts, and the one body (a file, and a number of it) that holds
-    all of it; None where there is no such body."""
-    path, pairs, place = None, [], None
+def in_one_body(folder, lines):
+    """The body (a file, and a number of it) that holds all that an edit changes, and its pairs of old and new texts."""
+    path, pairs, places = None, [], set()
     for line in lines:
         if line.startswith("file: "):
             path = line[6:].strip()
         elif line.startswith("old: "):
             old = line[5:]
         elif line.startswith("new:"):
-            with open(os.path.join(folder, path), encoding="utf-8") as file:
-                text = file.read()
-            if text.count(old) != 1 or not path.startswith("src/"):
-                return None
-            row = text[:text.index(old)].count("\n") + 1
-            at = next((number for number, (begin, end) in enumerate(bodies(text)) if begin < row < end), None)
-            if at is None or place not in (None, (path, at)):
-                return None
-            place = path, at
+            text = text_of(os.path.join(folder, path)) if path.startswith("src/") else ""
+            row = text[:text.find(old)].count("\n") + 1
+            found = [at for at, (_, begin, end) in enumerate(bodies(text)) if begin < row < end]
+            places.add((path, found[0]) if text.count(old) == 1 and found else None)
             pairs.append((old, line[4:].removeprefix(" ")))
-    return (place, pairs) if place else None
+    return (places.pop(), pairs) if len(places) == 1 and None not in places else None
 
 
 def groups(folder, edits):
-    """Edits of different bodies, group by group: for each the edit's name, its place and its pairs."""
-    left = {name: it for name, lines in edits.items() if name != CONTROL and (it := in_bodies(folder, lines))}
+    """Edits of different bodies, some at a time: for each its name, its body and its pairs."""
+    left = {name: it for name, lines in edits.items() if name != CONTROL and (it := in_one_body(folder, lines))}
     while left:
         group, places = [], set()
         for name, (place, pairs) in left.items():
-            if place not in places and len(group) < 12:
+            if place not in places and len(group) < TOGETHER:
                 places.add(place)
                 group.append((name, place, pairs))
         for name, _, _ in group:
             del left[name]
-        if len(group) > 1:
-            yield group
+        yield group
+
+
+def said_of(folder, texts):
+    """What the prover says of a crate with these texts in place of its own: files, rows and words."""
+    own = {path: text_of(path) for path in texts}
+    try:
+        for path, text in texts.items():
+            write(path, text)
+        ran = subprocess.run(["rt", "check"], cwd=folder, stdin=subprocess.DEVNULL, stdout=subprocess.PIPE,
+                             stderr=subprocess.STDOUT, errors="replace")
+    finally:
+        for path, text in own.items():
+            write(path, text)
+    if not re.search(r"^logic=not-proved", ran.stdout, re.M):
+        return []
+    return re.findall(r"^(?:note: )?(?:\./)?(src/\S+?):(\d+):\d+: (.*)", ran.stdout, re.M)
 
 
 def refused_together(room, crate, edits):
-    """What the prover refuses of the edits that share a check, by their names: what it says first of the function."""
+    """The edits that the prover refuses where they share a check, with what it says first of the function."""
     folder, told = os.path.join(room, "crates", crate), {}
     for group in groups(folder, edits):
-        paths = {place[0] for _, place, _ in group}
         texts = {}
-        for path in paths:
-            with open(os.path.join(folder, path), encoding="utf-8") as file:
-                texts[path] = file.read()
-        changed = dict(texts)
-        for _, (path, _), pairs in group:
+        for _, (file, _), pairs in group:
+            path = os.path.join(folder, file)
             for old, new in pairs:
-                changed[path] = changed[path].replace(old, new)
-        for path in paths:
-            with open(os.path.join(folder, path), "w", encoding="utf-8") as file:
-                file.write(changed[path])
-        ran = subprocess.run(["rt", "check"], cwd=folder, stdin=subprocess.DEVNULL, stdout=subprocess.PIPE,
-                             stderr=subprocess.STDOUT, errors="replace")
-        for path in paths:
-            with open(os.path.join(folder, path), "w", encoding="utf-8") as file:
-                file.write(texts[path])
-        if not re.search(r"^logic=not-proved", ran.stdout, re.M):
-            continue
-        said = re.findall(r"^(?:\./)?(src/\S+?):(\d+):\d+: error: (.*)", ran.stdout, re.M)
-        for name, (path, number), _ in group:
-            begin, end = bodies(changed[path])[number]
-            words = next((words for file, row, words in said if file == path and begin <= int(row) <= end), None)
+                texts[path] = texts.get(path, text_of(path)).replace(old, new)
+        said = said_of(folder, texts)
+        for name, (file, number), _ in group:
+            first, _, last = bodies(texts[os.path.join(folder, file)])[number]
+            words = next((words for path, row, words in said if path == file and first <= int(row) <= last), None)
             if words:
                 told[name] = "refused", words
     return told
@@ -200,7 +206,6 @@ def work(crates, lists, counts, printing, together):
                 return
             results = refused_together(room, crate, lists[crate]) if together else {}
             left = {name: it for name, it in lists[crate].items() if name not in results}
-            # (one that is proved without its edits, and that alone, needs no check of its own)
             results |= tried(room, crate, left) if len(left) > 1 else {}
             with printing:
                 for name, (kind, words) in results.items():
