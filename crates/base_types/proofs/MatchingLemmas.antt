@@ -1,7 +1,5 @@
 -- Entries and patterns, told by the parts that `strip_prefix` and `strip_suffix` find.
-use Rattle.std.proofs.Common.{◌≡◌, ◌≢◌, ℕ, ◌+◌, ◌-◌, ◌<◌, Bool, true, false, List, [], ◌∷◌, ◌++◌, length, take, drop, Option, Some, None, Decides, refl, sym, ap, ◌∙◌, inl, inr, arith, codes, bytes_eq, nat_eq, length-append}
-use Rattle.std.specs.Prelude.{MatchOption}
-use Rattle.std.specs.Borrow.{Bor}
+use Rattle.std.proofs.Common.{◌≡◌, ◌≢◌, ℕ, ◌+◌, ◌-◌, Bool, true, false, List, [], ◌∷◌, ◌++◌, length, take, drop, Some, Decides, refl, sym, ap, ◌∙◌, arith, codes, bytes_eq, nat_eq, length-append}
 use Rattle.std.specs.List.{starts_with, ends_with}
 use Rattle.std.specs.Str.Pattern.{FindsTextPrefix}
 use Rattle.std.proofs.lemmas.Bool.{cond-true, cond-false, false_from_ne_true}

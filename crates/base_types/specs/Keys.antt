@@ -28,6 +28,13 @@ pub record IsJoined (word first second third last : List ℕ) : Type 0 where
   pub second_whole : HasNoSlash second
   pub third_whole : HasNoSlash third
 
+-- the two words write these two texts
+pub record AreWritten (first second one two : List ℕ) : Type 0 where
+  pub first_text : IsUtf8 one
+  pub second_text : IsUtf8 two
+  pub first_written : first ≡ escaped one
+  pub second_written : second ≡ escaped two
+
 -- the key of an object: its parts are texts, and it has a resource and a name
 pub record IsNamed (key : ObjectKey) : Type 0 where
   pub group : IsUtf8 key.group

@@ -1,6 +1,6 @@
-ghost use Rattle.std.specs.Prelude.{◌≡◌, ◌≢◌, IfOk, IfSome, IfNone, IsTrue, ◌↔◌};
+ghost use Rattle.std.specs.Prelude.{◌≡◌, ◌≢◌, List, ℕ, IfOk, IfSome, IfNone, IsTrue, ◌↔◌};
 ghost use Rattle.base_types.specs.declared.key.ObjectKey.{ObjectKey};
-ghost use Rattle.base_types.specs.Keys.{key_spelling, same_key, HasNoSlash, IsCut, IsJoined, IsNamed, SpellsAlone};
+ghost use Rattle.base_types.specs.Keys.{key_spelling, same_key, AreWritten, HasNoSlash, IsCut, IsJoined, IsNamed, SpellsAlone};
 ghost use Rattle.base_types.specs.Covers.{TakesName, Covers, NamesExactly};
 
 use crate::escaping::{append_escaped, unescape};
@@ -74,6 +74,26 @@ fn split_key(word: &str) -> Option<KeyWords<'_>>
     })
 }
 
+// The texts that two words write, if both write one.
+fn unescape_both(
+    alloc: Global,
+    first: &str,
+    second: &str,
+) -> Result<Option<(Text, Text)>, OutOfMemory>
+    ensures some { IfOk result (λ found. IfSome found (λ texts.
+        AreWritten first.now second.now texts.0 texts.1)) }
+    ensures none { IfOk result (λ found. IfNone found ((one two : List ℕ) →
+        ¬ (AreWritten first.now second.now one two))) }
+{
+    let Some(one) = unescape(alloc, first)? else {
+        return Ok(None);
+    };
+    let Some(two) = unescape(alloc, second)? else {
+        return Ok(None);
+    };
+    Ok(Some((one, two)))
+}
+
 /// Reads the text that `key_text` gives of a key with a resource and a name.
 pub fn read_key(alloc: Global, word: &str) -> Result<Option<ObjectKey>, OutOfMemory>
     ensures some { IfOk result (λ found. IfSome found (λ key. word.now ≡ key_spelling key)) }
@@ -88,16 +108,10 @@ pub fn read_key(alloc: Global, word: &str) -> Result<Option<ObjectKey>, OutOfMem
     if words.resource.is_empty() || words.name.is_empty() {
         return Ok(None);
     }
-    let Some(group) = unescape(alloc, words.group)? else {
+    let Some((group, resource)) = unescape_both(alloc, words.group, words.resource)? else {
         return Ok(None);
     };
-    let Some(resource) = unescape(alloc, words.resource)? else {
-        return Ok(None);
-    };
-    let Some(namespace) = unescape(alloc, words.namespace)? else {
-        return Ok(None);
-    };
-    let Some(name) = unescape(alloc, words.name)? else {
+    let Some((namespace, name)) = unescape_both(alloc, words.namespace, words.name)? else {
         return Ok(None);
     };
     Ok(Some(ObjectKey {

@@ -17,42 +17,46 @@ returns-then-is_empty-clause-none c = λ key is e.
 pub returns-in_default-2-clause-none : goal.returns-in_default-2-clause-none
 returns-in_default-2-clause-none c = λ key is e.
     let same = same_parts c.args.word.now _ _ _ _ key c.in-Some.ensures.some e in
-    (rw c.in_default-2.is at c.in_ok-group.ensures.none) key.group is.group same.group
+    (rw c.in_default-2.is at c.in_ok-group.ensures.none) key.group key.resource (record {
+      first_text = is.group;
+      second_text = is.resource;
+      first_written = same.group;
+      second_written = same.resource;
+    })
 
 pub returns-in_default-3-clause-none : goal.returns-in_default-3-clause-none
 returns-in_default-3-clause-none c = λ key is e.
     let same = same_parts c.args.word.now _ _ _ _ key c.in-Some.ensures.some e in
-    (rw c.in_default-3.is at c.in_ok-resource.ensures.none) key.resource is.resource same.resource
-
-pub returns-in_default-4-clause-none : goal.returns-in_default-4-clause-none
-returns-in_default-4-clause-none c = λ key is e.
-    let same = same_parts c.args.word.now _ _ _ _ key c.in-Some.ensures.some e in
-    (rw c.in_default-4.is at c.in_ok-namespace.ensures.none) key.namespace is.namespace same.namespace
-
-pub returns-in_default-5-clause-none : goal.returns-in_default-5-clause-none
-returns-in_default-5-clause-none c = λ key is e.
-    let same = same_parts c.args.word.now _ _ _ _ key c.in-Some.ensures.some e in
-    (rw c.in_default-5.is at c.in_ok-name.ensures.none) key.name is.name same.name
+    (rw c.in_default-3.is at c.in_ok-namespace.ensures.none) key.namespace key.name (record {
+      first_text = is.namespace;
+      second_text = is.name;
+      first_written = same.namespace;
+      second_written = same.name;
+    })
 
 pub returns-clause-named : goal.returns-clause-named
 returns-clause-named c =
     let resource_some : 0 < length c.in-Some.words.resource.now = grind (arith, common_steps) in
     let name_some : 0 < length c.in-Some.words.name.now = grind (arith, common_steps) in
+    let front = rw c.in-Some-2.is at c.in_ok-group.ensures.some in
+    let back = rw c.in-Some-3.is at c.in_ok-namespace.ensures.some in
     record {
-      group = rw c.in-Some-2.is at c.in_ok-group.ensures.utf8;
-      resource = rw c.in-Some-3.is at c.in_ok-resource.ensures.utf8;
-      namespace = rw c.in-Some-4.is at c.in_ok-namespace.ensures.utf8;
-      name = rw c.in-Some-5.is at c.in_ok-name.ensures.utf8;
-      has_resource = part_some _ _ (rw c.in-Some-3.is at c.in_ok-resource.ensures.some) resource_some;
-      has_name = part_some _ _ (rw c.in-Some-5.is at c.in_ok-name.ensures.some) name_some;
+      group = front.first_text;
+      resource = front.second_text;
+      namespace = back.first_text;
+      name = back.second_text;
+      has_resource = part_some _ _ front.second_written resource_some;
+      has_name = part_some _ _ back.second_written name_some;
     }
 
 pub returns-clause-alone : goal.returns-clause-alone
 returns-clause-alone c = λ other e.
+    let front = rw c.in-Some-2.is at c.in_ok-group.ensures.some in
+    let back = rw c.in-Some-3.is at c.in_ok-namespace.ensures.some in
     let spelled = spelled_by c.args.word.now _ _ _ _ _ c.in-Some.ensures.some (record {
-      group = rw c.in-Some-2.is at c.in_ok-group.ensures.some;
-      resource = rw c.in-Some-3.is at c.in_ok-resource.ensures.some;
-      namespace = rw c.in-Some-4.is at c.in_ok-namespace.ensures.some;
-      name = rw c.in-Some-5.is at c.in_ok-name.ensures.some;
+      group = front.first_written;
+      resource = front.second_written;
+      namespace = back.first_written;
+      name = back.second_written;
     }) in
     key_spelling_injective other _ (sym e ∙ spelled)

@@ -1,4 +1,4 @@
-use Rattle.std.proofs.Common.{◌≡◌, sym, ◌∙◌, lit<}
+use Rattle.std.proofs.Common.{sym, ◌∙◌, lit<}
 use Rattle.std.proofs.lemmas.Str.Pattern.{strip_prefix_char}
 use Rattle.base_types.proofs.MatchingLemmas.{begins_from_strip, combined_by_rest, not_combined, told_behind, told_none}
 use Rattle.base_types.proofs.matching.is_combined.Goals as goal

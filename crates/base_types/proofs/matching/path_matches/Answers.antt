@@ -1,4 +1,4 @@
-use Rattle.std.proofs.Common.{◌≡◌, ◌∙◌, ap, sym, nat_eq, lit<}
+use Rattle.std.proofs.Common.{◌∙◌, ap, sym, nat_eq, lit<}
 use Rattle.std.specs.List.{starts_with}
 use Rattle.std.proofs.lemmas.Str.Pattern.{strip_suffix_char, starts_text}
 use Rattle.base_types.proofs.MatchingLemmas.{front_matches, whole_matches}
