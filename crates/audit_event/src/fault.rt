@@ -1,45 +1,34 @@
 use base_types::OutOfMemory;
 use std::alloc::{AllocError, AllocFailed};
+use std::fmt;
 use thiserror::Error;
 
 /// The rules of audit events, in the order in which they are judged.
-#[derive(Clone, Copy, Debug, PartialEq, Eq, PartialOrd, Ord, Error)]
+#[derive(Clone, Copy, Debug, PartialEq, Eq, PartialOrd, Ord)]
 pub enum Malformed {
     /// The line isn't one JSON text in UTF-8.
-    #[error("M1")]
     M1,
     /// It isn't an object with `kind` `Event` and `apiVersion` `audit.k8s.io/v1`.
-    #[error("M2")]
     M2,
     /// `level` isn't `Metadata`, `Request` or `RequestResponse`.
-    #[error("M3")]
     M3,
     /// `stage` isn't `RequestReceived`, `ResponseStarted`, `ResponseComplete` or `Panic`.
-    #[error("M4")]
     M4,
     /// `requestReceivedTimestamp` or `stageTimestamp` is no timestamp, or the stage is before the receipt.
-    #[error("M5")]
     M5,
     /// A number outside the bodies isn't whole or not in -2^63 to 2^64 - 1.
-    #[error("M6")]
     M6,
     /// `auditID` isn't a text with at least one byte.
-    #[error("M7")]
     M7,
     /// `requestURI` isn't a text.
-    #[error("M8")]
     M8,
     /// `verb` isn't a text with at least one byte, or the URI has no attributes.
-    #[error("M9")]
     M9,
     /// `user` or `impersonatedUser` isn't of the form of a UserInfo.
-    #[error("M10")]
     M10,
     /// `responseStatus` isn't an object, or its `code` isn't a whole number from 0 to 999.
-    #[error("M11")]
     M11,
     /// The event differs from an earlier one of its audit ID and stage.
-    #[error("M12")]
     M12,
 }
 
@@ -67,6 +56,19 @@ impl Malformed {
         }
     }
 }
+
+impl fmt::Display for Malformed {
+    ghost use Rattle.audit_event.specs.Rules.{rank};
+    ghost use Rattle.std.specs.Prelude.{Some, ◌++◌, codes, decimal};
+
+    ghost output = { λ rule. Some (codes "M" ++ decimal (rank rule)) };
+
+    fn fmt<W: fmt::Write>(&self, f: &mut fmt::Formatter<W>) -> fmt::Result {
+        write!(f, "M{}", self.number())
+    }
+}
+
+impl std::error::Error for Malformed {}
 
 /// Why a line or a JSON value is no event.
 #[derive(Clone, Copy, Debug, PartialEq, Eq, Error)]
