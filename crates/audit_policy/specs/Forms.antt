@@ -7,7 +7,7 @@ use Rattle.base_types.specs.declared.request.PolicyLevel.{PolicyLevel}
 use Rattle.base_types.specs.declared.request.PolicyLevel.TheVariants.{NoLevel, Set}
 use Rattle.base_types.specs.Meaning.{Meaning}
 use Rattle.base_types.specs.Parts.{member_of, text_of, items_of, members_of}
-use Rattle.base_types.specs.Texts.{◌>>=◌, texts_of, texts_at, text_at}
+use Rattle.base_types.specs.Texts.{◌>>=◌, texts_at, text_at}
 use Rattle.audit_policy.specs.declared.policy.AuditRule.{AuditRule}
 use Rattle.audit_policy.specs.declared.policy.GroupResources.{GroupResources}
 use Rattle.audit_policy.specs.declared.policy.Policy.{Policy}

@@ -1,5 +1,5 @@
 -- When a rule of a policy takes a request (Kubernetes "Auditing", "Audit policy"). An empty list puts no condition.
-use Rattle.std.specs.Prelude.{◌==◌, ◌&&◌, ◌||◌, Bool, not, List, ℕ, ◌++◌, length, bytes_eq, codes}
+use Rattle.std.specs.Prelude.{◌==◌, ◌&&◌, ◌||◌, Bool, not, List, ℕ, length, bytes_eq, codes}
 use Rattle.std.specs.List.{list_any}
 use Rattle.base_types.specs.Matching.{has_text, path_matches, combined}
 use Rattle.base_types.specs.declared.request.RequestAttrs.{RequestAttrs}

@@ -1,13 +1,15 @@
-ghost use Rattle.std.specs.Prelude.{◌≡◌, ◌+◌, IfOk, IfErr, option_map, min, ◌-◌, ◌^◌};
+ghost use Rattle.std.specs.Prelude.{◌≡◌, ◌+◌, ◌&&◌, IfOk, IfErr, Some, option_map, min, codes, bytes_eq, ◌-◌, ◌^◌};
+ghost use Rattle.base_types.specs.Parts.{member_of};
+ghost use Rattle.base_types.specs.Texts.{◌>>=◌ as ◌and_then◌, texts_at};
 ghost use Rattle.audit_policy.specs.Forms.{level_named, with_stage, no_stages, stages_with, stages_at};
-ghost use Rattle.audit_policy.specs.Forms.{group_or_core, item_of, items_in, items_or_none, mixes_kinds, rule_of};
-ghost use Rattle.audit_policy.specs.Forms.{rules_from, heading, policy_of, IsRulesCause, IsCause};
+ghost use Rattle.audit_policy.specs.Forms.{group_or_core, item_of, items_in, items_or_none, mixes_kinds, unmixed};
+ghost use Rattle.audit_policy.specs.Forms.{rule_of, rules_from, heading, policy_of, IsRulesCause, IsCause};
 
 use crate::policy::{
     AuditRule, AuditRules, GroupResources, GroupResourcesList, Policy, PolicyFault,
 };
 use base_types::json::{Tree, Trees};
-use base_types::{Level, OutOfMemory, PolicyLevel, StageSet, Text};
+use base_types::{Level, OutOfMemory, PolicyLevel, StageSet, Text, Texts};
 use std::alloc::Global;
 
 fn level_named(name: &str) -> Option<PolicyLevel>
@@ -133,15 +135,27 @@ fn mixes_kinds(rule: &AuditRule) -> bool
     !rule.non_resource_urls.is_empty() && !(rule.resources.is_empty() && rule.namespaces.is_empty())
 }
 
-fn read_rule(alloc: Global, tree: &Tree) -> Result<Option<AuditRule>, OutOfMemory>
-    ensures { IfOk result (λ found. found ≡ rule_of tree.now) }
+// Who asks and how, as a rule lists it.
+#[derive(Drop)]
+struct Callers {
+    users: Texts,
+    user_groups: Texts,
+    verbs: Texts,
+}
+
+// What is asked for, as a rule lists it.
+#[derive(Drop)]
+struct Targets {
+    namespaces: Texts,
+    non_resource_urls: Texts,
+    resources: GroupResourcesList,
+}
+
+fn read_callers(alloc: Global, tree: &Tree) -> Result<Option<Callers>, OutOfMemory>
+    ensures { IfOk result (λ found. found ≡ (texts_at (codes "users") tree.now and_then λ users.
+        texts_at (codes "userGroups") tree.now and_then λ groups. texts_at (codes "verbs") tree.now and_then λ verbs.
+        Some (record { users = users; user_groups = groups; verbs = verbs }))) }
 {
-    let Some(name) = tree.text_at("level") else {
-        return Ok(None);
-    };
-    let Some(level) = level_named(name.as_str()) else {
-        return Ok(None);
-    };
     let Some(users) = tree.texts_at(alloc, "users")? else {
         return Ok(None);
     };
@@ -151,6 +165,19 @@ fn read_rule(alloc: Global, tree: &Tree) -> Result<Option<AuditRule>, OutOfMemor
     let Some(verbs) = tree.texts_at(alloc, "verbs")? else {
         return Ok(None);
     };
+    Ok(Some(Callers {
+        users,
+        user_groups,
+        verbs,
+    }))
+}
+
+fn read_targets(alloc: Global, tree: &Tree) -> Result<Option<Targets>, OutOfMemory>
+    ensures { IfOk result (λ found. found ≡ (texts_at (codes "namespaces") tree.now and_then λ namespaces.
+        texts_at (codes "nonResourceURLs") tree.now and_then λ urls.
+        items_or_none (member_of (codes "resources") tree.now) and_then λ resources.
+        Some (record { namespaces = namespaces; non_resource_urls = urls; resources = resources }))) }
+{
     let Some(namespaces) = tree.texts_at(alloc, "namespaces")? else {
         return Ok(None);
     };
@@ -160,23 +187,55 @@ fn read_rule(alloc: Global, tree: &Tree) -> Result<Option<AuditRule>, OutOfMemor
     let Some(resources) = read_resources(alloc, tree.member("resources"))? else {
         return Ok(None);
     };
-    let Some(omitted) = stages_at(tree) else {
-        return Ok(None);
-    };
-    let rule = AuditRule {
-        level,
-        users,
-        user_groups,
-        verbs,
+    Ok(Some(Targets {
         namespaces,
         non_resource_urls,
         resources,
-        omitted,
-    };
-    if mixes_kinds(&rule) {
+    }))
+}
+
+// The rule, unless it has conditions of both kinds.
+fn unmixed(rule: AuditRule) -> Option<AuditRule>
+    ensures { result ≡ unmixed rule }
+{
+    if mixes_kinds(&rule) { None } else { Some(rule) }
+}
+
+fn read_rule(alloc: Global, tree: &Tree) -> Result<Option<AuditRule>, OutOfMemory>
+    ensures { IfOk result (λ found. found ≡ rule_of tree.now) }
+{
+    let Some(name) = tree.text_at("level") else {
         return Ok(None);
-    }
-    Ok(Some(rule))
+    };
+    let Some(level) = level_named(name.as_str()) else {
+        return Ok(None);
+    };
+    let Some(callers) = read_callers(alloc, tree)? else {
+        return Ok(None);
+    };
+    let Some(targets) = read_targets(alloc, tree)? else {
+        return Ok(None);
+    };
+    let Some(omitted) = stages_at(tree) else {
+        return Ok(None);
+    };
+    Ok(unmixed(AuditRule {
+        level,
+        users: callers.users,
+        user_groups: callers.user_groups,
+        verbs: callers.verbs,
+        namespaces: targets.namespaces,
+        non_resource_urls: targets.non_resource_urls,
+        resources: targets.resources,
+        omitted,
+    }))
+}
+
+// Whether an object of this kind and version is a policy.
+fn is_policy(kind: &Text, version: &Text) -> bool
+    ensures { result ≡ (bytes_eq kind.now (codes "Policy") && bytes_eq version.now (codes "audit.k8s.io/v1")) }
+{
+    kind.as_str() == "Policy" && version.as_str() == "audit.k8s.io/v1"
 }
 
 // The omitted stages and the rules' trees of an object that says that it is a policy.
@@ -187,10 +246,11 @@ fn heading(tree: &Tree) -> Option<(StageSet, &Trees)>
     let version = tree.text_at("apiVersion")?;
     let rules = tree.member("rules")?.as_items()?;
     let omitted = stages_at(tree)?;
-    if kind.as_str() != "Policy" || version.as_str() != "audit.k8s.io/v1" {
-        return None;
+    if is_policy(kind, version) {
+        Some((omitted, rules))
+    } else {
+        None
     }
-    Some((omitted, rules))
 }
 
 // A rule's number, which counts from 1.

@@ -1,9 +1,10 @@
 -- Lists in chunks, and what changes in them.
-use Rattle.std.proofs.Common.{◌≡◌, ◌==◌, IsTrue, ℕ, zero, suc, ◌+◌, ◌<◌, ◌≤◌, List, [], ◌∷◌, ◌++◌, length, get_or, set, take, drop, refl, sym, ap, ◌∙◌, append_assoc, append-nil, arith}
+use Rattle.std.proofs.Common.{◌≡◌, ◌==◌, IsTrue, ℕ, zero, suc, ◌+◌, ◌<◌, ◌≤◌, List, [], ◌∷◌, ◌++◌, length, get_or, set, take, drop, refl, sym, ap, subst, ◌∙◌, append_assoc, append-nil, arith}
 use Rattle.std.specs.Prelude.{insert, remove}
 use Rattle.std.proofs.lemmas.Bool.{eqb-true}
 use Rattle.std.proofs.lemmas.List.{length-append, get_or-append-add, get_or_append_left, set-append_left, take_more, drop_more, take_all, take_at, take-append-drop, append_cancel_left, get_or_read}
 use Rattle.std.proofs.lemmas.List.Concat.{flat_map-append}
+use Rattle.std.proofs.lemmas.List.Folds.{length-flat_map-take}
 use Rattle.json_patch.specs.Joined.{joined, IsPlaceIn, number_of}
 use Rattle.json_patch.specs.declared.chunks.Place.{Place}
 
@@ -112,6 +113,10 @@ joined_push parts part = flat_map-append (λ p. p) parts (part ∷ []) ∙ ap (�
 
 pub joined_more : {X : Type 0} (parts : List (List X)) (i : ℕ) (part : List X) → i < length parts → part ≡ get_or parts i part → joined (take (i + 1) parts) ≡ joined (take i parts) ++ part
 joined_more parts i part within is = ap joined (take_more parts i part within ∙ ap (λ p. take i parts ++ p ∷ []) (sym is)) ∙ joined_push (take i parts) part
+
+-- the chunks up to one have no more items than all of them
+pub counted_within : {X : Type 0} (parts : List (List X)) (i : ℕ) (part : List X) → i < length parts → part ≡ get_or parts i part → length (joined (take i parts)) + length part ≤ length (joined parts)
+counted_within parts i part within is = subst (λ p. length (joined (take i parts)) + length p ≤ length (joined parts)) (sym is) (length-flat_map-take (λ p. p) parts i part within)
 
 pub joined_drop : {X : Type 0} (parts : List (List X)) (i : ℕ) (part : List X) → i < length parts → part ≡ get_or parts i part → joined (drop i parts) ≡ part ++ joined (drop (i + 1) parts)
 joined_drop parts i part within is = ap joined (drop_more parts i part within) ∙ ap (λ p. p ++ joined (drop (i + 1) parts)) (sym is)

@@ -1,4 +1,4 @@
-ghost use Rattle.std.specs.Prelude.{◌≡◌, ◌-◌, ◌^◌, ◌<◌, min, length, Ok, IfOk, IfErr};
+ghost use Rattle.std.specs.Prelude.{◌≡◌, ◌-◌, ◌^◌, ◌<◌, min, length, Ok, IfOk, IfErr, OnOk};
 ghost use Rattle.std.specs.Option.{ForSome};
 ghost use Rattle.base_types.specs.Meaning.{Meaning};
 ghost use Rattle.json_patch.specs.Changes.{IsChange, IsWithin, Tells, IsFaultOf};
@@ -56,10 +56,22 @@ pub fn apply(alloc: Global, tree: &Tree, patch: &Patch) -> Result<Tree, ApplyFau
         Ok(made) => made,
         Err(OutOfMemory) => return Err(ApplyFault::OutOfMemory),
     };
+    apply_all(alloc, &mut made, patch)?;
+    match tree_of(alloc, &made) {
+        Ok(tree) => Ok(tree),
+        Err(OutOfMemory) => Err(ApplyFault::OutOfMemory),
+    }
+}
+
+// The operations in order on a draft.
+fn apply_all(alloc: Global, made: &mut Draft, patch: &Patch) -> Result<(), ApplyFault>
+    ensures ok { OnOk result (applied 0 patch.now made.old ≡ Ok made.new) }
+    ensures fault { IfErr result (IsFaultOf (applied 0 patch.now made.old)) }
+{
     let ops = patch.as_slice();
     let mut known = None;
     for index in 0..ops.len() {
-        match step(alloc, &mut made, known, &ops[index]) {
+        match step(alloc, made, known, &ops[index]) {
             Ok(count) => known = Some(count),
             Err(Refusal::Cause(cause)) => {
                 let index = index as u32;
@@ -68,10 +80,7 @@ pub fn apply(alloc: Global, tree: &Tree, patch: &Patch) -> Result<Tree, ApplyFau
             Err(Refusal::OutOfMemory) => return Err(ApplyFault::OutOfMemory),
         }
     }
-    match tree_of(alloc, &made) {
-        Ok(tree) => Ok(tree),
-        Err(OutOfMemory) => Err(ApplyFault::OutOfMemory),
-    }
+    Ok(())
 }
 
 // One operation with its limits, and how many values the document then has. `known` is that number before

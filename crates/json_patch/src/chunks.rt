@@ -1,5 +1,5 @@
-ghost use Rattle.std.specs.Prelude.{◌≡◌, ◌<◌, ◌≤◌, ◌+◌, ◌++◌, ◌∷◌, [], length, get_or, set, insert, remove};
-ghost use Rattle.std.specs.Prelude.{Some, IfOk, IfErr, OnOk, IfSome, IfNone, None, option_map, option_and_then};
+ghost use Rattle.std.specs.Prelude.{◌≡◌, ◌<◌, ◌≤◌, ◌+◌, ◌^◌, ◌++◌, ◌∷◌, [], length, get_or, set, insert, remove};
+ghost use Rattle.std.specs.Prelude.{Some, IfOk, IfErr, OnOk, OnErr, IfSome, IfNone, None, option_map, option_and_then};
 ghost use Rattle.base_types.specs.Meaning.{kids_of};
 ghost use Rattle.base_types.specs.Pointers.{index_of, kid_at};
 ghost use Rattle.json_patch.specs.Joined.{joined, IsPlaceIn, number_of};
@@ -80,7 +80,8 @@ impl Chunks {
 
     /// How many items there are. There is no memory for more than a `usize` counts.
     pub fn len(&self) -> Result<usize, OutOfMemory>
-        ensures { IfOk result (λ count. count ≡ length self.now) }
+        ensures count { IfOk result (λ count. count ≡ length self.now) }
+        ensures uncounted { OnErr result (2 ^ 64 ≤ length self.now) }
     {
         count(&self.parts)
     }
@@ -118,8 +119,9 @@ impl Chunks {
 impl Chunks {
     /// The item at an index, where the token of a pointer is one.
     pub fn item(&self, token: &str) -> Result<Option<&Draft>, OutOfMemory>
-        ensures { IfOk result (λ found. option_map (λ t. t.now) found ≡
+        ensures item { IfOk result (λ found. option_map (λ t. t.now) found ≡
             option_and_then (λ n. kid_at n (kids_of self.now)) (index_of token.now)) }
+        ensures uncounted { OnErr result (2 ^ 64 ≤ length self.now) }
     {
         match find(&self.parts, token)? {
             Some(place) => {
@@ -132,7 +134,8 @@ impl Chunks {
 }
 
 fn count(parts: &[Chunk]) -> Result<usize, OutOfMemory>
-    ensures { IfOk result (λ count. count ≡ length (joined parts.now)) }
+    ensures count { IfOk result (λ count. count ≡ length (joined parts.now)) }
+    ensures uncounted { OnErr result (2 ^ 64 ≤ length (joined parts.now)) }
 {
     let mut count = 0usize;
     for part in parts {
@@ -151,6 +154,7 @@ pub fn find(parts: &[Chunk], token: &str) -> Result<Option<Place>, OutOfMemory>
         Some (number_of parts.now place))) }
     ensures none { IfOk result (λ found. IfNone found (option_and_then (λ n. kid_at n (kids_of (joined parts.now)))
         (index_of token.now) ≡ None)) }
+    ensures uncounted { OnErr result (2 ^ 64 ≤ length (joined parts.now)) }
 {
     match read_index(token) {
         Some(index) => match locate(parts, index) {

@@ -1,11 +1,11 @@
-ghost use Rattle.std.specs.Prelude.{◌≡◌, ◌+◌, ◌<◌, ℕ, Ok, IfOk, IfErr, OnOk, length, [], ◌∷◌, Some};
+ghost use Rattle.std.specs.Prelude.{◌≡◌, ◌+◌, ◌<◌, ℕ, Ok, IfOk, IfErr, OnOk, length, [], ◌∷◌, Some, None};
 ghost use Rattle.base_types.specs.Edits.{put};
 ghost use Rattle.base_types.specs.Meaning.{items, members, kids_of, fields_of};
 ghost use Rattle.base_types.specs.Names.{AreSorted};
 ghost use Rattle.base_types.specs.Parts.{lookup};
 ghost use Rattle.base_types.specs.Pointers.{child_of, pointed};
 ghost use Rattle.json_patch.specs.Edits.{edited_at, change_of, missing_of, edited, RefusedBy, IsTaken, IsEdited};
-ghost use Rattle.json_patch.specs.Effects.{place_of};
+ghost use Rattle.json_patch.specs.Effects.{place_of, added_in, removed_in, replaced_in};
 
 use crate::chunks::{find, remove_at, replace_at};
 use crate::draft::{Chunks, Draft, DraftMembers, DraftNode};
@@ -231,21 +231,54 @@ fn edit_item(
     ensures refused { IfErr result (RefusedBy (change_of edit token.now (items (kids_of list.old)))) }
 {
     match edit {
-        Edit::Add(value) => match place_of(token, list.len()?) {
-            Some(at) => {
-                list.insert(alloc, at, value)?;
-                Ok(None)
-            }
-            None => Err(Refusal::Cause(ApplyCause::BadIndex)),
-        },
-        Edit::Remove => match find(&list.parts, token)? {
-            Some(place) => Ok(Some(remove_at(&mut list.parts, place))),
-            None => Err(Refusal::Cause(ApplyCause::NoValue)),
-        },
-        Edit::Replace(value) => match find(&list.parts, token)? {
-            Some(place) => Ok(Some(replace_at(&mut list.parts, place, value))),
-            None => Err(Refusal::Cause(ApplyCause::NoValue)),
-        },
+        Edit::Add(value) => {
+            add_item(alloc, list, token, value)?;
+            Ok(None)
+        }
+        Edit::Remove => Ok(Some(remove_item(list, token)?)),
+        Edit::Replace(value) => Ok(Some(replace_item(list, token, value)?)),
+    }
+}
+
+fn add_item(alloc: Global, list: &mut Chunks, token: &str, value: Draft) -> Result<(), Refusal>
+    ensures done { OnOk result (added_in value token.now (items (kids_of list.old)) ≡ Ok (items (kids_of list.new))) }
+    ensures size { OnOk result (IsEdited (Edit.Add value) 1 (items (kids_of list.old)) (items (kids_of list.new)) None) }
+    ensures refused { IfErr result (RefusedBy (added_in value token.now (items (kids_of list.old)))) }
+{
+    match place_of(token, list.len()?) {
+        Some(at) => {
+            list.insert(alloc, at, value)?;
+            Ok(())
+        }
+        None => Err(Refusal::Cause(ApplyCause::BadIndex)),
+    }
+}
+
+// Takes an item out, and answers it.
+fn remove_item(list: &mut Chunks, token: &str) -> Result<Draft, Refusal>
+    ensures done { OnOk result (removed_in token.now (items (kids_of list.old)) ≡ Ok (items (kids_of list.new))) }
+    ensures taken { IfOk result (λ left. child_of token.now (items (kids_of list.old)) ≡ Some left) }
+    ensures size { IfOk result (λ left.
+        IsEdited Edit.Remove 1 (items (kids_of list.old)) (items (kids_of list.new)) (Some left)) }
+    ensures refused { IfErr result (RefusedBy (removed_in token.now (items (kids_of list.old)))) }
+{
+    match find(&list.parts, token)? {
+        Some(place) => Ok(remove_at(&mut list.parts, place)),
+        None => Err(Refusal::Cause(ApplyCause::NoValue)),
+    }
+}
+
+// Puts a value in the place of an item, and answers the item.
+fn replace_item(list: &mut Chunks, token: &str, value: Draft) -> Result<Draft, Refusal>
+    ensures done { OnOk result (replaced_in value token.now (items (kids_of list.old)) ≡ Ok
+        (items (kids_of list.new))) }
+    ensures size { IfOk result (λ left.
+        IsEdited (Edit.Replace value) 1 (items (kids_of list.old)) (items (kids_of list.new)) (Some left)) }
+    ensures refused { IfErr result (RefusedBy (replaced_in value token.now (items (kids_of list.old)))) }
+{
+    match find(&list.parts, token)? {
+        Some(place) => Ok(replace_at(&mut list.parts, place, value)),
+        None => Err(Refusal::Cause(ApplyCause::NoValue)),
     }
 }
 

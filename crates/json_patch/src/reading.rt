@@ -1,5 +1,5 @@
-ghost use Rattle.std.specs.Prelude.{◌≡◌, ℕ, List, Ok, IfOk, IfErr, codes};
-ghost use Rattle.json_patch.specs.Reading.{pointer_at, pair_of, op_of, patch_of, IsPatchFault};
+ghost use Rattle.std.specs.Prelude.{◌≡◌, ℕ, List, None, Ok, IfOk, IfErr, bytes_eq, codes, if◌then◌else◌};
+ghost use Rattle.json_patch.specs.Reading.{pointer_at, pair_of, with_value, with_from, op_of, patch_of, IsPatchFault};
 ghost use Rattle.base_types.specs.Parts.{member_of};
 
 use crate::fault::PatchFault;
@@ -42,30 +42,34 @@ fn read_op(alloc: Global, tree: &Tree) -> Result<Option<Op>, OutOfMemory>
         return Ok(None);
     };
     match name.as_str() {
-        "add" => match read_path_and_value(alloc, tree)? {
-            Some((path, value)) => Ok(Some(Op::Add { path, value })),
-            None => Ok(None),
-        },
-        "remove" => match read_path(alloc, tree, "path")? {
-            Some(path) => Ok(Some(Op::Remove { path })),
-            None => Ok(None),
-        },
-        "replace" => match read_path_and_value(alloc, tree)? {
-            Some((path, value)) => Ok(Some(Op::Replace { path, value })),
-            None => Ok(None),
-        },
-        "move" => match read_from_and_path(alloc, tree)? {
-            Some((from, path)) => Ok(Some(Op::Move { from, path })),
-            None => Ok(None),
-        },
-        "copy" => match read_from_and_path(alloc, tree)? {
-            Some((from, path)) => Ok(Some(Op::Copy { from, path })),
-            None => Ok(None),
-        },
-        "test" => match read_path_and_value(alloc, tree)? {
-            Some((path, value)) => Ok(Some(Op::Test { path, value })),
-            None => Ok(None),
-        },
+        "add" => {
+            Ok(read_path_and_value(alloc, tree)?.map(|(path, value)| Op::Add { path, value }))
+        }
+        "remove" => Ok(read_path(alloc, tree, "path")?.map(|path| Op::Remove { path })),
+        "replace" => {
+            Ok(read_path_and_value(alloc, tree)?.map(|(path, value)| Op::Replace { path, value }))
+        }
+        other => read_other_op(alloc, tree, other),
+    }
+}
+
+// An operation that moves, copies or tests a value.
+fn read_other_op(alloc: Global, tree: &Tree, name: &str) -> Result<Option<Op>, OutOfMemory>
+    ensures { IfOk result (λ op. op ≡
+        (if bytes_eq name.now (codes "move") then with_from Op.Move tree.now
+        else (if bytes_eq name.now (codes "copy") then with_from Op.Copy tree.now
+        else (if bytes_eq name.now (codes "test") then with_value Op.Test tree.now else None)))) }
+{
+    match name {
+        "move" => {
+            Ok(read_from_and_path(alloc, tree)?.map(|(from, path)| Op::Move { from, path }))
+        }
+        "copy" => {
+            Ok(read_from_and_path(alloc, tree)?.map(|(from, path)| Op::Copy { from, path }))
+        }
+        "test" => {
+            Ok(read_path_and_value(alloc, tree)?.map(|(path, value)| Op::Test { path, value }))
+        }
         _ => Ok(None),
     }
 }

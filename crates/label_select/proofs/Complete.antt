@@ -1,5 +1,5 @@
 -- What a text spells is what the reader finds.
-use Rattle.std.proofs.Common.{◌≡◌, ◌≢◌, ℕ, zero, suc, ◌+◌, ◌<◌, ◌≤◌, Bool, true, false, List, [], ◌∷◌, ◌++◌, length, Option, Some, None, refl, sym, ap, subst, ◌∙◌, inl, inr, ◌⊎◌, ◌==◌, if◌then◌else◌, bytes_eq, codes, arith, append_assoc, append-nil, length-append}
+use Rattle.std.proofs.Common.{◌≡◌, ◌≢◌, ℕ, zero, suc, ◌+◌, ◌<◌, Bool, true, false, List, [], ◌∷◌, ◌++◌, length, Option, Some, None, refl, sym, ap, subst, ◌∙◌, inl, inr, ◌⊎◌, ◌==◌, if◌then◌else◌, bytes_eq, codes, arith, append_assoc, append-nil, length-append}
 use Rattle.std.specs.List.{list_all}
 use Rattle.std.proofs.lemmas.Bool.{false_from_ne_true}
 use Rattle.std.proofs.lemmas.Bool.Decides.{Decides-eqb}
@@ -7,7 +7,7 @@ use Rattle.std.proofs.lemmas.Slice.Eq.{bytes_eq-Decides}
 use Rattle.base_types.specs.Texts.{◌>>=◌}
 use Rattle.label_select.specs.Bytes.{is_in_class, front, behind, after}
 use Rattle.label_select.specs.Grammar.{spaces, IsKey, IsValue, SpellsValue, SpellsItems, SpellsValues, SpellsList, SpellsTest, SpellsMissing, SpellsTested, SpellsBy, SpellsRequirement, SpellsJoined, Spells}
-use Rattle.label_select.specs.Readings.{choose, is_empty, is_key, key_at, value_at, values_by, values_in, list_at, test_by, test_at, requirement_by, requirement_at, joined_by, selector_in, selector_of}
+use Rattle.label_select.specs.Readings.{choose, is_empty, is_key, key_at, value_at, values_in, list_at, test_by, test_at, requirement_by, requirement_at, joined_by, selector_in, selector_of}
 use Rattle.label_select.specs.declared.bytes.Class.{Class}
 use Rattle.label_select.specs.declared.bytes.Class.TheVariants.{Space, Value, Key}
 use Rattle.label_select.specs.declared.selector.Test.{Test}

@@ -1,5 +1,5 @@
 -- Fronts of bytes of a class, spaces and prefixes.
-use Rattle.std.proofs.Common.{◌≡◌, ◌≢◌, ℕ, zero, suc, ◌+◌, ◌-◌, ◌<◌, ◌≤◌, Bool, true, false, List, [], ◌∷◌, ◌++◌, length, take, drop, Option, Some, None, refl, sym, ap, ◌∙◌, ◌==◌, ◌&&◌, if◌then◌else◌, bytes_eq, codes, arith, length-append}
+use Rattle.std.proofs.Common.{◌≡◌, ◌≢◌, ℕ, zero, suc, ◌+◌, ◌-◌, ◌≤◌, Bool, true, false, List, [], ◌∷◌, ◌++◌, length, take, drop, Some, None, refl, sym, ap, ◌∙◌, ◌==◌, ◌&&◌, if◌then◌else◌, bytes_eq, arith, length-append}
 use Rattle.std.specs.List.{list_all}
 use Rattle.std.proofs.lemmas.Bool.{false_from_ne_true}
 use Rattle.std.proofs.lemmas.Bool.Decides.{Decides-eqb}
@@ -10,7 +10,7 @@ use Rattle.label_select.specs.Bytes.{is_in_class, front, behind, after}
 use Rattle.label_select.specs.Grammar.{spaces}
 use Rattle.label_select.specs.Readings.{is_empty}
 use Rattle.label_select.specs.declared.bytes.Class.{Class}
-use Rattle.label_select.specs.declared.bytes.Class.TheVariants.{Space, Value, Key}
+use Rattle.label_select.specs.declared.bytes.Class.TheVariants.{Space}
 
 -- the text doesn't begin with a byte of the class
 abbrev pub Stops : Class → List ℕ → Type 0

@@ -1,11 +1,11 @@
 -- What the reader finds is what the text spells.
-use Rattle.std.proofs.Common.{◌≡◌, ◌≢◌, ℕ, zero, suc, ◌+◌, ◌<◌, ◌≤◌, Bool, true, false, List, [], ◌∷◌, ◌++◌, length, Option, Some, None, refl, sym, ap, subst, ◌∙◌, inl, inr, ◌⊎◌, if◌then◌else◌, codes, arith, append_assoc, append-nil}
+use Rattle.std.proofs.Common.{◌≡◌, ◌≢◌, ℕ, zero, suc, ◌+◌, Bool, true, false, List, [], ◌∷◌, ◌++◌, length, Option, Some, None, refl, sym, ap, subst, ◌∙◌, inl, inr, if◌then◌else◌, codes, arith, append_assoc, append-nil}
 use Rattle.std.specs.List.{list_all}
 use Rattle.std.proofs.lemmas.Bool.Decides.{Decides-eqb}
 use Rattle.base_types.specs.Texts.{◌>>=◌}
 use Rattle.label_select.specs.Bytes.{is_in_class, front, behind, after}
-use Rattle.label_select.specs.Grammar.{spaces, IsKey, IsValue, SpellsValue, SpellsItems, SpellsValues, SpellsList, SpellsTest, SpellsBy, SpellsRequirement, SpellsJoined, Spells}
-use Rattle.label_select.specs.Readings.{choose, is_empty, is_key, key_at, value_at, values_by, values_in, list_at, test_by, test_at, requirement_by, requirement_at, joined_by, selector_in, selector_of}
+use Rattle.label_select.specs.Grammar.{spaces, IsKey, IsValue, SpellsValue, SpellsItems, SpellsValues, SpellsList, SpellsTest, SpellsBy, SpellsRequirement, Spells}
+use Rattle.label_select.specs.Readings.{choose, is_empty, is_key, key_at, value_at, values_in, list_at, test_at, requirement_by, requirement_at, joined_by, selector_in}
 use Rattle.label_select.specs.declared.bytes.Class.TheVariants.{Space, Value, Key}
 use Rattle.label_select.specs.declared.selector.Test.{Test}
 use Rattle.label_select.specs.declared.selector.Test.TheVariants.{Exists, Missing, Is, IsNot, In, NotIn}

@@ -1,5 +1,5 @@
 -- The loops of the reader, step by step.
-use Rattle.std.proofs.Common.{◌≡◌, ℕ, zero, suc, ◌+◌, ◌<◌, ◌≤◌, Bool, true, false, List, [], ◌∷◌, ◌++◌, length, Option, Some, None, refl, sym, ap, ◌∙◌, codes, arith, append_assoc, length-append}
+use Rattle.std.proofs.Common.{◌≡◌, ℕ, zero, suc, ◌<◌, true, false, List, [], ◌∷◌, ◌++◌, length, Option, Some, None, refl, sym, ap, ◌∙◌, codes, arith, append_assoc, length-append}
 use Rattle.base_types.specs.Texts.{◌>>=◌}
 use Rattle.label_select.specs.Bytes.{is_in_class, front, behind, after}
 use Rattle.label_select.specs.Readings.{choose, is_empty, value_at, values_by, values_in, requirement_at, joined_by, selector_in}

@@ -1,7 +1,7 @@
 -- Which texts are selectors, and which requirements each of them spells (Kubernetes "Labels and Selectors", "Label
 -- selectors", in the form that the API server reads). Spaces may stand between tokens, and none stands before the first
 -- token or behind the last one.
-use Rattle.std.specs.Prelude.{◌≡◌, ◌≢◌, ℕ, zero, suc, Bool, true, false, List, [], ◌∷◌, ◌++◌, ◌⊎◌, All, codes}
+use Rattle.std.specs.Prelude.{◌≡◌, ◌≢◌, ℕ, zero, suc, true, List, [], ◌∷◌, ◌++◌, ◌⊎◌, codes}
 use Rattle.std.specs.List.{list_all}
 use Rattle.label_select.specs.Bytes.{is_in_class}
 use Rattle.label_select.specs.declared.bytes.Class.TheVariants.{Value, Key}

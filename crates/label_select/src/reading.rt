@@ -1,8 +1,11 @@
-ghost use Rattle.std.specs.Prelude.{◌≡◌, ◌+◌, List, length, Some, None, Err, IfOk, option_map};
+ghost use Rattle.std.specs.Prelude.{◌≡◌, ◌+◌, ℕ, List, Option, length, Some, None, Err, IfOk, option_map, codes};
+ghost use Rattle.base_types.specs.Texts.{◌>>=◌ as ◌and_then◌};
+ghost use Rattle.label_select.specs.Bytes.{after};
 ghost use Rattle.label_select.specs.Grammar.{Spells};
-ghost use Rattle.label_select.specs.Readings.{is_key, key_at, value_at, values_in, list_at, test_at};
+ghost use Rattle.label_select.specs.Readings.{choose, is_key, key_at, value_at, values_in, list_at, test_at};
 ghost use Rattle.label_select.specs.Readings.{requirement_at, selector_of};
 ghost use Rattle.label_select.specs.declared.selector.Requirement.{Requirement};
+ghost use Rattle.label_select.specs.declared.selector.Test.{Test};
 
 use crate::bytes::{Class, after, behind, front, word};
 use crate::selector::{Requirement, Selector, SelectorFault, Test};
@@ -69,6 +72,34 @@ fn read_list(alloc: Global, bytes: &[u8]) -> Result<Option<(Texts, &[u8])>, OutO
     }
 }
 
+// The test of a list of values, where its operator is here, or else that the label is there; and what is behind it.
+fn read_list_test<'a>(
+    alloc: Global,
+    operator: &'a [u8],
+    bytes: &'a [u8],
+) -> Result<Option<(Test, &'a [u8])>, OutOfMemory>
+    ensures { IfOk result (λ found. option_map (λ parts. (parts.0, parts.1.now)) found ≡
+        choose {A = Option (Test × List ℕ)} (after (codes "in") operator.entry.now)
+        (λ rest. list_at rest and_then λ list. Some (Test.In list.0, list.1))
+        (choose (after (codes "notin") operator.entry.now)
+        (λ rest. list_at rest and_then λ list. Some (Test.NotIn list.0, list.1))
+        (Some (Test.Exists, bytes.entry.now)))) }
+{
+    if let Some(rest) = after(b"in", operator) {
+        return match read_list(alloc, rest)? {
+            Some((values, left)) => Ok(Some((Test::In(values), left))),
+            None => Ok(None),
+        };
+    }
+    if let Some(rest) = after(b"notin", operator) {
+        return match read_list(alloc, rest)? {
+            Some((values, left)) => Ok(Some((Test::NotIn(values), left))),
+            None => Ok(None),
+        };
+    }
+    Ok(Some((Test::Exists, bytes)))
+}
+
 // The test behind a key, and what is behind it.
 fn read_test(alloc: Global, bytes: &[u8]) -> Result<Option<(Test, &[u8])>, OutOfMemory>
     ensures { IfOk result (λ found. option_map (λ parts. (parts.0, parts.1.now)) found ≡ test_at bytes.entry.now) }
@@ -86,19 +117,7 @@ fn read_test(alloc: Global, bytes: &[u8]) -> Result<Option<(Test, &[u8])>, OutOf
         let (value, left) = read_value(alloc, rest)?;
         return Ok(Some((Test::IsNot(value), left)));
     }
-    if let Some(rest) = after(b"in", operator) {
-        return match read_list(alloc, rest)? {
-            Some((values, left)) => Ok(Some((Test::In(values), left))),
-            None => Ok(None),
-        };
-    }
-    if let Some(rest) = after(b"notin", operator) {
-        return match read_list(alloc, rest)? {
-            Some((values, left)) => Ok(Some((Test::NotIn(values), left))),
-            None => Ok(None),
-        };
-    }
-    Ok(Some((Test::Exists, bytes)))
+    read_list_test(alloc, operator, bytes)
 }
 
 // A requirement, and what is behind it.

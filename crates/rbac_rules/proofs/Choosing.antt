@@ -1,5 +1,5 @@
 -- What `any` answers where its closure decides a fact.
-use Rattle.std.proofs.Common.{◌≡◌, ℕ, ◌<◌, Bool, true, false, List, [], ◌∷◌, length, Decides, refl, sym, subst, arith}
+use Rattle.std.proofs.Common.{ℕ, ◌<◌, Bool, true, false, List, [], ◌∷◌, length, Decides, refl, sym, subst, arith}
 use Rattle.std.specs.Bool.{MatchBool}
 use Rattle.std.specs.List.{Any, AllWithin, HoldsAt}
 use Rattle.base_types.proofs.Quantifiers.{Any-at}

@@ -1,10 +1,10 @@
 -- Lists of texts, entries of `resources` and entries of `nonResourceURLs`, by what they mean.
-use Rattle.std.proofs.Common.{◌≡◌, ◌≢◌, ℕ, ◌+◌, ◌-◌, ◌<◌, Bool, true, false, List, [], ◌∷◌, ◌++◌, length, get_or, take, drop, Decides, refl, sym, ap, subst, ◌∙◌, inl, inr, ◌⊎◌, codes, bytes_eq, nat_eq, ◌==◌, arith}
-use Rattle.std.specs.List.{Any, Contains, list_any, starts_with, ends_with}
+use Rattle.std.proofs.Common.{◌≡◌, ◌≢◌, ℕ, ◌-◌, Bool, true, false, List, [], ◌∷◌, ◌++◌, length, get_or, take, drop, Decides, refl, sym, subst, ◌∙◌, inl, inr, codes, bytes_eq, nat_eq, ◌==◌, arith}
+use Rattle.std.specs.List.{Contains, starts_with, ends_with}
 use Rattle.std.proofs.lemmas.Bool.Decides.{Decides-eqb}
 use Rattle.std.proofs.lemmas.List.Folds.{Any-from_list_any, list_any-from_Any}
 use Rattle.std.proofs.lemmas.Slice.Eq.{bytes_eq-Decides, starts_is, ends_is}
-use Rattle.base_types.specs.Matching.{has_text, path_matches, combined}
+use Rattle.base_types.specs.Matching.{has_text, path_matches}
 use Rattle.base_types.specs.declared.request.RequestAttrs.{RequestAttrs}
 use Rattle.base_types.proofs.MatchingLemmas.{front_matches, whole_matches}
 use Rattle.rbac_rules.specs.Granting.{IsPathTaken, IsResourceNamed, everything, resource, subresource, of_each_resource}

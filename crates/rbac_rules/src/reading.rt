@@ -1,11 +1,12 @@
-ghost use Rattle.std.specs.Prelude.{◌≡◌, Some, None, Err, IfOk, option_map};
+ghost use Rattle.std.specs.Prelude.{◌≡◌, Some, None, Err, IfOk, option_map, codes};
+ghost use Rattle.base_types.specs.Texts.{◌>>=◌ as ◌and_then◌, texts_at};
 ghost use Rattle.rbac_rules.specs.Forms.{rule_of, rules_in, role_of, namespace_or, account_of, subject_of};
 ghost use Rattle.rbac_rules.specs.Forms.{subjects_in, home_of, is_cluster_kind, role_ref_of, binding_of};
 
 use crate::binding::{Binding, Subject, Subjects};
 use crate::role::{PolicyRule, PolicyRules};
 use base_types::json::Tree;
-use base_types::{OutOfMemory, Text};
+use base_types::{OutOfMemory, Text, Texts};
 use std::alloc::Global;
 use thiserror::Error;
 
@@ -29,12 +30,26 @@ impl From<OutOfMemory> for RbacFault {
     }
 }
 
-fn read_rule(alloc: Global, tree: &Tree) -> Result<Option<PolicyRule>, OutOfMemory>
-    ensures { IfOk result (λ found. found ≡ rule_of tree.now) }
+// What a rule grants, and the verbs by which.
+#[derive(Drop)]
+struct Scope {
+    api_groups: Texts,
+    resources: Texts,
+    verbs: Texts,
+}
+
+// The single objects and paths that a rule grants.
+#[derive(Drop)]
+struct Singles {
+    resource_names: Texts,
+    non_resource_urls: Texts,
+}
+
+fn read_scope(alloc: Global, tree: &Tree) -> Result<Option<Scope>, OutOfMemory>
+    ensures { IfOk result (λ found. found ≡ (texts_at (codes "apiGroups") tree.now and_then λ groups.
+        texts_at (codes "resources") tree.now and_then λ resources. texts_at (codes "verbs") tree.now and_then λ verbs.
+        Some (record { api_groups = groups; resources = resources; verbs = verbs }))) }
 {
-    if tree.as_members().is_none() {
-        return Ok(None);
-    }
     let Some(api_groups) = tree.texts_at(alloc, "apiGroups")? else {
         return Ok(None);
     };
@@ -44,18 +59,48 @@ fn read_rule(alloc: Global, tree: &Tree) -> Result<Option<PolicyRule>, OutOfMemo
     let Some(verbs) = tree.texts_at(alloc, "verbs")? else {
         return Ok(None);
     };
+    Ok(Some(Scope {
+        api_groups,
+        resources,
+        verbs,
+    }))
+}
+
+fn read_singles(alloc: Global, tree: &Tree) -> Result<Option<Singles>, OutOfMemory>
+    ensures { IfOk result (λ found. found ≡ (texts_at (codes "resourceNames") tree.now and_then λ names.
+        texts_at (codes "nonResourceURLs") tree.now and_then λ urls.
+        Some (record { resource_names = names; non_resource_urls = urls }))) }
+{
     let Some(resource_names) = tree.texts_at(alloc, "resourceNames")? else {
         return Ok(None);
     };
     let Some(non_resource_urls) = tree.texts_at(alloc, "nonResourceURLs")? else {
         return Ok(None);
     };
-    Ok(Some(PolicyRule {
-        api_groups,
-        resources,
-        verbs,
+    Ok(Some(Singles {
         resource_names,
         non_resource_urls,
+    }))
+}
+
+fn read_rule(alloc: Global, tree: &Tree) -> Result<Option<PolicyRule>, OutOfMemory>
+    ensures { IfOk result (λ found. found ≡ rule_of tree.now) }
+{
+    if tree.as_members().is_none() {
+        return Ok(None);
+    }
+    let Some(scope) = read_scope(alloc, tree)? else {
+        return Ok(None);
+    };
+    let Some(singles) = read_singles(alloc, tree)? else {
+        return Ok(None);
+    };
+    Ok(Some(PolicyRule {
+        api_groups: scope.api_groups,
+        resources: scope.resources,
+        verbs: scope.verbs,
+        resource_names: singles.resource_names,
+        non_resource_urls: singles.non_resource_urls,
     }))
 }
 

@@ -14,6 +14,6 @@ returns-in-Err-clause-none c =
 pub returns-in_ok-_count-in-None-clause-none : goal.returns-in_ok-_count-in-None-clause-none
 returns-in_ok-_count-in-None-clause-none c =
     let all = joined c.args.parts.now in
-    let count = c.in_ok-_count-in-None.ensures in
+    let count = c.in_ok-_count-in-None.ensures.count in
     let past = λ (n : ℕ) (is : index_of c.args.token.now ≡ Some n). let far = c.in-None.ensures.none n is in let near : length all ≤ n = grind arith in near in
     kid_past all (index_of c.args.token.now) past

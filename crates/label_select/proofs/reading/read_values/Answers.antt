@@ -1,6 +1,6 @@
 use Rattle.std.proofs.Common.{◌≡◌, Some, None, false, codes, sym, ◌∙◌}
 use Rattle.label_select.specs.Bytes.{behind, after}
-use Rattle.label_select.specs.Readings.{is_empty, value_at}
+use Rattle.label_select.specs.Readings.{is_empty}
 use Rattle.label_select.specs.declared.bytes.Class.TheVariants.{Space}
 use Rattle.label_select.proofs.Fronts.{filled_from}
 use Rattle.label_select.proofs.Steps.{values_preserved, value_shorter}

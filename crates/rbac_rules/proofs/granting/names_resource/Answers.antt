@@ -1,4 +1,4 @@
-use Rattle.std.proofs.Common.{codes, sym, ap, ◌∙◌}
+use Rattle.std.proofs.Common.{codes, sym, ◌∙◌}
 use Rattle.rbac_rules.proofs.Texts.{whole_named, no_items, differs}
 use Rattle.rbac_rules.proofs.granting.names_resource.Goals as goal
 

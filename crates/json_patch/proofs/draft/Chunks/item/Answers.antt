@@ -5,8 +5,8 @@ use Rattle.json_patch.specs.Joined.{IsPlaceIn, number_of}
 use Rattle.json_patch.proofs.Joins.{number_within, read_at}
 use Rattle.json_patch.proofs.draft.Chunks.item.Goals as goal
 
-pub returns-in-Some : goal.returns-in-Some
-returns-in-Some c =
+pub returns-in-Some-clause-item : goal.returns-in-Some-clause-item
+returns-in-Some-clause-item c =
     let parts = c.self.inside.parts.items in
     let place = c.in-Some.place in
     let all = c.part.inside.all.items in
