@@ -1,9 +1,11 @@
 -- What a list asks of each key.
-use Rattle.std.specs.Prelude.{◌≡◌, ◌≢◌, ℕ, List, [], ◌∷◌, Option, All, Contains}
+use Rattle.std.specs.Prelude.{◌≡◌, ◌≢◌, ℕ, List, [], ◌∷◌, ◌++◌, map, Option, All, Contains}
 use Rattle.std.specs.List.{AllZip}
 use Rattle.std.specs.List.Sorted.{IsPermutation, IsNonDecreasingBy}
 use Rattle.base_types.specs.declared.claim.Bound.{Bound}
+use Rattle.base_types.specs.declared.key.ObjectKey.{ObjectKey}
 use Rattle.history_model.specs.Bounding.{Demand, Shows, Lacks, demand_key}
+use Rattle.history_model.specs.Events.{Listing}
 use Rattle.history_model.specs.Histories.{History, Version}
 use Rattle.history_model.specs.Right.{IsListed, IsLacked}
 use Rattle.history_model.specs.States.{state}
@@ -12,6 +14,7 @@ use Rattle.local_bounds.specs.declared.asking.Asking.TheVariants as whole
 use Rattle.local_bounds.specs.declared.asking.KeyAsking.{KeyAsking}
 use Rattle.local_bounds.specs.declared.asking.KeyAsking.TheVariants.{Free, Under, Never}
 use Rattle.local_bounds.specs.Asked.{IsKeyAsking}
+use Rattle.local_bounds.specs.Lacked.{AreLacked}
 
 -- the object that is there, or none, is as the list says
 abbrev pub IsMet : History → ℕ → ℕ → Demand → Option Version → Type 0
@@ -27,6 +30,12 @@ IsDemandAsking h number place demand asking = IsKeyAsking h (demand_key demand) 
 -- what is asked for each of these, in their order
 abbrev pub AreAsked : History → ℕ → ℕ → List Demand → List KeyAsking → Type 0
 AreAsked h number place demands askings = AllZip (IsDemandAsking h number place) demands askings
+
+-- what is asked for each item of a list, and behind that for each key that it lacks
+pub record AreAskedOfList (h : History) (number : ℕ) (listing : Listing) (askings : List KeyAsking) : Type 0 where
+  pub lacked : List ObjectKey
+  pub lacks : AreLacked h listing lacked
+  pub asked : AreAsked h number listing.revision (map Shows listing.items ++ map Lacks lacked) askings
 
 abbrev pub bounds_in : List KeyAsking → List Bound
 bounds_in [] = []

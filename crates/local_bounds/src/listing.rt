@@ -4,7 +4,7 @@ ghost use Rattle.history_model.specs.Histories.{History};
 ghost use Rattle.history_model.specs.Right.{IsListRight};
 ghost use Rattle.history_model.specs.States.{state};
 ghost use Rattle.local_bounds.specs.Asked.{IsAsking};
-ghost use Rattle.local_bounds.specs.Demands.{AreAsked};
+ghost use Rattle.local_bounds.specs.Demands.{AreAsked, AreAskedOfList};
 ghost use Rattle.local_bounds.specs.Keys.{AreKeysOf};
 ghost use Rattle.local_bounds.specs.Known.{IsPastOf, IsKnownBy, HasSelectors};
 ghost use Rattle.local_bounds.specs.Lacked.{AreLacked};
@@ -81,6 +81,28 @@ fn lacked_keys<'a>(
     keys_without(alloc, scope, shown)
 }
 
+// What is asked for each item of a list, and behind that for each key that it lacks; the shown keys are those of its
+// items, in order.
+fn key_askings<L: Listable>(
+    alloc: Global,
+    known: Known<'_>,
+    lists: &L,
+    number: u32,
+    listing: &Listing,
+    shown: &[&ObjectKey],
+) -> Result<Vec<KeyAsking>, OutOfMemory>
+    requires { AreKeysOf listing.now.items shown.now }
+    ensures { IfOk result (λ askings. (h : History) → IsKnownBy known.entry.past.now known.entry.clouds.now h
+        → HasSelectors (L.listable lists.now) h → AreAskedOfList h number (listing_of listing.now) askings.items) }
+{
+    let place = listing.revision.get();
+    let lacked = lacked_keys(alloc, known.past, listing, shown)?;
+    let mut askings = shown_askings(alloc, known, lists, number, place, listing.items.as_slice())?;
+    let mut others = lacked_askings(alloc, known, lists, number, place, &lacked)?;
+    askings.append(&mut others)?;
+    Ok(askings)
+}
+
 /// What a list asks.
 pub fn list_asking<L: Listable>(
     alloc: Global,
@@ -102,9 +124,6 @@ pub fn list_asking<L: Listable>(
     let Some(shown) = distinct_keys(alloc, listing.items.as_slice())? else {
         return Ok(Asking::Never);
     };
-    let lacked = lacked_keys(alloc, known.past, listing, &shown)?;
-    let mut askings = shown_askings(alloc, known, lists, number, place, listing.items.as_slice())?;
-    let mut others = lacked_askings(alloc, known, lists, number, place, &lacked)?;
-    askings.append(&mut others)?;
+    let askings = key_askings(alloc, known, lists, number, listing, &shown)?;
     together(alloc, &askings)
 }

@@ -1,8 +1,9 @@
-use Rattle.std.proofs.Common.{◌≡◌, ◌≢◌, AllPairs, sym, ◌∙◌, subst}
+use Rattle.std.proofs.Common.{◌≡◌, ◌≢◌, AllPairs, sym, subst}
 use Rattle.std.proofs.lemmas.Result.{IfOk-weaker}
 use Rattle.write_groups.proofs.Lists.{pairs_unmap}
 use Rattle.write_groups.specs.declared.event.Item.{Item}
-use Rattle.write_groups.specs.Modelled.{item_of}
+use Rattle.write_groups.specs.Modelled.{item_of, listing_of}
+use Rattle.local_bounds.specs.Demands.{AreAskedOfList}
 use Rattle.local_bounds.proofs.AskedLists.{list_asked}
 use Rattle.local_bounds.proofs.listing.list_asking.Goals as goal
 
@@ -16,7 +17,5 @@ pub returns : goal.returns
 returns g c =
     let some = rw c.in-Some.is at c.in_ok-shown.ensures.some in
     let distinct = rw c.as_slice.ensures at some.0 in
-    IfOk-weaker c.together.result _ _ (λ asking t h k s. list_asked h k.of_past.readable c.args.number c.get-place.result c.args.window.low c.args.window.high c.args.listing.now c.in_ok-lacked.lacked.items
-    c.get-place.ensures.value distinct (c.in_ok-lacked.ensures h k.of_past) c.in_ok-askings.askings.items c.in_ok-others.others.items c.deref-3.result.now asking
-    (rw c.as_slice-2.ensures at c.in_ok-askings.ensures h k s) (rw c.deref-2.ensures.value at c.in_ok-others.ensures h k s) (c.deref-3.ensures.value ∙ c.in_ok-append.ensures.items)
-    c.if-place-window.false c.if-window-place.false t) c.together.ensures
+    IfOk-weaker c.together.result _ _ (λ asking t h k s. list_asked h k.of_past.readable c.args.number c.get-place.result c.args.window.low c.args.window.high c.args.listing.now c.get-place.ensures.value distinct c.deref-2.result.now asking
+    (subst (AreAskedOfList h c.args.number (listing_of c.args.listing.now)) (sym c.deref-2.ensures.value) (c.in_ok-askings.ensures h k s)) c.if-place-window.false c.if-window-place.false t) c.together.ensures
