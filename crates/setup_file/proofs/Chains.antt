@@ -24,3 +24,20 @@ not_broken rule (Some y) x e = cc
 pub test_kept : {A : Type 0} (rule : SetupRule) (b : Bool) (rest : Result A SetupRule) (x : A) → unless_breaks rule b rest ≡ Ok x → (b ≡ true) × (rest ≡ Ok x)
 test_kept rule true rest x e = (refl, e)
 test_kept rule false rest x e = absurd (cc)
+
+-- two steps that make a pair
+abbrev pub pair_of : {A B : Type 0} → Result A SetupRule → (A → Result B SetupRule) → Result (A × B) SetupRule
+pair_of r next = r >>= (λ a. next a >>= (λ b. Ok (a, b)))
+
+-- a third step takes what both make
+pub paired : {A B C : Type 0} (r : Result A SetupRule) (next : A → Result B SetupRule) (last : A → B → Result C SetupRule)
+    → (r >>= (λ a. next a >>= last a)) ≡ (pair_of r next >>= (λ both. last both.0 both.1))
+paired {A = A} {B = B} (Ok a) next last = made (next a)
+  where
+    one : B → Result (A × B) SetupRule
+    one b = Ok (a, b)
+
+    made : (s : Result B SetupRule) → (s >>= last a) ≡ ((s >>= one) >>= (λ both. last both.0 both.1))
+    made (Ok b) = refl
+    made (Err rule) = refl
+paired (Err rule) next last = refl

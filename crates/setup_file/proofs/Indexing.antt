@@ -1,5 +1,5 @@
 -- What the index of the resources tells, as one after another is put into it.
-use Rattle.std.proofs.Common.{◌≡◌, ℕ, ◌+◌, ◌<◌, List, [], ◌∷◌, length, get_or, drop, slice_get, Bool, true, false, ◌&&◌, cond, Option, Some, None, bytes_eq, refl, sym, ap, ◌∙◌}
+use Rattle.std.proofs.Common.{◌≡◌, ℕ, ◌+◌, ◌<◌, List, [], ◌∷◌, length, get_or, drop, slice_get, Bool, true, false, ◌&&◌, cond, Some, None, bytes_eq, refl, sym, ap, ◌∙◌}
 use Rattle.std.specs.Prelude.{option_and_then}
 use Rattle.std.specs.BTreeMap.{BTreeMap, Updates, get, IsEmpty}
 use Rattle.std.specs.Cmp.Lexicographic.{slice_cmp}

@@ -1,9 +1,11 @@
 pub mod Apart
 pub mod Chains
+pub mod Fitting
 pub mod Gathered
 pub mod InRange
 pub mod Indexing
 pub mod Mapped
+pub mod Parts
 pub mod Seen
 pub mod SoundClocks
 pub mod SoundLists

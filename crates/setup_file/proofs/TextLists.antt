@@ -1,6 +1,6 @@
 -- A list that is a member of a text's tree has at most as many items as the text has bytes.
-use Rattle.std.proofs.Common.{◌≡◌, ℕ, suc, ◌≤◌, List, [], ◌∷◌, length, Bool, true, false, cond, Option, Some, None, bytes_eq, refl, sym, ap, subst, ◌∙◌}
-use Rattle.std.specs.Prelude.{pos, option_map, option_and_then}
+use Rattle.std.proofs.Common.{◌≡◌, ℕ, suc, ◌≤◌, List, length, Bool, true, false, cond, Option, Some, None, bytes_eq, refl, sym, ap, subst, ◌∙◌}
+use Rattle.std.specs.Prelude.{pos, option_map}
 use Rattle.std.specs.declared.cmp.Ordering.{Ordering}
 use Rattle.std.specs.declared.cmp.Ordering.TheVariants.{Less, Equal, Greater}
 use Rattle.std.specs.Cmp.Lexicographic.{slice_cmp}
@@ -8,13 +8,13 @@ use Rattle.std.specs.Ordering.{is_eq, match_ordering, nat_cmp}
 use Rattle.std.proofs.lemmas.Bool.Decides.{same_from_decides}
 use Rattle.std.proofs.lemmas.Map.Text.{is_eq-slice_cmp}
 use Rattle.std.proofs.lemmas.Slice.Eq.{bytes_eq-Decides}
-use Rattle.serde_json.specs.Data.{Num, unsigned, negative, float, Data, boolean, number, string, array, object, Items, no_items, item, Members, no_members, member, null as json_null}
+use Rattle.serde_json.specs.Data.{unsigned, negative, float, Data, boolean, number, string, array, object, Items, no_items, item, Members, no_members, member, null as json_null}
 use Rattle.serde_json.specs.Find.{get, get_member}
 use Rattle.serde_json.specs.Read.{read}
 use Rattle.base_types.specs.Items.{item_list}
 use Rattle.base_types.specs.Meaning.{Meaning, null, flag, whole, words, items, members, Kids, no_kids, kid, kids_list, Fields, no_fields, field}
 use Rattle.base_types.specs.Parts.{lookup, member_of, items_of}
-use Rattle.base_types.specs.Values.{of_number, of_data, of_items, of_members}
+use Rattle.base_types.specs.Values.{of_data, of_items, of_members}
 use Rattle.base_types.proofs.Found.{same_some, found_both}
 use Rattle.packed_tree.proofs.Sizes.{member_within}
 

@@ -1,6 +1,6 @@
 ghost use Rattle.std.specs.Prelude.{◌≡◌, ◌≤◌, ◌||◌, ◌&&◌, ◌++◌, length, IfOk, option_map, codes, decimal};
-ghost use Rattle.setup_file.specs.Checkpoints.{is_no_text, is_whole_at, checkpoint_of, checkpoints_from};
-ghost use Rattle.setup_file.specs.Checkpoints.{few_checkpoints, checkpoints_of};
+ghost use Rattle.setup_file.specs.Checkpoints.{is_no_text, is_whole_at, fit_list_of, checkpoint_of};
+ghost use Rattle.setup_file.specs.Checkpoints.{checkpoints_from, few_checkpoints, checkpoints_of};
 
 use crate::form::is_form;
 use crate::lists::{ListRead, read_list};
@@ -27,10 +27,87 @@ fn is_fit(namespace: &Text, tracked: &Tracked, start: Revision, list: &ListRead)
     (namespace.is_empty() || tracked.namespaced) && is_whole_at(start, list)
 }
 
+// The name of a checkpoint, and what it is a list of.
+struct Label {
+    name: Text,
+    group: Text,
+    resource: Text,
+    namespace: Text,
+}
+
+impl Label {
+    fn into_checkpoint(self, list: ListRead) -> Checkpoint
+        ensures { result ≡ record {
+          name = self.name;
+          group = self.group;
+          resource = self.resource;
+          namespace = self.namespace;
+          revision = list.revision;
+          items = list.items;
+        } }
+    {
+        let Label {
+            name,
+            group,
+            resource,
+            namespace,
+        } = self;
+        Checkpoint {
+            name,
+            group,
+            resource,
+            namespace,
+            revision: list.revision,
+            items: list.items,
+        }
+    }
+}
+
 fn name_of(alloc: Global, number: usize) -> Result<Text, OutOfMemory>
     ensures { IfOk result (λ name. name ≡ codes "checkpoint:" ++ decimal number) }
 {
     Ok(Text::from_string(format!(in alloc; "checkpoint:{number}")?))
+}
+
+fn label_of(
+    alloc: Global,
+    number: usize,
+    group: &Text,
+    resource: &Text,
+    namespace: &Text,
+) -> Result<Label, OutOfMemory>
+    ensures { IfOk result (λ label. label ≡ record {
+      name = codes "checkpoint:" ++ decimal number;
+      group = group.now;
+      resource = resource.now;
+      namespace = namespace.now;
+    }) }
+{
+    Ok(Label {
+        name: name_of(alloc, number)?,
+        group: group.clone()?,
+        resource: resource.clone()?,
+        namespace: namespace.clone()?,
+    })
+}
+
+// Reads a list that a checkpoint may have.
+fn read_fit_list(
+    alloc: Global,
+    start: Revision,
+    tracked: &Tracked,
+    namespace: &Text,
+    tree: &Tree,
+) -> Result<Option<ListRead>, OutOfMemory>
+    ensures { IfOk result (λ found. found ≡ fit_list_of start tracked.now namespace.now tree.now) }
+{
+    let Some(list) = read_list(alloc, tracked, &Text::new(alloc), namespace, tree)? else {
+        return Ok(None);
+    };
+    if !is_fit(namespace, tracked, start, &list) {
+        return Ok(None);
+    }
+    Ok(Some(list))
 }
 
 fn read_checkpoint(
@@ -60,20 +137,11 @@ fn read_checkpoint(
     let Some(value) = tree.member("list") else {
         return Ok(None);
     };
-    let Some(list) = read_list(alloc, tracked, &Text::new(alloc), namespace, value)? else {
+    let Some(list) = read_fit_list(alloc, start, tracked, namespace, value)? else {
         return Ok(None);
     };
-    if !is_fit(namespace, tracked, start, &list) {
-        return Ok(None);
-    }
-    Ok(Some(Checkpoint {
-        name: name_of(alloc, number)?,
-        group: group.clone()?,
-        resource: resource.clone()?,
-        namespace: namespace.clone()?,
-        revision: list.revision,
-        items: list.items,
-    }))
+    let label = label_of(alloc, number, group, resource, namespace)?;
+    Ok(Some(label.into_checkpoint(list)))
 }
 
 fn read_entries(

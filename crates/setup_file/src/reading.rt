@@ -8,20 +8,23 @@ ghost use Rattle.base_types.specs.Values.{InRange};
 ghost use Rattle.setup_file.specs.declared.fault.SetupRule.TheVariants.{S1};
 ghost use Rattle.setup_file.specs.Forms.{is_form};
 ghost use Rattle.setup_file.specs.Reading.{is_version, known, known_2, has_known, has_all, is_setup_form};
-ghost use Rattle.setup_file.specs.Reading.{is_known_version, policy_at, setup_with, setup_of, IsTreeOf, ReadsAs};
+ghost use Rattle.setup_file.specs.Reading.{is_known_version, policy_at, rest_at, setup_with, setup_of};
+ghost use Rattle.setup_file.specs.Reading.{IsTreeOf, ReadsAs};
 ghost use Rattle.setup_file.specs.Sound.{IsSound};
 ghost use Rattle.setup_file.specs.Steps.{IsCause};
 
-use crate::authorization::{is_authorized, read_authorization};
+use crate::authorization::{Authorization, is_authorized, read_authorization};
 use crate::checkpoints::read_checkpoints;
 use crate::clocks::read_clocks;
 use crate::fault::{SetupFault, SetupRule};
 use crate::form::is_form;
 use crate::objects::has_text_at;
 use crate::resources::read_resources;
-use crate::setup::Setup;
+use crate::setup::{Checkpoints, Setup, SnapshotObject};
 use crate::snapshot::read_snapshot;
+use crate::tracked_list::TrackedList;
 use audit_policy::{Policy, PolicyFault, read_policy};
+use base_types::Revision;
 use base_types::json::{Tree, TreeFault, from_value};
 use hash_seed::Seed;
 use serde_json::Value;
@@ -130,6 +133,29 @@ fn policy_at(alloc: Global, tree: &Tree) -> Result<Policy, SetupFault>
     }
 }
 
+// What stands on the resources and the snapshot of a setup: what it says of authorization, and its checkpoints.
+fn rest_at(
+    alloc: Global,
+    start: Revision,
+    resources: &TrackedList,
+    snapshot: &[SnapshotObject],
+    tree: &Tree,
+) -> Result<(Authorization, Checkpoints), SetupFault>
+    ensures rest { IfOk result (λ rest. rest_at start resources.now snapshot.now tree.now ≡ Ok rest) }
+    ensures cause { IfErr result (IsCause (rest_at start resources.now snapshot.now tree.now)) }
+{
+    let Some(authorization) = read_authorization(alloc, tree)? else {
+        return Err(SetupFault::Rule(SetupRule::S14));
+    };
+    if !is_authorized(alloc, resources, snapshot, &authorization)? {
+        return Err(SetupFault::Rule(SetupRule::S14));
+    }
+    match read_checkpoints(alloc, start, resources, tree.member("checkpoints"))? {
+        Some(checkpoints) => Ok((authorization, checkpoints)),
+        None => Err(SetupFault::Rule(SetupRule::S15)),
+    }
+}
+
 // Reads a setup of a version that is known.
 fn setup_with(alloc: Global, tree: &Tree, seed: Seed) -> Result<Setup, SetupFault>
     ensures setup { IfOk result (λ setup. setup_with tree.now ≡ Ok setup) }
@@ -139,16 +165,13 @@ fn setup_with(alloc: Global, tree: &Tree, seed: Seed) -> Result<Setup, SetupFaul
     let policy = policy_at(alloc, tree)?;
     let resources = read_resources(alloc, tree)?;
     let snapshot = read_snapshot(alloc, clocks.start, &resources, tree, seed)?;
-    let Some(authorization) = read_authorization(alloc, tree)? else {
-        return Err(SetupFault::Rule(SetupRule::S14));
-    };
-    if !is_authorized(alloc, &resources, snapshot.as_slice(), &authorization)? {
-        return Err(SetupFault::Rule(SetupRule::S14));
-    }
-    let given = tree.member("checkpoints");
-    let Some(checkpoints) = read_checkpoints(alloc, clocks.start, &resources, given)? else {
-        return Err(SetupFault::Rule(SetupRule::S15));
-    };
+    let (authorization, checkpoints) = rest_at(
+        alloc,
+        clocks.start,
+        &resources,
+        snapshot.as_slice(),
+        tree,
+    )?;
     Ok(Setup {
         start: clocks.start,
         start_time: clocks.start_time,

@@ -1,9 +1,10 @@
 ghost use Rattle.std.specs.Prelude.{◌≡◌, ◌≢◌, [], ◌∷◌, IfOk, IfErr, OnErr, IsSome, IsTrue, codes};
-ghost use Rattle.std.specs.Prelude.{option_map, option_and_then};
+ghost use Rattle.std.specs.Prelude.{map, option_map, option_and_then};
 ghost use Rattle.std.specs.List.{list_all};
 ghost use Rattle.std.specs.Result.{result_ok};
 ghost use Rattle.base_types.specs.Parts.{member_of, flag_of, items_of};
 ghost use Rattle.base_types.specs.Texts.{text_at};
+ghost use Rattle.setup_file.specs.Distinct.{are_distinct, pair_eq};
 ghost use Rattle.setup_file.specs.Forms.{is_form};
 ghost use Rattle.setup_file.specs.Resources.{merges_as, merges_of, entry_of, entries_in, are_apart, shape_or_root};
 ghost use Rattle.setup_file.specs.Resources.{shape_at, has_shape, effect_as, subresource_of, subresources_in};
@@ -198,17 +199,43 @@ fn read_entries(alloc: Global, trees: &[Tree]) -> Result<Option<Vec<Entry>>, Out
     Ok(Some(entries))
 }
 
+fn have_distinct_resources(alloc: Global, entries: &[Entry]) -> Result<bool, OutOfMemory>
+    ensures { IfOk result (λ have. have ≡ are_distinct pair_eq
+        (map (λ entry. (entry.group, entry.resource)) entries.now)) }
+{
+    let mut pairs = Vec::with_capacity(alloc, entries.len())?;
+    for entry in entries {
+        pairs.push((&entry.group, &entry.resource))?;
+    }
+    are_pairs_distinct(alloc, &pairs)
+}
+
+fn have_distinct_kinds(alloc: Global, entries: &[Entry]) -> Result<bool, OutOfMemory>
+    ensures { IfOk result (λ have. have ≡ are_distinct pair_eq
+        (map (λ entry. (entry.group, entry.kind)) entries.now)) }
+{
+    let mut pairs = Vec::with_capacity(alloc, entries.len())?;
+    for entry in entries {
+        pairs.push((&entry.group, &entry.kind))?;
+    }
+    are_pairs_distinct(alloc, &pairs)
+}
+
 // Whether no two entries have one group and resource, or one group and kind.
 fn are_apart(alloc: Global, entries: &[Entry]) -> Result<bool, OutOfMemory>
     ensures { IfOk result (λ are. are ≡ are_apart entries.now) }
 {
-    let mut resources = Vec::with_capacity(alloc, entries.len())?;
-    let mut kinds = Vec::with_capacity(alloc, entries.len())?;
-    for entry in entries {
-        resources.push((&entry.group, &entry.resource))?;
-        kinds.push((&entry.group, &entry.kind))?;
-    }
-    Ok(are_pairs_distinct(alloc, &resources)? && are_pairs_distinct(alloc, &kinds)?)
+    Ok(have_distinct_resources(alloc, entries)? && have_distinct_kinds(alloc, entries)?)
+}
+
+// Whether the entries are apart, where each is in its form.
+fn are_entries_apart(alloc: Global, trees: &[Tree]) -> Result<Option<bool>, OutOfMemory>
+    ensures { IfOk result (λ apart. apart ≡ option_map are_apart (entries_in trees.now)) }
+{
+    let Some(entries) = read_entries(alloc, trees)? else {
+        return Ok(None);
+    };
+    Ok(Some(are_apart(alloc, &entries)?))
 }
 
 // The shape that was read, or none where the list isn't in its form.
@@ -377,10 +404,10 @@ pub fn read_resources(alloc: Global, tree: &Tree) -> Result<TrackedList, SetupFa
         return Err(SetupFault::Rule(SetupRule::S8));
     };
     let trees = list.all.as_slice();
-    let Some(entries) = read_entries(alloc, trees)? else {
+    let Some(apart) = are_entries_apart(alloc, trees)? else {
         return Err(SetupFault::Rule(SetupRule::S8));
     };
-    if !are_apart(alloc, &entries)? {
+    if !apart {
         return Err(SetupFault::Rule(SetupRule::S9));
     }
     if !have_shapes(alloc, trees)? {

@@ -1,4 +1,4 @@
-use Rattle.std.proofs.Common.{◌≡◌, ◌+◌, ◌-◌, ◌<◌, length, arith, rules, subst, sym}
+use Rattle.std.proofs.Common.{◌≡◌, ◌+◌, ◌-◌, ◌<◌, length, arith, rules, subst}
 use Rattle.setup_file.specs.Indexed.{AreIndexedFrom}
 use Rattle.setup_file.proofs.Indexing.{indexed_more}
 use Rattle.setup_file.proofs.tracked_list.TrackedList.of.Goals as goal
