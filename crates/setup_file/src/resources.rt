@@ -1,21 +1,19 @@
-ghost use Rattle.std.specs.Prelude.{◌≡◌, ◌≢◌, [], ◌∷◌, IfOk, IfErr, OnErr, IsSome, IsTrue, codes};
+ghost use Rattle.std.specs.Prelude.{◌≡◌, ◌≢◌, IfOk, IfErr, OnErr, IsSome, codes};
 ghost use Rattle.std.specs.Prelude.{map, option_map, option_and_then};
 ghost use Rattle.std.specs.List.{list_all};
 ghost use Rattle.std.specs.Result.{result_ok};
 ghost use Rattle.base_types.specs.Parts.{member_of, flag_of, items_of};
-ghost use Rattle.base_types.specs.Texts.{text_at};
 ghost use Rattle.setup_file.specs.Distinct.{are_distinct, pair_eq};
-ghost use Rattle.setup_file.specs.Forms.{is_form};
 ghost use Rattle.setup_file.specs.Resources.{merges_as, merges_of, entry_of, entries_in, are_apart, shape_or_root};
-ghost use Rattle.setup_file.specs.Resources.{shape_at, has_shape, effect_as, subresource_of, subresources_in};
-ghost use Rattle.setup_file.specs.Resources.{are_named_apart, subresources_or_none, tracked_of, tracked_in};
+ghost use Rattle.setup_file.specs.Resources.{shape_at, has_shape, tracked_of, tracked_in};
 ghost use Rattle.setup_file.specs.Reading.{resources_at};
 ghost use Rattle.setup_file.specs.Steps.{IsCause};
 
-use crate::distinct::{are_pairs_distinct, are_texts_distinct};
+use crate::distinct::are_pairs_distinct;
 use crate::fault::{SetupFault, SetupRule};
 use crate::form::is_form;
-use crate::setup::{Subresource, Subresources, Tracked};
+use crate::setup::{Subresources, Tracked};
+use crate::subresources::subresources_or_none;
 use crate::tracked_list::TrackedList;
 use base_types::json::Tree;
 use base_types::{Listed, OutOfMemory, Text};
@@ -266,7 +264,7 @@ fn shape_or_root(
     formed(Shape::read(alloc, list, root))
 }
 
-fn shape_at(alloc: Global, root: FieldClass, tree: &Tree) -> Result<Option<Shape>, OutOfMemory>
+pub fn shape_at(alloc: Global, root: FieldClass, tree: &Tree) -> Result<Option<Shape>, OutOfMemory>
     ensures shape { IfOk result (λ found. found ≡ shape_at root tree.now) }
     ensures memory { OnErr result (IsSome (member_of (codes "shapes") tree.now)) }
 {
@@ -283,86 +281,6 @@ fn have_shapes(alloc: Global, trees: &[Tree]) -> Result<bool, OutOfMemory>
         }
     }
     Ok(true)
-}
-
-fn effect_as(name: &str) -> Option<bool>
-    ensures { result ≡ effect_as name.now }
-{
-    match name {
-        "same" => Some(true),
-        "none" => Some(false),
-        _ => None,
-    }
-}
-
-fn read_subresource(alloc: Global, tree: &Tree) -> Result<Option<Subresource>, OutOfMemory>
-    ensures subresource { IfOk result (λ found. found ≡ subresource_of tree.now) }
-    ensures form { OnErr result (IsTrue (is_form (codes "name" ∷ codes "effect" ∷ codes "shapes" ∷ []) tree.now)) }
-    ensures name { OnErr result (IsSome (text_at (codes "name") tree.now)) }
-    ensures effect { OnErr result (IsSome (option_and_then effect_as (text_at (codes "effect") tree.now))) }
-{
-    if !is_form(&["name", "effect", "shapes"], tree) {
-        return Ok(None);
-    }
-    let Some(name) = tree.text_at("name") else {
-        return Ok(None);
-    };
-    let Some(effect) = tree.text_at("effect") else {
-        return Ok(None);
-    };
-    let Some(same) = effect_as(effect.as_str()) else {
-        return Ok(None);
-    };
-    let Some(shape) = shape_at(alloc, FieldClass::Kept, tree)? else {
-        return Ok(None);
-    };
-    let name = name.clone()?;
-    Ok(Some(Subresource { name, same, shape }))
-}
-
-fn read_subresources(alloc: Global, trees: &[Tree]) -> Result<Option<Subresources>, OutOfMemory>
-    ensures { IfOk result (λ found. found ≡ subresources_in trees.now) }
-{
-    let mut subresources = Subresources::new(alloc);
-    for tree in trees {
-        let Some(subresource) = read_subresource(alloc, tree)? else {
-            return Ok(None);
-        };
-        subresources.push(subresource)?;
-    }
-    Ok(Some(subresources))
-}
-
-fn are_named_apart(alloc: Global, subresources: &[Subresource]) -> Result<bool, OutOfMemory>
-    ensures { IfOk result (λ are. are ≡ are_named_apart subresources.now) }
-{
-    let mut names = Vec::with_capacity(alloc, subresources.len())?;
-    for subresource in subresources {
-        names.push(&subresource.name)?;
-    }
-    are_texts_distinct(alloc, &names)
-}
-
-fn subresources_or_none(
-    alloc: Global,
-    member: Option<&Tree>,
-) -> Result<Option<Subresources>, OutOfMemory>
-    ensures list { IfOk result (λ found. found ≡ subresources_or_none (option_map (λ tree. tree.now) member.entry)) }
-    ensures memory { OnErr result (IsSome (option_and_then items_of (option_map (λ tree. tree.now) member.entry))) }
-{
-    let Some(list) = member else {
-        return Ok(Some(Subresources::new(alloc)));
-    };
-    let Some(trees) = list.as_items() else {
-        return Ok(None);
-    };
-    let Some(subresources) = read_subresources(alloc, trees.all.as_slice())? else {
-        return Ok(None);
-    };
-    if !are_named_apart(alloc, subresources.as_slice())? {
-        return Ok(None);
-    }
-    Ok(Some(subresources))
 }
 
 fn read_tracked(alloc: Global, tree: &Tree) -> Result<Option<Tracked>, OutOfMemory>
