@@ -17,6 +17,7 @@ use crate::subresources::subresources_or_none;
 use crate::tracked_list::TrackedList;
 use base_types::json::Tree;
 use base_types::{Listed, OutOfMemory, Text};
+use hash_seed::Seed;
 use path_shape::{FieldClass, Shape, ShapeEntries, ShapeFault};
 use std::alloc::Global;
 
@@ -197,7 +198,11 @@ fn read_entries(alloc: Global, trees: &[Tree]) -> Result<Option<Vec<Entry>>, Out
     Ok(Some(entries))
 }
 
-fn have_distinct_resources(alloc: Global, entries: &[Entry]) -> Result<bool, OutOfMemory>
+fn have_distinct_resources(
+    alloc: Global,
+    entries: &[Entry],
+    seed: Seed,
+) -> Result<bool, OutOfMemory>
     ensures { IfOk result (λ have. have ≡ are_distinct pair_eq
         (map (λ entry. (entry.group, entry.resource)) entries.now)) }
 {
@@ -205,10 +210,10 @@ fn have_distinct_resources(alloc: Global, entries: &[Entry]) -> Result<bool, Out
     for entry in entries {
         pairs.push((&entry.group, &entry.resource))?;
     }
-    are_pairs_distinct(alloc, &pairs)
+    are_pairs_distinct(alloc, &pairs, seed)
 }
 
-fn have_distinct_kinds(alloc: Global, entries: &[Entry]) -> Result<bool, OutOfMemory>
+fn have_distinct_kinds(alloc: Global, entries: &[Entry], seed: Seed) -> Result<bool, OutOfMemory>
     ensures { IfOk result (λ have. have ≡ are_distinct pair_eq
         (map (λ entry. (entry.group, entry.kind)) entries.now)) }
 {
@@ -216,24 +221,24 @@ fn have_distinct_kinds(alloc: Global, entries: &[Entry]) -> Result<bool, OutOfMe
     for entry in entries {
         pairs.push((&entry.group, &entry.kind))?;
     }
-    are_pairs_distinct(alloc, &pairs)
+    are_pairs_distinct(alloc, &pairs, seed)
 }
 
 // Whether no two entries have one group and resource, or one group and kind.
-fn are_apart(alloc: Global, entries: &[Entry]) -> Result<bool, OutOfMemory>
+fn are_apart(alloc: Global, entries: &[Entry], seed: Seed) -> Result<bool, OutOfMemory>
     ensures { IfOk result (λ are. are ≡ are_apart entries.now) }
 {
-    Ok(have_distinct_resources(alloc, entries)? && have_distinct_kinds(alloc, entries)?)
+    Ok(have_distinct_resources(alloc, entries, seed)? && have_distinct_kinds(alloc, entries, seed)?)
 }
 
 // Whether the entries are apart, where each is in its form.
-fn are_entries_apart(alloc: Global, trees: &[Tree]) -> Result<Option<bool>, OutOfMemory>
+fn are_entries_apart(alloc: Global, trees: &[Tree], seed: Seed) -> Result<Option<bool>, OutOfMemory>
     ensures { IfOk result (λ apart. apart ≡ option_map are_apart (entries_in trees.now)) }
 {
     let Some(entries) = read_entries(alloc, trees)? else {
         return Ok(None);
     };
-    Ok(Some(are_apart(alloc, &entries)?))
+    Ok(Some(are_apart(alloc, &entries, seed)?))
 }
 
 // The shape that was read, or none where the list isn't in its form.
@@ -283,7 +288,7 @@ fn have_shapes(alloc: Global, trees: &[Tree]) -> Result<bool, OutOfMemory>
     Ok(true)
 }
 
-fn read_tracked(alloc: Global, tree: &Tree) -> Result<Option<Tracked>, OutOfMemory>
+fn read_tracked(alloc: Global, tree: &Tree, seed: Seed) -> Result<Option<Tracked>, OutOfMemory>
     ensures { IfOk result (λ found. found ≡ tracked_of tree.now) }
 {
     let Some(entry) = read_entry(tree)? else {
@@ -292,18 +297,22 @@ fn read_tracked(alloc: Global, tree: &Tree) -> Result<Option<Tracked>, OutOfMemo
     let Some(shape) = shape_at(alloc, FieldClass::Asked, tree)? else {
         return Ok(None);
     };
-    let Some(subresources) = subresources_or_none(alloc, tree.member("subresources"))? else {
+    let Some(subresources) = subresources_or_none(alloc, tree.member("subresources"), seed)? else {
         return Ok(None);
     };
     Ok(Some(entry.into_tracked(shape, subresources)))
 }
 
-fn read_all_tracked(alloc: Global, trees: &[Tree]) -> Result<Option<Listed<Tracked>>, OutOfMemory>
+fn read_all_tracked(
+    alloc: Global,
+    trees: &[Tree],
+    seed: Seed,
+) -> Result<Option<Listed<Tracked>>, OutOfMemory>
     ensures { IfOk result (λ found. found ≡ tracked_in trees.now) }
 {
     let mut resources = Listed::new(alloc);
     for tree in trees {
-        let Some(tracked) = read_tracked(alloc, tree)? else {
+        let Some(tracked) = read_tracked(alloc, tree, seed)? else {
             return Ok(None);
         };
         resources.push(tracked)?;
@@ -312,7 +321,7 @@ fn read_all_tracked(alloc: Global, trees: &[Tree]) -> Result<Option<Listed<Track
 }
 
 /// The resources of a setup. All entries are in their form before any two are compared, and so on.
-pub fn read_resources(alloc: Global, tree: &Tree) -> Result<TrackedList, SetupFault>
+pub fn read_resources(alloc: Global, tree: &Tree, seed: Seed) -> Result<TrackedList, SetupFault>
     ensures resources { IfOk result (λ resources. resources_at tree.now ≡ Ok resources) }
     ensures cause { IfErr result (IsCause (resources_at tree.now)) }
     ensures memory { result ≡ Err SetupFault.OutOfMemory → IsSome (option_and_then items_of (member_of
@@ -322,7 +331,7 @@ pub fn read_resources(alloc: Global, tree: &Tree) -> Result<TrackedList, SetupFa
         return Err(SetupFault::Rule(SetupRule::S8));
     };
     let trees = list.all.as_slice();
-    let Some(apart) = are_entries_apart(alloc, trees)? else {
+    let Some(apart) = are_entries_apart(alloc, trees, seed)? else {
         return Err(SetupFault::Rule(SetupRule::S8));
     };
     if !apart {
@@ -331,7 +340,7 @@ pub fn read_resources(alloc: Global, tree: &Tree) -> Result<TrackedList, SetupFa
     if !have_shapes(alloc, trees)? {
         return Err(SetupFault::Rule(SetupRule::S10));
     }
-    match read_all_tracked(alloc, trees)? {
+    match read_all_tracked(alloc, trees, seed)? {
         Some(resources) => Ok(TrackedList::of(alloc, resources.into_vec())?),
         None => Err(SetupFault::Rule(SetupRule::S11)),
     }

@@ -12,6 +12,7 @@ use crate::resources::shape_at;
 use crate::setup::{Subresource, Subresources};
 use base_types::OutOfMemory;
 use base_types::json::Tree;
+use hash_seed::Seed;
 use path_shape::FieldClass;
 use std::alloc::Global;
 
@@ -63,20 +64,25 @@ fn read_subresources(alloc: Global, trees: &[Tree]) -> Result<Option<Subresource
     Ok(Some(subresources))
 }
 
-fn are_named_apart(alloc: Global, subresources: &[Subresource]) -> Result<bool, OutOfMemory>
+fn are_named_apart(
+    alloc: Global,
+    subresources: &[Subresource],
+    seed: Seed,
+) -> Result<bool, OutOfMemory>
     ensures { IfOk result (λ are. are ≡ are_named_apart subresources.now) }
 {
     let mut names = Vec::with_capacity(alloc, subresources.len())?;
     for subresource in subresources {
         names.push(&subresource.name)?;
     }
-    are_texts_distinct(alloc, &names)
+    are_texts_distinct(alloc, &names, seed)
 }
 
 /// The subresources of an entry of `resources`, none where it lists none.
 pub fn subresources_or_none(
     alloc: Global,
     member: Option<&Tree>,
+    seed: Seed,
 ) -> Result<Option<Subresources>, OutOfMemory>
     ensures list { IfOk result (λ found. found ≡ subresources_or_none (option_map (λ tree. tree.now) member.entry)) }
     ensures memory { OnErr result (IsSome (option_and_then items_of (option_map (λ tree. tree.now) member.entry))) }
@@ -90,7 +96,7 @@ pub fn subresources_or_none(
     let Some(subresources) = read_subresources(alloc, trees.all.as_slice())? else {
         return Ok(None);
     };
-    if !are_named_apart(alloc, subresources.as_slice())? {
+    if !are_named_apart(alloc, subresources.as_slice(), seed)? {
         return Ok(None);
     }
     Ok(Some(subresources))
