@@ -1,4 +1,4 @@
-ghost use Rattle.std.specs.Prelude.{◌≡◌, Some, OnOk, IfOk};
+ghost use Rattle.std.specs.Prelude.{◌≡◌, Some, OnOk, IfOk, codes};
 ghost use Rattle.std.specs.List.{list_any};
 ghost use Rattle.base_types.specs.Meaning.{words};
 ghost use Rattle.base_types.specs.Stored.{without};
@@ -44,15 +44,37 @@ fn words(text: Text) -> Tree
     }
 }
 
+fn put_version(alloc: Global, tracked: &Tracked, tree: &mut Tree) -> Result<(), OutOfMemory>
+    ensures { OnOk result (tree.new ≡ put_in (codes "apiVersion")
+        (words (api_version_of tracked.now.group tracked.now.version)) tree.old) }
+{
+    let name = Text::from_str(alloc, "apiVersion")?;
+    let version = api_version(alloc, tracked)?;
+    put_in(tree, name, words(version))
+}
+
+fn put_kind(alloc: Global, tracked: &Tracked, tree: &mut Tree) -> Result<(), OutOfMemory>
+    ensures { OnOk result (tree.new ≡ put_in (codes "kind") (words tracked.now.kind) tree.old) }
+{
+    let name = Text::from_str(alloc, "kind")?;
+    let kind = tracked.kind.clone()?;
+    put_in(tree, name, words(kind))
+}
+
+// Puts the version and the kind of a resource into an object.
+fn put_type(alloc: Global, tracked: &Tracked, tree: &mut Tree) -> Result<(), OutOfMemory>
+    ensures { OnOk result (tree.new ≡ typed tracked.now tree.old) }
+{
+    put_version(alloc, tracked, tree)?;
+    put_kind(alloc, tracked, tree)
+}
+
 /// A copy of an object, with the version and the kind of its resource.
 pub fn typed(alloc: Global, tracked: &Tracked, object: &Tree) -> Result<Tree, OutOfMemory>
     ensures { IfOk result (λ made. made ≡ typed tracked.now object.now) }
 {
     let mut made = copy(alloc, object)?;
-    let version = words(api_version(alloc, tracked)?);
-    let kind = words(tracked.kind.clone()?);
-    put_in(&mut made, Text::from_str(alloc, "apiVersion")?, version)?;
-    put_in(&mut made, Text::from_str(alloc, "kind")?, kind)?;
+    put_type(alloc, tracked, &mut made)?;
     Ok(made)
 }
 
