@@ -4,8 +4,9 @@ use Rattle.base_types.specs.Meaning.{Meaning}
 use Rattle.base_types.proofs.Found.{same_some, found_both, where_true}
 use Rattle.setup_file.specs.declared.lists.ListRead.{ListRead}
 use Rattle.setup_file.specs.declared.setup.Tracked.{Tracked}
-use Rattle.setup_file.specs.Checkpoints.{is_no_text, is_whole_at, fit_list_of}
+use Rattle.setup_file.specs.Checkpoints.{is_no_text, is_whole_at}
 use Rattle.setup_file.specs.Lists.{list_of}
+use Rattle.setup_file.specs.Parts.{fit_list_of}
 
 pub list_fits : (start : ℕ) (tracked : Tracked) (namespace : List ℕ) (tree : Meaning) (list : ListRead) → fit_list_of start tracked namespace tree ≡ Some list
     → (list_of tracked [] namespace tree ≡ Some list) × (((is_no_text namespace || tracked.namespaced) && is_whole_at start list) ≡ true)

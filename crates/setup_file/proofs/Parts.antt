@@ -14,7 +14,8 @@ use Rattle.setup_file.specs.declared.setup.SnapshotObject.{SnapshotObject}
 use Rattle.setup_file.specs.declared.setup.Tracked.{Tracked}
 use Rattle.setup_file.specs.Authorization.{authorization_of, is_authorized}
 use Rattle.setup_file.specs.Checkpoints.{checkpoints_of}
-use Rattle.setup_file.specs.Reading.{clocks_of, policy_at, resources_at, snapshot_at, rest_at, setup_with}
+use Rattle.setup_file.specs.Parts.{rest_at}
+use Rattle.setup_file.specs.Reading.{clocks_of, policy_at, resources_at, snapshot_at, setup_with}
 use Rattle.setup_file.specs.Steps.{◌>>=◌, or_breaks, unless_breaks, IsCause}
 use Rattle.setup_file.proofs.Chains.{paired}
 

@@ -18,12 +18,6 @@ is_no_text (byte ∷ bytes) = false
 abbrev pub is_whole_at : ℕ → ListRead → Bool
 is_whole_at start list = not list.rest && nat_le start list.revision
 
--- a list that a checkpoint may have
-abbrev pub fit_list_of : ℕ → Tracked → List ℕ → Meaning → Option ListRead
-fit_list_of start tracked namespace tree = do
-  list ← list_of tracked [] namespace tree
-  if (is_no_text namespace || tracked.namespaced) && is_whole_at start list then Some list else None
-
 -- a checkpoint by its number
 abbrev pub checkpoint_of : ℕ → List Tracked → ℕ → Meaning → Option Checkpoint
 checkpoint_of start resources number tree = if is_form (codes "group" ∷ codes "resource" ∷ codes "namespace" ∷ codes "list" ∷ []) tree then (do

@@ -6,6 +6,7 @@ pub mod Forms
 pub mod Indexed
 pub mod Lists
 pub mod Objects
+pub mod Parts
 pub mod Reading
 pub mod Requests
 pub mod Resources

@@ -10,11 +10,9 @@ use Rattle.audit_policy.specs.Forms.{policy_of}
 use Rattle.base_types.specs.Meaning.{Meaning}
 use Rattle.base_types.specs.Parts.{member_of, whole_of, items_of}
 use Rattle.base_types.specs.Values.{of_data}
-use Rattle.setup_file.specs.declared.authorization.Authorization.{Authorization}
 use Rattle.setup_file.specs.declared.clocks.Clocks.{Clocks}
 use Rattle.setup_file.specs.declared.fault.SetupRule.{SetupRule}
 use Rattle.setup_file.specs.declared.fault.SetupRule.TheVariants.{S1, S2, S3, S4, S5, S6, S7, S8, S9, S10, S11, S12, S13, S14, S15}
-use Rattle.setup_file.specs.declared.setup.Checkpoint.{Checkpoint}
 use Rattle.setup_file.specs.declared.setup.Setup.{Setup}
 use Rattle.setup_file.specs.declared.setup.SnapshotObject.{SnapshotObject}
 use Rattle.setup_file.specs.declared.setup.Tracked.{Tracked}
@@ -93,14 +91,6 @@ snapshot_at start resources tree = do
   trees ← or_breaks S12 (chained (member_of (codes "snapshot") tree) items_of)
   objects ← or_breaks S12 (snapshot_in resources trees)
   unless_breaks S13 (are_at_start start objects) (Ok objects)
-
--- what stands on the resources and the snapshot: what is said of authorization, and the checkpoints
-abbrev pub rest_at : ℕ → List Tracked → List SnapshotObject → Meaning → Result (Authorization × List Checkpoint) SetupRule
-rest_at start resources snapshot tree = do
-  authorization ← or_breaks S14 (authorization_of tree)
-  checkpoints ← unless_breaks S14 (is_authorized resources snapshot authorization)
-      (or_breaks S15 (checkpoints_of start resources (member_of (codes "checkpoints") tree)))
-  Ok (authorization, checkpoints)
 
 abbrev pub setup_with : Meaning → Result Setup SetupRule
 setup_with tree = do

@@ -1,6 +1,7 @@
 ghost use Rattle.std.specs.Prelude.{◌≡◌, ◌≤◌, ◌||◌, ◌&&◌, ◌++◌, length, IfOk, option_map, codes, decimal};
-ghost use Rattle.setup_file.specs.Checkpoints.{is_no_text, is_whole_at, fit_list_of, checkpoint_of};
-ghost use Rattle.setup_file.specs.Checkpoints.{checkpoints_from, few_checkpoints, checkpoints_of};
+ghost use Rattle.setup_file.specs.Checkpoints.{is_no_text, is_whole_at, checkpoint_of, checkpoints_from};
+ghost use Rattle.setup_file.specs.Checkpoints.{few_checkpoints, checkpoints_of};
+ghost use Rattle.setup_file.specs.Parts.{fit_list_of};
 
 use crate::form::is_form;
 use crate::lists::{ListRead, read_list};

@@ -6,11 +6,13 @@ use hash_seed::{Seed, Seeded};
 use std::alloc::Global;
 use std::collections::HashSet;
 
+// Each hash begins with the seed, since whoever creates objects chooses some of what is compared.
+
 /// Whether no two texts are equal.
-pub fn are_texts_distinct(alloc: Global, texts: &[&Text]) -> Result<bool, OutOfMemory>
+pub fn are_texts_distinct(alloc: Global, texts: &[&Text], seed: Seed) -> Result<bool, OutOfMemory>
     ensures { IfOk result (λ are. are ≡ are_distinct bytes_eq (map (λ text. text.now) texts.now)) }
 {
-    let mut seen = HashSet::new(alloc);
+    let mut seen = HashSet::with_hasher(alloc, Seeded::new(seed));
     for text in texts {
         if !seen.insert(*text)? {
             return Ok(false);
@@ -20,10 +22,14 @@ pub fn are_texts_distinct(alloc: Global, texts: &[&Text]) -> Result<bool, OutOfM
 }
 
 /// Whether no two pairs of texts are equal.
-pub fn are_pairs_distinct(alloc: Global, pairs: &[(&Text, &Text)]) -> Result<bool, OutOfMemory>
+pub fn are_pairs_distinct(
+    alloc: Global,
+    pairs: &[(&Text, &Text)],
+    seed: Seed,
+) -> Result<bool, OutOfMemory>
     ensures { IfOk result (λ are. are ≡ are_distinct pair_eq (map (λ pair. (pair.0.now, pair.1.now)) pairs.now)) }
 {
-    let mut seen = HashSet::new(alloc);
+    let mut seen = HashSet::with_hasher(alloc, Seeded::new(seed));
     for pair in pairs {
         if !seen.insert(*pair)? {
             return Ok(false);
@@ -32,8 +38,7 @@ pub fn are_pairs_distinct(alloc: Global, pairs: &[(&Text, &Text)]) -> Result<boo
     Ok(true)
 }
 
-/// Whether no two keys are equal. Their hashes begin with the seed, since the names in them are chosen by whoever
-/// creates objects.
+/// Whether no two keys are equal.
 pub fn are_keys_distinct(
     alloc: Global,
     keys: &[&ObjectKey],
@@ -51,10 +56,14 @@ pub fn are_keys_distinct(
 }
 
 /// Whether no two revisions are equal.
-pub fn are_revisions_distinct(alloc: Global, revisions: &[&Revision]) -> Result<bool, OutOfMemory>
+pub fn are_revisions_distinct(
+    alloc: Global,
+    revisions: &[&Revision],
+    seed: Seed,
+) -> Result<bool, OutOfMemory>
     ensures { IfOk result (λ are. are ≡ are_distinct (λ a b. a == b) (map (λ revision. revision.now) revisions.now)) }
 {
-    let mut seen = HashSet::new(alloc);
+    let mut seen = HashSet::with_hasher(alloc, Seeded::new(seed));
     for revision in revisions {
         if !seen.insert(*revision)? {
             return Ok(false);

@@ -14,6 +14,7 @@ mod requests;
 mod resources;
 mod setup;
 mod snapshot;
+mod subresources;
 mod tracked_list;
 
 pub use fault::{SetupFault, SetupRule};

@@ -8,8 +8,8 @@ ghost use Rattle.base_types.specs.Values.{InRange};
 ghost use Rattle.setup_file.specs.declared.fault.SetupRule.TheVariants.{S1};
 ghost use Rattle.setup_file.specs.Forms.{is_form};
 ghost use Rattle.setup_file.specs.Reading.{is_version, known, known_2, has_known, has_all, is_setup_form};
-ghost use Rattle.setup_file.specs.Reading.{is_known_version, policy_at, rest_at, setup_with, setup_of};
-ghost use Rattle.setup_file.specs.Reading.{IsTreeOf, ReadsAs};
+ghost use Rattle.setup_file.specs.Parts.{rest_at};
+ghost use Rattle.setup_file.specs.Reading.{is_known_version, policy_at, setup_with, setup_of, IsTreeOf, ReadsAs};
 ghost use Rattle.setup_file.specs.Sound.{IsSound};
 ghost use Rattle.setup_file.specs.Steps.{IsCause};
 
@@ -163,7 +163,7 @@ fn setup_with(alloc: Global, tree: &Tree, seed: Seed) -> Result<Setup, SetupFaul
 {
     let clocks = read_clocks(tree)?;
     let policy = policy_at(alloc, tree)?;
-    let resources = read_resources(alloc, tree)?;
+    let resources = read_resources(alloc, tree, seed)?;
     let snapshot = read_snapshot(alloc, clocks.start, &resources, tree, seed)?;
     let (authorization, checkpoints) = rest_at(
         alloc,
@@ -220,8 +220,8 @@ fn tree_of(alloc: Global, bytes: &[u8]) -> Result<Tree, SetupFault>
     }
 }
 
-/// Reads a setup: one JSON object. Of the rules that it breaks, the first in their order is the fault. The hashes of
-/// keys begin with the seed.
+/// Reads a setup: one JSON object. Of the rules that it breaks, the first in their order is the fault. The hashes
+/// of what is compared begin with the seed.
 pub fn read_setup(alloc: Global, bytes: &[u8], seed: Seed) -> Result<Setup, SetupFault>
     ensures setup { IfOk result (λ setup. ReadsAs bytes.now (Ok setup)) }
     ensures sound { length bytes.now ≤ 2 ^ 28 → IfOk result IsSound }

@@ -1,24 +1,23 @@
-ghost use Rattle.std.specs.Prelude.{◌≡◌, ◌≢◌, [], ◌∷◌, IfOk, IfErr, OnErr, IsSome, IsTrue, codes};
+ghost use Rattle.std.specs.Prelude.{◌≡◌, ◌≢◌, IfOk, IfErr, OnErr, IsSome, codes};
 ghost use Rattle.std.specs.Prelude.{map, option_map, option_and_then};
 ghost use Rattle.std.specs.List.{list_all};
 ghost use Rattle.std.specs.Result.{result_ok};
 ghost use Rattle.base_types.specs.Parts.{member_of, flag_of, items_of};
-ghost use Rattle.base_types.specs.Texts.{text_at};
 ghost use Rattle.setup_file.specs.Distinct.{are_distinct, pair_eq};
-ghost use Rattle.setup_file.specs.Forms.{is_form};
 ghost use Rattle.setup_file.specs.Resources.{merges_as, merges_of, entry_of, entries_in, are_apart, shape_or_root};
-ghost use Rattle.setup_file.specs.Resources.{shape_at, has_shape, effect_as, subresource_of, subresources_in};
-ghost use Rattle.setup_file.specs.Resources.{are_named_apart, subresources_or_none, tracked_of, tracked_in};
+ghost use Rattle.setup_file.specs.Resources.{shape_at, has_shape, tracked_of, tracked_in};
 ghost use Rattle.setup_file.specs.Reading.{resources_at};
 ghost use Rattle.setup_file.specs.Steps.{IsCause};
 
-use crate::distinct::{are_pairs_distinct, are_texts_distinct};
+use crate::distinct::are_pairs_distinct;
 use crate::fault::{SetupFault, SetupRule};
 use crate::form::is_form;
-use crate::setup::{Subresource, Subresources, Tracked};
+use crate::setup::{Subresources, Tracked};
+use crate::subresources::subresources_or_none;
 use crate::tracked_list::TrackedList;
 use base_types::json::Tree;
 use base_types::{Listed, OutOfMemory, Text};
+use hash_seed::Seed;
 use path_shape::{FieldClass, Shape, ShapeEntries, ShapeFault};
 use std::alloc::Global;
 
@@ -199,7 +198,11 @@ fn read_entries(alloc: Global, trees: &[Tree]) -> Result<Option<Vec<Entry>>, Out
     Ok(Some(entries))
 }
 
-fn have_distinct_resources(alloc: Global, entries: &[Entry]) -> Result<bool, OutOfMemory>
+fn have_distinct_resources(
+    alloc: Global,
+    entries: &[Entry],
+    seed: Seed,
+) -> Result<bool, OutOfMemory>
     ensures { IfOk result (λ have. have ≡ are_distinct pair_eq
         (map (λ entry. (entry.group, entry.resource)) entries.now)) }
 {
@@ -207,10 +210,10 @@ fn have_distinct_resources(alloc: Global, entries: &[Entry]) -> Result<bool, Out
     for entry in entries {
         pairs.push((&entry.group, &entry.resource))?;
     }
-    are_pairs_distinct(alloc, &pairs)
+    are_pairs_distinct(alloc, &pairs, seed)
 }
 
-fn have_distinct_kinds(alloc: Global, entries: &[Entry]) -> Result<bool, OutOfMemory>
+fn have_distinct_kinds(alloc: Global, entries: &[Entry], seed: Seed) -> Result<bool, OutOfMemory>
     ensures { IfOk result (λ have. have ≡ are_distinct pair_eq
         (map (λ entry. (entry.group, entry.kind)) entries.now)) }
 {
@@ -218,24 +221,24 @@ fn have_distinct_kinds(alloc: Global, entries: &[Entry]) -> Result<bool, OutOfMe
     for entry in entries {
         pairs.push((&entry.group, &entry.kind))?;
     }
-    are_pairs_distinct(alloc, &pairs)
+    are_pairs_distinct(alloc, &pairs, seed)
 }
 
 // Whether no two entries have one group and resource, or one group and kind.
-fn are_apart(alloc: Global, entries: &[Entry]) -> Result<bool, OutOfMemory>
+fn are_apart(alloc: Global, entries: &[Entry], seed: Seed) -> Result<bool, OutOfMemory>
     ensures { IfOk result (λ are. are ≡ are_apart entries.now) }
 {
-    Ok(have_distinct_resources(alloc, entries)? && have_distinct_kinds(alloc, entries)?)
+    Ok(have_distinct_resources(alloc, entries, seed)? && have_distinct_kinds(alloc, entries, seed)?)
 }
 
 // Whether the entries are apart, where each is in its form.
-fn are_entries_apart(alloc: Global, trees: &[Tree]) -> Result<Option<bool>, OutOfMemory>
+fn are_entries_apart(alloc: Global, trees: &[Tree], seed: Seed) -> Result<Option<bool>, OutOfMemory>
     ensures { IfOk result (λ apart. apart ≡ option_map are_apart (entries_in trees.now)) }
 {
     let Some(entries) = read_entries(alloc, trees)? else {
         return Ok(None);
     };
-    Ok(Some(are_apart(alloc, &entries)?))
+    Ok(Some(are_apart(alloc, &entries, seed)?))
 }
 
 // The shape that was read, or none where the list isn't in its form.
@@ -266,7 +269,7 @@ fn shape_or_root(
     formed(Shape::read(alloc, list, root))
 }
 
-fn shape_at(alloc: Global, root: FieldClass, tree: &Tree) -> Result<Option<Shape>, OutOfMemory>
+pub fn shape_at(alloc: Global, root: FieldClass, tree: &Tree) -> Result<Option<Shape>, OutOfMemory>
     ensures shape { IfOk result (λ found. found ≡ shape_at root tree.now) }
     ensures memory { OnErr result (IsSome (member_of (codes "shapes") tree.now)) }
 {
@@ -285,87 +288,7 @@ fn have_shapes(alloc: Global, trees: &[Tree]) -> Result<bool, OutOfMemory>
     Ok(true)
 }
 
-fn effect_as(name: &str) -> Option<bool>
-    ensures { result ≡ effect_as name.now }
-{
-    match name {
-        "same" => Some(true),
-        "none" => Some(false),
-        _ => None,
-    }
-}
-
-fn read_subresource(alloc: Global, tree: &Tree) -> Result<Option<Subresource>, OutOfMemory>
-    ensures subresource { IfOk result (λ found. found ≡ subresource_of tree.now) }
-    ensures form { OnErr result (IsTrue (is_form (codes "name" ∷ codes "effect" ∷ codes "shapes" ∷ []) tree.now)) }
-    ensures name { OnErr result (IsSome (text_at (codes "name") tree.now)) }
-    ensures effect { OnErr result (IsSome (option_and_then effect_as (text_at (codes "effect") tree.now))) }
-{
-    if !is_form(&["name", "effect", "shapes"], tree) {
-        return Ok(None);
-    }
-    let Some(name) = tree.text_at("name") else {
-        return Ok(None);
-    };
-    let Some(effect) = tree.text_at("effect") else {
-        return Ok(None);
-    };
-    let Some(same) = effect_as(effect.as_str()) else {
-        return Ok(None);
-    };
-    let Some(shape) = shape_at(alloc, FieldClass::Kept, tree)? else {
-        return Ok(None);
-    };
-    let name = name.clone()?;
-    Ok(Some(Subresource { name, same, shape }))
-}
-
-fn read_subresources(alloc: Global, trees: &[Tree]) -> Result<Option<Subresources>, OutOfMemory>
-    ensures { IfOk result (λ found. found ≡ subresources_in trees.now) }
-{
-    let mut subresources = Subresources::new(alloc);
-    for tree in trees {
-        let Some(subresource) = read_subresource(alloc, tree)? else {
-            return Ok(None);
-        };
-        subresources.push(subresource)?;
-    }
-    Ok(Some(subresources))
-}
-
-fn are_named_apart(alloc: Global, subresources: &[Subresource]) -> Result<bool, OutOfMemory>
-    ensures { IfOk result (λ are. are ≡ are_named_apart subresources.now) }
-{
-    let mut names = Vec::with_capacity(alloc, subresources.len())?;
-    for subresource in subresources {
-        names.push(&subresource.name)?;
-    }
-    are_texts_distinct(alloc, &names)
-}
-
-fn subresources_or_none(
-    alloc: Global,
-    member: Option<&Tree>,
-) -> Result<Option<Subresources>, OutOfMemory>
-    ensures list { IfOk result (λ found. found ≡ subresources_or_none (option_map (λ tree. tree.now) member.entry)) }
-    ensures memory { OnErr result (IsSome (option_and_then items_of (option_map (λ tree. tree.now) member.entry))) }
-{
-    let Some(list) = member else {
-        return Ok(Some(Subresources::new(alloc)));
-    };
-    let Some(trees) = list.as_items() else {
-        return Ok(None);
-    };
-    let Some(subresources) = read_subresources(alloc, trees.all.as_slice())? else {
-        return Ok(None);
-    };
-    if !are_named_apart(alloc, subresources.as_slice())? {
-        return Ok(None);
-    }
-    Ok(Some(subresources))
-}
-
-fn read_tracked(alloc: Global, tree: &Tree) -> Result<Option<Tracked>, OutOfMemory>
+fn read_tracked(alloc: Global, tree: &Tree, seed: Seed) -> Result<Option<Tracked>, OutOfMemory>
     ensures { IfOk result (λ found. found ≡ tracked_of tree.now) }
 {
     let Some(entry) = read_entry(tree)? else {
@@ -374,18 +297,22 @@ fn read_tracked(alloc: Global, tree: &Tree) -> Result<Option<Tracked>, OutOfMemo
     let Some(shape) = shape_at(alloc, FieldClass::Asked, tree)? else {
         return Ok(None);
     };
-    let Some(subresources) = subresources_or_none(alloc, tree.member("subresources"))? else {
+    let Some(subresources) = subresources_or_none(alloc, tree.member("subresources"), seed)? else {
         return Ok(None);
     };
     Ok(Some(entry.into_tracked(shape, subresources)))
 }
 
-fn read_all_tracked(alloc: Global, trees: &[Tree]) -> Result<Option<Listed<Tracked>>, OutOfMemory>
+fn read_all_tracked(
+    alloc: Global,
+    trees: &[Tree],
+    seed: Seed,
+) -> Result<Option<Listed<Tracked>>, OutOfMemory>
     ensures { IfOk result (λ found. found ≡ tracked_in trees.now) }
 {
     let mut resources = Listed::new(alloc);
     for tree in trees {
-        let Some(tracked) = read_tracked(alloc, tree)? else {
+        let Some(tracked) = read_tracked(alloc, tree, seed)? else {
             return Ok(None);
         };
         resources.push(tracked)?;
@@ -394,7 +321,7 @@ fn read_all_tracked(alloc: Global, trees: &[Tree]) -> Result<Option<Listed<Track
 }
 
 /// The resources of a setup. All entries are in their form before any two are compared, and so on.
-pub fn read_resources(alloc: Global, tree: &Tree) -> Result<TrackedList, SetupFault>
+pub fn read_resources(alloc: Global, tree: &Tree, seed: Seed) -> Result<TrackedList, SetupFault>
     ensures resources { IfOk result (λ resources. resources_at tree.now ≡ Ok resources) }
     ensures cause { IfErr result (IsCause (resources_at tree.now)) }
     ensures memory { result ≡ Err SetupFault.OutOfMemory → IsSome (option_and_then items_of (member_of
@@ -404,7 +331,7 @@ pub fn read_resources(alloc: Global, tree: &Tree) -> Result<TrackedList, SetupFa
         return Err(SetupFault::Rule(SetupRule::S8));
     };
     let trees = list.all.as_slice();
-    let Some(apart) = are_entries_apart(alloc, trees)? else {
+    let Some(apart) = are_entries_apart(alloc, trees, seed)? else {
         return Err(SetupFault::Rule(SetupRule::S8));
     };
     if !apart {
@@ -413,7 +340,7 @@ pub fn read_resources(alloc: Global, tree: &Tree) -> Result<TrackedList, SetupFa
     if !have_shapes(alloc, trees)? {
         return Err(SetupFault::Rule(SetupRule::S10));
     }
-    match read_all_tracked(alloc, trees)? {
+    match read_all_tracked(alloc, trees, seed)? {
         Some(resources) => Ok(TrackedList::of(alloc, resources.into_vec())?),
         None => Err(SetupFault::Rule(SetupRule::S11)),
     }

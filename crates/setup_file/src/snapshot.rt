@@ -122,24 +122,32 @@ fn have_distinct_keys(
     are_keys_distinct(alloc, &keys, seed)
 }
 
-fn have_distinct_uids(alloc: Global, objects: &[SnapshotObject]) -> Result<bool, OutOfMemory>
+fn have_distinct_uids(
+    alloc: Global,
+    objects: &[SnapshotObject],
+    seed: Seed,
+) -> Result<bool, OutOfMemory>
     ensures { IfOk result (λ have. have ≡ are_distinct bytes_eq (map (λ object. object.uid) objects.now)) }
 {
     let mut uids = Vec::with_capacity(alloc, objects.len())?;
     for object in objects {
         uids.push(&object.uid)?;
     }
-    are_texts_distinct(alloc, &uids)
+    are_texts_distinct(alloc, &uids, seed)
 }
 
-fn have_distinct_revisions(alloc: Global, objects: &[SnapshotObject]) -> Result<bool, OutOfMemory>
+fn have_distinct_revisions(
+    alloc: Global,
+    objects: &[SnapshotObject],
+    seed: Seed,
+) -> Result<bool, OutOfMemory>
     ensures { IfOk result (λ have. have ≡ are_distinct (λ a b. a == b) (map (λ object. object.revision) objects.now)) }
 {
     let mut revisions = Vec::with_capacity(alloc, objects.len())?;
     for object in objects {
         revisions.push(&object.revision)?;
     }
-    are_revisions_distinct(alloc, &revisions)
+    are_revisions_distinct(alloc, &revisions, seed)
 }
 
 fn are_below(start: Revision, objects: &[SnapshotObject]) -> bool
@@ -160,8 +168,8 @@ fn are_at_start(
     ensures { IfOk result (λ are. are ≡ are_at_start start objects.now) }
 {
     let keys = have_distinct_keys(alloc, objects, seed)?;
-    let uids = have_distinct_uids(alloc, objects)?;
-    let revisions = have_distinct_revisions(alloc, objects)?;
+    let uids = have_distinct_uids(alloc, objects, seed)?;
+    let revisions = have_distinct_revisions(alloc, objects, seed)?;
     Ok(keys && uids && revisions && are_below(start, objects))
 }
 

@@ -5,7 +5,7 @@ use Rattle.setup_file.proofs.Seen.{seen_in, distinct_new, new_step, unseen, put_
 use Rattle.setup_file.proofs.distinct.are_pairs_distinct.Goals as goal
 
 pub loop-pair-init : goal.loop-pair-init
-loop-pair-init c = rw c.new-seen.ensures.empty (distinct_new {K = (Bor (List ℕ) × Bor (List ℕ))} pair_eq (λ pair. (pair.0.now, pair.1.now)) (map (λ (pair : Bor (List ℕ) × Bor (List ℕ)). (pair.0.now, pair.1.now)) c.args.pairs.now))
+loop-pair-init c = rw c.with_hasher-seen.ensures.empty (distinct_new {K = (Bor (List ℕ) × Bor (List ℕ))} pair_eq (λ pair. (pair.0.now, pair.1.now)) (map (λ (pair : Bor (List ℕ) × Bor (List ℕ)). (pair.0.now, pair.1.now)) c.args.pairs.now))
 
 pub loop-pair-preserved : goal.loop-pair-preserved
 loop-pair-preserved c =

@@ -4,7 +4,7 @@ use Rattle.setup_file.proofs.Seen.{seen_in, distinct_new, new_step, unseen, put_
 use Rattle.setup_file.proofs.distinct.are_revisions_distinct.Goals as goal
 
 pub loop-revision-init : goal.loop-revision-init
-loop-revision-init c = rw c.new-seen.ensures.empty (distinct_new {K = (Bor ℕ)} (λ a b. a == b) (λ revision. revision.now) (map (λ (revision : Bor ℕ). revision.now) c.args.revisions.now))
+loop-revision-init c = rw c.with_hasher-seen.ensures.empty (distinct_new {K = (Bor ℕ)} (λ a b. a == b) (λ revision. revision.now) (map (λ (revision : Bor ℕ). revision.now) c.args.revisions.now))
 
 pub loop-revision-preserved : goal.loop-revision-preserved
 loop-revision-preserved c =

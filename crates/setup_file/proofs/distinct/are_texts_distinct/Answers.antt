@@ -4,7 +4,7 @@ use Rattle.setup_file.proofs.Seen.{seen_in, distinct_new, new_step, unseen, put_
 use Rattle.setup_file.proofs.distinct.are_texts_distinct.Goals as goal
 
 pub loop-text-init : goal.loop-text-init
-loop-text-init c = rw c.new-seen.ensures.empty (distinct_new {K = (Bor (List ℕ))} bytes_eq (λ text. text.now) (map (λ (text : Bor (List ℕ)). text.now) c.args.texts.now))
+loop-text-init c = rw c.with_hasher-seen.ensures.empty (distinct_new {K = (Bor (List ℕ))} bytes_eq (λ text. text.now) (map (λ (text : Bor (List ℕ)). text.now) c.args.texts.now))
 
 pub loop-text-preserved : goal.loop-text-preserved
 loop-text-preserved c =
