@@ -1,89 +1,14 @@
-use Rattle.std.proofs.Common.{◌∙◌, ap, Err, arith}
-use Rattle.log_intake.proofs.LineFacts.{AllAdmitted}
-use Rattle.log_intake.proofs.LogFacts.{batch_asks, reads_ended, reads_failed, reads_long, reads_nothing, reads_on, reads_past, reads_refused, reads_some}
+use Rattle.std.proofs.Common.{Ok, sym, subst}
+use Rattle.audit_event.specs.Keeping.{AreKept}
+use Rattle.log_intake.specs.Taking.{ReadsLog}
+use Rattle.log_intake.proofs.LogFacts.{reads_nothing}
 use Rattle.log_intake.proofs.log.read_log.Goals as goal
 
 pub returns-in-Err-clause-reads : goal.returns-in-Err-clause-reads
 returns-in-Err-clause-reads g c = reads_nothing _ _
 
-pub returns-in-Err-new-clause-reads : goal.returns-in-Err-new-clause-reads
-returns-in-Err-new-clause-reads g c = reads_nothing _ _
-
-pub returns-in-Err-gather-clause-reads : goal.returns-in-Err-gather-clause-reads
-returns-in-Err-gather-clause-reads g c =
-    let s = c.batches.invariant.read in
-    let before = c.batches.invariant.counted in
-    let more = c.gather.ensures.counted in
-    reads_some _ _ _ _ _ c.batches.reader c.batches.seen c.batches.place c.batches.taken s c.in-Err-gather.ensures.memory (omega (arith, before, more))
-
-pub admit_batch-requires-clause-few : goal.admit_batch-requires-clause-few
-admit_batch-requires-clause-few g c κs _ = (batch_asks c.in-Ok-gather.batch.end _ _ _ c.batches.reader c.gather.new.reader c.batches.seen c.batches.place c.in-Ok-gather.batch.lines.items c.as_slice.result.now c.batches.taken c.in-Ok-gather.batch.taken c.batches.invariant.read c.in-Ok-gather.ensures.gathers c.as_slice.ensures.value).few
-
-pub admit_batch-requires-clause-short : goal.admit_batch-requires-clause-short
-admit_batch-requires-clause-short g c κs _ = (batch_asks c.in-Ok-gather.batch.end _ _ _ c.batches.reader c.gather.new.reader c.batches.seen c.batches.place c.in-Ok-gather.batch.lines.items c.as_slice.result.now c.batches.taken c.in-Ok-gather.batch.taken c.batches.invariant.read c.in-Ok-gather.ensures.gathers c.as_slice.ensures.value).short
-
-pub admit_batch-requires-clause-ordered : goal.admit_batch-requires-clause-ordered
-admit_batch-requires-clause-ordered g c κs _ = (batch_asks c.in-Ok-gather.batch.end _ _ _ c.batches.reader c.gather.new.reader c.batches.seen c.batches.place c.in-Ok-gather.batch.lines.items c.as_slice.result.now c.batches.taken c.in-Ok-gather.batch.taken c.batches.invariant.read c.in-Ok-gather.ensures.gathers c.as_slice.ensures.value).ordered
-
-pub returns-in-Err-admit_batch-clause-reads : goal.returns-in-Err-admit_batch-clause-reads
-returns-in-Err-admit_batch-clause-reads g c =
-    let s = c.batches.invariant.read in
-    let before = c.batches.invariant.counted in
-    let more = c.gather.ensures.counted in
-    reads_refused c.in-Ok-gather.batch.end _ _ _ _ _ c.batches.reader c.gather.new.reader c.batches.seen c.batches.place c.in-Ok-gather.batch.lines.items c.as_slice.result.now c.batches.taken c.in-Ok-gather.batch.taken c.in-Err-admit_batch.stop s c.in-Ok-gather.ensures.gathers
-    c.as_slice.ensures.value c.in-Err-admit_batch.ensures.refused (λ same. c.in-Err-admit_batch.ensures.no_fault (ap Err same)) (omega (arith, before, more))
-
-pub returns-in-Ended-clause-reads : goal.returns-in-Ended-clause-reads
-returns-in-Ended-clause-reads g c =
-    let s = c.batches.invariant.read in
-    let before = c.batches.invariant.counted in
-    let more = c.gather.ensures.counted in
-    let admitted : AllAdmitted c.as_slice.result.now c.batches.place c.in-Ok-admit_batch.after c.batches.seen c.admit_batch.new.seen = record { takes = c.in-Ok-admit_batch.ensures.takes; line = c.in-Ok-admit_batch.ensures.line; extra = c.in-Ok-admit_batch.ensures.extra; before = c.in-Ok-admit_batch.ensures.before } in
-    reads_ended c.in-Ok-gather.batch.end _ _ _ _ _ c.batches.reader c.gather.new.reader c.batches.seen c.admit_batch.new.seen c.finish.result c.batches.place c.in-Ok-admit_batch.after c.in-Ok-gather.batch.lines.items c.as_slice.result.now c.batches.taken c.in-Ok-gather.batch.taken c.in-Ended.is s c.in-Ok-gather.ensures.gathers
-    c.as_slice.ensures.value admitted c.finish.ensures.events c.finish.ensures.kept (omega (arith, before, more))
-
-pub returns-in-Failed-clause-reads : goal.returns-in-Failed-clause-reads
-returns-in-Failed-clause-reads g c =
-    let s = c.batches.invariant.read in
-    let before = c.batches.invariant.counted in
-    let more = c.gather.ensures.counted in
-    let admitted : AllAdmitted c.as_slice.result.now c.batches.place c.in-Ok-admit_batch.after c.batches.seen c.admit_batch.new.seen = record { takes = c.in-Ok-admit_batch.ensures.takes; line = c.in-Ok-admit_batch.ensures.line; extra = c.in-Ok-admit_batch.ensures.extra; before = c.in-Ok-admit_batch.ensures.before } in
-    reads_failed c.in-Ok-gather.batch.end _ _ _ _ _ c.batches.reader c.gather.new.reader c.batches.seen c.admit_batch.new.seen c.batches.place c.in-Ok-admit_batch.after c.in-Ok-gather.batch.lines.items c.as_slice.result.now c.batches.taken c.in-Ok-gather.batch.taken c.in-Failed.is s c.in-Ok-gather.ensures.gathers
-    c.as_slice.ensures.value admitted (omega (arith, before, more)) (let rose = c.in-Ok-gather.ensures.fault c.in-Failed.is in omega (arith, before, rose))
-
-pub returns-in-LineTooLong-clause-reads : goal.returns-in-LineTooLong-clause-reads
-returns-in-LineTooLong-clause-reads g c =
-    let s = c.batches.invariant.read in
-    let before = c.batches.invariant.counted in
-    let more = c.gather.ensures.counted in
-    let admitted : AllAdmitted c.as_slice.result.now c.batches.place c.in-Ok-admit_batch.after c.batches.seen c.admit_batch.new.seen = record { takes = c.in-Ok-admit_batch.ensures.takes; line = c.in-Ok-admit_batch.ensures.line; extra = c.in-Ok-admit_batch.ensures.extra; before = c.in-Ok-admit_batch.ensures.before } in
-    reads_long c.in-Ok-gather.batch.end _ _ _ _ _ c.batches.reader c.gather.new.reader c.batches.seen c.admit_batch.new.seen c.batches.place c.in-Ok-admit_batch.after c.in-Ok-gather.batch.lines.items c.as_slice.result.now c.batches.taken c.in-Ok-gather.batch.taken c.in-LineTooLong.is s c.in-Ok-gather.ensures.gathers
-    c.as_slice.ensures.value admitted (omega (arith, before, more))
-
-pub returns-in-InputTooLong-clause-reads : goal.returns-in-InputTooLong-clause-reads
-returns-in-InputTooLong-clause-reads g c =
-    let s = c.batches.invariant.read in
-    let before = c.batches.invariant.counted in
-    let more = c.gather.ensures.counted in
-    let admitted : AllAdmitted c.as_slice.result.now c.batches.place c.in-Ok-admit_batch.after c.batches.seen c.admit_batch.new.seen = record { takes = c.in-Ok-admit_batch.ensures.takes; line = c.in-Ok-admit_batch.ensures.line; extra = c.in-Ok-admit_batch.ensures.extra; before = c.in-Ok-admit_batch.ensures.before } in
-    reads_past c.in-Ok-gather.batch.end _ _ _ _ _ c.batches.reader c.gather.new.reader c.batches.seen c.admit_batch.new.seen c.batches.place c.in-Ok-admit_batch.after c.in-Ok-gather.batch.lines.items c.as_slice.result.now c.batches.taken c.in-Ok-gather.batch.taken c.in-InputTooLong.is s c.in-Ok-gather.ensures.gathers
-    c.as_slice.ensures.value admitted (omega (arith, before, more))
-
-pub batches-smaller : goal.batches-smaller
-batches-smaller g c =
-    let more = c.in-Ok-gather.ensures.more c.in-GoesOn.is in
-    let within = c.in-Ok-gather.ensures.gathers.within in
-    omega (arith, more, within)
-
-pub batches-preserved : goal.batches-preserved
-batches-preserved g c =
-    let s = c.batches.invariant.read in
-    let before = c.batches.invariant.counted in
-    let more = c.gather.ensures.counted in
-    let admitted : AllAdmitted c.as_slice.result.now c.batches.place c.in-Ok-admit_batch.after c.batches.seen c.admit_batch.new.seen = record { takes = c.in-Ok-admit_batch.ensures.takes; line = c.in-Ok-admit_batch.ensures.line; extra = c.in-Ok-admit_batch.ensures.extra; before = c.in-Ok-admit_batch.ensures.before } in
-    record {
-      read = reads_on c.in-Ok-gather.batch.end _ _ _ c.batches.reader c.gather.new.reader c.batches.seen c.admit_batch.new.seen c.batches.place c.in-Ok-admit_batch.after c.in-Ok-gather.batch.lines.items c.as_slice.result.now c.batches.taken c.in-Ok-gather.batch.taken c.in-GoesOn.is s c.in-Ok-gather.ensures.gathers c.as_slice.ensures.value admitted;
-      counted = omega (arith, before, more);
-      others = λ other differs. c.gather.ensures.others other differs ∙ c.batches.invariant.others other differs;
-      buffer = c.gather.ensures.buffer ∙ c.batches.invariant.buffer;
-    }
+pub returns-in-Ok-read_batches-clause-reads : goal.returns-in-Ok-read_batches-clause-reads
+returns-in-Ok-read_batches-clause-reads g c =
+    let same = c.finish.ensures.events in
+    subst (λ events. ReadsLog (g.D.Desk.left c.args.desk.now c.args.name.now) (g.D.Desk.left c.read_batches.new.desk c.args.name.now) (g.D.Desk.faults c.args.desk.now) (g.D.Desk.faults c.read_batches.new.desk) (Ok events)) (sym same)
+    (c.in-Ok-read_batches.ensures.whole (subst AreKept same c.finish.ensures.kept))

@@ -1,6 +1,6 @@
 use Rattle.std.proofs.Common.{◌≡◌, ◌≢◌, ◌≤◌, ℕ, List, ◌-◌, length}
 use Rattle.log_intake.proofs.LogFacts.{HasReadLog}
-use Rattle.log_intake.proofs.log.read_log.Given as goal
+use Rattle.log_intake.proofs.log.read_batches.Given as goal
 
 abbrev pub invariant-batches : goal.invariant-batches
 invariant-batches g l = record {
