@@ -70,10 +70,19 @@ fn rbac_version(
         return Ok(None);
     };
     let tree = pool.tree(version.node)?;
+    let Ok(content) = content_by(alloc, kind, &tree) else {
+        drop(tree);
+        return Err(OutOfMemory);
+    };
+    drop(tree);
+    let Ok(key) = version.key.clone() else {
+        drop(content);
+        return Err(OutOfMemory);
+    };
     Ok(Some(RbacVersion {
-        key: version.key.clone()?,
+        key,
         revision: version.revision,
-        content: content_by(alloc, kind, &tree)?,
+        content,
     }))
 }
 
