@@ -1,12 +1,9 @@
 -- What the words of a question come to.
-use Rattle.std.proofs.Common.{◌≡◌, ◌≢◌, ◌<◌, ◌≤◌, ◌-◌, ℕ, List, [], ◌∷◌, length, get_or, map, take, drop, Option, Some, None, Result, Ok, Err, IfOk, refl, sym, ◌∙◌, ap, subst, arith}
+use Rattle.std.proofs.Common.{◌≡◌, ◌≢◌, ◌<◌, ◌≤◌, ◌-◌, ℕ, List, [], ◌∷◌, length, get_or, map, take, drop, Option, Some, None, Result, Ok, Err, IfOk, IfNone, refl, ◌∙◌, ap, arith}
 use Rattle.std.proofs.lemmas.List.{take_all}
-use Rattle.history_query.specs.declared.question.Question.{Question}
-use Rattle.history_query.specs.declared.question.Question.TheVariants.{Show, Versions, State, Blame, Can}
 use Rattle.request_attrs.specs.Refusals.{IsCause, IsReadable}
 use Rattle.request_attrs.specs.declared.fault.UriFault.{UriFault}
 use Rattle.request_attrs.specs.declared.fault.UriFault.TheVariants as fault
-use Rattle.command_words.specs.Asking.{IsQuestionRead, SpellsQuestion}
 use Rattle.command_words.specs.Command.{Ask, Asked, IsAskRead, IsPlainRead, IsRead, Judge, Make, Spells, Strict, Verify}
 use Rattle.command_words.specs.declared.words.Command.{Command}
 
@@ -17,22 +14,10 @@ not_readable uri fault.BadEscape memory cause readable = cause.1 readable.escape
 not_readable uri fault.NotText memory cause readable = cause.2 readable.utf8
 not_readable uri fault.OutOfMemory memory cause readable = memory refl
 
-can_refused : (place user groups request uri : List ℕ) (why : UriFault) → why ≢ fault.OutOfMemory → IsCause uri why
-    → (question : Question) → SpellsQuestion question (place ∷ user ∷ groups ∷ request ∷ uri ∷ []) → ⊥
-can_refused place user groups request uri why memory cause (Show key at) (k, p, is, of, number) = cc
-can_refused place user groups request uri why memory cause (Versions key) (k, is, of) = cc
-can_refused place user groups request uri why memory cause (State at) (p, is, number) = cc
-can_refused place user groups request uri why memory cause (Blame key pointer at) (k, t, p, is, of, pointed, number) = cc
-can_refused place user groups request uri why memory cause (Can at who attrs) words =
-    let is = words.words_are in
-    let same : uri ≡ words.uri = cc in
-    not_readable uri why memory cause (subst IsReadable (sym same) words.readable)
-
-pub can_unread : {E : Type 0} (verb place user groups request uri : List ℕ) (why : UriFault) (found : Result (Option Question) E) → IsCause uri why → IfOk found (λ asked. (asked ≡ None) × (why ≢ fault.OutOfMemory))
-    → IfOk found (IsQuestionRead verb (place ∷ user ∷ groups ∷ request ∷ uri ∷ []))
-can_unread verb place user groups request uri why (Ok asked) cause refused =
-    subst (IsQuestionRead verb (place ∷ user ∷ groups ∷ request ∷ uri ∷ [])) (sym refused.0) (λ question of spelled. can_refused place user groups request uri why refused.1 cause question spelled)
-can_unread verb place user groups request uri why (Err stop) cause refused = tt
+pub none_readable : {A E : Type 0} (uri : List ℕ) (why : UriFault) (found : Result (Option A) E) → IsCause uri why → IfOk found (λ attrs. (attrs ≡ None) × (why ≢ fault.OutOfMemory)) → IfOk found (λ attrs. IfNone attrs (IsReadable uri → ⊥))
+none_readable uri why (Ok None) cause refused = not_readable uri why refused.1 cause
+none_readable uri why (Ok (Some attrs)) cause refused = tt
+none_readable uri why (Err stop) cause refused = tt
 
 -- words of no plain command ask what they are read as
 pub read_of_asked : {E : Type 0} (words : List (List ℕ)) (found : Result (Option Command) E) → IsPlainRead words None → IfOk found (IsAskRead words) → IfOk found (IsRead words)

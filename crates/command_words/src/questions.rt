@@ -3,10 +3,12 @@ ghost use Rattle.std.specs.Prelude.{map, string_bytes, codes};
 ghost use Rattle.base_types.specs.Keys.{IsNamed};
 ghost use Rattle.command_words.specs.Asking.{IsPlace, IsPlaceWord, IsQuestionRead, TakesMemory, groups_of};
 ghost use Rattle.command_words.specs.Command.{IsAskRead, MayWantMemory};
+ghost use Rattle.request_attrs.specs.Attributes.{attributes};
+ghost use Rattle.request_attrs.specs.Refusals.{IsReadable};
 
 use crate::words::{Command, are_names};
 use base_types::json::{Pointer, PointerFault, read_pointer};
-use base_types::{OutOfMemory, Text, Texts, User, read_key};
+use base_types::{OutOfMemory, RequestAttrs, Text, Texts, User, read_key};
 use history_query::Question;
 use request_attrs::{UriFault, attrs_of};
 use std::alloc::Global;
@@ -149,20 +151,39 @@ fn read_can(
     let Some(place) = read_place(place) else {
         return Ok(None);
     };
-    let who = User {
-        name: Text::from_str(alloc, user)?,
-        groups: read_groups(alloc, groups)?,
+    let who = read_user(alloc, user, groups)?;
+    let Some(attrs) = read_attrs(alloc, request, uri)? else {
+        return Ok(None);
     };
+    Ok(Some(Question::Can { place, who, attrs }))
+}
+
+fn read_user(alloc: Global, name: &str, groups: &str) -> Result<User, OutOfMemory>
+    ensures name { IfOk result (λ who. who.name ≡ name.now) }
+    ensures groups { IfOk result (λ who. who.groups ≡ groups_of groups.now) }
+{
+    Ok(User {
+        name: Text::from_str(alloc, name)?,
+        groups: read_groups(alloc, groups)?,
+    })
+}
+
+// The attributes of a request; None where its URI has none.
+fn read_attrs(alloc: Global, request: &str, uri: &str) -> Result<Option<RequestAttrs>, OutOfMemory>
+    ensures some { IfOk result (λ found. IfSome found (λ attrs. IsReadable uri.now
+        × (attrs ≡ attributes request.now uri.now))) }
+    ensures none { IfOk result (λ found. IfNone found (IsReadable uri.now → ⊥)) }
+{
     let request = Text::from_str(alloc, request)?;
     let uri = Text::from_str(alloc, uri)?;
     match attrs_of(alloc, &request, &uri) {
-        Ok(attrs) => Ok(Some(Question::Can { place, who, attrs })),
+        Ok(attrs) => Ok(Some(attrs)),
         Err(fault) => without_attrs(fault),
     }
 }
 
 // A URI without attributes asks nothing.
-fn without_attrs(fault: UriFault) -> Result<Option<Question>, OutOfMemory>
+fn without_attrs(fault: UriFault) -> Result<Option<RequestAttrs>, OutOfMemory>
     ensures { IfOk result (λ found. (found ≡ None) × (fault ≢ UriFault.OutOfMemory)) }
 {
     match fault {
