@@ -1,4 +1,4 @@
-ghost use Rattle.std.specs.Prelude.{◌≡◌, ◌≢◌, ◌≤◌, ℕ, List, Some, Err, IfOk, IsErrOf, length};
+ghost use Rattle.std.specs.Prelude.{◌≡◌, ◌≢◌, ◌<◌, ◌≤◌, ℕ, List, Some, Err, IfOk, IsErrOf, length};
 ghost use Rattle.context_intake.specs.Built.{IsBuiltAs};
 ghost use Rattle.context_intake.specs.Contexts.{IsFoundIn, IsToldBy, RefusesNothing, with_chains};
 ghost use Rattle.context_intake.specs.Refusals.{IsSetupStopOf, IsStopOf};
@@ -45,11 +45,36 @@ pub fn read_context<R: Threads + Sync, D: Desk, H: Gate>(
     let Ok(mut buffer) = piece_buffer(alloc) else {
         return Err(Stop::OutOfMemory);
     };
-    let (setup, seed) = match read_setup_named(alloc, desk, setup, &mut buffer) {
+    read_by_pieces(rt, alloc, desk, setup, log, &mut buffer, lines)
+}
+
+// Reads both through a buffer for one piece.
+fn read_by_pieces<R: Threads + Sync, D: Desk, H: Gate>(
+    rt: &R,
+    alloc: Global,
+    desk: &mut D,
+    setup: &str,
+    log: &str,
+    buffer: &mut [u8],
+    lines: &H,
+) -> Result<Told, Stop>
+    requires apart { setup.now ≢ log.now }
+    requires some { 0 < length buffer.old }
+    requires piece { length buffer.old ≤ 65536 }
+    ensures told { IfOk result (λ told. (of_setup of_log : List ℕ)
+        → D.left desk.old setup.now ≡ Some of_setup → D.left desk.old log.now ≡ Some of_log
+        → IsToldBy of_setup of_log told) }
+    ensures whole { IfOk result (λ told. IsReadFor told (D.left desk.new setup.now)
+        (D.left desk.new log.now)) }
+    ensures reads { ReadsSetupAndLog setup.now log.now (D.left desk.old) (D.left desk.new)
+        (D.faults desk.old) (D.faults desk.new) (RefusesNothing result)
+        (IsErrOf result Stop.ReadFault) }
+{
+    let (setup, seed) = match read_setup_named(alloc, desk, setup, buffer) {
         Ok(SetupRead { setup, seed }) => (setup, seed),
         Err(stop) => return refused_setup(stop),
     };
-    match read_log(rt, alloc, desk, log, &mut buffer, seed, lines) {
+    match read_log(rt, alloc, desk, log, buffer, seed, lines) {
         Ok(events) => told_by(rt, alloc, setup, events, seed),
         Err(stop) => refused_log(stop),
     }
