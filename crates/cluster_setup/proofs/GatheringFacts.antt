@@ -9,7 +9,7 @@ use Rattle.edge_io.specs.Faults.{Rose}
 use Rattle.edge_io.specs.Whole.{AnswersWhole}
 use Rattle.edge_io.specs.declared.whole.WholeStop.{WholeStop}
 use Rattle.edge_io.specs.declared.whole.WholeStop.TheVariants.{TooLong, ReadFault, OutOfMemory}
-use Rattle.cluster_setup.specs.Names.{are_distinct}
+use Rattle.process_words.specs.Names.{are_distinct}
 use Rattle.cluster_setup.specs.Gathering.{AreGathered, AreGiven, SomeLong, TellsAll, most_file}
 use Rattle.cluster_setup.specs.declared.gathering.GivenFiles.{GivenFiles}
 

@@ -6,7 +6,6 @@ pub mod Gathered
 pub mod GatheringFacts
 pub mod ListKinds
 pub mod ListedFacts
-pub mod NameFacts
 pub mod Named
 pub mod NoFloats
 pub mod NoMembers

@@ -1,20 +1,20 @@
 -- Of which resources there are lists, and with which file first something is wrong.
-use Rattle.std.proofs.Common.{◌≡◌, ℕ, ◌+◌, ◌<◌, List, [], ◌∷◌, length, drop, get_or, Bool, true, false, cond, not, ◌&&◌, ◌||◌, Option, Some, None, bytes_eq, codes, if◌then◌else◌, refl, sym, ◌∙◌, ap, subst, arith}
+use Rattle.std.proofs.Common.{◌≡◌, ℕ, ◌+◌, ◌-◌, ◌<◌, List, [], ◌∷◌, length, drop, get_or, Bool, true, false, cond, not, ◌&&◌, ◌||◌, Option, Some, None, bytes_eq, codes, if◌then◌else◌, refl, sym, ◌∙◌, ap, subst, arith}
 use Rattle.std.specs.Prelude.{is_none, is_some, option_map, slice_get}
 use Rattle.std.specs.BTreeSet.{BTreeSet, Updates, contains_by}
 use Rattle.std.specs.List.{list_any}
 use Rattle.std.specs.Ordering.{is_eq}
-use Rattle.std.proofs.lemmas.List.{at_drop_more, drop_all, drop_more}
+use Rattle.std.proofs.lemmas.List.{at_drop_more, drop_all, drop_more, length-drop}
 use Rattle.std.proofs.lemmas.Option.{slice_get-get_or}
 use Rattle.base_types.specs.Meaning.{Meaning}
 use Rattle.base_types.proofs.Found.{same_some}
 use Rattle.cluster_setup.specs.declared.fault.FileFault.{FileFault}
 use Rattle.cluster_setup.specs.declared.fault.FileFault.TheVariants.{Pages, Twice, Revision}
-use Rattle.cluster_setup.specs.declared.fault.SetupRefusal.{SetupRefusal}
+use Rattle.cluster_setup.specs.declared.fault.SetupRefusal.TheVariants.{File}
 use Rattle.cluster_setup.specs.declared.finding.Found.{Found}
 use Rattle.cluster_setup.specs.Files.{group_of, is_listing, word}
 use Rattle.cluster_setup.specs.Found.{is_listed_again, source_of}
-use Rattle.cluster_setup.specs.Indexed.{AreListed, IsFirstWrong, Names, by_names, pair_of, source_found}
+use Rattle.cluster_setup.specs.Indexed.{AreListed, IsFirstWrong, Names, by_names, pair_of, refined, source_found}
 use Rattle.cluster_setup.specs.Refusing.{file_fault, first_refused, refused_or}
 use Rattle.cluster_setup.proofs.SourceFacts.{same_names, some_source}
 
@@ -94,70 +94,49 @@ abbrev pub cause_of : (more none again start : Bool) → FileFault → Option Fi
 cause_of more none again start unfound =
     if more then Some Pages else (if none then Some unfound else (if again then Some Twice else (if start then None else Some Revision)))
 
-pub by_pages : (more none again start : Bool) (unfound : FileFault) → more ≡ true → true ≡ is_some (cause_of more none again start unfound)
-by_pages true none again start unfound is = refl
-by_pages false none again start unfound is = absurd (cc)
-
-pub by_source : (more none again start : Bool) (unfound : FileFault) → none ≡ true → true ≡ is_some (cause_of more none again start unfound)
-by_source true none again start unfound is = refl
-by_source false true again start unfound is = refl
-by_source false false again start unfound is = absurd (cc)
-
-pub by_list : (more none again start : Bool) (unfound : FileFault) → again ≡ true → true ≡ is_some (cause_of more none again start unfound)
-by_list true none again start unfound is = refl
-by_list false true again start unfound is = refl
-by_list false false true start unfound is = refl
-by_list false false false start unfound is = absurd (cc)
-
-pub by_start : (more none again start : Bool) (unfound : FileFault) → more ≡ false → none ≡ false → again ≡ false
-    → not start ≡ is_some (cause_of more none again start unfound)
-by_start false false false true unfound a b c = refl
-by_start false false false false unfound a b c = refl
-by_start false false true start unfound a b c = absurd (cc)
-by_start false true again start unfound a b c = absurd (cc)
-by_start true none again start unfound a b c = absurd (cc)
+pub by_source : (more none again start : Bool) (unfound : FileFault) → more ≡ false → none ≡ true → Some unfound ≡ cause_of more none again start unfound
+by_source false true again start unfound a b = refl
+by_source false false again start unfound a b = absurd (cc)
+by_source true none again start unfound a b = absurd (cc)
 
 -- nothing is wrong with no files
 pub none_wrong : (trees : List Meaning) → IsFirstWrong trees (length trees) None
 none_wrong trees = ap (first_refused trees) (drop_all (length trees) trees (omega arith))
 
-wrong_or : (trees later : List Meaning) (fault : Option FileFault) (others : Option SetupRefusal) → is_some fault ≡ true → refused_or trees later fault others ≡ refused_or trees later fault None
-wrong_or trees later (Some code) others is = refl
-wrong_or trees later None others is = absurd (cc)
-
-right_or : (trees later : List Meaning) (fault : Option FileFault) (others : Option SetupRefusal) → is_some fault ≡ false → refused_or trees later fault others ≡ others
-right_or trees later (Some code) others is = absurd (cc)
-right_or trees later None others is = refl
-
-in_front : (trees : List Meaning) (at : ℕ) (tree : Meaning) → at < length trees → tree ≡ get_or trees at tree
-    → first_refused trees (drop at trees) ≡ refused_or trees (drop (at + 1) trees) (file_fault trees (drop (at + 1) trees) tree) (first_refused trees (drop (at + 1) trees))
-in_front trees at tree within is =
+in_front : (trees : List Meaning) (at : ℕ) (tree : Meaning) (fault : Option FileFault) → at < length trees → tree ≡ get_or trees at tree
+    → fault ≡ file_fault trees (drop (at + 1) trees) tree
+    → first_refused trees (drop at trees) ≡ refused_or trees (drop (at + 1) trees) fault (first_refused trees (drop (at + 1) trees))
+in_front trees at tree fault within is told =
     at_drop_more (first_refused trees) trees at tree within
     ∙ ap (λ t. first_refused trees (t ∷ drop (at + 1) trees)) (sym is)
+    ∙ ap (λ f. refused_or trees (drop (at + 1) trees) f (first_refused trees (drop (at + 1) trees))) (sym told)
+
+-- the number of a file, counted from 1, by how many stand behind it
+numbered : (trees : List Meaning) (at : ℕ) → at < length trees → length trees - length (drop (at + 1) trees) ≡ at + 1
+numbered trees at within = let behind = length-drop (at + 1) trees in omega (arith, behind, within)
 
 -- something is wrong with the file in front of those that were looked at
-pub wrong_here : (trees : List Meaning) (at : ℕ) (tree : Meaning) → at < length trees → tree ≡ get_or trees at tree
-    → is_some (file_fault trees (drop (at + 1) trees) tree) ≡ true → IsFirstWrong trees at (Some at)
-wrong_here trees at tree within is wrong = (
+pub wrong_here : (trees : List Meaning) (at : ℕ) (tree : Meaning) (code : FileFault) → at < length trees → tree ≡ get_or trees at tree
+    → Some (refined trees tree code) ≡ file_fault trees (drop (at + 1) trees) tree → IsFirstWrong trees at (Some (at, code))
+wrong_here trees at tree code within is told = (
   within,
   (
     tree,
     slice_get-get_or trees at tree within ∙ ap (λ t. Some t) (sym is),
-    in_front trees at tree within is ∙ wrong_or trees (drop (at + 1) trees) (file_fault trees (drop (at + 1) trees) tree) (first_refused trees (drop (at + 1) trees)) wrong,
+    in_front trees at tree (Some (refined trees tree code)) within is told ∙ ap (λ n. Some (File n (refined trees tree code))) (numbered trees at within),
   ),
 )
 
 -- nothing is wrong with it
-pub wrong_later : (trees : List Meaning) (at : ℕ) (tree : Meaning) (place : Option ℕ) → at < length trees → tree ≡ get_or trees at tree
-    → is_some (file_fault trees (drop (at + 1) trees) tree) ≡ false → IsFirstWrong trees (at + 1) place → IsFirstWrong trees at place
-wrong_later trees at tree None within is right first =
-    in_front trees at tree within is ∙ right_or trees (drop (at + 1) trees) (file_fault trees (drop (at + 1) trees) tree) (first_refused trees (drop (at + 1) trees)) right ∙ first
-wrong_later trees at tree (Some place) within is right first = (
+pub wrong_later : (trees : List Meaning) (at : ℕ) (tree : Meaning) (found : Option (ℕ × FileFault)) → at < length trees → tree ≡ get_or trees at tree
+    → None ≡ file_fault trees (drop (at + 1) trees) tree → IsFirstWrong trees (at + 1) found → IsFirstWrong trees at found
+wrong_later trees at tree None within is told first = in_front trees at tree None within is told ∙ first
+wrong_later trees at tree (Some found) within is told first = (
   first.0,
   (
     first.1.0,
     first.1.1,
-    in_front trees at tree within is ∙ right_or trees (drop (at + 1) trees) (file_fault trees (drop (at + 1) trees) tree) (first_refused trees (drop (at + 1) trees)) right ∙ first.1.2,
+    in_front trees at tree None within is told ∙ first.1.2,
   ),
 )
 
@@ -167,12 +146,9 @@ pub listed_more : (set : BTreeSet Names) (trees : List Meaning) (at : ℕ) (tree
 listed_more set trees at tree within is held =
     subst (AreListed set) (ap (λ t. t ∷ drop (at + 1) trees) is ∙ sym (drop_more trees at tree within)) held
 
--- what is wrong with the file at a place, told by the files behind it
-pub refused_told : (trees later : List Meaning) (at : ℕ) (item tree : Meaning) (fault : Option FileFault) → at < length trees → item ≡ get_or trees at item
-    → later ≡ drop (at + 1) trees → fault ≡ file_fault trees later item → slice_get trees at ≡ Some tree
-    → refused_or trees later fault None ≡ refused_or trees (drop (at + 1) trees) (file_fault trees (drop (at + 1) trees) tree) None
-refused_told trees later at item tree fault within is behind told there =
+-- what is wrong with the file at a place, looked for among all files
+pub refused_told : (trees : List Meaning) (at : ℕ) (item tree : Meaning) (code made : FileFault) → at < length trees → item ≡ get_or trees at item
+    → made ≡ refined trees item code → slice_get trees at ≡ Some tree → File (at + 1) made ≡ File (at + 1) (refined trees tree code)
+refused_told trees at item tree code made within is told there =
     let same : item ≡ tree = same_some item tree (ap (λ t. Some t) is ∙ sym (slice_get-get_or trees at item within) ∙ there) in
-    ap (λ f. refused_or trees later f None) told
-    ∙ ap (λ l. refused_or trees l (file_fault trees l item) None) behind
-    ∙ ap (λ t. refused_or trees (drop (at + 1) trees) (file_fault trees (drop (at + 1) trees) t) None) same
+    ap (λ f. File (at + 1) f) (told ∙ ap (λ t. refined trees t code) same)

@@ -11,8 +11,11 @@ use Rattle.base_types.specs.Meaning.{Meaning}
 use Rattle.base_types.specs.Texts.{◌>>=◌}
 use Rattle.cluster_setup.specs.declared.finding.Found.{Found}
 use Rattle.cluster_setup.specs.Files.{word, group_of, is_listing}
-use Rattle.cluster_setup.specs.Found.{found_in, is_entry_for, is_listed_again, source_of}
-use Rattle.cluster_setup.specs.Refusing.{file_fault, first_refused, refused_or}
+use Rattle.cluster_setup.specs.declared.fault.FileFault.{FileFault}
+use Rattle.cluster_setup.specs.declared.fault.FileFault.TheVariants.{Json, Kind, Pages, Unknown, Version, Twice, Revision, Rule}
+use Rattle.cluster_setup.specs.declared.fault.SetupRefusal.TheVariants.{File}
+use Rattle.cluster_setup.specs.Found.{found_in, is_elsewhere, is_entry_for, is_listed_again, source_of}
+use Rattle.cluster_setup.specs.Refusing.{first_refused}
 
 -- two texts that name a resource
 abbrev pub Names : Type 0
@@ -60,8 +63,23 @@ AreListed listed files = (list : Meaning)
 abbrev pub is_listed_twice : List Meaning → Meaning → Bool
 is_listed_twice later tree = is_listing tree && is_listed_again later tree
 
--- of the files from a place on, the first with which something is wrong stands here
-abbrev pub IsFirstWrong : List Meaning → ℕ → Option ℕ → Type 0
+-- what is wrong with a file, where it is known whether some document has its resource in another version
+abbrev pub refined_by : Bool → FileFault → FileFault
+refined_by elsewhere Json = Json
+refined_by elsewhere Kind = Kind
+refined_by elsewhere Pages = Pages
+refined_by elsewhere Unknown = if elsewhere then Version else Unknown
+refined_by elsewhere Version = Version
+refined_by elsewhere Twice = Twice
+refined_by elsewhere Revision = Revision
+refined_by elsewhere (Rule rule) = Rule rule
+
+-- the same, looked for among these files
+abbrev pub refined : List Meaning → Meaning → FileFault → FileFault
+refined trees tree = refined_by (is_elsewhere trees tree)
+
+-- of the files from a place on, the first with which something is wrong stands here, and this is wrong with it
+abbrev pub IsFirstWrong : List Meaning → ℕ → Option (ℕ × FileFault) → Type 0
 IsFirstWrong trees from None = first_refused trees (drop from trees) ≡ None
-IsFirstWrong trees from (Some place) = (place < length trees) × ((tree : Meaning) × (slice_get trees place ≡ Some tree)
-    × (first_refused trees (drop from trees) ≡ refused_or trees (drop (place + 1) trees) (file_fault trees (drop (place + 1) trees) tree) None))
+IsFirstWrong trees from (Some found) = (found.0 < length trees) × ((tree : Meaning) × (slice_get trees found.0 ≡ Some tree)
+    × (first_refused trees (drop from trees) ≡ Some (File (found.0 + 1) (refined trees tree found.1))))

@@ -6,7 +6,6 @@ pub mod Found
 pub mod Gathering
 pub mod Indexed
 pub mod Making
-pub mod Names
 pub mod Parts
 pub mod Refusing
 pub mod Shown

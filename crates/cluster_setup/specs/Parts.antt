@@ -1,13 +1,13 @@
 -- Parts of what is made, as the code puts them together.
 use Rattle.std.specs.Borrow.{Bor}
-use Rattle.std.specs.Prelude.{ℕ, pos, Bool, List, fold, map, codes}
+use Rattle.std.specs.Prelude.{ℕ, pos, Bool, List, [], ◌∷◌, ◌++◌, bytes_eq, fold, map, codes, if◌then◌else◌}
 use Rattle.std.specs.List.{flat_map}
 use Rattle.base_types.specs.Edits.{put}
 use Rattle.base_types.specs.Meaning.{Meaning, flag, whole, items, Fields, no_fields, kids_of}
 use Rattle.cluster_setup.specs.declared.shapes.Shape.{Shape}
-use Rattle.cluster_setup.specs.Files.{group_of, version_of, word}
+use Rattle.cluster_setup.specs.Files.{word}
 use Rattle.cluster_setup.specs.declared.table.Form.{Form}
-use Rattle.cluster_setup.specs.Making.{entries_of, is_namespaced, objects_of, say, shape, shapes_of, start_tree, subresources_of, with_idle, with_lag}
+use Rattle.cluster_setup.specs.Making.{entries_of, idle_subresource, is_namespaced, is_served, objects_of, same_subresource, say, shape, shapes_of, start_tree, status_shapes_of, subresources_of, with_lag}
 use Rattle.cluster_setup.specs.Table.{patch_of}
 
 -- the members with these texts at these names
@@ -20,18 +20,17 @@ shape_tree given = shape given.path.now given.class.now
 abbrev pub shape_list : List Shape → Meaning
 shape_list shapes = items (kids_of (map shape_tree shapes))
 
--- the subresources of these names behind others, where the document has them
-abbrev pub with_all_idle : Meaning → List ℕ → List (Bor (List ℕ)) → List Meaning → List Meaning
-with_all_idle document resource names list = fold (λ front name. with_idle document resource name.now front) list names
+-- the subresource of a name: that of the status writes it, another one nothing
+abbrev pub subresource : Form → List ℕ → Meaning
+subresource form name = if bytes_eq name (codes "status") then same_subresource name (status_shapes_of form) else idle_subresource name
 
--- what names a resource, whose lists have this kind
-abbrev pub names_of : Meaning → Meaning → List ℕ → Fields
-names_of document entry list_kind =
-    say (codes "listKind") list_kind
-    (say (codes "kind") (word (codes "kind") entry)
-    (say (codes "resource") (word (codes "name") entry)
-    (say (codes "version") (version_of (word (codes "groupVersion") document))
-    (say (codes "group") (group_of (word (codes "groupVersion") document)) no_fields))))
+-- behind others, where the document has it
+abbrev pub with_subresource : Meaning → List ℕ → Form → List Meaning → List ℕ → List Meaning
+with_subresource document resource form list name = if is_served document resource name then list ++ (subresource form name ∷ []) else list
+
+-- the subresources of these names that the document has
+abbrev pub subresources_among : Meaning → List ℕ → Form → List (Bor (List ℕ)) → List Meaning
+subresources_among document resource form names = fold (λ front name. with_subresource document resource form front name.now) [] names
 
 -- how a resource is judged
 abbrev pub with_rules : Bool → List ℕ → Meaning → List Meaning → Fields → Fields

@@ -2,7 +2,7 @@ ghost use Rattle.std.specs.Prelude.{◌≡◌, ◌≢◌, ◌∷◌, ℕ, List, 
 ghost use Rattle.edge_io.specs.Faults.{Rose};
 ghost use Rattle.cluster_setup.specs.Answering.{AnswersMade, IsMadeText};
 ghost use Rattle.cluster_setup.specs.Gathering.{LeavesOthers, TellsAll};
-ghost use Rattle.cluster_setup.specs.Names.{are_distinct};
+ghost use Rattle.process_words.specs.Names.{are_distinct};
 ghost use Rattle.cluster_setup.specs.Telling.{refusal_words};
 ghost use Rattle.verdict_text.specs.Words.{ended};
 

@@ -1,21 +1,12 @@
-ghost use Rattle.std.specs.Prelude.{◌≡◌, [], IfOk, OnOk};
+ghost use Rattle.std.specs.Prelude.{◌≡◌, IfOk, OnOk};
 ghost use Rattle.base_types.specs.Edits.{put};
-ghost use Rattle.base_types.specs.Meaning.{words, items, members, kids_of, fields_of, flag, whole};
+ghost use Rattle.base_types.specs.Meaning.{items, members, kids_of, fields_of, flag, whole};
 ghost use Rattle.cluster_setup.specs.Making.{say};
 ghost use Rattle.cluster_setup.specs.Parts.{said};
 
 use base_types::json::{MemberList, Node, Tree, Trees};
 use base_types::{OutOfMemory, Text};
 use std::alloc::Global;
-
-/// The tree of a text.
-pub fn words(alloc: Global, text: &str) -> Result<Tree, OutOfMemory>
-    ensures { IfOk result (λ tree. tree ≡ words text.now) }
-{
-    Ok(Tree {
-        node: Node::Words(Text::from_str(alloc, text)?),
-    })
-}
 
 /// The tree of true or false.
 pub fn flag(given: bool) -> Tree
@@ -53,15 +44,6 @@ pub fn object(fields: MemberList) -> Tree
     }
 }
 
-/// The object without members.
-pub fn no_members(alloc: Global) -> MemberList
-    ensures { result ≡ [] }
-{
-    MemberList {
-        all: Vec::new(alloc),
-    }
-}
-
 /// Puts a value at a name.
 pub fn put(
     alloc: Global,
@@ -88,14 +70,19 @@ pub fn say(
 ) -> Result<(), OutOfMemory>
     ensures { OnOk result (fields_of fields.new ≡ say name.now text.now (fields_of fields.old)) }
 {
-    put(alloc, fields, name, words(alloc, text)?)
+    let words = Tree {
+        node: Node::Words(Text::from_str(alloc, text)?),
+    };
+    put(alloc, fields, name, words)
 }
 
 /// The members with these texts at these names.
 pub fn said(alloc: Global, texts: &[(&str, &str)]) -> Result<MemberList, OutOfMemory>
     ensures { IfOk result (λ fields. fields_of fields ≡ said texts.now) }
 {
-    let mut fields = no_members(alloc);
+    let mut fields = MemberList {
+        all: Vec::new(alloc),
+    };
     for (name, text) in texts {
         say(alloc, &mut fields, *name, *text)?;
     }

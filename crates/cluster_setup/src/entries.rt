@@ -1,11 +1,11 @@
-ghost use Rattle.std.specs.Prelude.{◌≡◌, ◌++◌, IfOk, OnOk, codes};
+ghost use Rattle.std.specs.Prelude.{◌≡◌, ◌++◌, IfOk, OnOk};
 ghost use Rattle.std.specs.List.{flat_map};
 ghost use Rattle.base_types.specs.Meaning.{fields_of, items, kids_of};
 ghost use Rattle.cluster_setup.specs.Files.{word};
 ghost use Rattle.cluster_setup.specs.Making.{shapes_of, status_shapes_of, same_subresource, idle_subresource};
-ghost use Rattle.cluster_setup.specs.Making.{with_status, with_idle, subresources_of};
+ghost use Rattle.cluster_setup.specs.Making.{subresources_of};
 ghost use Rattle.cluster_setup.specs.Making.{is_namespaced, entry_of, form_for, entries_of};
-ghost use Rattle.cluster_setup.specs.Parts.{names_of, with_all_idle, with_rules_of};
+ghost use Rattle.cluster_setup.specs.Parts.{subresource, subresources_among, with_rules_of, with_subresource};
 ghost use Rattle.cluster_setup.specs.Table.{patch_of};
 
 use crate::building::{flag, items, object, put, said, say};
@@ -19,15 +19,22 @@ use base_types::OutOfMemory;
 use base_types::json::{MemberList, Tree};
 use std::alloc::Global;
 
-/// The subresources that write nothing.
-const IDLE: [&str; 6] = ["log", "exec", "attach", "portforward", "proxy", "token"];
+/// The subresources whose effect is known; a write of another one hides its object.
+const KNOWN: [&str; 7] = [
+    "status",
+    "log",
+    "exec",
+    "attach",
+    "portforward",
+    "proxy",
+    "token",
+];
 
 // The subresource that writes its object's status.
-fn status_subresource(alloc: Global, form: Form) -> Result<Tree, OutOfMemory>
-    ensures { IfOk result (λ tree.
-        tree ≡ same_subresource (codes "status") (status_shapes_of form)) }
+fn status_subresource(alloc: Global, name: &str, form: Form) -> Result<Tree, OutOfMemory>
+    ensures { IfOk result (λ tree. tree ≡ same_subresource name.now (status_shapes_of form)) }
 {
-    let mut fields = said(alloc, &[("name", "status"), ("effect", "same")])?;
+    let mut fields = said(alloc, &[("name", name), ("effect", "same")])?;
     let shapes = shape_list(alloc, status_shapes_of(form))?;
     put(alloc, &mut fields, "shapes", shapes)?;
     Ok(object(fields))
@@ -41,57 +48,52 @@ fn idle_subresource(alloc: Global, name: &str) -> Result<Tree, OutOfMemory>
     Ok(object(fields))
 }
 
-fn add_status(
+fn subresource(alloc: Global, name: &str, form: Form) -> Result<Tree, OutOfMemory>
+    ensures { IfOk result (λ tree. tree ≡ subresource form name.now) }
+{
+    if name == "status" {
+        return status_subresource(alloc, name, form);
+    }
+    idle_subresource(alloc, name)
+}
+
+fn add_subresource(
     alloc: Global,
     list: &mut Vec<Tree>,
     document: &Document<'_>,
     resource: &str,
     form: Form,
-) -> Result<(), OutOfMemory>
-    ensures { OnOk result (list.new.items
-        ≡ with_status document.now resource.now form list.old.items) }
-{
-    if !document.is_served(alloc, resource, "status")? {
-        return Ok(());
-    }
-    list.push(status_subresource(alloc, form)?)?;
-    Ok(())
-}
-
-fn add_idle(
-    alloc: Global,
-    list: &mut Vec<Tree>,
-    document: &Document<'_>,
-    resource: &str,
     name: &str,
 ) -> Result<(), OutOfMemory>
     ensures { OnOk result (list.new.items
-        ≡ with_idle document.now resource.now name.now list.old.items) }
+        ≡ with_subresource document.now resource.now form list.old.items name.now) }
 {
     if !document.is_served(alloc, resource, name)? {
         return Ok(());
     }
-    list.push(idle_subresource(alloc, name)?)?;
+    list.push(subresource(alloc, name, form)?)?;
     Ok(())
 }
 
-fn add_all_idle(
+// The subresources of these names that a resource has.
+fn subresources_among(
     alloc: Global,
-    list: &mut Vec<Tree>,
     document: &Document<'_>,
     resource: &str,
+    form: Form,
     names: &[&str],
-) -> Result<(), OutOfMemory>
-    ensures { OnOk result (list.new.items
-        ≡ with_all_idle document.now resource.now names.now list.old.items) }
+) -> Result<Vec<Tree>, OutOfMemory>
+    ensures { IfOk result (λ list. list.items
+        ≡ subresources_among document.now resource.now form names.now) }
 {
+    let mut list = Vec::new(alloc);
     for name in names {
-        add_idle(alloc, list, document, resource, *name)?;
+        add_subresource(alloc, &mut list, document, resource, form, *name)?;
     }
-    Ok(())
+    Ok(list)
 }
 
-// The subresources whose effect is known; a write of another one hides its object.
+// The subresources whose effect is known.
 fn subresources_of(
     alloc: Global,
     document: &Document<'_>,
@@ -100,10 +102,7 @@ fn subresources_of(
 ) -> Result<Vec<Tree>, OutOfMemory>
     ensures { IfOk result (λ list. list.items ≡ subresources_of document.now resource.now form) }
 {
-    let mut list = Vec::new(alloc);
-    add_status(alloc, &mut list, document, resource, form)?;
-    add_all_idle(alloc, &mut list, document, resource, &IDLE)?;
-    Ok(list)
+    subresources_among(alloc, document, resource, form, &KNOWN)
 }
 
 fn is_namespaced(entry: &Tree) -> bool
@@ -134,25 +133,6 @@ fn add_rules(
     put(alloc, fields, "subresources", items(subresources))
 }
 
-// The members that name a resource, whose lists have this kind.
-fn names_of(alloc: Global, found: Found<'_>, list_kind: &str) -> Result<MemberList, OutOfMemory>
-    ensures { IfOk result (λ fields. fields_of fields ≡ names_of found.entry.document.now
-        found.entry.entry.now list_kind.now) }
-{
-    let Found { document, entry } = found;
-    let group_version = word(document.tree(), "groupVersion");
-    said(
-        alloc,
-        &[
-            ("group", group_of(group_version)),
-            ("version", version_of(group_version)),
-            ("resource", word(entry, "name")),
-            ("kind", word(entry, "kind")),
-            ("listKind", list_kind),
-        ],
-    )
-}
-
 // The entry of a resource, whose lists have this kind.
 fn entry_of(
     alloc: Global,
@@ -163,7 +143,18 @@ fn entry_of(
     ensures { IfOk result (λ tree. tree ≡ entry_of found.entry.document.now
         found.entry.entry.now list_kind.now form) }
 {
-    let mut fields = names_of(alloc, found, list_kind)?;
+    let Found { document, entry } = found;
+    let group_version = word(document.tree(), "groupVersion");
+    let mut fields = said(
+        alloc,
+        &[
+            ("group", group_of(group_version)),
+            ("version", version_of(group_version)),
+            ("resource", word(entry, "name")),
+            ("kind", word(entry, "kind")),
+            ("listKind", list_kind),
+        ],
+    )?;
     add_rules(alloc, &mut fields, found, form)?;
     Ok(object(fields))
 }

@@ -1,9 +1,8 @@
 ghost use Rattle.std.specs.Prelude.{◌≡◌, option_map};
-ghost use Rattle.cluster_setup.specs.Found.{is_list_of, is_entry_for, entry_in, has_entry, is_source, source_of};
-ghost use Rattle.cluster_setup.specs.Found.{is_of_group, is_elsewhere, is_same_resource, is_listed_again};
+ghost use Rattle.cluster_setup.specs.Found.{is_list_of, is_entry_for, entry_in, has_entry, is_of_group, is_elsewhere};
 
 use crate::documents::Document;
-use crate::files::{is_discovery, is_listing};
+use crate::files::is_discovery;
 use crate::words::{group_of, is_whole_name, listed, word};
 use base_types::json::Tree;
 
@@ -45,20 +44,6 @@ fn has_entry(list: &Tree, document: &Tree) -> bool
     is_discovery(document) && entry_in(list, document).is_some()
 }
 
-// Whether a document has the list's resource in the list's version.
-fn is_source(list: &Tree, document: &Tree) -> bool
-    ensures { result ≡ is_source list.now document.now }
-{
-    has_entry(list, document) && word(document, "groupVersion") == word(list, "apiVersion")
-}
-
-/// The document that has the list's resource in the list's version.
-pub fn source_of<'a>(trees: &'a [Tree], list: &Tree) -> Option<&'a Tree>
-    ensures { option_map (λ document. document.now) result ≡ source_of trees.now list.now }
-{
-    trees.iter().find(|document| is_source(list, document))
-}
-
 fn is_of_group(list: &Tree, document: &Tree) -> bool
     ensures { result ≡ is_of_group list.now document.now }
 {
@@ -71,19 +56,4 @@ pub fn is_elsewhere(trees: &[Tree], list: &Tree) -> bool
     ensures { result ≡ is_elsewhere trees.now list.now }
 {
     trees.iter().any(|document| is_of_group(list, document))
-}
-
-fn is_same_resource(list: &Tree, other: &Tree) -> bool
-    ensures { result ≡ is_same_resource list.now other.now }
-{
-    is_listing(other)
-        && word(other, "kind") == word(list, "kind")
-        && group_of(word(other, "apiVersion")) == group_of(word(list, "apiVersion"))
-}
-
-/// Whether a later file is a list of the same resource.
-pub fn is_listed_again(later: &[Tree], list: &Tree) -> bool
-    ensures { result ≡ is_listed_again later.now list.now }
-{
-    later.iter().any(|other| is_same_resource(list, other))
 }

@@ -1,6 +1,6 @@
 ghost use Rattle.std.specs.Prelude.{◌≡◌, ◌∷◌, true, map, string_bytes};
 ghost use Rattle.cluster_setup.specs.Gathering.{AreGathered, AreGiven};
-ghost use Rattle.cluster_setup.specs.Names.{are_distinct};
+ghost use Rattle.process_words.specs.Names.{are_distinct};
 
 use base_types::Bytes;
 use edge_io::{Desk, WholeStop, read_input};

@@ -1,7 +1,7 @@
 ghost use Rattle.std.specs.Prelude.{◌≡◌, ◌++◌, IfOk, OnOk, map};
 ghost use Rattle.std.specs.List.{flat_map};
 ghost use Rattle.base_types.specs.Meaning.{items, kids_of};
-ghost use Rattle.cluster_setup.specs.Making.{put_in, filled, whole_item, object_entry, objects_of};
+ghost use Rattle.cluster_setup.specs.Making.{filled, whole_item, object_entry, objects_of};
 
 use crate::building::{items, object, put, said, say};
 use crate::sources::Sources;
@@ -10,15 +10,6 @@ use base_types::OutOfMemory;
 use base_types::json::{Node, Tree, copy};
 use std::alloc::Global;
 
-fn put_in(alloc: Global, tree: &mut Tree, name: &str, text: &str) -> Result<(), OutOfMemory>
-    ensures { OnOk result (tree.new ≡ put_in name.now text.now tree.old) }
-{
-    if let Node::Members(list) = &mut tree.node {
-        say(alloc, list, name, text)?;
-    }
-    Ok(())
-}
-
 // Puts a text at a name, where the object has nothing there.
 fn fill(alloc: Global, tree: &mut Tree, name: &str, text: &str) -> Result<(), OutOfMemory>
     ensures { OnOk result (tree.new ≡ filled name.now text.now tree.old) }
@@ -26,7 +17,10 @@ fn fill(alloc: Global, tree: &mut Tree, name: &str, text: &str) -> Result<(), Ou
     if tree.member(name).is_some() {
         return Ok(());
     }
-    put_in(alloc, tree, name, text)
+    if let Node::Members(list) = &mut tree.node {
+        say(alloc, list, name, text)?;
+    }
+    Ok(())
 }
 
 // Puts the kind and the version into an item of a list, which leaves them out.

@@ -1,4 +1,4 @@
-ghost use Rattle.std.specs.Prelude.{◌≡◌, ◌≢◌, ◌++◌, IfOk, IsOk, codes, map, string_bytes};
+ghost use Rattle.std.specs.Prelude.{◌≡◌, ◌≢◌, ◌++◌, IfOk, IsOk, OnOk, codes, map, string_bytes};
 ghost use Rattle.cluster_setup.specs.Telling.{rule_word, code_word, name_at, refusal_words};
 ghost use Rattle.verdict_text.specs.Words.{ended};
 
@@ -7,32 +7,34 @@ use base_types::OutOfMemory;
 use setup_file::SetupRule;
 use std::alloc::Global;
 
-fn rule_word(alloc: Global, rule: SetupRule) -> Result<String, OutOfMemory>
-    ensures { IfOk result (λ text. string_bytes text ≡ rule_word rule) }
+fn push_rule(text: &mut String, rule: SetupRule) -> Result<(), OutOfMemory>
+    ensures { OnOk result (string_bytes text.new ≡ string_bytes text.old ++ rule_word rule) }
 {
     let number = rule.number();
-    Ok(format!(in alloc; "S{number}")?)
+    write!(text, "S{number}")?;
+    Ok(())
 }
 
-// A word that is always the same.
-fn fixed(alloc: Global, word: &str) -> Result<String, OutOfMemory>
-    ensures { IfOk result (λ text. string_bytes text ≡ word.now) }
+// Puts a word that is always the same.
+fn push_fixed(text: &mut String, word: &str) -> Result<(), OutOfMemory>
+    ensures { OnOk result (string_bytes text.new ≡ string_bytes text.old ++ word.now) }
 {
-    Ok(String::from_str(alloc, word)?)
+    text.push_str(word)?;
+    Ok(())
 }
 
-fn code_word(alloc: Global, code: FileFault) -> Result<String, OutOfMemory>
-    ensures { IfOk result (λ text. string_bytes text ≡ code_word code) }
+fn push_code(text: &mut String, code: FileFault) -> Result<(), OutOfMemory>
+    ensures { OnOk result (string_bytes text.new ≡ string_bytes text.old ++ code_word code) }
 {
     match code {
-        FileFault::Json => fixed(alloc, "json"),
-        FileFault::Kind => fixed(alloc, "kind"),
-        FileFault::Pages => fixed(alloc, "pages"),
-        FileFault::Unknown => fixed(alloc, "unknown"),
-        FileFault::Version => fixed(alloc, "version"),
-        FileFault::Twice => fixed(alloc, "twice"),
-        FileFault::Revision => fixed(alloc, "revision"),
-        FileFault::Rule(rule) => rule_word(alloc, rule),
+        FileFault::Json => push_fixed(text, "json"),
+        FileFault::Kind => push_fixed(text, "kind"),
+        FileFault::Pages => push_fixed(text, "pages"),
+        FileFault::Unknown => push_fixed(text, "unknown"),
+        FileFault::Version => push_fixed(text, "version"),
+        FileFault::Twice => push_fixed(text, "twice"),
+        FileFault::Revision => push_fixed(text, "revision"),
+        FileFault::Rule(rule) => push_rule(text, rule),
     }
 }
 
@@ -46,19 +48,39 @@ fn name_at(names: &[String], number: usize) -> &str
     }
 }
 
-fn resources_words(alloc: Global, rule: SetupRule) -> Result<String, OutOfMemory>
-    ensures { IfOk result (λ text. string_bytes text ≡ codes "resources " ++ rule_word rule) }
+fn push_resources(text: &mut String, rule: SetupRule) -> Result<(), OutOfMemory>
+    ensures { OnOk result (string_bytes text.new
+        ≡ string_bytes text.old ++ (codes "resources " ++ rule_word rule)) }
 {
-    let word = rule_word(alloc, rule)?;
-    Ok(format!(in alloc; "resources {}", word.as_str())?)
+    push_fixed(text, "resources ")?;
+    push_rule(text, rule)
 }
 
-fn file_words(alloc: Global, name: &str, code: FileFault) -> Result<String, OutOfMemory>
-    ensures { IfOk result (λ text. string_bytes text
-        ≡ codes "file " ++ (name.now ++ (codes " " ++ code_word code))) }
+fn push_file(text: &mut String, name: &str, code: FileFault) -> Result<(), OutOfMemory>
+    ensures { OnOk result (string_bytes text.new ≡ string_bytes text.old
+        ++ (codes "file " ++ (name.now ++ (codes " " ++ code_word code)))) }
 {
-    let word = code_word(alloc, code)?;
-    Ok(format!(in alloc; "file {} {}", name, word.as_str())?)
+    write!(text, "file {name} ")?;
+    push_code(text, code)
+}
+
+fn push_refusal(
+    text: &mut String,
+    names: &[String],
+    refusal: SetupRefusal,
+) -> Result<(), OutOfMemory>
+    ensures words { OnOk result (string_bytes text.new ≡ string_bytes text.old
+        ++ refusal_words (map string_bytes names.now) refusal) }
+    ensures memory { IsOk result → refusal ≢ SetupRefusal.OutOfMemory }
+{
+    match refusal {
+        SetupRefusal::Time => push_fixed(text, "time"),
+        SetupRefusal::Policy => push_fixed(text, "policy"),
+        SetupRefusal::Empty => push_fixed(text, "empty"),
+        SetupRefusal::Rule(rule) => push_resources(text, rule),
+        SetupRefusal::File { number, code } => push_file(text, name_at(names, number), code),
+        SetupRefusal::OutOfMemory => Err(OutOfMemory),
+    }
 }
 
 /// The words of a refusal of files with these names, as many as were given: `time`, `policy`, `empty`, `resources RULE`
@@ -73,14 +95,9 @@ pub fn refusal_words(
         ≡ refusal_words (map string_bytes names.now) refusal) }
     ensures memory { IsOk result → refusal ≢ SetupRefusal.OutOfMemory }
 {
-    match refusal {
-        SetupRefusal::Time => fixed(alloc, "time"),
-        SetupRefusal::Policy => fixed(alloc, "policy"),
-        SetupRefusal::Empty => fixed(alloc, "empty"),
-        SetupRefusal::Rule(rule) => resources_words(alloc, rule),
-        SetupRefusal::File { number, code } => file_words(alloc, name_at(names, number), code),
-        SetupRefusal::OutOfMemory => Err(OutOfMemory),
-    }
+    let mut text = String::new(alloc);
+    push_refusal(&mut text, names, refusal)?;
+    Ok(text)
 }
 
 /// A text as a line.

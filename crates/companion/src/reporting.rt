@@ -1,6 +1,6 @@
 ghost use Rattle.std.specs.Prelude.{◌≡◌, ◌≢◌, ◌∷◌, true, map, string_bytes};
 ghost use Rattle.log_verdict.specs.Answers.{report_answer as verdict_answer, status_number as verdict_number};
-ghost use Rattle.cluster_setup.specs.Names.{are_distinct};
+ghost use Rattle.process_words.specs.Names.{are_distinct};
 ghost use Rattle.companion_words.specs.Command.{Explain, IsSpelled, Picture, Setup, Sift, command_asked};
 ghost use Rattle.companion.specs.Reported.{HasStretchesWithin, IsReported, TellsStop};
 ghost use Rattle.companion.specs.Reported.{made_answer, report_answer, status_number};

@@ -1,6 +1,6 @@
 -- What the words of the command line ask for.
 use Rattle.std.specs.Prelude.{◌≡◌, ◌≢◌, ◌<◌, ◌⊎◌, ℕ, Bool, true, false, List, [], ◌∷◌, length, Contains, Option, Some, None, codes, map, string_bytes}
-use Rattle.cluster_setup.specs.Names.{are_distinct}
+use Rattle.process_words.specs.Names.{are_distinct}
 use Rattle.code_guide.specs.Guides.{text_of}
 use Rattle.companion_words.specs.declared.words.Command.{Command}
 use Rattle.companion_words.specs.declared.words.Command.TheVariants as word

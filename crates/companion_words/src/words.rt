@@ -1,8 +1,8 @@
 ghost use Rattle.std.specs.Prelude.{◌≡◌, ◌∷◌, [], true, map, string_bytes, codes};
 ghost use Rattle.companion_words.specs.Command.{IsRead, IsSetupRead};
 
-use cluster_setup::{are_distinct, is_among};
 use code_guide::explain;
+use process_words::{are_distinct, is_among};
 use std::alloc::Global;
 
 /// What the words of the command line ask for.

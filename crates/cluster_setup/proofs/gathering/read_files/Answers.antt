@@ -1,7 +1,7 @@
 use Rattle.std.proofs.Common.{◌≡◌, ◌+◌, map, string_bytes, drop, Global, ap, rules}
 use Rattle.std.proofs.lemmas.List.{drop_all}
 use Rattle.cluster_setup.proofs.GatheringFacts.{all_read, ended, ended_for_memory, none_read, read_on}
-use Rattle.cluster_setup.proofs.NameFacts.{item_in_front}
+use Rattle.process_words.proofs.NameFacts.{item_in_front}
 use Rattle.cluster_setup.proofs.gathering.read_files.Goals as goal
 
 pub loop-name-init : goal.loop-name-init

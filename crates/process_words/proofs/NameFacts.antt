@@ -6,7 +6,7 @@ use Rattle.std.specs.List.{list_any}
 use Rattle.std.proofs.lemmas.Cmp.{nat_list_eq_equiv}
 use Rattle.std.proofs.lemmas.List.{at_drop_more}
 use Rattle.std.proofs.lemmas.Map.Text.{is_eq-slice_cmp}
-use Rattle.cluster_setup.specs.Names.{are_distinct}
+use Rattle.process_words.specs.Names.{are_distinct}
 
 -- the item at a place, in front of those behind it
 pub item_in_front : {A B : Type 0} (f : A → B) (xs : List A) (at : ℕ) (item : A) (shown : B) → at < length xs → item ≡ get_or xs at item → f item ≡ shown

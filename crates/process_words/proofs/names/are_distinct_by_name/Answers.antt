@@ -1,9 +1,9 @@
 use Rattle.std.proofs.Common.{◌≡◌, ◌+◌, true, false, map, string_bytes, bytes_eq, drop, Global, rules, sym, ◌∙◌, ap}
 use Rattle.std.specs.List.{list_any}
 use Rattle.std.proofs.lemmas.List.{drop_all, take_rest}
-use Rattle.cluster_setup.specs.Names.{are_distinct}
-use Rattle.cluster_setup.proofs.NameFacts.{distinct_by, item_in_front}
-use Rattle.cluster_setup.proofs.names.are_distinct_by_name.Goals as goal
+use Rattle.process_words.specs.Names.{are_distinct}
+use Rattle.process_words.proofs.NameFacts.{distinct_by, item_in_front}
+use Rattle.process_words.proofs.names.are_distinct_by_name.Goals as goal
 
 pub returns-then-is_among : goal.returns-then-is_among
 returns-then-is_among c =

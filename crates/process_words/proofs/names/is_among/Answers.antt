@@ -1,8 +1,8 @@
 use Rattle.std.proofs.Common.{bytes_eq, string_bytes, Global, String, sym, ◌∙◌, rules, tests}
 use Rattle.std.proofs.lemmas.Iterator.{YieldsList-from_slice}
 use Rattle.std.proofs.lemmas.Iterator.Search.{any_from_yields_List}
-use Rattle.cluster_setup.proofs.NameFacts.{list_any-map}
-use Rattle.cluster_setup.proofs.names.is_among.Goals as goal
+use Rattle.process_words.proofs.NameFacts.{list_any-map}
+use Rattle.process_words.proofs.names.is_among.Goals as goal
 
 pub returns : goal.returns
 returns c =

@@ -1,6 +1,6 @@
 ghost use Rattle.std.specs.Prelude.{◌≡◌, IfOk, bytes_eq, map, string_bytes};
 ghost use Rattle.std.specs.List.{list_any};
-ghost use Rattle.cluster_setup.specs.Names.{are_distinct};
+ghost use Rattle.process_words.specs.Names.{are_distinct};
 
 use base_types::OutOfMemory;
 use std::alloc::Global;

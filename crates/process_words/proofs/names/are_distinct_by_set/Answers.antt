@@ -1,8 +1,8 @@
 use Rattle.std.proofs.Common.{◌≡◌, ◌+◌, ◌-◌, ◌<◌, [], true, length, map, string_bytes, drop, Global, arith, rules, sym, ◌∙◌, ap, subst}
 use Rattle.std.proofs.lemmas.List.{drop_all}
-use Rattle.cluster_setup.specs.Names.{are_distinct}
-use Rattle.cluster_setup.proofs.NameFacts.{AreHeld, equal_behind, held_twice, item_in_front, none_held, one_held}
-use Rattle.cluster_setup.proofs.names.are_distinct_by_set.Goals as goal
+use Rattle.process_words.specs.Names.{are_distinct}
+use Rattle.process_words.proofs.NameFacts.{AreHeld, equal_behind, held_twice, item_in_front, none_held, one_held}
+use Rattle.process_words.proofs.names.are_distinct_by_set.Goals as goal
 
 pub loop-at-init : goal.loop-at-init
 loop-at-init c =

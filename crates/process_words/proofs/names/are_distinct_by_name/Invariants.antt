@@ -1,6 +1,6 @@
 use Rattle.std.proofs.Common.{◌≡◌, map, string_bytes, drop, Global}
-use Rattle.cluster_setup.specs.Names.{are_distinct}
-use Rattle.cluster_setup.proofs.names.are_distinct_by_name.Given as goal
+use Rattle.process_words.specs.Names.{are_distinct}
+use Rattle.process_words.proofs.names.are_distinct_by_name.Given as goal
 
 -- no name so far is equal to one behind it
 abbrev pub invariant-loop-at : goal.invariant-loop-at
