@@ -1,2 +1,0 @@
-mod companion_rows;
-mod desk_files;
