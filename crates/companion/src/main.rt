@@ -1,7 +1,14 @@
 //! companion explains the codes of kubepast, prepares what it reads, and shows its verdicts.
 #![tactic(auto)]
 
-use companion_answers::end_of;
+mod ending;
+mod picturing;
+mod process;
+mod report;
+mod reporting;
+mod running;
+
+use crate::process::end_of;
 use edge_io::StdSink;
 use process_words::words_among;
 use std::env;
@@ -11,3 +18,6 @@ fn main(rt: HostRuntime) -> ExitCode {
     let words = words_among(rt.alloc(), env::args(&rt));
     end_of(&rt, words, &mut StdSink::new(&rt))
 }
+
+#[cfg(test)]
+mod tests;

@@ -1,0 +1,24 @@
+-- What a call of the program tells of its words, of the desk and of the sink, whatever its answer is.
+use Rattle.std.specs.Prelude.{◌≡◌, ℕ, List, Option, Some, None}
+use Rattle.std.specs.Io.KnownBytes.{Keeps}
+use Rattle.edge_io.specs.Endings.{Ends}
+use Rattle.edge_io.specs.Faults.{Rose}
+use Rattle.log_verdict.specs.Endings.{ReadsNames}
+use Rattle.companion_words.specs.Command.{IsAsked, Picture, ReadsWords}
+use Rattle.companion.specs.Program.{usage_answer}
+
+-- The status tells why there is no answer: 2 that the words are no command, 5 and 6 that a count of faults rose, 8 that
+-- nothing was written.
+pub record StatusTells (words : List (List ℕ)) (desk_before desk_now sink_before sink_now : ℕ) (before now : Option (List ℕ)) (status : ℕ) : Type 0 where
+  pub usage : IsAsked words None → Ends 2 usage_answer.text sink_before sink_now before now status
+  pub usage_only : status ≡ 2 → IsAsked words None
+  pub read_fault : status ≡ 5 → Rose desk_before desk_now
+  pub write_fault : status ≡ 6 → Rose sink_before sink_now
+  pub memory : status ≡ 8 → Keeps before now
+
+-- what was taken of each name of the desk: of a setup and a log that are shown what the judge takes, and nothing of a name
+-- that the words don't give to be read
+pub record ReadsDesk (words : List (List ℕ)) (old now : List ℕ → Option (List ℕ)) (untouched : Type 0) (status : ℕ) : Type 0 where
+  pub names : (setup log : List ℕ) → IsAsked words (Some (Picture setup log)) → ReadsNames old now status setup log
+  pub desk_left : ((name : List ℕ) → ReadsWords words name → ⊥) → untouched
+  pub others_left : (name : List ℕ) → (ReadsWords words name → ⊥) → now name ≡ old name

@@ -1,0 +1,68 @@
+ghost use Rattle.std.specs.Prelude.{◌≡◌, ℕ, List, IfOk, map, string_bytes};
+ghost use Rattle.companion_words.specs.Command.{TellsWords};
+ghost use Rattle.log_verdict.specs.Endings.{IsAnswered};
+ghost use Rattle.companion.specs.Program.{IsAnswer, IsOfTable};
+ghost use Rattle.companion.specs.Reported.{Concludes, HasStretchesWithin};
+ghost use Rattle.companion.specs.Running.{ReadsDesk, StatusTells};
+
+use crate::ending::end_with_body;
+use crate::report::CommandReport;
+use crate::reporting::report_of;
+use companion_words::read_words;
+use context_intake::Stop;
+use edge_io::{Desk, Sink, end_with};
+use judge_pool::Gate;
+use log_verdict::Gates;
+use std::alloc::Global;
+use std::marker::Sync;
+use std::thread::Threads;
+
+/// Does what the words of the command line ask for: reads the desk, writes the answer to the sink, and gives the exit
+/// status. The text is made whole before it is written. For a page several threads decode the lines of a batch and
+/// take the claims of the events; `gate` is told of each event, and `lines` of each line's index in its batch.
+pub fn run<R: Threads + Sync, D: Desk, K: Sink, G: Gate, H: Gate>(
+    rt: &R,
+    alloc: Global,
+    words: &[String],
+    desk: &mut D,
+    out: &mut K,
+    gate: &G,
+    lines: &H,
+) -> u8
+    ensures answer { (files : List ℕ → List ℕ)
+        → TellsWords (map string_bytes words.now) (D.left desk.old) files
+        → IsAnswered (IsAnswer (map string_bytes words.now) files) (D.faults desk.old)
+        (D.faults desk.new) (K.faults out.old) (K.faults out.new) (K.written out.old)
+        (K.written out.new) result }
+
+    // Whether the desk tells its bytes or not.
+    ensures table { IsAnswered IsOfTable (D.faults desk.old) (D.faults desk.new) (K.faults out.old)
+        (K.faults out.new) (K.written out.old) (K.written out.new) result }
+    ensures status { StatusTells (map string_bytes words.now) (D.faults desk.old)
+        (D.faults desk.new) (K.faults out.old) (K.faults out.new) (K.written out.old)
+        (K.written out.new) result }
+    ensures read { ReadsDesk (map string_bytes words.now) (D.left desk.old) (D.left desk.new)
+        (desk.new ≡ desk.old) result }
+{
+    let gates = Gates {
+        events: gate,
+        lines,
+    };
+    match read_words(alloc, words) {
+        Some(command) => conclude(out, report_of(rt, alloc, command, desk, gates)),
+        None => end_with(out, 2, b"usage\n"),
+    }
+}
+
+// Writes what was found, or why nothing was, and gives the exit status.
+fn conclude<K: Sink>(out: &mut K, found: Result<CommandReport, Stop>) -> u8
+    requires { IfOk found (λ report. HasStretchesWithin report.body) }
+    ensures { Concludes found (K.faults out.old) (K.faults out.new) (K.written out.old)
+        (K.written out.new) result }
+{
+    match found {
+        Ok(report) => end_with_body(out, report.status.number(), &report.body),
+        Err(Stop::ReadFault) => end_with(out, 5, b"read fault\n"),
+        Err(Stop::OutOfMemory) => 8,
+    }
+}

@@ -1,0 +1,2 @@
+mod companion_rows;
+mod desk_files;
