@@ -1,5 +1,5 @@
 -- The codes of the program: each has a text, which begins with its words.
-use Rattle.std.proofs.Common.{◌≡◌, ◌↔◌, ℕ, List, [], ◌∷◌, ◌++◌, Option, Some, None, Bool, true, false, Contains, IfSome, IsSome, option_map, bytes_eq, codes, if◌then◌else◌, refl, sym, ◌∙◌, ap, subst}
+use Rattle.std.proofs.Common.{◌≡◌, ◌↔◌, ℕ, List, [], ◌∷◌, Option, Some, None, Bool, true, false, Contains, IfSome, IsSome, option_map, bytes_eq, codes, if◌then◌else◌, refl, sym, subst}
 use Rattle.std.proofs.lemmas.Slice.Eq.{bytes_eq-Decides}
 use Rattle.code_guide.specs.Guides.{guides_of, text_of, word_guides}
 use Rattle.code_guide.specs.FileGuides.{file_guides}

@@ -1,5 +1,5 @@
 -- What a setup and a log come to as a page.
-use Rattle.std.proofs.Common.{◌≡◌, inl, inr, ℕ, List, Option, subst}
+use Rattle.std.proofs.Common.{inl, inr, ℕ, List, Option, subst}
 use Rattle.std.specs.Io.KnownBytes.{IsAtEnd}
 use Rattle.context_intake.specs.Contexts.{IsToldBy}
 use Rattle.context_intake.specs.Taking.{IsReadFor}

@@ -1,5 +1,5 @@
 -- What a command comes to, of what was found for it.
-use Rattle.std.proofs.Common.{◌≡◌, ◌≢◌, ℕ, zero, ◌∷◌, Bool, Contains, map, List, Option, Some, Result, Ok, Err, IfOk, IsErrOf, codes, inl, inr, refl, sym, ◌∙◌, ap, subst, arith}
+use Rattle.std.proofs.Common.{◌≡◌, ◌≢◌, ℕ, zero, ◌∷◌, Bool, Contains, map, List, Option, Some, Result, Ok, Err, IfOk, IsErrOf, codes, inl, inr, refl, sym, ap, subst, arith}
 use Rattle.std.specs.Io.KnownBytes.{IsAtEnd}
 use Rattle.cluster_setup.specs.Answering.{AnswersMade}
 use Rattle.cluster_setup.specs.Gathering.{TellsAll}

@@ -8,7 +8,7 @@ use Rattle.edge_io.specs.Endings.{Ends}
 use Rattle.edge_io.specs.Faults.{Rose}
 use Rattle.log_verdict.specs.Answers.{Answer, answer}
 use Rattle.log_verdict.specs.Endings.{IsAnswered, IsBrokenStatus, IsVerdictStatus, ReadsNames}
-use Rattle.companion_words.specs.Command.{Asked, IsAsked, Picture, ReadsWords, Spells, Tells, TellsWords}
+use Rattle.companion_words.specs.Command.{Asked, IsAsked, Picture, Spells, Tells, TellsWords}
 use Rattle.companion.specs.Program.{IsAnswer, IsAnswerTo, IsOfTable, usage_answer}
 use Rattle.companion.specs.Reported.{Concludes, IsReported, Takes, TakesNames, body_text, report_answer, status_number}
 use Rattle.companion.specs.Running.{ReadsDesk, StatusTells}
