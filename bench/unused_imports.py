@@ -6,11 +6,12 @@ unused_imports.py [CRATE..] [--drop]
 A line is printed for each such name, and at the end how many there are. `rt tidy` proves a crate again to be sure; this
 goes by the text alone, so that all crates are looked at in a second. A name counts as used where it, or each part of an
 operator, stands outside imports and comments. With --drop the names, and imports that are left without any, are taken
-out of the files: `rt check` then has to prove these crates again.
+out of the files: `rt check` then has to prove these crates again. The status is 0 where no such name is left.
 """
 import argparse
 import os
 import re
+import sys
 
 ROOT = os.path.dirname(os.path.dirname(os.path.abspath(__file__)))
 IMPORT = re.compile(r"use ([\w.\-]+)\.\{(.*)\}")
@@ -65,6 +66,8 @@ def main():
                 folders.sort()
                 count += sum(look(os.path.join(at, name), asked.drop) for name in sorted(names) if name.endswith(".antt"))
     print(f"{count} names are imported and not used")
+    if count and not asked.drop:
+        sys.exit(1)
 
 
 main()
