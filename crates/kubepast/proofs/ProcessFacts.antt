@@ -1,18 +1,38 @@
 -- How the process ends, by how its call ended.
-use Rattle.std.proofs.Common.{◌≡◌, ℕ, List, Option, Some, None, Result, Ok, Err, String, Vec, map, string_bytes, Global, inl, sym, ◌∙◌, ap, subst}
+use Rattle.std.proofs.Common.{◌≡◌, ℕ, List, Option, Some, None, Result, Ok, Err, String, Vec, map, string_bytes, Global, inl, refl, sym, ◌∙◌, ap, subst}
 use Rattle.base_types.specs.declared.memory.OutOfMemory.{OutOfMemory}
 use Rattle.edge_io.specs.Endings.{Ends}
+use Rattle.command_words.specs.Command.{Ask, Asked, IsOfNames, Judge, Make, Reads, Strict, TellsWords, Verify}
 use Rattle.log_verdict.specs.Endings.{IsAnswered}
-use Rattle.kubepast.specs.Process.{EndsProcess, EndsWords}
-use Rattle.kubepast.specs.Program.{IsOfTable, usage_answer}
-use Rattle.kubepast.specs.Running.{StatusTells}
+use Rattle.kubepast.specs.Process.{EndsCall, EndsProcess, EndsWords}
+use Rattle.kubepast.specs.Program.{IsAnswer, IsOfTable, usage_answer}
+use Rattle.kubepast.specs.Running.{ReadsDesk, StatusTells}
 use Rattle.kubepast.proofs.RunFacts.{keeps_same}
+
+-- a command that reads nothing names no setup and no log
+unnamed : (asked : Asked) (setup log : List ℕ) → ((name : List ℕ) → Reads asked name → ⊥) → IsOfNames asked setup log → ⊥
+unnamed (Judge s l) setup log none of = none s (inl refl)
+unnamed (Strict s l) setup log none of = none s (inl refl)
+unnamed (Verify s l p) setup log none of = none s (inl refl)
+unnamed (Ask s l q) setup log none of = none s (inl refl)
+unnamed (Make number events) setup log none of = of
+
+-- a call of whose desk nothing is known
+module _ (words : List (List ℕ)) (old left : List ℕ → Option (List ℕ)) (untouched : Type 0) (desk_before desk_now sink_before sink_now : ℕ) (before now : Option (List ℕ)) (status : ℕ) where
+  pub ended_call : ((files : List ℕ → List ℕ) → TellsWords words old files → IsAnswered (IsAnswer words files) desk_before desk_now sink_before sink_now before now status)
+      → IsAnswered (IsOfTable words) desk_before desk_now sink_before sink_now before now status → StatusTells words desk_before desk_now sink_before sink_now before now status
+      → ReadsDesk words old left untouched status → (untouched → desk_now ≡ desk_before) → EndsCall words desk_before desk_now sink_before sink_now before now status
+  ended_call answered table told read same = record {
+    answer = λ nothing files. answered files (λ asked asks name reads. absurd (nothing asked name asks reads));
+    table = table;
+    told = told;
+    unread = λ nothing. same (read.desk_left (λ setup log asks. unnamed asks.0 setup log (λ name reads. nothing asks.0 name asks.1 reads) asks.2));
+  }
 
 -- a call on files, or none for want of memory
 module _ {words : List (List ℕ)} {desk_before desk_now sink_before sink_now : ℕ} {before now : Option (List ℕ)} {status : ℕ} where
-  pub ended_words : StatusTells words desk_before desk_now sink_before sink_now before now status → IsAnswered IsOfTable desk_before desk_now sink_before sink_now before now status
-      → EndsWords words sink_before sink_now before now status
-  ended_words told table = inl (desk_before, desk_now, told, table)
+  pub ended_words : EndsCall words desk_before desk_now sink_before sink_now before now status → EndsWords words sink_before sink_now before now status
+  ended_words ended = inl (desk_before, desk_now, ended)
 
 -- what the arguments came to, and how the process ended
 module _ (given : Result (Option (Vec (String Global) Global)) OutOfMemory) (sink_before sink_now : ℕ) (before now : Option (List ℕ)) (exit : ℕ) where

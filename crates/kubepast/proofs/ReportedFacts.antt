@@ -3,6 +3,7 @@ use Rattle.std.proofs.Common.{◌≡◌, ◌<◌, ◌⊎◌, ℕ, List, Option, 
 use Rattle.std.specs.Io.KnownBytes.{IsAtEnd}
 use Rattle.context_intake.specs.Taking.{IsReadBefore, ReadsSetupAndLog}
 use Rattle.context_intake.specs.declared.refusal.Refusal.{Refusal}
+use Rattle.context_intake.specs.declared.refusal.Refusal.TheVariants.{BrokenSetup, MalformedLog, PastLimit}
 use Rattle.context_intake.specs.declared.stop.Stop.{Stop}
 use Rattle.context_intake.specs.declared.stop.Stop.TheVariants.{OutOfMemory, ReadFault}
 use Rattle.context_intake.proofs.ReadingFacts.{taken_upto}
@@ -12,7 +13,7 @@ use Rattle.command_words.specs.Command.{Ask, Judge, Make, Strict, Tells, Verify}
 use Rattle.log_verdict.specs.Answers.{Answer, history_answer, judged_answer, refusal_answer, report_answer, status_number, strictly_answer, verified_answer}
 use Rattle.log_verdict.specs.Endings.{IsBrokenStatus, IsVerdictStatus}
 use Rattle.log_verdict.specs.Judging.{IsJudged}
-use Rattle.kubepast.specs.Program.{IsAnswerTo}
+use Rattle.kubepast.specs.Program.{IsAnswerTo, IsRefusalStatus}
 use Rattle.kubepast.specs.Reported.{HasBrokenStatus, HasVerdictStatus, IsReported, PrintsPlacement}
 use Rattle.log_verdict.specs.Strictly.{IsStrictlyJudged}
 use Rattle.log_verdict.specs.Taking.{IsReadToAnswer, IsReadToJudge, IsReadToSettle, IsReadToVerify, ReadsSetupLogAndPlacement}
@@ -22,6 +23,8 @@ use Rattle.log_verdict.specs.declared.asking.Answered.TheVariants as answered
 use Rattle.log_verdict.specs.declared.judged.Judged.{Judged}
 use Rattle.log_verdict.specs.declared.judged.Judged.TheVariants.{Refused, Verdict}
 use Rattle.log_verdict.specs.declared.report.Report.{Report}
+use Rattle.log_verdict.specs.declared.report.Status.{Status}
+use Rattle.log_verdict.specs.declared.report.Status.TheVariants.{Explained, Unexplained, SetupRefused, LogRefused, LimitPassed}
 use Rattle.log_verdict.specs.declared.strictly.StrictlyJudged.{StrictlyJudged}
 use Rattle.log_verdict.specs.declared.strictly.StrictlyJudged.TheVariants.{Plain, Settled}
 use Rattle.log_verdict.specs.declared.verified.Verified.{Verified}
@@ -128,6 +131,30 @@ module _ (setup log : Option (List ℕ)) where
   verified_text old now (verified.Misspelt line) report told read is = inr read.2
   verified_text old now (verified.Judged checked) report told read is = inr read.2
 
+-- the status of a report is one of its command
+verdict_or_refusal : (status : Status) → IsVerdictStatus (status_number status) ⊎ IsRefusalStatus (status_number status)
+verdict_or_refusal Explained = inl (inl refl)
+verdict_or_refusal Unexplained = inl (inr refl)
+verdict_or_refusal SetupRefused = inr (inl (inl refl))
+verdict_or_refusal LogRefused = inr (inl (inr refl))
+verdict_or_refusal LimitPassed = inr (inr refl)
+
+has_status : (result : Result Report Stop) → IfOk result (λ report. IsVerdictStatus (status_number report.status) ⊎ IsRefusalStatus (status_number report.status))
+has_status (Ok report) = verdict_or_refusal report.status
+has_status (Err stop) = tt
+
+abbrev IsAskStatus : ℕ → Type 0
+IsAskStatus status = (status ≡ 0) ⊎ IsRefusalStatus status
+
+refusal_status : (refusal : Refusal) (report : Report) → report_answer report ≡ refusal_answer refusal → IsRefusalStatus (status_number report.status)
+refusal_status (BrokenSetup rule) report told = inl (inl (ap (λ (a : Answer). a.status) told))
+refusal_status (MalformedLog line code) report told = inl (inr (ap (λ (a : Answer). a.status) told))
+refusal_status (PastLimit limit) report told = inr (ap (λ (a : Answer). a.status) told)
+
+history_status : (found : Answered) (report : Report) → report_answer report ≡ history_answer found → IsAskStatus (status_number report.status)
+history_status (answered.Refused refusal) report told = inr (refusal_status refusal report told)
+history_status (answered.History text) report told = inl (ap (λ (a : Answer). a.status) told)
+
 -- of another command nothing is said here
 unprinted : (result : Result Report Stop) → IfOk result (λ report. Unit {0})
 unprinted (Ok report) = tt
@@ -142,6 +169,7 @@ module _ (old now : List ℕ → Option (List ℕ)) (untouched : Type 0) (before
   judge_reported inner passed is ends reads printed = record {
     answered = of_report judged_answer inner result _ (λ report. (files : List ℕ → List ℕ) → Tells (Judge setup log) old files → IsAnswerTo (Some (Judge setup log)) files (report_answer report)) passed is
         (λ judged report told judges files tells. (judged, judges (files setup) (files log) (tells setup (inl refl)) (tells log (inr refl)), told));
+    status = has_status result;
     fault = λ failed. reads.fault (failed_read judged_answer inner result passed failed);
     taken = record {
       whole = of_report judged_answer inner result _ (λ report. HasVerdictStatus report → IsAtEnd (now setup) × IsAtEnd (now log)) passed ends
@@ -161,6 +189,7 @@ module _ (old now : List ℕ → Option (List ℕ)) (untouched : Type 0) (before
   strictly_reported inner passed is ends reads = record {
     answered = of_report strictly_answer inner result _ (λ report. (files : List ℕ → List ℕ) → Tells (Strict setup log) old files → IsAnswerTo (Some (Strict setup log)) files (report_answer report)) passed is
         (λ found report told judges files tells. (found, judges (files setup) (files log) (tells setup (inl refl)) (tells log (inr refl)), told));
+    status = has_status result;
     fault = λ failed. reads.fault (failed_read strictly_answer inner result passed failed);
     taken = record {
       whole = of_report strictly_answer inner result _ (λ report. HasVerdictStatus report → IsAtEnd (now setup) × IsAtEnd (now log)) passed ends
@@ -180,6 +209,7 @@ module _ (old now : List ℕ → Option (List ℕ)) (untouched : Type 0) (before
   verify_reported placement inner passed is ends reads = record {
     answered = of_report verified_answer inner result _ (λ report. (files : List ℕ → List ℕ) → Tells (Verify setup log placement) old files → IsAnswerTo (Some (Verify setup log placement)) files (report_answer report)) passed is
         (λ found report told judges files tells. (found, judges (files setup) (files log) (files placement) (tells setup (inl refl)) (tells log (inr (inl refl))) (tells placement (inr (inr refl))), told));
+    status = has_status result;
     fault = λ failed. reads.fault (failed_read verified_answer inner result passed failed);
     taken = (
       record {
@@ -210,6 +240,7 @@ module _ (old now : List ℕ → Option (List ℕ)) (untouched : Type 0) (before
   ask_reported question inner passed is ends reads = record {
     answered = of_report history_answer inner result _ (λ report. (files : List ℕ → List ℕ) → Tells (Ask setup log question) old files → IsAnswerTo (Some (Ask setup log question)) files (report_answer report)) passed is
         (λ found report told answers files tells. (found, answers (files setup) (files log) (tells setup (inl refl)) (tells log (inr refl)), told));
+    status = of_report history_answer inner result _ (λ report. IsAskStatus (status_number report.status)) passed ends (λ found report told read. history_status found report told);
     fault = λ failed. reads.fault (failed_read history_answer inner result passed failed);
     taken = record {
       whole = of_report history_answer inner result _ (λ report. HasVerdictStatus report → IsAtEnd (now setup) × IsAtEnd (now log)) passed ends
@@ -226,6 +257,7 @@ pub make_reported : (old now : List ℕ → Option (List ℕ)) (untouched : Type
     → IsReported (Make number events) old now untouched before after result
 make_reported old now untouched before after number events (Ok report) same left answered no_fault = record {
   answered = λ files tells. answered files;
+  status = verdict_or_refusal report.status;
   fault = λ is. absurd (no_fault is);
   taken = same;
   others = λ name unread. left name;
@@ -233,6 +265,7 @@ make_reported old now untouched before after number events (Ok report) same left
 }
 make_reported old now untouched before after number events (Err stop) same left answered no_fault = record {
   answered = tt;
+  status = tt;
   fault = λ is. absurd (no_fault is);
   taken = same;
   others = λ name unread. left name;

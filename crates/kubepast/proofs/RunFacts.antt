@@ -9,7 +9,7 @@ use Rattle.edge_io.specs.Whole.{TakesWhole}
 use Rattle.command_words.specs.Command.{Ask, Asked, AsksOf, IsAsked, IsOfNames, Judge, Make, MayWantMemory, Reads, Spells, Strict, Tells, TellsWords, Verify}
 use Rattle.log_verdict.specs.Endings.{IsAnswered, IsBrokenStatus, IsVerdictStatus, ReadsNames}
 use Rattle.edge_io.specs.Endings.{Ends}
-use Rattle.kubepast.specs.Program.{Concludes, IsAnswer, IsAnswerTo, IsOfTable, usage_answer}
+use Rattle.kubepast.specs.Program.{Concludes, IsAnswer, IsAnswerTo, IsOfTable, IsStatusOf, usage_answer}
 use Rattle.log_verdict.specs.Answers.{Answer, IsPlacementText, answer, report_answer, status_number}
 use Rattle.kubepast.specs.Reported.{HasBrokenStatus, HasVerdictStatus, IsReported, PrintsPlacement, Takes, TakesNames, TakesPlacement}
 use Rattle.kubepast.specs.Running.{ReadsDesk, ReadsPlacement, StatusTells}
@@ -52,16 +52,9 @@ apart_eight LogRefused is = omega (arith, is)
 apart_eight LimitPassed is = omega (arith, is)
 
 -- a report is an answer of the table
-report_of_table : (status : Status) (text : List ℕ) → IsOfTable (answer (status_number status) text)
-report_of_table Explained text = inr (inl refl)
-report_of_table Unexplained text = inr (inr (inl refl))
-report_of_table SetupRefused text = inr (inr (inr (inl refl)))
-report_of_table LogRefused text = inr (inr (inr (inr (inl refl))))
-report_of_table LimitPassed text = inr (inr (inr (inr (inr refl))))
-
-of_table : (found : Result Report Stop) → IfOk found (λ report. IsOfTable (report_answer report))
-of_table (Ok report) = report_of_table report.status report.text
-of_table (Err stop) = tt
+of_table : (words : List (List ℕ)) (asked : Asked) (found : Result Report Stop) → Spells asked words → IfOk found (λ report. IsStatusOf asked (status_number report.status)) → IfOk found (λ report. IsOfTable words (report_answer report))
+of_table words asked (Ok report) spelled is = inr (asked, spelled, is)
+of_table words asked (Err stop) spelled is = tt
 
 -- a verdict, and that a rule is broken, are told by other statuses than faults and want of memory
 above_verdict : (status : ℕ) → 1 < status → IsVerdictStatus status → ⊥
@@ -183,8 +176,9 @@ module _ {words : List (List ℕ)} {asked : Asked} {old now : List ℕ → Optio
   run_answer files tells =
       concluded_answer sink_before sink_now before written result found (IsAnswer words files) desk_before desk_now (answer_to_words words asked old files found r.spelled tells r.reported.answered) r.reported.fault r.concluded
 
-  pub run_table : IsAnswered IsOfTable desk_before desk_now sink_before sink_now before written result
-  run_table = concluded_answer sink_before sink_now before written result found IsOfTable desk_before desk_now (of_table found) r.reported.fault r.concluded
+  pub run_table : IsAnswered (IsOfTable words) desk_before desk_now sink_before sink_now before written result
+  run_table =
+      concluded_answer sink_before sink_now before written result found (IsOfTable words) desk_before desk_now (of_table words asked found r.spelled r.reported.status) r.reported.fault r.concluded
 
   pub run_status : StatusTells words desk_before desk_now sink_before sink_now before written result
   run_status = record {

@@ -8,6 +8,7 @@ use Rattle.context_intake.specs.declared.stop.Stop.TheVariants.{OutOfMemory, Rea
 use Rattle.edge_io.specs.Endings.{Ends}
 use Rattle.log_verdict.specs.Answering.{IsHistory}
 use Rattle.log_verdict.specs.Answers.{Answer, answer, history_answer, judged_answer, outcome_status, refusal_answer, status_number, strictly_answer, verified_answer}
+use Rattle.log_verdict.specs.Endings.{IsBrokenStatus, IsVerdictStatus}
 use Rattle.log_verdict.specs.Judging.{IsJudged}
 use Rattle.log_verdict.specs.Strictly.{IsStrictlyJudged}
 use Rattle.log_verdict.specs.Verifying.{IsVerified}
@@ -43,11 +44,24 @@ IsAnswerTo (Some (Make number events)) files answered =
 abbrev pub IsAnswer : List (List ℕ) → (List ℕ → List ℕ) → Answer → Type 0
 IsAnswer words files answered = (asked : Option Asked) × IsAsked words asked × IsAnswerTo asked files answered
 
--- an answer of the table, whatever was read: `usage` with 2, or some text with the status of a verdict or of a refusal
-abbrev pub IsOfTable : Answer → Type 0
-IsOfTable answered =
-    (answered ≡ usage_answer)
-    ⊎ (answered.status ≡ 0) ⊎ (answered.status ≡ 1) ⊎ (answered.status ≡ 3) ⊎ (answered.status ≡ 4) ⊎ (answered.status ≡ 7)
+-- a rule is broken, or a limit passed
+abbrev pub IsRefusalStatus : ℕ → Type 0
+IsRefusalStatus status = IsBrokenStatus status ⊎ (status ≡ 7)
+
+-- the statuses that the table has for a command: a question isn't answered by no
+abbrev pub IsStatusOf : Asked → ℕ → Type 0
+IsStatusOf (Judge setup log) status = IsVerdictStatus status ⊎ IsRefusalStatus status
+IsStatusOf (Strict setup log) status = IsVerdictStatus status ⊎ IsRefusalStatus status
+IsStatusOf (Verify setup log placement) status = IsVerdictStatus status ⊎ IsRefusalStatus status
+IsStatusOf (Ask setup log question) status = (status ≡ 0) ⊎ IsRefusalStatus status
+IsStatusOf (Make number events) status = IsVerdictStatus status ⊎ IsRefusalStatus status
+
+-- an answer of the table to the words, whatever was read: `usage` with 2 where they are no command, or some text with a
+-- status of the command that they are
+abbrev pub IsOfTable : List (List ℕ) → Answer → Type 0
+IsOfTable words answered =
+    (IsAsked words None × (answered ≡ usage_answer))
+    ⊎ ((asked : Asked) × IsAsked words (Some asked) × IsStatusOf asked answered.status)
 
 -- the report was written with its status, or why there is none; for want of memory nothing is written
 abbrev pub Concludes : Result Report Stop → ℕ → ℕ → Option (List ℕ) → Option (List ℕ) → ℕ → Type 0

@@ -9,7 +9,7 @@ use Rattle.context_intake.specs.declared.stop.Stop.TheVariants.{ReadFault}
 use Rattle.edge_io.specs.Faults.{Rose}
 use Rattle.edge_io.specs.Whole.{TakesWhole}
 use Rattle.command_words.specs.Command.{Ask, Asked, Judge, Make, Reads, Spells, Strict, Tells, Verify}
-use Rattle.kubepast.specs.Program.{IsAnswerTo}
+use Rattle.kubepast.specs.Program.{IsAnswerTo, IsStatusOf}
 use Rattle.log_verdict.specs.Answers.{IsPlacementText, report_answer, status_number}
 use Rattle.log_verdict.specs.Endings.{IsBrokenStatus, IsVerdictStatus}
 use Rattle.log_verdict.specs.Verifying.{IsReadLast, most_placement}
@@ -60,6 +60,7 @@ PrintsPlacement (Make number events) report = Unit {0}
 -- the report is that of the command; the faults are those of the desk
 pub record IsReported (asked : Asked) (old now : List ℕ → Option (List ℕ)) (untouched : Type 0) (faults_before faults_now : ℕ) (found : Result Report Stop) : Type 0 where
   pub answered : IfOk found (λ report. (files : List ℕ → List ℕ) → Tells asked old files → IsAnswerTo (Some asked) files (report_answer report))
+  pub status : IfOk found (λ report. IsStatusOf asked (status_number report.status))
   pub fault : IsErrOf found ReadFault → Rose faults_before faults_now
   pub taken : Takes asked old now untouched found
   pub others : (name : List ℕ) → (Reads asked name → ⊥) → now name ≡ old name

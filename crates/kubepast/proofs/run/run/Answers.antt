@@ -10,7 +10,7 @@ pub returns-in-Ok-None-clause-answer : goal.returns-in-Ok-None-clause-answer
 returns-in-Ok-None-clause-answer g c = λ files tells. inl (usage_answer, (None, subst (IsRead (map (string_bytes {Z = Global}) c.args.words.now)) c.in-Ok-None.field-0-is c.in-Ok-None.ensures.read, refl), c.end_with.ensures.ends)
 
 pub returns-in-Ok-None-clause-table : goal.returns-in-Ok-None-clause-table
-returns-in-Ok-None-clause-table g c = inl (usage_answer, inl refl, c.end_with.ensures.ends)
+returns-in-Ok-None-clause-table g c = inl (usage_answer, inl (subst (IsRead (map (string_bytes {Z = Global}) c.args.words.now)) c.in-Ok-None.field-0-is c.in-Ok-None.ensures.read, refl), c.end_with.ensures.ends)
 
 pub returns-in-Ok-None-clause-status : goal.returns-in-Ok-None-clause-status
 returns-in-Ok-None-clause-status g c = usage_status (subst (IsRead (map (string_bytes {Z = Global}) c.args.words.now)) c.in-Ok-None.field-0-is c.in-Ok-None.ensures.read) c.end_with.ensures.ends
