@@ -11,10 +11,13 @@ use Rattle.batch_decode.specs.declared.decoded.Decoded.{Decoded}
 use Rattle.batch_decode.specs.Batches.{IsDecodedLine}
 use Rattle.log_intake.specs.declared.admitting.Place.{Place}
 use Rattle.log_intake.specs.declared.stop.LogStop.{LogStop}
+use Rattle.log_intake.specs.declared.stop.LogStop.TheVariants.{ReadFault}
 use Rattle.log_intake.specs.Batches.{AreShort, line_values}
 use Rattle.log_intake.specs.Kept.{AreBefore}
 use Rattle.log_intake.specs.Log.{TakesLine, TakesLines, log_state}
 use Rattle.log_intake.specs.Numbering.{AreOrdered, last_number, most_extra, most_items}
+use Rattle.log_intake.specs.Parts.{AdmitsLines, AllAdmitted}
+use Rattle.log_intake.specs.Taking.{IsRefusal}
 use Rattle.log_intake.proofs.NumberFacts.{last_number-append, most_extra-append, ordered_less}
 use Rattle.log_intake.proofs.StepFacts.{in_order_push, in_order_stopped}
 
@@ -130,13 +133,6 @@ nothing_back [] rest none zip = refl
 nothing_back (line ∷ back) [] none zip = absurd zip
 nothing_back (line ∷ back) (decoded ∷ rest) none zip = absurd (omega (arith, none))
 
--- all lines were admitted
-pub record AllAdmitted (lines : List Line) (place place' : Place) (kept kept' : List Event) : Type 0 where
-  pub takes : TakesLines (log_state place.extra kept) (line_values lines) (Ok (log_state place'.extra kept'))
-  pub line : place'.line ≡ last_number place.line (line_values lines)
-  pub extra : place'.extra ≤ most_extra place.extra (line_values lines)
-  pub before : AreBefore (place'.line + place'.extra + 1) kept'
-
 pub all_admitted : (lines : List Line) (rest : List Decoded) (place place' : Place) (kept kept' : List Event) (at : ℕ) → HasAdmitted lines rest place place' kept kept' at → length rest ≡ 0 → AllAdmitted lines place place' kept kept'
 all_admitted lines rest place place' kept kept' at h none =
     let whole : h.front ≡ lines = sym (h.all ∙ ap (λ b. h.front ++ b) (nothing_back h.back rest none h.decoded) ∙ append-nil h.front) in
@@ -146,3 +142,18 @@ all_admitted lines rest place place' kept kept' at h none =
       extra = subst (λ l. place'.extra ≤ most_extra place.extra (line_values l)) whole h.extra;
       before = h.before;
     }
+
+pub admits_all : (lines : List Line) (place place' : Place) (kept kept' : List Event) → AllAdmitted lines place place' kept kept' → AdmitsLines lines place kept kept' (Ok place')
+admits_all lines place place' kept kept' all = record {
+  all = all;
+  refused = tt;
+  no_fault = λ is. absurd (let no : Ok place' ≡ Err ReadFault = is in cc);
+}
+
+pub admits_refused : (lines : List Line) (place : Place) (kept kept' : List Event) (stop : LogStop) → (IsRefusal stop → TakesLines (log_state place.extra kept) (line_values lines) (Err stop)) → (stop ≡ ReadFault → ⊥)
+    → AdmitsLines lines place kept kept' (Err stop)
+admits_refused lines place kept kept' stop refused fault = record {
+  all = tt;
+  refused = refused;
+  no_fault = λ is. fault (let same : stop ≡ ReadFault = (let e : Err stop ≡ Err ReadFault = is in cc) in same);
+}

@@ -17,10 +17,10 @@ use Rattle.log_intake.specs.Batches.{AreShort, EndsBatch, Gathers, HoldsOpen, Ta
 use Rattle.log_intake.specs.Kept.{AreBefore, AreLogEvents}
 use Rattle.log_intake.specs.Log.{IsLogRead, TakesLine, TakesLines, log_state, nothing_read}
 use Rattle.log_intake.specs.Numbering.{AreOrdered, last_number, most_extra}
+use Rattle.log_intake.specs.Parts.{AllAdmitted}
 use Rattle.edge_io.specs.Whole.{HasTaken}
 use Rattle.log_intake.specs.Taking.{HoldsNoRefusal, IsRefusal, ReadsLog, RefusesNothing, TakesLog}
 use Rattle.log_intake.proofs.BatchFacts.{continues_then, waiting}
-use Rattle.log_intake.proofs.LineFacts.{AllAdmitted}
 use Rattle.log_intake.proofs.NumberFacts.{few_given, few_numbers, last_number-append, most_extra-append, most_extra_less, ordered_behind, ordered_front, ordered_less, ordered_numbered, ordered_within}
 use Rattle.log_intake.proofs.ReadFacts.{front_holds, given_refuse, limit_is, log_holds, log_past, log_refused, log_whole, long_refuses}
 use Rattle.log_intake.proofs.StepFacts.{in_order_then}

@@ -3,6 +3,7 @@ pub mod Kept
 pub mod Log
 pub mod Numbering
 pub mod OneReading
+pub mod Parts
 pub mod Setup
 pub mod Steps
 pub mod Taking

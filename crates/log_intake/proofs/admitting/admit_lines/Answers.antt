@@ -1,9 +1,9 @@
-use Rattle.std.proofs.Common.{◌≤◌, ◌∙◌, subst, sym, length}
+use Rattle.std.proofs.Common.{◌≤◌, ◌∙◌, ap, Err, subst, sym, length}
 use Rattle.std.specs.Vec.Iter.{into_iter_items}
 use Rattle.line_reader.specs.declared.line.Line.{Line}
 use Rattle.line_reader.specs.Lines.{longest_line}
 use Rattle.batch_decode.specs.Batches.{IsDecodedLine}
-use Rattle.log_intake.proofs.LineFacts.{all_admitted, line_admitted, line_refused, stands_next}
+use Rattle.log_intake.proofs.LineFacts.{admits_all, admits_refused, all_admitted, line_admitted, line_refused, stands_next}
 use Rattle.log_intake.proofs.admitting.admit_lines.Goals as goal
 
 pub admit_line-requires-clause-decoded : goal.admit_line-requires-clause-decoded
@@ -16,11 +16,13 @@ admit_line-requires-clause-short c =
     let s = stands_next c.args.lines.now (into_iter_items c.loop-line.line-iterator) (into_iter_items c.next.new.self) c.in-Some.line c.args.place c.loop-line.place c.args.seen.now c.loop-line.seen c.loop-line.at c.loop-line.invariant c.in-Some.ensures.steps.0 in
     subst (λ (l : Line). length l.bytes ≤ longest_line) (sym (c.index-lines-at.is ∙ s.index c.index-lines-at.result)) s.short
 
-pub returns-in-Err-clause-refused : goal.returns-in-Err-clause-refused
-returns-in-Err-clause-refused c = λ refusal.
+pub returns-in-Err : goal.returns-in-Err
+returns-in-Err c =
     let l = c.loop-line.invariant in
     let s = stands_next c.args.lines.now (into_iter_items c.loop-line.line-iterator) (into_iter_items c.next.new.self) c.in-Some.line c.args.place c.loop-line.place c.args.seen.now c.loop-line.seen c.loop-line.at l c.in-Some.ensures.steps.0 in
-    line_refused c.args.lines.now (into_iter_items c.loop-line.line-iterator) (into_iter_items c.next.new.self) c.in-Some.line c.args.place c.loop-line.place c.args.seen.now c.loop-line.seen c.loop-line.at c.index-lines-at.result c.in-Err.stop l s (c.index-lines-at.is ∙ s.index c.index-lines-at.result) (c.in-Err.ensures.refused refusal)
+    admits_refused c.args.lines.now c.args.place c.args.seen.now c.admit_line.new.seen c.in-Err.stop
+    (λ refusal. line_refused c.args.lines.now (into_iter_items c.loop-line.line-iterator) (into_iter_items c.next.new.self) c.in-Some.line c.args.place c.loop-line.place c.args.seen.now c.loop-line.seen c.loop-line.at c.index-lines-at.result c.in-Err.stop l s (c.index-lines-at.is ∙ s.index c.index-lines-at.result) (c.in-Err.ensures.refused refusal))
+    (λ same. c.in-Err.ensures.no_fault (ap Err same))
 
 pub loop-line-preserved : goal.loop-line-preserved
 loop-line-preserved c =
@@ -29,14 +31,7 @@ loop-line-preserved c =
     line_admitted c.args.lines.now (into_iter_items c.loop-line.line-iterator) (into_iter_items c.next.new.self) c.in-Some.line c.args.place c.loop-line.place c.in-Ok.after c.args.seen.now c.loop-line.seen c.admit_line.new.seen c.loop-line.at c.index-lines-at.result l s (c.index-lines-at.is ∙ s.index c.index-lines-at.result)
     c.in-Ok.ensures.takes c.in-Ok.ensures.line c.in-Ok.ensures.extra c.in-Ok.ensures.before
 
-pub returns-clause-takes : goal.returns-clause-takes
-returns-clause-takes c =
-    (all_admitted c.args.lines.now (into_iter_items c.loop-line.line-iterator) c.args.place c.loop-line.place c.args.seen.now c.loop-line.seen c.loop-line.at c.loop-line.invariant (sym c.loop-line.line-iterator.rest.ok.0 ∙ c.in-None.ensures.steps.0)).takes
-
-pub returns-clause-line : goal.returns-clause-line
-returns-clause-line c =
-    (all_admitted c.args.lines.now (into_iter_items c.loop-line.line-iterator) c.args.place c.loop-line.place c.args.seen.now c.loop-line.seen c.loop-line.at c.loop-line.invariant (sym c.loop-line.line-iterator.rest.ok.0 ∙ c.in-None.ensures.steps.0)).line
-
-pub returns-clause-extra : goal.returns-clause-extra
-returns-clause-extra c =
-    (all_admitted c.args.lines.now (into_iter_items c.loop-line.line-iterator) c.args.place c.loop-line.place c.args.seen.now c.loop-line.seen c.loop-line.at c.loop-line.invariant (sym c.loop-line.line-iterator.rest.ok.0 ∙ c.in-None.ensures.steps.0)).extra
+pub returns : goal.returns
+returns c =
+    admits_all c.args.lines.now c.args.place c.loop-line.place c.args.seen.now c.loop-line.seen
+    (all_admitted c.args.lines.now (into_iter_items c.loop-line.line-iterator) c.args.place c.loop-line.place c.args.seen.now c.loop-line.seen c.loop-line.at c.loop-line.invariant (sym c.loop-line.line-iterator.rest.ok.0 ∙ c.in-None.ensures.steps.0))

@@ -1,5 +1,5 @@
 use Rattle.std.proofs.Common.{◌∙◌, ap, Err, refl, arith}
-use Rattle.log_intake.proofs.LineFacts.{AllAdmitted}
+use Rattle.log_intake.specs.Parts.{AllAdmitted}
 use Rattle.log_intake.proofs.LogFacts.{batch_asks, reads_ended, reads_failed, reads_long, reads_nothing, reads_on, reads_past, reads_refused, reads_some}
 use Rattle.log_intake.proofs.log.read_batches.Goals as goal
 

@@ -1,0 +1,31 @@
+-- The parts of a batch, which are admitted one after another.
+use Rattle.std.specs.Prelude.{◌≡◌, ℕ, ◌+◌, ◌≤◌, List, Result, Ok, Err, IfOk, IfErr, IsErrOf}
+use Rattle.line_reader.specs.declared.line.Line.{Line}
+use Rattle.audit_event.specs.declared.event.Event.{Event}
+use Rattle.log_intake.specs.declared.admitting.Place.{Place}
+use Rattle.log_intake.specs.declared.stop.LogStop.{LogStop}
+use Rattle.log_intake.specs.declared.stop.LogStop.TheVariants.{ReadFault}
+use Rattle.log_intake.specs.Batches.{AreShort, line_values}
+use Rattle.log_intake.specs.Kept.{AreBefore}
+use Rattle.log_intake.specs.Log.{TakesLines, log_state}
+use Rattle.log_intake.specs.Numbering.{AreOrdered, last_number, most_extra}
+use Rattle.log_intake.specs.Taking.{IsRefusal}
+
+-- lines that may be admitted behind what is kept
+pub record AreNext (lines : List Line) (place : Place) (kept : List Event) : Type 0 where
+  pub short : AreShort (line_values lines)
+  pub ordered : AreOrdered place.line place.extra (line_values lines)
+  pub before : AreBefore (place.line + place.extra + 1) kept
+
+-- all lines were admitted
+pub record AllAdmitted (lines : List Line) (place place' : Place) (kept kept' : List Event) : Type 0 where
+  pub takes : TakesLines (log_state place.extra kept) (line_values lines) (Ok (log_state place'.extra kept'))
+  pub line : place'.line ≡ last_number place.line (line_values lines)
+  pub extra : place'.extra ≤ most_extra place.extra (line_values lines)
+  pub before : AreBefore (place'.line + place'.extra + 1) kept'
+
+-- all lines were admitted, or a number of theirs is refused, or memory was wanted
+pub record AdmitsLines (lines : List Line) (place : Place) (kept kept' : List Event) (answer : Result Place LogStop) : Type 0 where
+  pub all : IfOk answer (λ after. AllAdmitted lines place after kept kept')
+  pub refused : IfErr answer (λ stop. IsRefusal stop → TakesLines (log_state place.extra kept) (line_values lines) (Err stop))
+  pub no_fault : IsErrOf answer ReadFault → ⊥
