@@ -20,7 +20,6 @@ use Rattle.log_intake.specs.Kept.{AreBefore}
 use Rattle.log_intake.specs.Log.{TakesLine, TakesLines, log_state}
 use Rattle.log_intake.specs.Numbering.{AreOrdered, last_number, most_extra}
 use Rattle.log_intake.specs.Parts.{AdmitsLines, AllAdmitted, AreNext}
-use Rattle.log_intake.specs.Taking.{IsRefusal}
 use Rattle.log_intake.proofs.NumberFacts.{last_number-append, most_extra-append, most_extra_less, ordered_behind, ordered_front, ordered_less}
 use Rattle.log_intake.proofs.StepFacts.{in_order_refused, in_order_then}
 

@@ -1,5 +1,5 @@
 -- The parts of a batch, which are admitted one after another.
-use Rattle.std.specs.Prelude.{◌≡◌, ℕ, ◌+◌, ◌≤◌, List, Result, Ok, Err, IfOk, IfErr, IsErrOf}
+use Rattle.std.specs.Prelude.{◌≡◌, ◌+◌, ◌≤◌, List, Result, Ok, Err, IfOk, IfErr, IsErrOf}
 use Rattle.line_reader.specs.declared.line.Line.{Line}
 use Rattle.audit_event.specs.declared.event.Event.{Event}
 use Rattle.log_intake.specs.declared.admitting.Place.{Place}

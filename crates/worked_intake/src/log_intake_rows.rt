@@ -1,11 +1,12 @@
 ghost use Rattle.std.specs.Prelude.{◌≡◌, ◌<◌, length};
 
-use crate::given::{assert_text, bytes_of, spelled};
+use crate::gates::Roll;
+use crate::given::{assert_so, assert_text, bytes_of, push, spelled};
 use audit_event::Events;
 use base_types::Text;
 use edge_io::{InputFile, InputFiles, MemoryDesk};
 use hash_seed::Seed;
-use judge_pool::FreeGate;
+use judge_pool::{FreeGate, Gate};
 use log_intake::{LogStop, SetupStop, read_log, read_setup_named};
 use std::marker::Sync;
 use std::process::Abort;
@@ -78,13 +79,14 @@ fn read(
     log: &str,
     cut: usize,
     failing: &[u64],
+    gate: &impl Gate,
 ) -> Result<Events, LogStop>
     requires { 0 < cut }
 {
     let mut desk = desk_of(rt, log, cut, failing);
     let mut buffer = buffer_of(rt);
     let seed = Seed::of(b"");
-    let answer = read_log(rt, rt.alloc(), &mut desk, "f", &mut buffer, seed, &FreeGate);
+    let answer = read_log(rt, rt.alloc(), &mut desk, "f", &mut buffer, seed, gate);
     drop(desk);
     answer
 }
@@ -122,7 +124,7 @@ fn check_log(
 )
     requires { 0 < cut }
 {
-    let answer = read(rt, log, cut, failing);
+    let answer = read(rt, log, cut, failing, &FreeGate);
     let text = answer_text(rt, &answer);
     drop(answer);
     assert_text(rt, text.as_str(), wanted);
@@ -151,6 +153,40 @@ fn failing_reads(rt: HostRuntime) {
     check_log(&rt, " ", 8, &[3], "0 0");
     let refused = "Malformed { line: 1, code: M1 }";
     check_log(&rt, "x\n      ", 4, &[2], refused);
+}
+
+// Puts so many lines behind a log, each an empty EventList.
+fn put_lists(rt: &(impl Abort + AllocGlobal), log: &mut String, count: u32) {
+    let line = spelled(rt, "LIST]}\n");
+    for _ in 0..count {
+        push(rt, log, line.as_str());
+    }
+}
+
+// Enough lines that a batch of them is cut into parts.
+const LINES: u32 = 300;
+
+#[test]
+fn batches_in_parts(rt: HostRuntime) {
+    let mut log = String::new(rt.alloc());
+    put_lists(&rt, &mut log, LINES);
+    check_log(&rt, log.as_str(), 65_536, &[], "0 0");
+    // Of two lines that are refused, the one in the second part counts.
+    push(&rt, &mut log, "x\n");
+    put_lists(&rt, &mut log, 2 * LINES);
+    push(&rt, &mut log, "x");
+    check_log(&rt, log.as_str(), 65_536, &[], "Malformed { line: 301, code: M1 }");
+}
+
+#[test]
+fn each_line_of_a_batch_enters_once(rt: HostRuntime) {
+    let mut log = String::new(rt.alloc());
+    put_lists(&rt, &mut log, LINES);
+    let gate = Roll::of(&rt, LINES);
+    let answer = read(&rt, log.as_str(), 65_536, &[], &gate);
+    assert_so(&rt, answer.is_ok(), "no line is refused");
+    drop(answer);
+    assert_so(&rt, gate.is_once_each(), "each once");
 }
 
 const SETUP: &str =
