@@ -175,7 +175,13 @@ fn batches_in_parts(rt: HostRuntime) {
     push(&rt, &mut log, "x\n");
     put_lists(&rt, &mut log, 2 * LINES);
     push(&rt, &mut log, "x");
-    check_log(&rt, log.as_str(), 65_536, &[], "Malformed { line: 301, code: M1 }");
+    check_log(
+        &rt,
+        log.as_str(),
+        65_536,
+        &[],
+        "Malformed { line: 301, code: M1 }",
+    );
 }
 
 #[test]
