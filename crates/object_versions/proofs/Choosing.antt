@@ -1,5 +1,5 @@
 -- Who made a revision, found among the writes of its group one after another.
-use Rattle.std.proofs.Common.{◌≡◌, ◌≢◌, ℕ, zero, suc, ◌<◌, ◌≤◌, ◌⊎◌, inl, inr, ⊎_elim, Bool, true, false, ◌&&◌, List, [], ◌∷◌, map, Option, Some, None, slice_get, option_map, refl, sym, ap, ◌∙◌, subst, true≢false}
+use Rattle.std.proofs.Common.{◌≡◌, ◌≢◌, ℕ, zero, suc, ◌<◌, ◌≤◌, ◌⊎◌, inl, inr, ⊎_elim, Bool, true, false, ◌&&◌, List, [], ◌∷◌, map, Option, Some, None, slice_get, option_and_then, option_map, refl, sym, ap, ◌∙◌, subst, true≢false}
 use Rattle.std.specs.Prelude.{◌↔◌, IsTrue, is_none, is_some, if◌then◌else◌, All, AllPairs, Contains, find}
 use Rattle.std.specs.List.{AllZip}
 use Rattle.std.proofs.lemmas.Bool.{cases_Bool}
@@ -21,8 +21,11 @@ use Rattle.write_groups.specs.declared.event.LogEvent.{LogEvent}
 use Rattle.write_groups.specs.declared.groups.Group.{Group}
 use Rattle.object_versions.proofs.Entries.{entry_same}
 use Rattle.object_versions.proofs.Mapped.{no_true}
-use Rattle.object_versions.proofs.Numbered.{making_is, making_once}
-use Rattle.object_versions.specs.Chosen.{first_write, first_maker, first_able, or_maker, unseen_maker, maker_among, shown_by}
+use Rattle.object_versions.proofs.Numbered.{making_from, making_is, making_once}
+use Rattle.object_versions.proofs.Telling.{found_is_least}
+use Rattle.object_versions.specs.Chosen.{finding_at, first_write, must_have_made, first_maker, first_able, or_maker, unseen_maker, maker_among, shown_by}
+use Rattle.object_versions.specs.Faults.{found_code}
+use Rattle.object_versions.specs.Removals.{or_first}
 use Rattle.object_past.specs.Faulted.{IsLeastFoundFault}
 use Rattle.object_past.specs.Modelled.{maker_of, version_of}
 use Rattle.object_past.specs.declared.version.Version.{Version}
@@ -42,7 +45,7 @@ pub record IsFoundFirst (h : past.History) (members : List ℕ) (Holds : Making 
 
 -- the test tells of what holds
 abbrev pub Tells : past.History → (ℕ → Type 0) → (Making → Type 0) → (Judged → Bool) → Type 0
-Tells h Known Holds test = (m : Making) (judged : Judged) → IsMaking h m → Known m.number → IsJudgement h m judged → IsTrue (test judged) ↔ Holds m
+Tells h Known Holds test = (m : Making) (judged : Judged) → IsMaking h m → Known m.number → judged.number ≡ m.number → IsJudgement h m judged → IsTrue (test judged) ↔ Holds m
 
 abbrev pub IsSearched : past.History → List ℕ → (Making → Type 0) → Option ℕ → Type 0
 IsSearched h members Holds None = (other : Making) → IsMaking h other → Contains members other.number → Holds other → ⊥
@@ -73,7 +76,7 @@ searched h events Known Holds test all tells (n ∷ members) (j ∷ judged) know
     number_m = (making_is h events n m all at_m).1
 
     told : IsTrue (test j) ↔ Holds m
-    told = tells m j is_m (subst Known (sym number_m) (known n (here n members))) zipped.0.1.2
+    told = tells m j is_m (subst Known (sym number_m) (known n (here n members))) (zipped.0.0 ∙ sym number_m) zipped.0.1.2
 
     by : (t : Bool) → test j ≡ t → IsSearched h members Holds (option_map (λ one. one.number) (find test judged))
         → IsSearched h (n ∷ members) Holds (option_map (λ one. one.number) (if t then Some j else find test judged))
@@ -120,7 +123,7 @@ searched h events Known Holds test all tells (n ∷ members) (j ∷ judged) know
 -- a write that could have made the revision, by its judgement
 pub tells_able : (h : past.History) (Known : ℕ → Type 0) (key : ObjectKey) (revision : ℕ) → ((m : Making) → IsMaking h m → Known m.number → IsMember h key revision m)
     → Tells h Known (CouldHaveMade h key revision) (λ one. is_none one.making)
-tells_able h Known key revision members = λ m judged making known judgement. (forth m judged.making (members m making known) judgement.0, back m judged.making judgement.0)
+tells_able h Known key revision members = λ m judged making known numbered judgement. (forth m judged.making (members m making known) judgement, back m judged.making judgement)
   where
     forth : (m : Making) (found : Option Reason) → IsMember h key revision m → (before : Option past.Version) × IsEntryBefore h m before × IsLeastFault h m before found
         → IsTrue (is_none found) → CouldHaveMade h key revision m
@@ -132,10 +135,19 @@ tells_able h Known key revision members = λ m judged making known judgement. (f
     back m None fault could = refl
     back m (Some code) fault could = absurd (could.faultless code (subst (λ b. HasFault h m b code) (entry_same h m fault.0 could.before fault.1 could.entry) fault.2.0))
 
-pub tells_must : (h : past.History) (Known : ℕ → Type 0) (key : ObjectKey) (revision : ℕ) → ((m : Making) → IsMaking h m → Known m.number → IsMember h key revision m)
-    → Tells h Known (MustHaveMade h key revision) (λ one. is_none one.making && is_some one.finding)
-tells_must h Known key revision members = λ m judged making known judgement.
-    go m (is_none judged.making) judged.finding (tells_able h Known key revision members m judged making known judgement) judgement.1
+-- why a write could not have found its answer, by its number
+finding_least : (h : past.History) (events : List LogEvent) (body : ℕ → Option ℕ → Bool) (m : Making) (number : ℕ) → HasEvents events h → h.body ≡ body → IsMaking h m → number ≡ m.number
+    → IsLeastFoundFault h m (finding_at body events number)
+finding_least h events body m number all bodies making same =
+    subst (λ n. IsLeastFoundFault h m (finding_at body events n)) (sym same)
+    (subst (λ o. IsLeastFoundFault h m (option_and_then (found_code body) o)) (sym (making_from h events m all making)) (found_is_least h body m bodies))
+
+pub tells_must : (h : past.History) (events : List LogEvent) (body : ℕ → Option ℕ → Bool) (Known : ℕ → Type 0) (key : ObjectKey) (revision : ℕ) → HasEvents events h → h.body ≡ body
+    → ((m : Making) → IsMaking h m → Known m.number → IsMember h key revision m)
+    → Tells h Known (MustHaveMade h key revision) (must_have_made (finding_at body events))
+tells_must h events body Known key revision all bodies members = λ m judged making known numbered judgement.
+    go m (is_none judged.making) (finding_at body events judged.number) (tells_able h Known key revision members m judged making known numbered judgement)
+    (finding_least h events body m judged.number all bodies making numbered)
   where
     go : (m : Making) (a : Bool) (finding : Option Reason) → (IsTrue a ↔ CouldHaveMade h key revision m) → IsLeastFoundFault h m finding
         → IsTrue (a && is_some finding) ↔ MustHaveMade h key revision m
@@ -168,11 +180,13 @@ pub record IsChosen (h : past.History) (group : Group) (maker : Maker) (shown : 
   pub making : IsMaking h m
   pub showing : IsShowing h group.key group.revision (maker_of maker) m
 
-pub chosen : (h : past.History) (events : List LogEvent) (group : Group) (judged : List Judged) (first : ℕ) (may : Bool) → HasEvents events h → IsGroupOf h group
-    → AreJudged h events group.members judged → option_map (λ one. one.number) (find (λ one. true) judged) ≡ Some first
-    → (IsTrue may ↔ MayBeUnrecorded h group.key group.revision) → IsChosen h group (maker_among judged first may) (shown_by first (maker_among judged first may))
-chosen h events group judged first may all grouped zipped head told = go (first_maker judged) (first_able judged)
-    (searched h events Known (MustHaveMade h group.key group.revision) (λ one. is_none one.making && is_some one.finding) all (tells_must h Known group.key group.revision members) group.members judged (λ n among. among) grouped.order zipped)
+pub chosen : (h : past.History) (events : List LogEvent) (body : ℕ → Option ℕ → Bool) (group : Group) (judged : List Judged) (first : ℕ) (may : Bool) → HasEvents events h → h.body ≡ body
+    → IsGroupOf h group → AreJudged h events group.members judged → option_map (λ one. one.number) (find (λ one. true) judged) ≡ Some first
+    → (IsTrue may ↔ MayBeUnrecorded h group.key group.revision)
+    → IsChosen h group (maker_among (finding_at body events) judged first may) (shown_by first (maker_among (finding_at body events) judged first may))
+chosen h events body group judged first may all bodies grouped zipped head told = go (first_maker (finding_at body events) judged) (first_able judged)
+    (searched h events Known (MustHaveMade h group.key group.revision) (must_have_made (finding_at body events)) all (tells_must h events body Known group.key group.revision all bodies members)
+    group.members judged (λ n among. among) grouped.order zipped)
     (searched h events Known (CouldHaveMade h group.key group.revision) (λ one. is_none one.making) all (tells_able h Known group.key group.revision members) group.members judged (λ n among. among) grouped.order zipped)
   where
     Known : ℕ → Type 0
@@ -183,7 +197,7 @@ chosen h events group judged first may all grouped zipped head told = go (first_
 
     foremost : IsFoundFirst h group.members (IsMember h group.key group.revision) first
     foremost = subst (IsSearched h group.members (IsMember h group.key group.revision)) head
-        (searched h events Known (IsMember h group.key group.revision) (λ one. true) all (λ m one making known judgement. ((λ t. members m making known), λ member. refl)) group.members judged (λ n among. among) grouped.order zipped)
+        (searched h events Known (IsMember h group.key group.revision) (λ one. true) all (λ m one making known numbered judgement. ((λ t. members m making known), λ member. refl)) group.members judged (λ n among. among) grouped.order zipped)
 
     by_event : (n : ℕ) (m : Making) → m.number ≡ n → IsMaking h m → IsMember h group.key group.revision m → IsMakerOf h group.key group.revision (past.ByEvent n) → IsChosen h group (Event n) n
     by_event n m numbered making member made = record { made = made; m = m; numbered = numbered; making = making; showing = (member, numbered) }
@@ -200,7 +214,7 @@ chosen h events group judged first may all grouped zipped head told = go (first_
         (faulty foremost.m (ap past.ByEvent (sym foremost.numbered)) none (λ may_be. true≢false (sym (told.1 may_be) ∙ is)) (first_found h group (IsMember h group.key group.revision) first grouped (λ m member. member) foremost))
 
     go : (a b : Option ℕ) → IsSearched h group.members (MustHaveMade h group.key group.revision) a → IsSearched h group.members (CouldHaveMade h group.key group.revision) b
-        → IsChosen h group (or_maker a (or_maker b (unseen_maker first may))) (shown_by first (or_maker a (or_maker b (unseen_maker first may))))
+        → IsChosen h group (or_maker (or_first a b) (unseen_maker first may)) (shown_by first (or_maker (or_first a b) (unseen_maker first may)))
     go (Some n) b found rest = by_event n found.m found.numbered found.making found.holds.made.member
         (sole found.m (ap past.ByEvent (sym found.numbered)) (first_found h group (MustHaveMade h group.key group.revision) n grouped (λ m must. must.made.member) found))
     go None (Some n) none found = by_event n found.m found.numbered found.making found.holds.member

@@ -23,7 +23,7 @@ use Rattle.history_model.specs.Incarnations.{IsFirstWithUid}
 use Rattle.object_versions.proofs.Firsts.{first_later, first_continued, first_new, not_first}
 use Rattle.object_past.proofs.Looking.{in_map, from_map}
 use Rattle.object_versions.proofs.Mapped.{no_true, pairs_push, any_in, in_any}
-use Rattle.object_versions.specs.Growing.{AreFlagged, AreKept, HasNone, IsFirst, IsLastAt, IsLastOf}
+use Rattle.object_versions.specs.Growing.{AddsUid, AreFlagged, AreKept, HasNone, IsFirst, IsLastAt, IsLastOf}
 use Rattle.object_past.specs.Modelled.{version_of}
 use Rattle.object_versions.specs.Owners.{owner_of, owner_order}
 use Rattle.object_versions.specs.declared.owner.Owner.{Owner}
@@ -148,6 +148,43 @@ text_exact a b tied = exact_bytes a b (equal_is (text_order a b) tied)
     equal_is Equal same = refl
     equal_is Greater other = cc
 
+-- a uid that was there adds nothing
+pub uid_there : (uids : set.BTreeSet (List ℕ)) (uid : List ℕ) → IsTrue (set.contains text_order uids uid) → AddsUid uids uids uid
+uid_there uids uid has other = (inr, λ either. ⊎_elim (λ same. subst (λ u. IsTrue (set.contains text_order uids u)) same has) (λ held. held) either)
+
+pub uid_added : (old new : set.BTreeSet (List ℕ)) (uid : List ℕ) → set.Updates text_order old new uid true → AddsUid old new uid
+uid_added old new uid updates other = ⊎_elim
+    (λ tied. (
+      (λ held. inl (text_exact uid other tied)),
+      λ either. subst IsTrue (sym (updates.0 other ∙ cond-true (is_eq (text_order uid other)) true (set.contains text_order old other) tied)) refl,
+    ))
+    (λ apart'. let kept = updates.0 other ∙ cond-false (is_eq (text_order uid other)) true (set.contains text_order old other) apart' in (
+      (λ held. inr (subst IsTrue kept held)),
+      λ either. ⊎_elim
+          (λ same. absurd (true≢false (sym (subst (λ u. is_eq (text_order uid u) ≡ true) same (tied_self text_order nat_list_cmp_total uid)) ∙ apart')))
+          (λ held. subst IsTrue (sym kept) held)
+          either,
+    ))
+    (cases_Bool (is_eq (text_order uid other)))
+
+-- the uids of versions, with that of one more
+uids_more : (versions : List Version) (v : Version) (old new : set.BTreeSet (List ℕ)) → ((uid : List ℕ) → IsTrue (set.contains text_order old uid) ↔ Any (λ w. w.uid ≡ uid) versions)
+    → AddsUid old new v.uid → (uid : List ℕ) → IsTrue (set.contains text_order new uid) ↔ Any (λ w. w.uid ≡ uid) (versions ++ v ∷ [])
+uids_more versions v old new has adds uid = (forth, back)
+  where
+    forth : IsTrue (set.contains text_order new uid) → Any (λ w. w.uid ≡ uid) (versions ++ v ∷ [])
+    forth held = ⊎_elim
+        (λ same. in_any (λ w. w.uid ≡ uid) (versions ++ v ∷ []) v (Contains-push versions v) same)
+        (λ before. let found = any_in (λ w. w.uid ≡ uid) versions ((has uid).0 before) in
+        in_any (λ w. w.uid ≡ uid) (versions ++ v ∷ []) found.0 (Contains-append_left versions (v ∷ []) found.0 found.1) found.2)
+        ((adds uid).0 held)
+
+    back : Any (λ w. w.uid ≡ uid) (versions ++ v ∷ []) → IsTrue (set.contains text_order new uid)
+    back any = let found = any_in (λ w. w.uid ≡ uid) (versions ++ v ∷ []) any in (adds uid).1 (⊎_elim
+        (λ before. inr ((has uid).1 (in_any (λ w. w.uid ≡ uid) versions found.0 before found.2)))
+        (λ same. inl (ap (λ (w : Version). w.uid) same ∙ found.2))
+        (Contains-push_cases versions v found.0 found.1))
+
 owner_total : IsTotalOrder owner_order
 owner_total = then_total (on_total (λ (o : Owner). o.key) key_order_total) (on_total (λ (o : Owner). o.uid) nat_list_cmp_total)
 
@@ -241,31 +278,32 @@ begun_flag versions v true rising below other (Some position) last owned =
           (subst (λ l. IsFirstWithUid l (version_of v)) (map-append version_of versions (v ∷ [])) first)),
     )
 
--- how the owners and the flag come of the key's latest version
-pub data IsOwned (versions : List Version) (v : Version) (owners new : set.BTreeSet Owner) (is_first : Bool) : Type 0 where
-  continued : (p : Version) → IsLastOf versions v.key p → p.uid ≡ v.uid → (IsTrue is_first ↔ IsFirst versions p) → new ≡ owners → IsOwned versions v owners new is_first
+-- how the owners, the uids and the flag come of the key's latest version
+pub data IsOwned (versions : List Version) (v : Version) (owners new : set.BTreeSet Owner) (uids new_uids : set.BTreeSet (List ℕ)) (is_first : Bool) : Type 0 where
+  continued : (p : Version) → IsLastOf versions v.key p → p.uid ≡ v.uid → (IsTrue is_first ↔ IsFirst versions p) → new ≡ owners → new_uids ≡ uids
+      → IsOwned versions v owners new uids new_uids is_first
   begun : ((p : Version) → IsLastOf versions v.key p → p.uid ≢ v.uid) → is_first ≡ not (set.contains owner_order owners (owner_of v))
-      → set.Updates owner_order owners new (owner_of v) true → IsOwned versions v owners new is_first
+      → set.Updates owner_order owners new (owner_of v) true → AddsUid uids new_uids v.uid → IsOwned versions v owners new uids new_uids is_first
 
 pub kept_more : (versions : List Version) (firsts : List Bool) (last new_last : BTreeMap ObjectKey ℕ) (owners new_owners : set.BTreeSet Owner) (uids new_uids : set.BTreeSet (List ℕ))
     (v : Version) (is_first : Bool) → AreKept versions firsts last owners uids → All (λ w. w.revision < v.revision) versions
-    → Updates key_order last new_last v.key (Some (length versions)) → set.Updates text_order uids new_uids v.uid true → IsOwned versions v owners new_owners is_first
+    → Updates key_order last new_last v.key (Some (length versions)) → IsOwned versions v owners new_owners uids new_uids is_first
     → AreKept (versions ++ v ∷ []) (firsts ++ is_first ∷ []) new_last new_owners new_uids
-kept_more versions firsts last new_last owners new_owners uids new_uids v is_first kept below lasts used owned = record {
+kept_more versions firsts last new_last owners new_owners uids new_uids v is_first kept below lasts owned = record {
   rising = pairs_push (λ a b. a.revision < b.revision) versions v kept.rising below;
   flagged = flagged_more versions firsts v is_first below kept.flagged (flag owned);
   last_of = lasts_more versions v last new_last below kept.last_of lasts;
   owned = owners_of owned;
-  used = set_more text_order nat_list_cmp_total text_exact (λ w. w.uid) versions v uids new_uids kept.used used;
+  used = uids_of owned;
 }
   where
-    flag : IsOwned versions v owners new_owners is_first → IsTrue is_first ↔ IsFirst (versions ++ v ∷ []) v
-    flag (continued p at same first is) = continued_flag versions p v is_first kept.rising below at same first
-    flag (begun other is updates) = subst (λ b. IsTrue b ↔ IsFirst (versions ++ v ∷ []) v) (sym is)
+    flag : IsOwned versions v owners new_owners uids new_uids is_first → IsTrue is_first ↔ IsFirst (versions ++ v ∷ []) v
+    flag (continued p at same first is stay) = continued_flag versions p v is_first kept.rising below at same first
+    flag (begun other is updates adds) = subst (λ b. IsTrue b ↔ IsFirst (versions ++ v ∷ []) v) (sym is)
         (begun_flag versions v (set.contains owner_order owners (owner_of v)) kept.rising below other (get key_order last v.key) (kept.last_of v.key) (kept.owned (owner_of v)))
 
-    owners_of : IsOwned versions v owners new_owners is_first → (owner : Owner) → IsTrue (set.contains owner_order new_owners owner) ↔ Any (λ w. owner_of w ≡ owner) (versions ++ v ∷ [])
-    owners_of (continued p at same first is) = λ owner. subst (λ o. IsTrue (set.contains owner_order o owner) ↔ Any (λ w. owner_of w ≡ owner) (versions ++ v ∷ [])) (sym is)
+    owners_of : IsOwned versions v owners new_owners uids new_uids is_first → (owner : Owner) → IsTrue (set.contains owner_order new_owners owner) ↔ Any (λ w. owner_of w ≡ owner) (versions ++ v ∷ [])
+    owners_of (continued p at same first is stay) = λ owner. subst (λ o. IsTrue (set.contains owner_order o owner) ↔ Any (λ w. owner_of w ≡ owner) (versions ++ v ∷ [])) (sym is)
         (set_same owner_of versions p v (λ k. IsTrue (set.contains owner_order owners k)) at.known (owner_same p v at.of_key same) kept.owned owner)
       where
         owner_at : ObjectKey → List ℕ → Owner
@@ -273,7 +311,12 @@ kept_more versions firsts last new_last owners new_owners uids new_uids v is_fir
 
         owner_same : (a b : Version) → a.key ≡ b.key → a.uid ≡ b.uid → owner_of a ≡ owner_of b
         owner_same a b key uid = λ i. owner_at (key i) (uid i)
-    owners_of (begun other is updates) = set_more owner_order owner_total owner_exact owner_of versions v owners new_owners kept.owned updates
+    owners_of (begun other is updates adds) = set_more owner_order owner_total owner_exact owner_of versions v owners new_owners kept.owned updates
+
+    uids_of : IsOwned versions v owners new_owners uids new_uids is_first → (uid : List ℕ) → IsTrue (set.contains text_order new_uids uid) ↔ Any (λ w. w.uid ≡ uid) (versions ++ v ∷ [])
+    uids_of (continued p at same first is stay) = λ uid. subst (λ s. IsTrue (set.contains text_order s uid) ↔ Any (λ w. w.uid ≡ uid) (versions ++ v ∷ [])) (sym stay)
+        (set_same (λ w. w.uid) versions p v (λ u. IsTrue (set.contains text_order uids u)) at.known same kept.used uid)
+    uids_of (begun other is updates adds) = uids_more versions v uids new_uids kept.used adds
 
 -- the key's latest version, as it is found
 pub latest_found : (versions : List Version) (firsts : List Bool) (last : BTreeMap ObjectKey ℕ) (owners : set.BTreeSet Owner) (uids : set.BTreeSet (List ℕ)) (key : ObjectKey) (position : ℕ) (v : Version) (is_first : Bool)

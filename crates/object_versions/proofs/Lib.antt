@@ -1,3 +1,4 @@
+pub mod Asking
 pub mod Choosing
 pub mod Clouding
 pub mod Counted

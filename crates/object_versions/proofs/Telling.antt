@@ -1,20 +1,23 @@
 -- What the tests of a write and of the object before it tell.
 use Rattle.std.proofs.Common.{◌≡◌, ◌≢◌, ℕ, ◌-◌, Bool, true, false, ◌==◌, not, Option, Some, None, refl, sym, ap, ◌∙◌, subst, Bor, true≢false}
-use Rattle.std.specs.Prelude.{◌↔◌, IsTrue, IsSome, is_none, is_some, option_map, bytes_eq}
+use Rattle.std.specs.Prelude.{◌↔◌, ◌&&◌, IsTrue, IsSome, if◌then◌else◌, is_none, is_some, option_map, bytes_eq}
 use Rattle.std.specs.Cmp.Lexicographic.{bytes_decides}
+use Rattle.base_types.specs.declared.claim.Reason.TheVariants.{U4}
 use Rattle.history_model.specs.Groups as model
 use Rattle.history_model.specs.Histories as past
-use Rattle.history_model.specs.Making.{MeetsConditions, IsClear, IsOtherObject, IsUsedUid, IsLeastFault, tree_of}
+use Rattle.history_model.specs.Making.{AreMet, MeetsConditions, IsClear, IsOtherObject, IsUsedUid, IsLeastFault, tree_of}
 use Rattle.write_groups.specs.Modelled.{conditions_of, event_of, item_of}
 use Rattle.write_groups.specs.declared.event.Item.{Item}
 use Rattle.write_groups.specs.declared.event.LogEvent.{LogEvent}
 use Rattle.write_groups.specs.declared.event.Preconditions.{Preconditions}
-use Rattle.object_versions.proofs.Faulting.{AreTold, clear_least}
+use Rattle.object_versions.proofs.Faulting.{AreTold, clear_least, found_changed, found_created, found_there, found_unmet}
 use Rattle.object_versions.proofs.Mapped.{no_true}
-use Rattle.object_versions.specs.Faults.{meets, is_other, node_of, clear_code, IsOutside}
+use Rattle.object_versions.specs.Faults.{asked_code, meets, is_other, node_of, clear_code, found_code, IsOutside}
+use Rattle.object_past.specs.Faulted.{IsLeastFoundFault}
 use Rattle.object_past.specs.Modelled.{version_of}
 use Rattle.object_past.specs.declared.version.Version.{Version}
 use Rattle.write_groups.proofs.Meeting.{both_true, met_told}
+use Rattle.write_groups.specs.Met.{asks_revision, asks_uid}
 
 none_told : {A : Type 0} (found : Option A) → IsTrue (is_none found) ↔ (found ≡ None)
 none_told None = ((λ t. refl), λ held. refl)
@@ -63,6 +66,21 @@ clear_is_least h body number event item created is_used before bodies inside cle
   where
     m : model.Making
     m = record { number = number; event = event_of event; item = item_of item; created = created }
+
+-- the code that is found is the least by which a write could not have found its answer
+pub found_is_least : (h : past.History) (body : ℕ → Option ℕ → Bool) (m : model.Making) → h.body ≡ body → IsLeastFoundFault h m (found_code body m)
+found_is_least h body m bodies = go m.created (asks_revision m.event.conditions.revision m.item.revision && asks_uid m.event.conditions.uid m.item.uid) (body m.number (Some m.item.tree))
+    refl (met_told asked m.item.revision m.item.uid) (ap (λ f. f m.number (Some m.item.tree)) bodies)
+  where
+    asked : Preconditions
+    asked = record { revision = m.event.conditions.revision; uid = m.event.conditions.uid }
+
+    go : (created met right : Bool) → m.created ≡ created → (IsTrue met ↔ AreMet m.event.conditions m.item.revision m.item.uid) → h.body m.number (Some m.item.tree) ≡ right
+        → IsLeastFoundFault h m (if created then Some U4 else asked_code met right)
+    go true met right made told is = found_created h m made
+    go false false right made told is = found_unmet h m made (λ held. no_true (told.1 held))
+    go false true false made told is = found_changed h m made (told.0 refl) is
+    go false true true made told is = found_there h m made (told.0 refl) is
 
 -- a lent version, as the model has it
 pub lent_is : (before : Option (Bor Version)) → option_map (λ v. version_of v.now) before ≡ option_map version_of (option_map (λ v. v.now) before)

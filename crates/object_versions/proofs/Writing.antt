@@ -1,6 +1,6 @@
 -- Versions that are written group by group are those of each history that goes on with them.
 use Rattle.std.proofs.Common.{◌≡◌, ◌≢◌, ℕ, ◌+◌, ◌<◌, ◌≤◌, ◌⊎◌, inl, inr, ⊎_elim, List, [], ◌∷◌, ◌++◌, map, take, length, get_or, Option, Some, None, option_map, Bor, refl, sym, ap, ◌∙◌, subst, arith}
-use Rattle.std.specs.Prelude.{IsSome, Bool, true, false, ◌&&◌, is_none, is_some, All, AllPairs, Any, Contains, find}
+use Rattle.std.specs.Prelude.{IsSome, Bool, true, false, is_none, All, AllPairs, Any, Contains, find}
 use Rattle.std.specs.List.Sorted.{IsPermutation}
 use Rattle.std.proofs.lemmas.List.{take_more, map-append, append-nil}
 use Rattle.std.proofs.lemmas.List.Elements.{All-append, Contains-append_cases, Contains-append_left, Contains-append_right, Contains-push_cases}
@@ -24,7 +24,9 @@ use Rattle.object_past.proofs.Looking.{from_map, in_map}
 use Rattle.object_versions.proofs.Mapped.{any_in, in_any, before_in, found_in, in_more, joined, map_twice, pairs_behind, zip_left, zip_push}
 use Rattle.object_versions.proofs.Numbered.{making_from, number_is}
 use Rattle.write_groups.specs.Grouped.{item_at}
-use Rattle.object_versions.specs.Chosen.{first_able, first_maker, maker_among, or_maker, shown_by, unseen_maker}
+use Rattle.base_types.specs.declared.claim.Reason.{Reason}
+use Rattle.object_versions.specs.Chosen.{first_able, first_maker, maker_among, must_have_made, or_maker, shown_by, unseen_maker}
+use Rattle.object_versions.specs.Removals.{or_first}
 use Rattle.object_versions.specs.Written.{making_at, snapshot_version, AreAllJudged, AreJudged, Extends, IsAnsweredAt, IsJudgedAt, IsJudgement, IsSnapshot}
 use Rattle.object_versions.specs.declared.maker.Judged.{Judged}
 
@@ -207,9 +209,9 @@ before_group start snapshot items groups i group versions is_snapshot same risin
     (all_from (λ (g : Group). g.revision < group.revision) (take i groups) (before_in (λ (a b : Group). a.revision < b.revision) groups i group rising within is))
 
 -- judgements of writes are of writes
-pub shown_write : (events : List LogEvent) (judged : List Judged) (first : ℕ) (may : Bool) → All (λ n. IsSome (item_at events n)) (map (λ j. j.number) judged)
-    → option_map (λ one. one.number) (find (λ one. true) judged) ≡ Some first → IsSome (item_at events (shown_by first (maker_among judged first may)))
-shown_write events judged first may writes head = go (first_maker judged) (found_write (λ j. is_none j.making && is_some j.finding)) (first_able judged) (found_write (λ j. is_none j.making)) may
+pub shown_write : (events : List LogEvent) (finding : ℕ → Option Reason) (judged : List Judged) (first : ℕ) (may : Bool) → All (λ n. IsSome (item_at events n)) (map (λ j. j.number) judged)
+    → option_map (λ one. one.number) (find (λ one. true) judged) ≡ Some first → IsSome (item_at events (shown_by first (maker_among finding judged first may)))
+shown_write events finding judged first may writes head = go (first_maker finding judged) (found_write (must_have_made finding)) (first_able judged) (found_write (λ j. is_none j.making)) may
   where
     found_write : (test : Judged → Bool) (n : ℕ) → option_map (λ one. one.number) (find test judged) ≡ Some n → IsSome (item_at events n)
     found_write test n = of (find test judged) (found_in test judged)
@@ -220,7 +222,7 @@ shown_write events judged first may writes head = go (first_maker judged) (found
             (all_at (λ k. IsSome (item_at events k)) (map (λ (x : Judged). x.number) judged) j.number writes (in_map (λ (x : Judged). x.number) judged j (known j refl)))
 
     go : (a : Option ℕ) → ((n : ℕ) → a ≡ Some n → IsSome (item_at events n)) → (b : Option ℕ) → ((n : ℕ) → b ≡ Some n → IsSome (item_at events n)) → (t : Bool)
-        → IsSome (item_at events (shown_by first (or_maker a (or_maker b (unseen_maker first t)))))
+        → IsSome (item_at events (shown_by first (or_maker (or_first a b) (unseen_maker first t))))
     go (Some n) made b able t = made n refl
     go None made (Some n) able t = able n refl
     go None made None able true = found_write (λ j. true) first head

@@ -10,7 +10,7 @@ use Rattle.write_groups.specs.declared.event.Item.{Item}
 use Rattle.write_groups.specs.declared.event.LogEvent.{LogEvent}
 use Rattle.write_groups.specs.declared.event.Preconditions.{Preconditions}
 use Rattle.object_past.specs.declared.version.Version.{Version}
-use Rattle.write_groups.specs.Met.{are_met}
+use Rattle.write_groups.specs.Met.{are_met, asks_revision, asks_uid}
 
 -- the object meets the preconditions; no object meets those that ask for nothing
 abbrev pub meets : Preconditions → Option Version → Bool
@@ -39,3 +39,8 @@ object_code created used present other rest =
 abbrev pub clear_code : (ℕ → Option ℕ → Bool) → ℕ → LogEvent → Item → (created used : Bool) → Option Version → Option Reason
 clear_code body number event item created used before = object_code created used (is_some before) (is_other item before)
     (asked_code (meets event.preconditions before) (body number (node_of before)))
+
+-- the least code by which a write could not have found its answer and left it as it was
+abbrev pub found_code : (ℕ → Option ℕ → Bool) → model.Making → Option Reason
+found_code body m = if m.created then Some U4 else
+    asked_code (asks_revision m.event.conditions.revision m.item.revision && asks_uid m.event.conditions.uid m.item.uid) (body m.number (Some m.item.tree))

@@ -1,5 +1,5 @@
 -- Versions in order, and what is known of their keys and uids.
-use Rattle.std.specs.Prelude.{◌≡◌, ◌≢◌, ◌<◌, ◌≤◌, ◌↔◌, ℕ, Bool, true, List, Option, Some, None, IsTrue, IsNone, length, map, slice_get, All, AllPairs, Any, Contains}
+use Rattle.std.specs.Prelude.{◌≡◌, ◌≢◌, ◌<◌, ◌≤◌, ◌↔◌, ◌⊎◌, ℕ, Bool, true, List, Option, Some, None, IsTrue, IsNone, length, map, slice_get, All, AllPairs, Any, Contains}
 use Rattle.std.specs.BTreeMap.{BTreeMap, get}
 use Rattle.std.specs.BTreeSet.{BTreeSet, contains}
 use Rattle.base_types.specs.declared.key.ObjectKey.{ObjectKey}
@@ -45,6 +45,10 @@ pub record AreKept (versions : List Version) (firsts : List Bool) (last : BTreeM
   pub last_of : (key : ObjectKey) → IsLastAt versions key (get key_order last key)
   pub owned : (owner : Owner) → IsTrue (contains owner_order owners owner) ↔ Any (λ v. owner_of v ≡ owner) versions
   pub used : (uid : List ℕ) → IsTrue (contains text_order uids uid) ↔ Any (λ v. v.uid ≡ uid) versions
+
+-- the uids of the set, and one more
+abbrev pub AddsUid : (old new : BTreeSet (List ℕ)) → List ℕ → Type 0
+AddsUid old new uid = (other : List ℕ) → IsTrue (contains text_order new other) ↔ ((uid ≡ other) ⊎ IsTrue (contains text_order old other))
 
 -- the key's latest version, and whether its incarnation is the first with its uid
 abbrev pub IsLatestIn : List Version → ObjectKey → Option Latest → Type 0

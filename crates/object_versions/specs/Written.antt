@@ -14,7 +14,6 @@ use Rattle.write_groups.specs.declared.event.LogEvent.{LogEvent}
 use Rattle.write_groups.specs.declared.event.Shown.{Shown}
 use Rattle.write_groups.specs.declared.event.Shown.TheVariants.{Made, Removed, Opaque, Saw, SawNone, SawSome, SawOther, Listed, Free, Aside}
 use Rattle.write_groups.specs.declared.groups.Group.{Group}
-use Rattle.object_past.specs.Faulted.{IsLeastFoundFault}
 use Rattle.object_past.specs.Modelled.{version_of}
 use Rattle.object_versions.specs.Modelled.{AreCloudsOf}
 use Rattle.object_versions.specs.Surrounded.{HasLog, IsJudgedBy}
@@ -57,10 +56,9 @@ pub record Extends (h : past.History) (done : List Version) (revision : ℕ) : T
   pub below : All (λ v. v.revision < revision) done
   pub behind : All (λ v. revision ≤ v.revision) later
 
--- why the write could not have made its revision from the object before it, and why it could not have found it
+-- why the write could not have made its revision from the object before it
 abbrev pub IsJudgement : past.History → Making → Judged → Type 0
-IsJudgement h m judged = ((before : Option past.Version) × IsEntryBefore h m before × IsLeastFault h m before judged.making)
-    × IsLeastFoundFault h m judged.finding
+IsJudgement h m judged = (before : Option past.Version) × IsEntryBefore h m before × IsLeastFault h m before judged.making
 
 -- the write of the number, judged
 abbrev pub IsJudgedAt : past.History → List LogEvent → ℕ → Judged → Type 0
@@ -73,9 +71,10 @@ abbrev pub IsAnsweredAt : List LogEvent → ℕ → ℕ → Type 0
 IsAnsweredAt events revision number = (m : Making) × (making_at events number ≡ Some m) × (m.item.revision ≡ revision)
 
 -- a group of the history whose writes are judged
-pub record IsOfGroup (log : Log) (group : Group) (judged : List Judged) (h : past.History) : Type 0 where
+pub record IsOfGroup (log : Log) (body : ℕ → Option ℕ → Bool) (group : Group) (judged : List Judged) (h : past.History) : Type 0 where
   pub all : HasEvents log.events.now h
   pub clouds : AreCloudsOf log.clouds.now h
+  pub bodies : h.body ≡ body
   pub grouped : IsGroupOf h group
   pub members : AreJudged h log.events.now group.members judged
 

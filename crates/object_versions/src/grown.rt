@@ -1,7 +1,9 @@
 ghost use Rattle.std.specs.Prelude.{◌≡◌, ◌<◌, ◌++◌, ◌∷◌, [], ◌↔◌, not, true, IfOk, OnOk, IsTrue, All, AllPairs};
-ghost use Rattle.std.specs.Prelude.{Any, option_map, slice_get};
+ghost use Rattle.std.specs.Prelude.{Any, Some, option_map, slice_get};
+ghost use Rattle.std.specs.BTreeMap.{Updates as UpdatesMap};
 ghost use Rattle.std.specs.BTreeSet.{contains, Updates};
-ghost use Rattle.object_versions.specs.Growing.{AreFlagged, AreKept, IsContinued, IsLatestIn};
+ghost use Rattle.clouds.specs.Kept.{key_order};
+ghost use Rattle.object_versions.specs.Growing.{AddsUid, AreFlagged, AreKept, IsContinued, IsLatestIn};
 ghost use Rattle.object_versions.specs.Owners.{owner_order, owner_of};
 
 use crate::owner::{Owner, owned};
@@ -90,9 +92,40 @@ fn add_owner(owners: &mut BTreeSet<Owner>, version: &Version) -> Result<bool, Ou
     Ok(owners.insert(owner)?)
 }
 
+// Keeps that a version has the uid. It is copied only where it wasn't there.
+fn add_uid(uids: &mut BTreeSet<Text>, uid: &Text) -> Result<(), OutOfMemory>
+    ensures { OnOk result (AddsUid uids.old uids.new uid.now) }
+{
+    if uids.contains(uid) {
+        return Ok(());
+    }
+    let _added = uids.insert(uid.clone()?)?;
+    Ok(())
+}
+
+// Keeps where the key's latest version is. The key is copied only where it wasn't there.
+fn set_last(
+    last: &mut BTreeMap<ObjectKey, usize>,
+    key: &ObjectKey,
+    position: usize,
+) -> Result<(), OutOfMemory>
+    ensures { OnOk result (UpdatesMap key_order last.old last.new key.now (Some position)) }
+{
+    match last.get_mut(key) {
+        Some(held) => {
+            *held = position;
+            return Ok(());
+        }
+        None => {
+            let _none = last.insert(key.clone()?, position)?;
+        }
+    }
+    Ok(())
+}
+
 impl Index {
     // Takes the version behind these; `continued` tells whether its incarnation is the first of its key with its uid,
-    // where it continues the latest one.
+    // where it continues the latest one. Then an earlier version has its uid.
     fn add(
         &mut self,
         versions: &[Version],
@@ -107,10 +140,12 @@ impl Index {
     {
         let is_first = match continued {
             Some(is_first) => is_first,
-            None => add_owner(&mut self.owners, version)?,
+            None => {
+                add_uid(&mut self.uids, &version.uid)?;
+                add_owner(&mut self.owners, version)?
+            }
         };
-        let _used = self.uids.insert(version.uid.clone()?)?;
-        let _before = self.last.insert(version.key.clone()?, versions.len())?;
+        set_last(&mut self.last, &version.key, versions.len())?;
         self.firsts.push(is_first)?;
         Ok(())
     }

@@ -36,7 +36,7 @@ pub struct LogPast {
     pub clouds: Clouds,
     pub groups: Groups,
     pub versions: Versions,
-    /// Why each write of a group could not have made its revision, and why it could not have found it.
+    /// Why each write of a group could not have made its revision.
     pub judged: Vec<Judged>,
     pub removals: Removals,
 }

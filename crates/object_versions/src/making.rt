@@ -3,7 +3,8 @@ ghost use Rattle.history_model.specs.Histories.{History};
 ghost use Rattle.history_model.specs.Making.{IsUsedUid, IsLeastFault};
 ghost use Rattle.write_groups.specs.Modelled.{HasTimes};
 ghost use Rattle.object_past.specs.Faulted.{IsLeastFoundFault};
-ghost use Rattle.object_versions.specs.Faults.{meets, is_other, node_of, clear_code, IsOutside};
+ghost use Rattle.object_versions.specs.Chosen.{finding_at};
+ghost use Rattle.object_versions.specs.Faults.{meets, is_other, node_of, clear_code, found_code, IsOutside};
 ghost use Rattle.object_past.specs.Modelled.{version_of};
 ghost use Rattle.object_versions.specs.Modelled.{making_of};
 ghost use Rattle.object_versions.specs.Surrounded.{IsJudgedBy};
@@ -137,14 +138,13 @@ pub fn making_fault<B: Bodies>(
     clear_fault(alloc, bodies, making, is_used, before)
 }
 
-/// The least fault by which a write could not have found its answer and left it as it was; None where it could.
-pub fn finding_fault<B: Bodies>(
+// Why a write could not have found its answer and left it as it was.
+fn found_fault<B: Bodies>(
     alloc: Global,
     bodies: &B,
     making: Making<'_>,
 ) -> Result<Option<Reason>, OutOfMemory>
-    ensures { IfOk result (λ found. (h : History) → h.body ≡ B.body bodies.now
-        → IsLeastFoundFault h (making_of making.entry) found) }
+    ensures { IfOk result (λ found. found ≡ found_code (B.body bodies.now) (making_of making.entry)) }
 {
     if making.created {
         return Ok(Some(Reason::U4));
@@ -157,4 +157,32 @@ pub fn finding_fault<B: Bodies>(
         return Ok(Some(Reason::U8));
     }
     Ok(None)
+}
+
+/// The least fault by which a write could not have found its answer and left it as it was; None where it could.
+pub fn finding_fault<B: Bodies>(
+    alloc: Global,
+    bodies: &B,
+    making: Making<'_>,
+) -> Result<Option<Reason>, OutOfMemory>
+    ensures { IfOk result (λ found. (h : History) → h.body ≡ B.body bodies.now
+        → IsLeastFoundFault h (making_of making.entry) found) }
+{
+    found_fault(alloc, bodies, making)
+}
+
+/// Why the write of this number could not have found its answer and left it as it was; None also for an event that is
+/// no write.
+pub fn finding_at<B: Bodies>(
+    alloc: Global,
+    bodies: &B,
+    events: &[LogEvent],
+    number: u32,
+) -> Result<Option<Reason>, OutOfMemory>
+    ensures { IfOk result (λ found. found ≡ finding_at (B.body bodies.now) events.now number) }
+{
+    match making_at(events, number) {
+        Some(making) => found_fault(alloc, bodies, making),
+        None => Ok(None),
+    }
 }

@@ -22,7 +22,7 @@ ghost use Rattle.object_versions.specs.Written.{IsSnapshot};
 use crate::bodies::Bodies;
 use crate::grown::{Grown, Latest};
 use crate::maker::{Judged, maker_among, shown_by};
-use crate::making::{Making, finding_fault, making_at, making_fault};
+use crate::making::{Making, making_at, making_fault};
 use crate::owner::{Owner, owned};
 use crate::removal::range_behind;
 use crate::removed::Removed;
@@ -83,7 +83,7 @@ fn entry_before<'a>(
     Some(latest.version)
 }
 
-// Why a write could not have made its revision behind these versions, and why it could not have found it.
+// Why a write could not have made its revision behind these versions.
 fn judge<B: Bodies>(
     alloc: Global,
     log: Log<'_>,
@@ -110,7 +110,6 @@ fn judge<B: Bodies>(
             is_used,
             before,
         )?,
-        finding: finding_fault(alloc, bodies, making)?,
     })
 }
 
@@ -145,16 +144,22 @@ fn first_number(judged: &[Judged]) -> u32
 }
 
 // The version that a group's writes left behind the others.
-fn version_in(log: Log<'_>, group: &Group, judged: &[Judged]) -> Result<Version, OutOfMemory>
+fn version_in<B: Bodies>(
+    alloc: Global,
+    log: Log<'_>,
+    bodies: &B,
+    group: &Group,
+    judged: &[Judged],
+) -> Result<Version, OutOfMemory>
     requires writes { AreWrites log.events.now (map (λ one. one.number) judged.now) }
     ensures key { IfOk result (λ version. version.key ≡ group.now.key) }
     ensures revision { IfOk result (λ version. version.revision ≡ group.now.revision) }
-    ensures made { IfOk result (λ version. (h : History) → IsOfGroup log.entry group.now judged.now h
-        → IsMadeVersion h (version_of version)) }
+    ensures made { IfOk result (λ version. (h : History)
+        → IsOfGroup log.entry (B.body bodies.now) group.now judged.now h → IsMadeVersion h (version_of version)) }
 {
     let first = first_number(judged);
     let may_be_unrecorded = log.clouds.may_make(&group.key, group.revision);
-    let maker = maker_among(judged, first, may_be_unrecorded);
+    let maker = maker_among(alloc, bodies, log.events, judged, first, may_be_unrecorded)?;
     let making = write_at(log.events, shown_by(maker, first));
     let owner = owned(&group.key, &making.item.uid)?;
     let Owner { key, uid } = owner;
@@ -204,7 +209,7 @@ fn begin(alloc: Global, order: &[&Item]) -> Result<Grown, OutOfMemory>
 }
 
 /// The versions of a log, of each whether its incarnation is the first of its key with its uid, and of each write of a
-/// group why it could not have made its revision or found it.
+/// group why it could not have made its revision.
 #[derive(Drop)]
 pub struct Written {
     pub versions: Versions,
@@ -229,10 +234,10 @@ fn add_group<B: Bodies>(
         × ((h : History) → IsOfLog log.entry (B.body bodies.now) h → Extends h grown group.now.revision
         → All (IsAnsweredAt log.entry.events.now group.now.revision) group.now.members
         → AreJudged h log.entry.events.now group.now.members more)
-        × ((h : History) → IsOfGroup log.entry group.now more h → IsMadeVersion h (version_of version))) }
+        × ((h : History) → IsOfGroup log.entry (B.body bodies.now) group.now more h → IsMadeVersion h (version_of version))) }
 {
     let mut members = judge_each(alloc, log, bodies, &grown, group.members.as_slice())?;
-    let version = version_in(log, group, &members)?;
+    let version = version_in(alloc, log, bodies, group, &members)?;
     let grown = grown.with(version)?;
     judged.append(&mut members)?;
     Ok(grown)

@@ -22,5 +22,5 @@ returns g c =
       c.in_ok-members.ensures.numbers ∙ c.as_slice.ensures,
       (λ h of further answered. subst (λ l. AreJudged h events l more) c.as_slice.ensures
           (c.in_ok-members.ensures.judged h group.revision of further (subst (All (IsAnsweredAt events group.revision)) (sym c.as_slice.ensures) answered))),
-      (λ h of. c.in_ok-version.ensures.made h (subst (λ (l : List Judged). IsOfGroup c.args.log group l h) (sym c.deref.ensures.value) of)),
+      (λ h of. c.in_ok-version.ensures.made h (subst (λ (l : List Judged). IsOfGroup c.args.log (g.B.Bodies.body c.args.bodies.now) group l h) (sym c.deref.ensures.value) of)),
     )

@@ -1,4 +1,4 @@
-use Rattle.std.proofs.Common.{◌≡◌, option_map, rules, refl, sym}
+use Rattle.std.proofs.Common.{option_map}
 use Rattle.object_past.specs.Modelled.{version_of}
 use Rattle.object_versions.proofs.Entries.{used_in}
 use Rattle.object_versions.specs.Modelled.{making_of}
@@ -6,10 +6,7 @@ use Rattle.object_versions.proofs.versions.judge.Goals as goal
 
 pub returns-clause-judged : goal.returns-clause-judged
 returns-clause-judged g c = λ h of e. (
-  (
-    option_map (λ v. version_of v.now) c.entry_before-before.result,
-    c.entry_before-before.ensures h c.args.grown.now of.surroundings e c.latest.ensures.latest,
-    c.in_ok-making_fault.ensures h of.surroundings.times of.judged (used_in h c.args.grown.now (making_of c.args.making) c.is_used-is_used.result e c.is_used-is_used.ensures),
-  ),
-  c.in_ok-finding_fault.ensures h of.judged.bodies,
+  option_map (λ v. version_of v.now) c.entry_before-before.result,
+  c.entry_before-before.ensures h c.args.grown.now of.surroundings e c.latest.ensures.latest,
+  c.in_ok-making_fault.ensures h of.surroundings.times of.judged (used_in h c.args.grown.now (making_of c.args.making) c.is_used-is_used.result e c.is_used-is_used.ensures),
 )

@@ -50,7 +50,7 @@ loop-group-preserved g c =
           c.requires.rising c.requires.above within (sym c.group-item.is) c.loop-group.invariant.0 in
           let further = extends h c.loop-group.grown version group.revision on_v added.5 (let above = is_group.above in omega (arith, above)) below in
           let zipped : AreJudged h events group.members more = added.7 h of further (answered h events group of.surroundings.all is_group) in
-          let made = added.8 h (record { all = of.surroundings.all; clouds = of.judged.clouds; grouped = is_group; members = zipped }) in
+          let made = added.8 h (record { all = of.surroundings.all; clouds = of.judged.clouds; bodies = of.judged.bodies; grouped = is_group; members = zipped }) in
           let before = c.loop-group.invariant.1 h of grouped start (goes_on_before h c.loop-group.grown version on_v) in
           subst (λ l. AreWritten h events begun (take (i + 1) c.args.groups.now) l c.add_group.new.judged.items) (sym pushed)
           (subst (AreWritten h events begun (take (i + 1) c.args.groups.now) (c.loop-group.grown ++ version ∷ [])) (sym added.3)
