@@ -192,7 +192,7 @@ module _ (h : History) (events : List LogEvent) (groups : List Group) (judged : 
           at (Some code) (judge, known, numbered, is) q = by (all_at (λ (x : Judged). IsJudgedAt h events x.number x) judged judge are.sound known)
             where
               by : IsJudgedAt h events judge.number judge → (before : Option past.Version) × IsEntryBefore h m before × IsLeastFault h m before (making_code makings number)
-              by (own, (w, taken, (made, finding))) = (
+              by (own, (w, taken, made)) = (
                 made.0,
                 subst (λ x. IsEntryBefore h x made.0) same made.1,
                 subst (λ z. IsLeastFault h m made.0 z) (is ∙ sym (ap code_in q)) (subst (λ x. IsLeastFault h x made.0 judge.making) same made.2),

@@ -32,8 +32,8 @@ pub struct Verdict {
 // The tree that each key had last.
 type Latest<'a> = BTreeMap<&'a ObjectKey, NodeId>;
 
-// A create finds no object. Another write made its answer of the one that its key had last, or found it as it was.
-fn add_cases<'a>(
+// A create finds no object. Another write made its answer of the one that its key had last, where there was one.
+fn add_case<'a>(
     cases: &mut Vec<Case>,
     latest: &mut Latest<'a>,
     event: u32,
@@ -53,13 +53,11 @@ fn add_cases<'a>(
     if before.is_some() {
         cases.push(Case { event, before })?;
     }
-    let before = Some(item.node);
-    cases.push(Case { event, before })?;
     Ok(())
 }
 
-/// The writes of a log, each with what may have been there before it. Where something else was there nothing is lost
-/// but time, so no contract speaks of them.
+/// The writes of a log, each with what may have been there before it, by rising numbers and each at most once. Where
+/// something else was there nothing is lost but time, so no contract speaks of them.
 pub fn cases_of(
     alloc: Global,
     snapshot: &[Item],
@@ -71,7 +69,7 @@ pub fn cases_of(
     }
     let mut cases = Vec::new(alloc);
     for (event, logged) in (0..u32::MAX).zip(log) {
-        add_cases(&mut cases, &mut latest, event, &logged.answer)?;
+        add_case(&mut cases, &mut latest, event, &logged.answer)?;
     }
     Ok(cases)
 }
@@ -126,14 +124,11 @@ fn right_at(
     }
 }
 
-/// The verdict of a case, which is among the first two of its event where it is known.
+/// The verdict of a case, where it is the first of its event.
 pub fn right_among(verdicts: &[Verdict], event: u32, before: Option<NodeId>) -> Option<bool>
     ensures { (body : ℕ → Option ℕ → Bool) → All (IsVerdict body) verdicts.now → IfSome result
         (λ right. right ≡ body event (option_map (λ node. node.0) before)) }
 {
     let first = verdicts.partition_point(|verdict| verdict.event < event);
-    match right_at(verdicts, first, event, before) {
-        Some(right) => Some(right),
-        None => right_at(verdicts, first + 1, event, before),
-    }
+    right_at(verdicts, first, event, before)
 }
