@@ -1,4 +1,5 @@
-ghost use Rattle.std.specs.Prelude.{◌≡◌, ◌≢◌, ℕ, ◌<◌, ◌≤◌, List, Some, IfOk, IsErrOf, length};
+ghost use Rattle.std.specs.Prelude.{◌≡◌, ◌≢◌, ℕ, ◌<◌, ◌≤◌, List, Some, IfOk, IsErrOf, OnOk, length};
+ghost use Rattle.std.specs.Io.KnownBytes.{IsAtEnd};
 ghost use Rattle.edge_io.specs.Faults.{Rose};
 ghost use Rattle.edge_io.specs.Whole.{AnswersWhole, ReadsWhole, most_piece};
 
@@ -72,6 +73,7 @@ pub fn read_input<D: Desk>(
 ) -> Result<Bytes, WholeStop>
     ensures answers { (bytes : List ℕ) → D.left desk.old name.now ≡ Some bytes → AnswersWhole most bytes result }
     ensures within { IfOk result (λ all. length all ≤ most) }
+    ensures whole { OnOk result (IsAtEnd (D.left desk.new name.now)) }
     ensures fault { IsErrOf result WholeStop.ReadFault → Rose (D.faults desk.old) (D.faults desk.new) }
     ensures counted { D.faults desk.old ≤ D.faults desk.new }
     ensures others { (other : List ℕ) → other ≢ name.now → D.left desk.new other ≡ D.left desk.old other }
