@@ -1,5 +1,5 @@
 ghost use Rattle.std.specs.Prelude.{◌≡◌, ◌≢◌, ◌≤◌, ℕ, List, Some, All, IfOk, IsErrOf, OnOk, OnErr, length};
-ghost use Rattle.std.specs.Io.KnownBytes.{Appends};
+ghost use Rattle.std.specs.Io.KnownBytes.{Appends, IsAtEnd};
 ghost use Rattle.edge_io.specs.Endings.{AppendsPart};
 ghost use Rattle.edge_io.specs.Faults.{HasCause, Rose};
 ghost use Rattle.log_sift.specs.Named.{AnswersSift, AreStretchesWithin, IsSiftText, most_log, shown_text};
@@ -34,6 +34,7 @@ pub fn sift_named<D: Desk>(
     ensures answered { (bytes : List ℕ) → D.left desk.old log.now ≡ Some bytes
         → AnswersSift left bytes result }
     ensures within { IfOk result AreStretchesWithin }
+    ensures whole { OnOk result (IsAtEnd (D.left desk.new log.now)) }
     ensures fault { IsErrOf result WholeStop.ReadFault
         → Rose (D.faults desk.old) (D.faults desk.new) }
     ensures others { (other : List ℕ) → other ≢ log.now
