@@ -1,5 +1,6 @@
 -- Files that are read one after another.
-use Rattle.std.proofs.Common.{◌≡◌, ◌≢◌, ℕ, zero, ◌<◌, ◌≤◌, List, [], ◌∷◌, ◌++◌, length, map, Bool, true, false, Contains, Option, Some, Result, Ok, Err, OnOk, IsErrOf, bytes_eq, if◌then◌else◌, inl, inr, refl, sym, ◌∙◌, ap, subst, arith, append_assoc}
+use Rattle.std.proofs.Common.{◌≡◌, ◌≢◌, ℕ, suc, zero, ◌<◌, ◌≤◌, List, [], ◌∷◌, ◌++◌, length, map, Bool, true, false, Contains, Option, Some, Result, Ok, Err, OnOk, IsErrOf, bytes_eq, if◌then◌else◌, get_or, ◌⊎◌, inl, inr, refl, sym, ◌∙◌, ap, subst, arith, append_assoc}
+use Rattle.std.specs.Io.KnownBytes.{IsAtEnd}
 use Rattle.std.specs.List.{list_any}
 use Rattle.std.proofs.lemmas.Cmp.{nat_list_eq_equiv}
 use Rattle.std.proofs.lemmas.List.{append-nil}
@@ -10,7 +11,7 @@ use Rattle.edge_io.specs.Whole.{AnswersWhole}
 use Rattle.edge_io.specs.declared.whole.WholeStop.{WholeStop}
 use Rattle.edge_io.specs.declared.whole.WholeStop.TheVariants.{TooLong, ReadFault, OutOfMemory}
 use Rattle.process_words.specs.Names.{are_distinct}
-use Rattle.cluster_setup.specs.Gathering.{AreGathered, AreGiven, SomeLong, TellsAll, most_file}
+use Rattle.cluster_setup.specs.Gathering.{AreAtEnd, AreGathered, AreGiven, LeavesOthers, SomeLong, TellsAll, most_file}
 use Rattle.cluster_setup.specs.declared.gathering.GivenFiles.{GivenFiles}
 
 first_of : (name : List ℕ) (names : List (List ℕ)) → Contains (name ∷ names) name
@@ -31,6 +32,22 @@ apart name names differ other among same =
     let found : list_any (bytes_eq name) names ≡ true = list_any-from_Contains nat_list_eq_equiv name names (subst (Contains names) same among) in
     let none = (distinct_parts (list_any (bytes_eq name) names) (are_distinct names) differ).0 in
     let no : true ≡ false = sym found ∙ none in cc
+
+-- one of some names is the first, or one behind it
+first_or_later : (name : List ℕ) (names : List (List ℕ)) (other : List ℕ) (at : ℕ) → at < length (name ∷ names) → get_or (name ∷ names) at other ≡ other → (other ≡ name) ⊎ Contains names other
+first_or_later name names other zero within is = inl (sym is)
+first_or_later name names other (suc at) within is = inr (at, omega (arith, within), is)
+
+one_at_end : (name : List ℕ) (names : List (List ℕ)) (left : List ℕ → Option (List ℕ)) (other : List ℕ) → IsAtEnd (left name) → AreAtEnd names left → (other ≡ name) ⊎ Contains names other → IsAtEnd (left other)
+one_at_end name names left other done behind (inl same) = subst (λ n. IsAtEnd (left n)) (sym same) done
+one_at_end name names left other done behind (inr among) = behind other among
+
+-- a name that was read to its end stays so while those behind it are read
+all_at_end : (name : List ℕ) (names : List (List ℕ)) (mid left : List ℕ → Option (List ℕ)) → are_distinct (name ∷ names) ≡ true → LeavesOthers names mid left
+    → IsAtEnd (mid name) → AreAtEnd names left → AreAtEnd (name ∷ names) left
+all_at_end name names mid left differ others done behind other among =
+    let same : left name ≡ mid name = others name (λ again. apart name names differ name again refl) in
+    one_at_end name names left other (subst IsAtEnd (sym same) done) behind (first_or_later name names other among.0 among.1 among.2)
 
 -- what a desk tells of the names behind the first, once that was read
 tells_rest : (name : List ℕ) (names : List (List ℕ)) (old mid : List ℕ → Option (List ℕ)) (told : List ℕ → List ℕ) → are_distinct (name ∷ names) ≡ true
@@ -90,6 +107,7 @@ module _ (name : List ℕ) (names : List (List ℕ)) (old mid : List ℕ → Opt
       → AreGathered {A = A} (name ∷ names) before now old mid faults_before faults_mid (Err stop)
   stopped before now stop answers fault counted others = record {
     read = tt;
+    whole = tt;
     long = λ is told tells. inl (stop_long stop (told name) (answers (told name) (tells name (first_of name names))) (same_stop stop TooLong is));
     fault = λ is. fault (as_stop stop ReadFault is);
     counted = counted;
@@ -100,6 +118,7 @@ module _ (name : List ℕ) (names : List (List ℕ)) (old mid : List ℕ → Opt
       → AreGathered {A = A} (name ∷ names) before now old mid faults_before faults_mid (Err OutOfMemory)
   gave_up before now counted others = record {
     read = tt;
+    whole = tt;
     long = λ is. absurd (memory_apart TooLong no_long is);
     fault = λ is. absurd (memory_apart ReadFault no_fault is);
     counted = counted;
@@ -107,7 +126,7 @@ module _ (name : List ℕ) (names : List (List ℕ)) (old mid : List ℕ → Opt
   }
 
   module _ (bytes : List ℕ) (differ : are_distinct (name ∷ names) ≡ true) (answers : (all : List ℕ) → old name ≡ Some all → AnswersWhole most_file all (Ok bytes))
-      (short : length bytes ≤ most_file) (counted : faults_before ≤ faults_mid) (others : (other : List ℕ) → other ≢ name → mid other ≡ old other) where
+      (short : length bytes ≤ most_file) (done : IsAtEnd (mid name)) (counted : faults_before ≤ faults_mid) (others : (other : List ℕ) → other ≢ name → mid other ≡ old other) where
     -- the first name's bytes, where all are told
     is_told : (told : List ℕ → List ℕ) → TellsAll (name ∷ names) old told → bytes ≡ told name
     is_told told tells = answers (told name) (tells name (first_of name names))
@@ -128,12 +147,17 @@ module _ (name : List ℕ) (names : List (List ℕ)) (old mid : List ℕ → Opt
           (gathered told name bytes names before between now pushed (is_told told tells) behind.0, none_long (told name) (map told names) (short_told told tells) behind.1)
       read_behind before (Err stop) pushed rest = tt
 
+      whole_behind : {A : Type 0} (found : Result A WholeStop) → AreGathered names between now mid left faults_mid faults_now found → OnOk found (AreAtEnd (name ∷ names) left)
+      whole_behind (Ok value) rest = all_at_end name names mid left differ rest.others done rest.whole
+      whole_behind (Err stop) rest = tt
+
       more : {A : Type 0} (before : List (List ℕ)) (found : Result A WholeStop) → between ≡ before ++ bytes ∷ [] → AreGathered names between now mid left faults_mid faults_now found
           → AreGathered (name ∷ names) before now old left faults_before faults_now found
       more before found pushed rest =
           let later = rest.counted in
           record {
             read = read_behind before found pushed rest;
+            whole = whole_behind found rest;
             long = long_behind found rest;
             fault = λ is. rose_later faults_before faults_mid faults_now counted (rest.fault is);
             counted = omega (arith, counted, later);
@@ -151,6 +175,7 @@ module _ (name : List ℕ) (names : List (List ℕ)) (old mid : List ℕ → Opt
               subst (λ b. SomeLong (b ∷ given.files.items) → ⊥) (sym policy)
                   (none_long bytes given.files.items short (subst (λ l. SomeLong l → ⊥) (sym (files ∙ items)) behind.1)),
             );
+        whole = whole_behind (Ok value) rest;
         long = λ is. absurd (no_stop given TooLong is);
         fault = λ is. absurd (no_stop given ReadFault is);
         others = left_behind name names old mid left others rest.others;
@@ -159,6 +184,7 @@ module _ (name : List ℕ) (names : List (List ℕ)) (old mid : List ℕ → Opt
       pub given_stopped : {A : Type 0} (stop : WholeStop) → AreGathered {A = A} names between now mid left faults_mid faults_now (Err stop) → AreGiven name names old left faults_before faults_now (Err stop)
       given_stopped stop rest = record {
         read = tt;
+        whole = tt;
         long = λ is. long_behind (Err stop) rest (as_stop stop TooLong is);
         fault = λ is. rose_later faults_before faults_mid faults_now counted (rest.fault (as_stop stop ReadFault is));
         others = left_behind name names old mid left others rest.others;
@@ -167,6 +193,7 @@ module _ (name : List ℕ) (names : List (List ℕ)) (old mid : List ℕ → Opt
 nothing_gathered : {A : Type 0} (items : List (List ℕ)) (old : List ℕ → Option (List ℕ)) (faults : ℕ) (value : A) → AreGathered [] items items old old faults faults (Ok value)
 nothing_gathered items old faults value = record {
   read = λ told tells. (sym (append-nil items), λ long. long);
+  whole = λ other among. absurd (let within = among.1 in omega (arith, within));
   long = λ is. absurd (no_stop value TooLong is);
   fault = λ is. absurd (no_stop value ReadFault is);
   counted = omega arith;
@@ -179,6 +206,7 @@ pub policy_stopped : (policy : List ℕ) (names : List (List ℕ)) (old mid : Li
     → ((other : List ℕ) → other ≢ policy → mid other ≡ old other) → AreGiven policy names old mid faults_before faults_mid (Err stop)
 policy_stopped policy names old mid faults_before faults_mid stop answers fault others = record {
   read = tt;
+  whole = tt;
   long = λ is told tells. inl (stop_long stop (told policy) (answers (told policy) (tells policy (first_of policy names))) (same_stop stop TooLong is));
   fault = λ is. fault (as_stop stop ReadFault is);
   others = left_first policy names old mid others;
@@ -206,13 +234,13 @@ module _ (names behind later : List (List ℕ)) (name : List ℕ) (before betwee
   here : IsUnderWay names (name ∷ later) before between old mid faults_before faults_mid
   here = subst (λ b. IsUnderWay names b before between old mid faults_before faults_mid) front under
 
-  pub read_on : (bytes : List ℕ) (items : List (List ℕ)) → ((all : List ℕ) → mid name ≡ Some all → AnswersWhole most_file all (Ok bytes)) → length bytes ≤ most_file
+  pub read_on : (bytes : List ℕ) (items : List (List ℕ)) → ((all : List ℕ) → mid name ≡ Some all → AnswersWhole most_file all (Ok bytes)) → length bytes ≤ most_file → IsAtEnd (left name)
       → items ≡ between ++ bytes ∷ [] → IsUnderWay names later before items old left faults_before faults_left
-  read_on bytes items answers short pushed = record {
+  read_on bytes items answers short done pushed = record {
     differ = distinct_rest name later here.differ;
     whole = λ now end faults_now found rest.
         here.whole now end faults_now found
-        (more name later mid left faults_mid faults_left bytes here.differ answers short counted others items now end faults_now between found pushed rest);
+        (more name later mid left faults_mid faults_left bytes here.differ answers short done counted others items now end faults_now between found pushed rest);
   }
 
   pub ended : (stop : WholeStop) → ((bytes : List ℕ) → mid name ≡ Some bytes → AnswersWhole most_file bytes (Err stop))

@@ -20,7 +20,7 @@ loop-name-preserved g c =
     c.args.given.now.items c.loop-name.given.items (left c.args.desk.now) (left c.loop-name.desk) (left c.read_input.new.desk)
     (faults c.args.desk.now) (faults c.loop-name.desk) (faults c.read_input.new.desk)
     (item_in_front (string_bytes {Z = Global}) names at c.name-item.result name c.loop-name-test.true c.name-item.is named) c.loop-name.invariant first.counted first.others
-    c.in-Ok.bytes c.push.new.self.items first.answers first.within c.in-Ok-push.ensures.items
+    c.in-Ok.bytes c.push.new.self.items first.answers first.within first.whole c.in-Ok-push.ensures.items
 
 pub returns-in-Err-push : goal.returns-in-Err-push
 returns-in-Err-push g c =

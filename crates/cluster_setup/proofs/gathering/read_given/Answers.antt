@@ -8,7 +8,7 @@ returns-in-Ok-read_files g c =
     let faults = g.D.Desk.faults in
     let first = c.in-Ok.ensures in
     given_all c.args.policy.now (map (string_bytes {Z = Global}) c.args.names.now) (left c.args.desk.now) (left c.read_input.new.desk) (faults c.args.desk.now) (faults c.read_input.new.desk)
-    c.in-Ok.bytes c.requires first.answers first.within first.counted first.others
+    c.in-Ok.bytes c.requires first.answers first.within first.whole first.counted first.others
     c.new-files.result.items c.read_files.new.given.items (left c.read_files.new.desk) (faults c.read_files.new.desk)
     (record { policy = c.in-Ok.bytes; files = c.read_files.new.given }) c.in-Ok-read_files.field-0 refl refl c.new-files.ensures.items c.in-Ok-read_files.ensures
 
@@ -18,5 +18,5 @@ returns-in-Err-read_files g c =
     let faults = g.D.Desk.faults in
     let first = c.in-Ok.ensures in
     given_stopped c.args.policy.now (map (string_bytes {Z = Global}) c.args.names.now) (left c.args.desk.now) (left c.read_input.new.desk) (faults c.args.desk.now) (faults c.read_input.new.desk)
-    c.in-Ok.bytes c.requires first.answers first.within first.counted first.others
+    c.in-Ok.bytes c.requires first.answers first.within first.whole first.counted first.others
     c.new-files.result.items c.read_files.new.given.items (left c.read_files.new.desk) (faults c.read_files.new.desk) c.in-Err-read_files.stop c.in-Err-read_files.ensures
