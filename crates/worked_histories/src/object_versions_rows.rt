@@ -92,20 +92,20 @@ fn are_behind_firsts(removals: &[Removal]) -> bool {
 }
 
 // Events, and what speaks against their writes.
-static JUDGED: [(u32, Option<Reason>, Option<Reason>); 7] = [
-    (0, None, Some(Reason::U4)),
-    (2, None, None),
-    (1, None, Some(Reason::U7)),
-    (4, None, Some(Reason::U4)),
-    (5, None, Some(Reason::U4)),
-    (6, Some(Reason::U4), Some(Reason::U4)),
-    (7, Some(Reason::U4), Some(Reason::U4)),
+static JUDGED: [(u32, Option<Reason>); 7] = [
+    (0, None),
+    (2, None),
+    (1, None),
+    (4, None),
+    (5, None),
+    (6, Some(Reason::U4)),
+    (7, Some(Reason::U4)),
 ];
 
-fn is_judged(one: Option<&Judged>, row: &(u32, Option<Reason>, Option<Reason>)) -> bool {
-    let (number, making, finding) = *row;
+fn is_judged(one: Option<&Judged>, row: &(u32, Option<Reason>)) -> bool {
+    let (number, making) = *row;
     match one {
-        Some(one) => one.number == number && one.making == making && one.finding == finding,
+        Some(one) => one.number == number && one.making == making,
         None => false,
     }
 }
