@@ -4,19 +4,31 @@ use Rattle.base_types.specs.declared.memory.OutOfMemory.{OutOfMemory}
 use Rattle.std.specs.Io.KnownBytes.{Keeps}
 use Rattle.edge_io.specs.Endings.{Ends}
 use Rattle.log_verdict.specs.Endings.{IsAnswered}
-use Rattle.companion.specs.Process.{EndsProcess, EndsWords}
-use Rattle.companion.specs.Program.{IsOfTable, usage_answer}
-use Rattle.companion.specs.Running.{StatusTells}
+use Rattle.companion_words.specs.Command.{TellsWords}
+use Rattle.companion.specs.Process.{EndsCall, EndsProcess, EndsWords}
+use Rattle.companion.specs.Program.{IsAnswer, IsOfTable, usage_answer}
+use Rattle.companion.specs.Running.{ReadsDesk, StatusTells}
 
 pub keeps_same : (known : Option (List ℕ)) → Keeps known known
 keeps_same None = tt
 keeps_same (Some bytes) = refl
 
+-- a call of whose desk nothing is known
+module _ (words : List (List ℕ)) (old left : List ℕ → Option (List ℕ)) (untouched : Type 0) (desk_before desk_now sink_before sink_now : ℕ) (before now : Option (List ℕ)) (status : ℕ) where
+  pub ended_call : ((files : List ℕ → List ℕ) → TellsWords words old files → IsAnswered (IsAnswer words files) desk_before desk_now sink_before sink_now before now status)
+      → IsAnswered (IsOfTable words) desk_before desk_now sink_before sink_now before now status → StatusTells words desk_before desk_now sink_before sink_now before now status
+      → ReadsDesk words old left untouched status → (untouched → desk_now ≡ desk_before) → EndsCall words desk_before desk_now sink_before sink_now before now status
+  ended_call answered table told read same = record {
+    answer = λ nothing files. answered files (λ asked asks name reads. absurd (nothing name (asked, asks, reads)));
+    table = table;
+    told = told;
+    unread = λ nothing. same (read.desk_left nothing);
+  }
+
 -- a call on files, or none for want of memory
 module _ {words : List (List ℕ)} {desk_before desk_now sink_before sink_now : ℕ} {before now : Option (List ℕ)} {status : ℕ} where
-  pub ended_words : StatusTells words desk_before desk_now sink_before sink_now before now status → IsAnswered IsOfTable desk_before desk_now sink_before sink_now before now status
-      → EndsWords words sink_before sink_now before now status
-  ended_words told table = inl (desk_before, desk_now, told, table)
+  pub ended_words : EndsCall words desk_before desk_now sink_before sink_now before now status → EndsWords words sink_before sink_now before now status
+  ended_words ended = inl (desk_before, desk_now, ended)
 
 -- what the arguments came to, and how the process ended
 module _ (given : Result (Option (Vec (String Global) Global)) OutOfMemory) (sink_before sink_now : ℕ) (before now : Option (List ℕ)) (exit : ℕ) where

@@ -6,14 +6,14 @@ use Rattle.context_intake.specs.declared.stop.Stop.{Stop}
 use Rattle.context_intake.specs.declared.stop.Stop.TheVariants.{OutOfMemory, ReadFault}
 use Rattle.edge_io.specs.Endings.{Ends}
 use Rattle.edge_io.specs.Faults.{Rose}
-use Rattle.log_verdict.specs.Answers.{Answer, answer}
+use Rattle.log_verdict.specs.Answers.{Answer}
 use Rattle.log_verdict.specs.Endings.{IsAnswered, IsBrokenStatus, IsVerdictStatus, ReadsNames}
-use Rattle.companion_words.specs.Command.{Asked, IsAsked, Picture, Spells, Tells, TellsWords}
-use Rattle.companion.specs.Program.{IsAnswer, IsAnswerTo, IsOfTable, usage_answer}
-use Rattle.companion.specs.Reported.{Concludes, IsReported, Takes, TakesNames, body_text, report_answer, status_number}
-use Rattle.companion.specs.Running.{ReadsDesk, StatusTells}
+use Rattle.companion_words.specs.Command.{Asked, Explain, IsAsked, Picture, Reads, Setup, Sift, Spells, Tells, TellsWords}
+use Rattle.companion.specs.Program.{IsAnswer, IsAnswerTo, IsOfTable, IsStatusOf, usage_answer}
+use Rattle.companion.specs.Reported.{Concludes, IsReported, Takes, TakesNames, report_answer, status_number}
+use Rattle.companion.specs.Running.{ReadsAll, ReadsDesk, StatusTells}
 use Rattle.companion.specs.declared.report.CommandReport.{CommandReport}
-use Rattle.companion.proofs.AskedFacts.{one_picture}
+use Rattle.companion.proofs.AskedFacts.{one_command}
 use Rattle.companion.specs.declared.report.ExitStatus.{ExitStatus}
 use Rattle.companion.specs.declared.report.ExitStatus.TheVariants.{Done, Unexplained, SetupRefused, LogRefused, LimitPassed}
 
@@ -55,17 +55,17 @@ above_broken : (status : ℕ) → 4 < status → IsBrokenStatus status → ⊥
 above_broken status more (inl is) = omega (arith, more, is)
 above_broken status more (inr is) = omega (arith, more, is)
 
--- a report is an answer of the table
-report_of_table : (status : ExitStatus) (text : List ℕ) → IsOfTable (answer (status_number status) text)
-report_of_table Done text = inr (inl refl)
-report_of_table Unexplained text = inr (inr (inl refl))
-report_of_table SetupRefused text = inr (inr (inr (inl refl)))
-report_of_table LogRefused text = inr (inr (inr (inr (inl refl))))
-report_of_table LimitPassed text = inr (inr (inr (inr (inr refl))))
+above_all : (asked : Asked) (status : ℕ) → 4 < status → ReadsAll asked status → ⊥
+above_all (Explain text) status more all = all
+above_all (Sift left log) status more all = omega (arith, more, all)
+above_all (Setup authorize time policy files) status more (inl is) = omega (arith, more, is)
+above_all (Setup authorize time policy files) status more (inr is) = omega (arith, more, is)
+above_all (Picture setup log) status more all = above_verdict status (omega (arith, more)) all
 
-of_table : (found : Result CommandReport Stop) → IfOk found (λ report. IsOfTable (report_answer report))
-of_table (Ok report) = report_of_table report.status (body_text report.body)
-of_table (Err stop) = tt
+-- a report is an answer of the table
+of_table : (words : List (List ℕ)) (asked : Asked) (found : Result CommandReport Stop) → Spells asked words → IfOk found (λ report. IsStatusOf asked (status_number report.status)) → IfOk found (λ report. IsOfTable words (report_answer report))
+of_table words asked (Ok report) spelled is = inr (asked, spelled, is)
+of_table words asked (Err stop) spelled is = tt
 
 module _ (faults_before faults_now : ℕ) (before now : Option (List ℕ)) (result : ℕ) where
   pub concluded_answer : (found : Result CommandReport Stop) (IsRight : Answer → Type 0) (desk_before desk_now : ℕ) → IfOk found (λ report. IsRight (report_answer report)) → (IsErrOf found ReadFault → Rose desk_before desk_now)
@@ -118,6 +118,10 @@ module _ (faults_before faults_now : ℕ) (before now : Option (List ℕ)) (resu
     taken = taken_upto setup log old left left (IsErrOf found ReadFault) (result ≡ 5) refl refl (λ is. concluded_five found ends is) takes.taken;
   }
 
+-- the names of a command, of whose report it is known with which status all were read to their ends
+abbrev EndsNames : Asked → (List ℕ → Option (List ℕ)) → Result CommandReport Stop → Type 0
+EndsNames asked left found = IfOk found (λ report. ReadsAll asked (status_number report.status) → (name : List ℕ) → Reads asked name → IsAtEnd (left name))
+
 right_answer : (words : List (List ℕ)) (asked : Asked) (old : List ℕ → Option (List ℕ)) (files : List ℕ → List ℕ) (found : Result CommandReport Stop) → Spells asked words → TellsWords words old files
     → IfOk found (λ report. (files : List ℕ → List ℕ) → Tells asked old files → IsAnswerTo (Some asked) files (report_answer report)) → IfOk found (λ report. IsAnswer words files (report_answer report))
 right_answer words asked old files (Ok report) spelled tells right = (Some asked, spelled, right files (tells asked spelled))
@@ -136,8 +140,9 @@ module _ {words : List (List ℕ)} {asked : Asked} {old now : List ℕ → Optio
   run_answer files tells =
       concluded_answer sink_before sink_now before written result found (IsAnswer words files) desk_before desk_now (right_answer words asked old files found r.spelled tells r.reported.answered) r.reported.fault r.concluded
 
-  pub run_table : IsAnswered IsOfTable desk_before desk_now sink_before sink_now before written result
-  run_table = concluded_answer sink_before sink_now before written result found IsOfTable desk_before desk_now (of_table found) r.reported.fault r.concluded
+  pub run_table : IsAnswered (IsOfTable words) desk_before desk_now sink_before sink_now before written result
+  run_table =
+      concluded_answer sink_before sink_now before written result found (IsOfTable words) desk_before desk_now (of_table words asked found r.spelled r.reported.status) r.reported.fault r.concluded
 
   pub run_status : StatusTells words desk_before desk_now sink_before sink_now before written result
   run_status = record {
@@ -150,12 +155,21 @@ module _ {words : List (List ℕ)} {asked : Asked} {old now : List ℕ → Optio
 
   takes_names : (setup log : List ℕ) → IsAsked words (Some (Picture setup log)) → TakesNames setup log old now found
   takes_names setup log asks =
-      let takes : Takes (Picture setup log) old now found = subst (λ a. Takes a old now found) (one_picture words asked setup log r.spelled asks) r.reported.taken in
+      let takes : Takes (Picture setup log) old now found = subst (λ a. Takes a old now found) (one_command words asked (Picture setup log) r.spelled asks) r.reported.taken in
       takes
+
+  ends_names : (other : Asked) → IsAsked words (Some other) → EndsNames other now found
+  ends_names other asks = subst (λ a. EndsNames a now found) (one_command words asked other r.spelled asks) r.reported.ends
+
+  names_end : (other : Asked) → IsAsked words (Some other) → ReadsAll other result → (name : List ℕ) → Reads other name → IsAtEnd (now name)
+  names_end other asks all =
+      concluded_status sink_before sink_now before written result found (ReadsAll other) ((name : List ℕ) → Reads other name → IsAtEnd (now name))
+      (above_all other 5 (omega arith)) (above_all other 6 (omega arith)) (above_all other 8 (omega arith)) (ends_names other asks) r.concluded all
 
   pub run_read : ReadsDesk words old now untouched result
   run_read = record {
     names = λ setup log asks. concluded_names sink_before sink_now before written result found setup log old now (takes_names setup log asks) r.concluded;
+    ends = λ other name asks reads all. names_end other asks all name reads;
     desk_left = λ none. r.reported.left (λ name reads. none name (asked, r.spelled, reads));
     others_left = λ name none. r.reported.others name (λ reads. none (asked, r.spelled, reads));
   }
@@ -190,6 +204,7 @@ module _ {words : List (List ℕ)} {left : List ℕ → Option (List ℕ)} {unto
   pub usage_read : ReadsDesk words left left untouched status
   usage_read = record {
     names = λ setup log asks. absurd (none (Picture setup log) asks);
+    ends = λ asked name asks reads all. absurd (none asked asks);
     desk_left = λ unasked. same;
     others_left = λ name unread. refl;
   }

@@ -1,6 +1,7 @@
 -- The answer of the program: a status and a text, of the words and the bytes of each name.
 use Rattle.std.specs.Prelude.{◌≡◌, ◌⊎◌, ℕ, List, Option, Some, None, codes, map}
 use Rattle.log_verdict.specs.Answers.{Answer, answer}
+use Rattle.log_verdict.specs.Endings.{IsBrokenStatus, IsVerdictStatus}
 use Rattle.companion.specs.Picturing.{IsPictured}
 use Rattle.verdict_text.specs.Words.{ended}
 use Rattle.companion_words.specs.Command.{Asked, Explain, IsAsked, Picture, Setup, Sift}
@@ -21,8 +22,17 @@ IsAnswerTo (Some (Picture setup log)) files answered = IsPictured (files setup) 
 abbrev pub IsAnswer : List (List ℕ) → (List ℕ → List ℕ) → Answer → Type 0
 IsAnswer words files answered = (asked : Option Asked) × IsAsked words asked × IsAnswerTo asked files answered
 
--- an answer of the table, whatever was read: `usage` with 2, or some text with the status of what was done, or of a refusal
-abbrev pub IsOfTable : Answer → Type 0
-IsOfTable answered =
-    (answered ≡ usage_answer)
-    ⊎ (answered.status ≡ 0) ⊎ (answered.status ≡ 1) ⊎ (answered.status ≡ 3) ⊎ (answered.status ≡ 4) ⊎ (answered.status ≡ 7)
+-- the statuses that the table has for a command: a code is always explained, a log is sifted unless it passes a limit, and
+-- a setup may be refused besides
+abbrev pub IsStatusOf : Asked → ℕ → Type 0
+IsStatusOf (Explain text) status = status ≡ 0
+IsStatusOf (Sift left log) status = (status ≡ 0) ⊎ (status ≡ 7)
+IsStatusOf (Setup authorize time policy files) status = (status ≡ 0) ⊎ (status ≡ 3) ⊎ (status ≡ 7)
+IsStatusOf (Picture setup log) status = IsVerdictStatus status ⊎ IsBrokenStatus status ⊎ (status ≡ 7)
+
+-- an answer of the table to the words, whatever was read: `usage` with 2 where they are no command, or some text with a
+-- status of the command that they are
+abbrev pub IsOfTable : List (List ℕ) → Answer → Type 0
+IsOfTable words answered =
+    (IsAsked words None × (answered ≡ usage_answer))
+    ⊎ ((asked : Asked) × IsAsked words (Some asked) × IsStatusOf asked answered.status)

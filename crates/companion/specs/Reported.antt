@@ -15,7 +15,8 @@ use Rattle.log_verdict.specs.Answers.{Answer, answer}
 use Rattle.verdict_text.specs.Words.{ended}
 use Rattle.companion_words.specs.Command.{Asked, Explain, Picture, Reads, Setup, Sift, Tells}
 use Rattle.companion.specs.Picturing.{HasBrokenRule, HasPage}
-use Rattle.companion.specs.Program.{IsAnswerTo}
+use Rattle.companion.specs.Program.{IsAnswerTo, IsStatusOf}
+use Rattle.companion.specs.Running.{ReadsAll}
 use Rattle.companion.specs.declared.report.ReportText.{ReportText}
 use Rattle.companion.specs.declared.report.ReportText.TheVariants.{Fixed, Made, Sifted}
 use Rattle.companion.specs.declared.report.CommandReport.{CommandReport}
@@ -75,9 +76,11 @@ Takes (Picture setup log) old now found = TakesNames setup log old now found
 -- the report is that of the command; the faults are those of the desk
 pub record IsReported (asked : Asked) (old now : List ℕ → Option (List ℕ)) (untouched : Type 0) (faults_before faults_now : ℕ) (found : Result CommandReport Stop) : Type 0 where
   pub answered : IfOk found (λ report. (files : List ℕ → List ℕ) → Tells asked old files → IsAnswerTo (Some asked) files (report_answer report))
+  pub status : IfOk found (λ report. IsStatusOf asked (status_number report.status))
   pub within : IfOk found (λ report. HasStretchesWithin report.body)
   pub fault : IsErrOf found ReadFault → Rose faults_before faults_now
   pub taken : Takes asked old now found
+  pub ends : IfOk found (λ report. ReadsAll asked (status_number report.status) → (name : List ℕ) → Reads asked name → IsAtEnd (now name))
   pub left : ((name : List ℕ) → Reads asked name → ⊥) → untouched
   pub others : (name : List ℕ) → (Reads asked name → ⊥) → now name ≡ old name
 

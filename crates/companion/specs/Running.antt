@@ -1,10 +1,10 @@
 -- What a call of the program tells of its words, of the desk and of the sink, whatever its answer is.
-use Rattle.std.specs.Prelude.{◌≡◌, ℕ, List, Option, Some, None}
-use Rattle.std.specs.Io.KnownBytes.{Keeps}
+use Rattle.std.specs.Prelude.{◌≡◌, ◌⊎◌, ℕ, List, Option, Some, None}
+use Rattle.std.specs.Io.KnownBytes.{IsAtEnd, Keeps}
 use Rattle.edge_io.specs.Endings.{Ends}
 use Rattle.edge_io.specs.Faults.{Rose}
-use Rattle.log_verdict.specs.Endings.{ReadsNames}
-use Rattle.companion_words.specs.Command.{IsAsked, Picture, ReadsWords}
+use Rattle.log_verdict.specs.Endings.{IsVerdictStatus, ReadsNames}
+use Rattle.companion_words.specs.Command.{Asked, Explain, IsAsked, Picture, Reads, ReadsWords, Setup, Sift}
 use Rattle.companion.specs.Program.{usage_answer}
 
 -- The status tells why there is no answer: 2 that the words are no command, 5 and 6 that a count of faults rose, 8 that
@@ -16,9 +16,18 @@ pub record StatusTells (words : List (List ℕ)) (desk_before desk_now sink_befo
   pub write_fault : status ≡ 6 → Rose sink_before sink_now
   pub memory : status ≡ 8 → Keeps before now
 
--- what was taken of each name of the desk: of a setup and a log that are shown what the judge takes, and nothing of a name
--- that the words don't give to be read
+-- the statuses that tell that a command has read all its names to their ends: a log was sifted, a setup made or refused of
+-- what was given, a page shown
+abbrev pub ReadsAll : Asked → ℕ → Type 0
+ReadsAll (Explain text) status = ⊥
+ReadsAll (Sift left log) status = status ≡ 0
+ReadsAll (Setup authorize time policy files) status = (status ≡ 0) ⊎ (status ≡ 3)
+ReadsAll (Picture setup log) status = IsVerdictStatus status
+
+-- what was taken of each name of the desk: all where the status tells it, of a setup and a log that are shown what the judge
+-- takes, and nothing of a name that the words don't give to be read
 pub record ReadsDesk (words : List (List ℕ)) (old now : List ℕ → Option (List ℕ)) (untouched : Type 0) (status : ℕ) : Type 0 where
   pub names : (setup log : List ℕ) → IsAsked words (Some (Picture setup log)) → ReadsNames old now status setup log
+  pub ends : (asked : Asked) (name : List ℕ) → IsAsked words (Some asked) → Reads asked name → ReadsAll asked status → IsAtEnd (now name)
   pub desk_left : ((name : List ℕ) → ReadsWords words name → ⊥) → untouched
   pub others_left : (name : List ℕ) → (ReadsWords words name → ⊥) → now name ≡ old name

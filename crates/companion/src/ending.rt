@@ -1,4 +1,4 @@
-ghost use Rattle.std.specs.Prelude.{◌≤◌, OnOk, OnErr};
+ghost use Rattle.std.specs.Prelude.{OnOk, OnErr};
 ghost use Rattle.std.specs.Io.KnownBytes.{Appends};
 ghost use Rattle.edge_io.specs.Endings.{AppendsPart, Ends};
 ghost use Rattle.edge_io.specs.Faults.{HasCause};
@@ -26,9 +26,8 @@ fn write_body<K: Sink>(out: &mut K, body: &ReportText) -> Result<(), SinkFailed>
 /// Writes the text of an answer and gives its exit status, or 6 where a write failed.
 pub fn end_with_body<K: Sink>(out: &mut K, status: u8, body: &ReportText) -> u8
     requires { HasStretchesWithin body.now }
-    ensures ends { Ends status (body_text body.now) (K.faults out.old) (K.faults out.new)
+    ensures { Ends status (body_text body.now) (K.faults out.old) (K.faults out.new)
         (K.written out.old) (K.written out.new) result }
-    ensures counted { K.faults out.old ≤ K.faults out.new }
 {
     match write_body(out, body) {
         Ok(()) => status,

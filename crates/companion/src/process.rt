@@ -2,9 +2,8 @@ ghost use Rattle.std.specs.Prelude.{ℕ, List, map, string_bytes};
 ghost use Rattle.std.specs.Process.{exit_status};
 ghost use Rattle.companion_words.specs.Command.{TellsWords};
 ghost use Rattle.log_verdict.specs.Endings.{IsAnswered};
-ghost use Rattle.companion.specs.Process.{EndsProcess, EndsWords};
-ghost use Rattle.companion.specs.Program.{IsAnswer, IsOfTable};
-ghost use Rattle.companion.specs.Running.{StatusTells};
+ghost use Rattle.companion.specs.Process.{EndsCall, EndsProcess, EndsWords};
+ghost use Rattle.companion.specs.Program.{IsAnswer};
 
 use crate::running::run;
 use base_types::OutOfMemory;
@@ -62,11 +61,9 @@ fn exit_of<R: Threads + Sync + AllocGlobal, D: Desk, K: Sink>(
         → IsAnswered (IsAnswer (map string_bytes words.now) files) (D.faults desk.old)
         (D.faults desk.new) (K.faults out.old) (K.faults out.new) (K.written out.old)
         (K.written out.new) (exit_status result) }
-    ensures table { IsAnswered IsOfTable (D.faults desk.old) (D.faults desk.new) (K.faults out.old)
-        (K.faults out.new) (K.written out.old) (K.written out.new) (exit_status result) }
-    ensures status { StatusTells (map string_bytes words.now) (D.faults desk.old)
-        (D.faults desk.new) (K.faults out.old) (K.faults out.new) (K.written out.old)
-        (K.written out.new) (exit_status result) }
+    ensures ends { EndsCall (map string_bytes words.now) (D.faults desk.old) (D.faults desk.new)
+        (K.faults out.old) (K.faults out.new) (K.written out.old) (K.written out.new)
+        (exit_status result) }
 {
     let status = run(rt, rt.alloc(), words, desk, out, &FreeGate, &FreeGate);
     ExitCode::from(status)

@@ -36,8 +36,9 @@ pub fn run<R: Threads + Sync, D: Desk, K: Sink, G: Gate, H: Gate>(
         (K.written out.new) result }
 
     // Whether the desk tells its bytes or not.
-    ensures table { IsAnswered IsOfTable (D.faults desk.old) (D.faults desk.new) (K.faults out.old)
-        (K.faults out.new) (K.written out.old) (K.written out.new) result }
+    ensures table { IsAnswered (IsOfTable (map string_bytes words.now)) (D.faults desk.old)
+        (D.faults desk.new) (K.faults out.old) (K.faults out.new) (K.written out.old)
+        (K.written out.new) result }
     ensures status { StatusTells (map string_bytes words.now) (D.faults desk.old)
         (D.faults desk.new) (K.faults out.old) (K.faults out.new) (K.written out.old)
         (K.written out.new) result }

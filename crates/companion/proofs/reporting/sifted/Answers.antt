@@ -9,7 +9,7 @@ pub returns-in-Ok : goal.returns-in-Ok
 returns-in-Ok g c =
     let w = c.in-Ok.ensures in
     sift_reported (g.D.Desk.left c.args.desk.now) (g.D.Desk.left c.sift_named.new.desk) _ (g.D.Desk.faults c.args.desk.now) (g.D.Desk.faults c.sift_named.new.desk) c.args.left c.args.log.now
-    c.in-Ok.text (record { status = Done; body = Sifted c.in-Ok.text }) refl w.within w.answered w.others
+    c.in-Ok.text (record { status = Done; body = Sifted c.in-Ok.text }) refl w.within w.answered w.whole w.others
 
 pub returns-in-Err : goal.returns-in-Err
 returns-in-Err g c =

@@ -9,7 +9,7 @@ pub returns-in-None-clause-answer : goal.returns-in-None-clause-answer
 returns-in-None-clause-answer g c = λ files tells. inl (usage_answer, (None, c.in-None.ensures, refl), c.end_with.ensures.ends)
 
 pub returns-in-None-clause-table : goal.returns-in-None-clause-table
-returns-in-None-clause-table g c = inl (usage_answer, inl refl, c.end_with.ensures.ends)
+returns-in-None-clause-table g c = inl (usage_answer, inl (c.in-None.ensures, refl), c.end_with.ensures.ends)
 
 pub returns-in-None-clause-status : goal.returns-in-None-clause-status
 returns-in-None-clause-status g c = usage_status c.in-None.ensures c.end_with.ensures.ends
