@@ -7,4 +7,3 @@ pub mod Stays
 pub mod Answered
 pub mod Looks
 pub mod Prefixes
-pub mod Cursors

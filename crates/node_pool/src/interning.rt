@@ -2,7 +2,6 @@ ghost use Rattle.std.specs.Prelude.{◌≡◌, ◌<◌, ◌≤◌, Some, Err, fo
 ghost use Rattle.std.specs.List.{AllByRecursion};
 ghost use Rattle.base_types.specs.Meaning.{kids_of, fields_of};
 ghost use Rattle.base_types.specs.Names.{AreSorted};
-ghost use Rattle.packed_tree.specs.Showing.{meaning_of};
 ghost use Rattle.node_pool.specs.Kept.{Grows};
 ghost use Rattle.node_pool.specs.Subtrees.{inside, inside_kids, inside_fields, interned, with_tree};
 ghost use Rattle.node_pool.specs.Within.{tree_at, field_at, tree_of, IsWithin, IsFieldWithin};
@@ -10,65 +9,62 @@ ghost use Rattle.node_pool.specs.Within.{tree_at, field_at, tree_of, IsWithin, I
 use crate::fault::PoolFault;
 use crate::form::{Form, Level};
 use crate::growing::GrowingStore;
-use base_types::Text;
-use packed_tree::{PackedItems, PackedMembers, PackedRef, Shown};
+use base_types::json::{MemberList, Node, Tree, Trees};
 use std::alloc::Global;
 
-/// Puts a value and what is within it into the store, as far as each is new, and answers the value's number. After a
-/// refusal a part of it may stand there. A number that is guessed is of a value that may be much like this one: what is
-/// equal at equal places is found without a hash, and no text of it is copied.
+/// Puts a tree and what is within it into the store, as far as each is new, and answers the tree's number. After a
+/// refusal a part of it may stand there. A number that is guessed is of a tree that may be much like this one: what is
+/// equal at equal places is found without a hash.
 #[cycle(add)]
 pub fn add(
     alloc: Global,
     store: &mut GrowingStore,
     near: Option<u32>,
-    value: &PackedRef<'_>,
+    tree: &Tree,
 ) -> Result<u32, PoolFault>
     ensures grows { Grows store.old store.new }
-    ensures added { OnOk result (store.new.trees ≡ interned store.old.trees value.now) }
-    ensures number { IfOk result (λ n. slice_get store.new.trees n ≡ Some value.now) }
-    ensures fits { OnOk result (length (interned store.old.trees value.now) ≤ store.old.limit) }
-    ensures full { result ≡ Err PoolFault.Full → store.old.limit < length (interned store.old.trees value.now) }
+    ensures added { OnOk result (store.new.trees ≡ interned store.old.trees tree.now) }
+    ensures number { IfOk result (λ n. slice_get store.new.trees n ≡ Some tree.now) }
+    ensures fits { OnOk result (length (interned store.old.trees tree.now) ≤ store.old.limit) }
+    ensures full { result ≡ Err PoolFault.Full → store.old.limit < length (interned store.old.trees tree.now) }
 {
-    let shown = value.show();
-    if let Some(number) = store.leaf_near(near, &shown) {
+    if let Some(number) = store.leaf_near(near, tree) {
         return Ok(number);
     }
-    let level = level_of(alloc, store, near, shown)?;
+    let level = level_of(alloc, store, near, tree)?;
     store.place_near(near, level)
 }
 
-// The level of a value, once what is inside the value has its numbers.
+// The level of a tree, once what is inside the tree has its numbers.
 #[cycle(add)]
 fn level_of(
     alloc: Global,
     store: &mut GrowingStore,
     near: Option<u32>,
-    shown: Shown<'_>,
+    tree: &Tree,
 ) -> Result<Level, PoolFault>
     ensures grows { Grows store.old store.new }
-    ensures added { OnOk result (store.new.trees ≡ fold with_tree store.old.trees (inside
-        (meaning_of shown.entry))) }
+    ensures added { OnOk result (store.new.trees ≡ fold with_tree store.old.trees (inside tree.now)) }
     ensures within { IfOk result (λ level. IsWithin store.new.names (length store.new.trees) level) }
-    ensures stands { IfOk result (λ level. tree_of store.new.names store.new.trees level ≡ meaning_of shown.entry) }
+    ensures stands { IfOk result (λ level. tree_of store.new.names store.new.trees level ≡ tree.now) }
     ensures full { result ≡ Err PoolFault.Full → store.old.limit < length (fold with_tree store.old.trees
-        (inside (meaning_of shown.entry))) }
+        (inside tree.now)) }
 {
-    match shown {
-        Shown::Null => Ok(Level { form: Form::Null }),
-        Shown::Flag(flag) => Ok(Level {
-            form: Form::Flag(flag),
+    match &tree.node {
+        Node::Null => Ok(Level { form: Form::Null }),
+        Node::Flag(flag) => Ok(Level {
+            form: Form::Flag(*flag),
         }),
-        Shown::Whole(number) => Ok(Level {
-            form: Form::Whole(number),
+        Node::Whole(number) => Ok(Level {
+            form: Form::Whole(*number),
         }),
-        Shown::Words(text) => Ok(Level {
-            form: Form::Words(Text::from_str(alloc, text)?),
+        Node::Words(text) => Ok(Level {
+            form: Form::Words(text.clone()?),
         }),
-        Shown::Items(list) => Ok(Level {
+        Node::Items(list) => Ok(Level {
             form: Form::Items(add_items(alloc, store, near, list)?),
         }),
-        Shown::Members(list) => Ok(Level {
+        Node::Members(list) => Ok(Level {
             form: Form::Members(add_members(alloc, store, near, list)?),
         }),
     }
@@ -80,23 +76,20 @@ fn add_items(
     alloc: Global,
     store: &mut GrowingStore,
     near: Option<u32>,
-    list: PackedItems<'_>,
+    list: &Trees,
 ) -> Result<Vec<u32>, PoolFault>
     ensures grows { Grows store.old store.new }
-    ensures added { OnOk result (store.new.trees ≡ fold with_tree store.old.trees (inside_kids
-        (kids_of list.entry))) }
+    ensures added { OnOk result (store.new.trees ≡ fold with_tree store.old.trees (inside_kids (kids_of list.now))) }
     ensures within { IfOk result (λ v. AllByRecursion (λ k. k < length store.new.trees) v.items) }
-    ensures held { IfOk result (λ v. map (tree_at store.new.trees) v.items ≡ list.entry) }
+    ensures held { IfOk result (λ v. map (tree_at store.new.trees) v.items ≡ list.now) }
     ensures full { result ≡ Err PoolFault.Full → store.old.limit < length (fold with_tree store.old.trees
-        (inside_kids (kids_of list.entry))) }
+        (inside_kids (kids_of list.now))) }
 {
-    let mut numbers = Vec::with_capacity(alloc, store.width_near(near))?;
-    let mut rest = list;
-    'items: while let Some(item) = rest.next() {
+    let mut numbers = Vec::with_capacity(alloc, list.all.len())?;
+    for item in &list.all {
         let guess = store.item_near(near, numbers.len());
-        numbers.push(add(alloc, store, guess, &item)?)?;
+        numbers.push(add(alloc, store, guess, item)?)?;
     }
-    numbers.shrink_to_fit();
     Ok(numbers)
 }
 
@@ -106,28 +99,25 @@ fn add_members(
     alloc: Global,
     store: &mut GrowingStore,
     near: Option<u32>,
-    list: PackedMembers<'_>,
+    list: &MemberList,
 ) -> Result<Vec<(usize, u32)>, PoolFault>
     ensures grows { Grows store.old store.new }
     ensures added { OnOk result (store.new.trees ≡ fold with_tree store.old.trees (inside_fields
-        (fields_of list.entry))) }
+        (fields_of list.now))) }
     ensures within { IfOk result (λ v. AllByRecursion (IsFieldWithin store.new.names (length store.new.trees))
         v.items) }
-    ensures held { IfOk result (λ v. map (field_at store.new.names store.new.trees) v.items ≡ list.entry) }
-    ensures sorted { AreSorted list.entry }
+    ensures held { IfOk result (λ v. map (field_at store.new.names store.new.trees) v.items ≡ list.now) }
+    ensures sorted { AreSorted list.now }
     ensures full { result ≡ Err PoolFault.Full → store.old.limit < length (fold with_tree store.old.trees
-        (inside_fields (fields_of list.entry))) }
+        (inside_fields (fields_of list.now))) }
 {
-    let mut numbers = Vec::with_capacity(alloc, store.width_near(near))?;
+    let mut numbers = Vec::with_capacity(alloc, list.all.len())?;
     let mut from = 0;
-    list.sorted();
-    let mut rest = list;
-    'members: while let Some((name, item)) = rest.next() {
-        let named = store.number_near(alloc, near, from, name)?;
-        let value = add(alloc, store, named.value, &item)?;
+    for member in &list.all {
+        let named = store.number_near(near, from, &member.name)?;
+        let value = add(alloc, store, named.value, &member.value)?;
         numbers.push((named.name, value))?;
         from = named.next;
     }
-    numbers.shrink_to_fit();
     Ok(numbers)
 }

@@ -3,5 +3,4 @@ pub mod Encoding
 pub mod Decoding
 pub mod Sound
 pub mod Packs
-pub mod StoredBytes
 pub mod Showing

@@ -1,4 +1,4 @@
-ghost use Rattle.std.specs.Prelude.{◌≡◌, ◌≤◌, ◌||◌, ◌&&◌, ◌++◌, length, IfOk, codes, decimal};
+ghost use Rattle.std.specs.Prelude.{◌≡◌, ◌≤◌, ◌||◌, ◌&&◌, ◌++◌, length, IfOk, option_map, codes, decimal};
 ghost use Rattle.setup_file.specs.Checkpoints.{is_no_text, is_whole_at, checkpoint_of, checkpoints_from};
 ghost use Rattle.setup_file.specs.Checkpoints.{few_checkpoints, checkpoints_of};
 ghost use Rattle.setup_file.specs.Parts.{fit_list_of};
@@ -7,9 +7,8 @@ use crate::form::is_form;
 use crate::lists::{ListRead, read_list};
 use crate::setup::{Checkpoint, Checkpoints, Tracked};
 use crate::tracked_list::TrackedList;
-use crate::values::values_of;
+use base_types::json::Tree;
 use base_types::{OutOfMemory, Revision, Text};
-use packed_tree::PackedRef;
 use std::alloc::Global;
 
 /// The most checkpoints that a setup may have.
@@ -23,7 +22,7 @@ fn is_whole_at(start: Revision, list: &ListRead) -> bool
 }
 
 // Whether a list is one that a checkpoint may have.
-fn is_fit(namespace: &str, tracked: &Tracked, start: Revision, list: &ListRead) -> bool
+fn is_fit(namespace: &Text, tracked: &Tracked, start: Revision, list: &ListRead) -> bool
     ensures { result ≡ ((is_no_text namespace.now || tracked.now.namespaced) && is_whole_at start list.now) }
 {
     (namespace.is_empty() || tracked.namespaced) && is_whole_at(start, list)
@@ -74,9 +73,9 @@ fn name_of(alloc: Global, number: usize) -> Result<Text, OutOfMemory>
 fn label_of(
     alloc: Global,
     number: usize,
-    group: &str,
-    resource: &str,
-    namespace: &str,
+    group: &Text,
+    resource: &Text,
+    namespace: &Text,
 ) -> Result<Label, OutOfMemory>
     ensures { IfOk result (λ label. label ≡ record {
       name = codes "checkpoint:" ++ decimal number;
@@ -87,9 +86,9 @@ fn label_of(
 {
     Ok(Label {
         name: name_of(alloc, number)?,
-        group: Text::from_str(alloc, group)?,
-        resource: Text::from_str(alloc, resource)?,
-        namespace: Text::from_str(alloc, namespace)?,
+        group: group.clone()?,
+        resource: resource.clone()?,
+        namespace: namespace.clone()?,
     })
 }
 
@@ -98,13 +97,12 @@ fn read_fit_list(
     alloc: Global,
     start: Revision,
     tracked: &Tracked,
-    namespace: &str,
-    value: &PackedRef<'_>,
+    namespace: &Text,
+    tree: &Tree,
 ) -> Result<Option<ListRead>, OutOfMemory>
-    ensures { IfOk result (λ found. found ≡ fit_list_of start tracked.now namespace.now value.now) }
+    ensures { IfOk result (λ found. found ≡ fit_list_of start tracked.now namespace.now tree.now) }
 {
-    let under = Text::from_str(alloc, namespace)?;
-    let Some(list) = read_list(alloc, tracked, &Text::new(alloc), &under, value)? else {
+    let Some(list) = read_list(alloc, tracked, &Text::new(alloc), namespace, tree)? else {
         return Ok(None);
     };
     if !is_fit(namespace, tracked, start, &list) {
@@ -118,29 +116,29 @@ fn read_checkpoint(
     start: Revision,
     resources: &TrackedList,
     number: usize,
-    value: &PackedRef<'_>,
+    tree: &Tree,
 ) -> Result<Option<Checkpoint>, OutOfMemory>
-    ensures { IfOk result (λ found. found ≡ checkpoint_of start resources.now number value.now) }
+    ensures { IfOk result (λ found. found ≡ checkpoint_of start resources.now number tree.now) }
 {
-    if !is_form(&["group", "resource", "namespace", "list"], value) {
+    if !is_form(&["group", "resource", "namespace", "list"], tree) {
         return Ok(None);
     }
-    let Some(group) = value.text_at("group") else {
+    let Some(group) = tree.text_at("group") else {
         return Ok(None);
     };
-    let Some(resource) = value.text_at("resource") else {
+    let Some(resource) = tree.text_at("resource") else {
         return Ok(None);
     };
-    let Some(namespace) = value.text_at("namespace") else {
+    let Some(namespace) = tree.text_at("namespace") else {
         return Ok(None);
     };
-    let Some(tracked) = resources.find_named(alloc, group, resource)? else {
+    let Some(tracked) = resources.find(group, resource) else {
         return Ok(None);
     };
-    let Some(member) = value.member("list") else {
+    let Some(value) = tree.member("list") else {
         return Ok(None);
     };
-    let Some(list) = read_fit_list(alloc, start, tracked, namespace, &member)? else {
+    let Some(list) = read_fit_list(alloc, start, tracked, namespace, value)? else {
         return Ok(None);
     };
     let label = label_of(alloc, number, group, resource, namespace)?;
@@ -151,14 +149,14 @@ fn read_entries(
     alloc: Global,
     start: Revision,
     resources: &TrackedList,
-    values: &[PackedRef<'_>],
+    trees: &[Tree],
 ) -> Result<Option<Checkpoints>, OutOfMemory>
-    requires { length values.now ≤ 10_000 }
-    ensures { IfOk result (λ found. found ≡ checkpoints_from start resources.now 1 values.now) }
+    requires { length trees.now ≤ 10_000 }
+    ensures { IfOk result (λ found. found ≡ checkpoints_from start resources.now 1 trees.now) }
 {
     let mut checkpoints = Checkpoints::new(alloc);
-    for (i, value) in values.iter().enumerate() {
-        let Some(checkpoint) = read_checkpoint(alloc, start, resources, i + 1, value)? else {
+    for (i, tree) in trees.iter().enumerate() {
+        let Some(checkpoint) = read_checkpoint(alloc, start, resources, i + 1, tree)? else {
             return Ok(None);
         };
         checkpoints.push(checkpoint)?;
@@ -172,19 +170,19 @@ pub fn read_checkpoints(
     alloc: Global,
     start: Revision,
     resources: &TrackedList,
-    member: Option<PackedRef<'_>>,
+    member: Option<&Tree>,
 ) -> Result<Option<Checkpoints>, OutOfMemory>
-    ensures { IfOk result (λ found. found ≡ checkpoints_of start resources.now member.entry) }
+    ensures { IfOk result (λ found. found ≡ checkpoints_of start resources.now
+        (option_map (λ tree. tree.now) member.entry)) }
 {
-    let Some(member) = member else {
+    let Some(list) = member else {
         return Ok(Some(Checkpoints::new(alloc)));
     };
-    let Some(list) = member.as_items() else {
+    let Some(trees) = list.as_items() else {
         return Ok(None);
     };
-    let values = values_of(alloc, list)?;
-    if values.len() > MOST_CHECKPOINTS {
+    if trees.all.len() > MOST_CHECKPOINTS {
         return Ok(None);
     }
-    read_entries(alloc, start, resources, &values)
+    read_entries(alloc, start, resources, trees.all.as_slice())
 }

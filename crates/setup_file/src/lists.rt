@@ -4,9 +4,8 @@ ghost use Rattle.setup_file.specs.Lists.{objects_in, is_blank, goes_on, list_wit
 
 use crate::objects::{has_text_at, read_object};
 use crate::setup::{Snapshot, Tracked};
-use crate::values::values_or_none;
+use base_types::json::Tree;
 use base_types::{OutOfMemory, Revision, Text};
-use packed_tree::PackedRef;
 use std::alloc::Global;
 
 /// A list of objects as it was answered, whole or a page of it.
@@ -24,13 +23,13 @@ fn read_objects(
     tracked: &Tracked,
     name: &Text,
     namespace: &Text,
-    values: &[PackedRef<'_>],
+    trees: &[Tree],
 ) -> Result<Option<Snapshot>, OutOfMemory>
-    ensures { IfOk result (λ found. found ≡ objects_in tracked.now name.now namespace.now values.now) }
+    ensures { IfOk result (λ found. found ≡ objects_in tracked.now name.now namespace.now trees.now) }
 {
     let mut objects = Snapshot::new(alloc);
-    for value in values {
-        let Some(object) = read_object(alloc, tracked, name, namespace, value)? else {
+    for tree in trees {
+        let Some(object) = read_object(alloc, tracked, name, namespace, tree)? else {
             return Ok(None);
         };
         objects.push(object)?;
@@ -38,7 +37,7 @@ fn read_objects(
     Ok(Some(objects))
 }
 
-fn is_blank(text: Option<&str>) -> bool
+fn is_blank(text: Option<&Text>) -> bool
     ensures { result ≡ is_blank (option_map (λ text. text.now) text.entry) }
 {
     match text {
@@ -47,12 +46,12 @@ fn is_blank(text: Option<&str>) -> bool
     }
 }
 
-fn goes_on(member: Option<PackedRef<'_>>) -> bool
-    ensures { result ≡ goes_on member.entry }
+fn goes_on(member: Option<&Tree>) -> bool
+    ensures { result ≡ goes_on (option_map (λ tree. tree.now) member.entry) }
 {
     match member {
         None => false,
-        Some(value) => !value.is_null() && !is_blank(value.as_text()),
+        Some(tree) => !tree.is_null() && !is_blank(tree.as_text()),
     }
 }
 
@@ -61,18 +60,18 @@ fn list_with(
     tracked: &Tracked,
     name: &Text,
     namespace: &Text,
-    metadata: &PackedRef<'_>,
-    value: &PackedRef<'_>,
+    metadata: &Tree,
+    tree: &Tree,
 ) -> Result<Option<ListRead>, OutOfMemory>
-    ensures { IfOk result (λ found. found ≡ list_with tracked.now name.now namespace.now metadata.now value.now) }
+    ensures { IfOk result (λ found. found ≡ list_with tracked.now name.now namespace.now metadata.now tree.now) }
 {
     let Some(revision) = metadata.revision_at("resourceVersion") else {
         return Ok(None);
     };
-    let Some(values) = values_or_none(alloc, value.member("items"))? else {
+    let Some(trees) = tree.items_at("items") else {
         return Ok(None);
     };
-    let Some(items) = read_objects(alloc, tracked, name, namespace, &values)? else {
+    let Some(items) = read_objects(alloc, tracked, name, namespace, trees)? else {
         return Ok(None);
     };
     let rest = goes_on(metadata.member("continue"));
@@ -83,7 +82,7 @@ fn list_with(
     }))
 }
 
-/// Reads the answer to a list request (Kubernetes API concepts, "Collections") that a value is, under a
+/// Reads the answer to a list request (Kubernetes API concepts, "Collections") that a tree is, under a
 /// path with this name and namespace, of which an empty text is none. Each item is an object of the
 /// resource.
 pub fn read_list(
@@ -91,15 +90,15 @@ pub fn read_list(
     tracked: &Tracked,
     name: &Text,
     namespace: &Text,
-    value: &PackedRef<'_>,
+    tree: &Tree,
 ) -> Result<Option<ListRead>, OutOfMemory>
-    ensures { IfOk result (λ found. found ≡ list_of tracked.now name.now namespace.now value.now) }
+    ensures { IfOk result (λ found. found ≡ list_of tracked.now name.now namespace.now tree.now) }
 {
-    let Some(metadata) = value.member("metadata") else {
+    let Some(metadata) = tree.member("metadata") else {
         return Ok(None);
     };
-    if !has_text_at(value, "kind", tracked.list_kind.as_str()) {
+    if !has_text_at(tree, "kind", tracked.list_kind.as_str()) {
         return Ok(None);
     }
-    list_with(alloc, tracked, name, namespace, &metadata, value)
+    list_with(alloc, tracked, name, namespace, metadata, tree)
 }

@@ -15,10 +15,9 @@ use crate::form::is_form;
 use crate::setup::{Subresources, Tracked};
 use crate::subresources::subresources_or_none;
 use crate::tracked_list::TrackedList;
-use crate::values::{flag_of, values_of};
+use base_types::json::Tree;
 use base_types::{Listed, OutOfMemory, Text};
 use hash_seed::Seed;
-use packed_tree::PackedRef;
 use path_shape::{FieldClass, Shape, ShapeEntries, ShapeFault};
 use std::alloc::Global;
 
@@ -107,29 +106,27 @@ fn merges_as(name: &str) -> Option<bool>
     }
 }
 
-fn merges_of(member: Option<PackedRef<'_>>) -> Option<bool>
-    ensures { result ≡ merges_of member.entry }
+fn merges_of(member: Option<&Tree>) -> Option<bool>
+    ensures { result ≡ merges_of (option_map (λ tree. tree.now) member.entry) }
 {
     match member {
-        Some(value) => merges_as(value.as_text()?),
+        Some(tree) => merges_as(tree.as_text()?.as_str()),
         None => Some(false),
     }
 }
 
-fn namespaced_of(value: &PackedRef<'_>) -> Option<bool>
-    ensures { result ≡ option_and_then flag_of (member_of (codes "namespaced") value.now) }
+fn namespaced_of(tree: &Tree) -> Option<bool>
+    ensures { result ≡ option_and_then flag_of (member_of (codes "namespaced") tree.now) }
 {
-    let member = value.member("namespaced")?;
-    flag_of(&member)
+    tree.member("namespaced")?.as_flag()
 }
 
 fn entry_with(
-    alloc: Global,
-    group: &str,
-    version: &str,
-    resource: &str,
-    kind: &str,
-    list_kind: &str,
+    group: &Text,
+    version: &Text,
+    resource: &Text,
+    kind: &Text,
+    list_kind: &Text,
     namespaced: bool,
     merges: bool,
 ) -> Result<Entry, OutOfMemory>
@@ -144,56 +141,56 @@ fn entry_with(
     }) }
 {
     Ok(Entry {
-        group: Text::from_str(alloc, group)?,
-        version: Text::from_str(alloc, version)?,
-        resource: Text::from_str(alloc, resource)?,
-        kind: Text::from_str(alloc, kind)?,
-        list_kind: Text::from_str(alloc, list_kind)?,
+        group: group.clone()?,
+        version: version.clone()?,
+        resource: resource.clone()?,
+        kind: kind.clone()?,
+        list_kind: list_kind.clone()?,
         namespaced,
         merges,
     })
 }
 
-fn read_entry(alloc: Global, value: &PackedRef<'_>) -> Result<Option<Entry>, OutOfMemory>
-    ensures entry { IfOk result (λ found. found ≡ entry_of value.now) }
-    ensures memory { OnErr result (IsSome (entry_of value.now)) }
+fn read_entry(tree: &Tree) -> Result<Option<Entry>, OutOfMemory>
+    ensures entry { IfOk result (λ found. found ≡ entry_of tree.now) }
+    ensures memory { OnErr result (IsSome (entry_of tree.now)) }
 {
-    if !is_form(&ENTRY_MEMBERS, value) {
+    if !is_form(&ENTRY_MEMBERS, tree) {
         return Ok(None);
     }
-    let Some(group) = value.text_at("group") else {
+    let Some(group) = tree.text_at("group") else {
         return Ok(None);
     };
-    let Some(version) = value.filled_at("version") else {
+    let Some(version) = tree.filled_at("version") else {
         return Ok(None);
     };
-    let Some(resource) = value.filled_at("resource") else {
+    let Some(resource) = tree.filled_at("resource") else {
         return Ok(None);
     };
-    let Some(kind) = value.filled_at("kind") else {
+    let Some(kind) = tree.filled_at("kind") else {
         return Ok(None);
     };
-    let Some(list_kind) = value.filled_at("listKind") else {
+    let Some(list_kind) = tree.filled_at("listKind") else {
         return Ok(None);
     };
-    let Some(namespaced) = namespaced_of(value) else {
+    let Some(namespaced) = namespaced_of(tree) else {
         return Ok(None);
     };
-    let Some(merges) = merges_of(value.member("objectPatch")) else {
+    let Some(merges) = merges_of(tree.member("objectPatch")) else {
         return Ok(None);
     };
     let entry = entry_with(
-        alloc, group, version, resource, kind, list_kind, namespaced, merges,
+        group, version, resource, kind, list_kind, namespaced, merges,
     )?;
     Ok(Some(entry))
 }
 
-fn read_entries(alloc: Global, values: &[PackedRef<'_>]) -> Result<Option<Vec<Entry>>, OutOfMemory>
-    ensures { IfOk result (λ found. option_map (λ entries. entries.items) found ≡ entries_in values.now) }
+fn read_entries(alloc: Global, trees: &[Tree]) -> Result<Option<Vec<Entry>>, OutOfMemory>
+    ensures { IfOk result (λ found. option_map (λ entries. entries.items) found ≡ entries_in trees.now) }
 {
     let mut entries = Vec::new(alloc);
-    for value in values {
-        let Some(entry) = read_entry(alloc, value)? else {
+    for tree in trees {
+        let Some(entry) = read_entry(tree)? else {
             return Ok(None);
         };
         entries.push(entry)?;
@@ -235,14 +232,10 @@ fn are_apart(alloc: Global, entries: &[Entry], seed: Seed) -> Result<bool, OutOf
 }
 
 // Whether the entries are apart, where each is in its form.
-fn are_entries_apart(
-    alloc: Global,
-    values: &[PackedRef<'_>],
-    seed: Seed,
-) -> Result<Option<bool>, OutOfMemory>
-    ensures { IfOk result (λ apart. apart ≡ option_map are_apart (entries_in values.now)) }
+fn are_entries_apart(alloc: Global, trees: &[Tree], seed: Seed) -> Result<Option<bool>, OutOfMemory>
+    ensures { IfOk result (λ apart. apart ≡ option_map are_apart (entries_in trees.now)) }
 {
-    let Some(entries) = read_entries(alloc, values)? else {
+    let Some(entries) = read_entries(alloc, trees)? else {
         return Ok(None);
     };
     Ok(Some(are_apart(alloc, &entries, seed)?))
@@ -264,56 +257,47 @@ fn formed(read: Result<Shape, ShapeFault>) -> Result<Option<Shape>, OutOfMemory>
 fn shape_or_root(
     alloc: Global,
     root: FieldClass,
-    member: Option<PackedRef<'_>>,
+    member: Option<&Tree>,
 ) -> Result<Option<Shape>, OutOfMemory>
-    ensures shape { IfOk result (λ found. found ≡ shape_or_root root member.entry) }
-    ensures memory { OnErr result (IsSome member.entry) }
+    ensures shape { IfOk result (λ found. found ≡ shape_or_root root (option_map (λ tree. tree.now) member.entry)) }
+    ensures memory { OnErr result (IsSome (option_map (λ tree. tree.now) member.entry)) }
 {
-    let Some(member) = member else {
+    let Some(list) = member else {
         let entries = ShapeEntries::new(alloc);
         return Ok(Some(Shape { root, entries }));
     };
-    let list = member.tree(alloc)?;
-    formed(Shape::read(alloc, &list, root))
+    formed(Shape::read(alloc, list, root))
 }
 
-pub fn shape_at(
-    alloc: Global,
-    root: FieldClass,
-    value: &PackedRef<'_>,
-) -> Result<Option<Shape>, OutOfMemory>
-    ensures shape { IfOk result (λ found. found ≡ shape_at root value.now) }
-    ensures memory { OnErr result (IsSome (member_of (codes "shapes") value.now)) }
+pub fn shape_at(alloc: Global, root: FieldClass, tree: &Tree) -> Result<Option<Shape>, OutOfMemory>
+    ensures shape { IfOk result (λ found. found ≡ shape_at root tree.now) }
+    ensures memory { OnErr result (IsSome (member_of (codes "shapes") tree.now)) }
 {
-    shape_or_root(alloc, root, value.member("shapes"))
+    shape_or_root(alloc, root, tree.member("shapes"))
 }
 
 // Whether the shape of each entry is in its form.
-fn have_shapes(alloc: Global, values: &[PackedRef<'_>]) -> Result<bool, OutOfMemory>
-    ensures { IfOk result (λ have. have ≡ list_all has_shape values.now) }
+fn have_shapes(alloc: Global, trees: &[Tree]) -> Result<bool, OutOfMemory>
+    ensures { IfOk result (λ have. have ≡ list_all has_shape trees.now) }
 {
-    for value in values {
-        if shape_at(alloc, FieldClass::Asked, value)?.is_none() {
+    for tree in trees {
+        if shape_at(alloc, FieldClass::Asked, tree)?.is_none() {
             return Ok(false);
         }
     }
     Ok(true)
 }
 
-fn read_tracked(
-    alloc: Global,
-    value: &PackedRef<'_>,
-    seed: Seed,
-) -> Result<Option<Tracked>, OutOfMemory>
-    ensures { IfOk result (λ found. found ≡ tracked_of value.now) }
+fn read_tracked(alloc: Global, tree: &Tree, seed: Seed) -> Result<Option<Tracked>, OutOfMemory>
+    ensures { IfOk result (λ found. found ≡ tracked_of tree.now) }
 {
-    let Some(entry) = read_entry(alloc, value)? else {
+    let Some(entry) = read_entry(tree)? else {
         return Ok(None);
     };
-    let Some(shape) = shape_at(alloc, FieldClass::Asked, value)? else {
+    let Some(shape) = shape_at(alloc, FieldClass::Asked, tree)? else {
         return Ok(None);
     };
-    let Some(subresources) = subresources_or_none(alloc, value.member("subresources"), seed)? else {
+    let Some(subresources) = subresources_or_none(alloc, tree.member("subresources"), seed)? else {
         return Ok(None);
     };
     Ok(Some(entry.into_tracked(shape, subresources)))
@@ -321,14 +305,14 @@ fn read_tracked(
 
 fn read_all_tracked(
     alloc: Global,
-    values: &[PackedRef<'_>],
+    trees: &[Tree],
     seed: Seed,
 ) -> Result<Option<Listed<Tracked>>, OutOfMemory>
-    ensures { IfOk result (λ found. found ≡ tracked_in values.now) }
+    ensures { IfOk result (λ found. found ≡ tracked_in trees.now) }
 {
     let mut resources = Listed::new(alloc);
-    for value in values {
-        let Some(tracked) = read_tracked(alloc, value, seed)? else {
+    for tree in trees {
+        let Some(tracked) = read_tracked(alloc, tree, seed)? else {
             return Ok(None);
         };
         resources.push(tracked)?;
@@ -337,33 +321,26 @@ fn read_all_tracked(
 }
 
 /// The resources of a setup. All entries are in their form before any two are compared, and so on.
-pub fn read_resources(
-    alloc: Global,
-    value: &PackedRef<'_>,
-    seed: Seed,
-) -> Result<TrackedList, SetupFault>
-    ensures resources { IfOk result (λ resources. resources_at value.now ≡ Ok resources) }
-    ensures cause { IfErr result (IsCause (resources_at value.now)) }
+pub fn read_resources(alloc: Global, tree: &Tree, seed: Seed) -> Result<TrackedList, SetupFault>
+    ensures resources { IfOk result (λ resources. resources_at tree.now ≡ Ok resources) }
+    ensures cause { IfErr result (IsCause (resources_at tree.now)) }
     ensures memory { result ≡ Err SetupFault.OutOfMemory → IsSome (option_and_then items_of (member_of
-        (codes "resources") value.now)) }
+        (codes "resources") tree.now)) }
 {
-    let Some(member) = value.member("resources") else {
+    let Some(list) = tree.member("resources").and_then(Tree::as_items) else {
         return Err(SetupFault::Rule(SetupRule::S8));
     };
-    let Some(list) = member.as_items() else {
-        return Err(SetupFault::Rule(SetupRule::S8));
-    };
-    let values = values_of(alloc, list)?;
-    let Some(apart) = are_entries_apart(alloc, &values, seed)? else {
+    let trees = list.all.as_slice();
+    let Some(apart) = are_entries_apart(alloc, trees, seed)? else {
         return Err(SetupFault::Rule(SetupRule::S8));
     };
     if !apart {
         return Err(SetupFault::Rule(SetupRule::S9));
     }
-    if !have_shapes(alloc, &values)? {
+    if !have_shapes(alloc, trees)? {
         return Err(SetupFault::Rule(SetupRule::S10));
     }
-    match read_all_tracked(alloc, &values, seed)? {
+    match read_all_tracked(alloc, trees, seed)? {
         Some(resources) => Ok(TrackedList::of(alloc, resources.into_vec())?),
         None => Err(SetupFault::Rule(SetupRule::S11)),
     }

@@ -12,18 +12,17 @@ use crate::form::is_form;
 use crate::objects::{has_no, has_text_at, object_with};
 use crate::setup::{Snapshot, SnapshotObject, Tracked};
 use crate::tracked_list::TrackedList;
-use crate::values::values_of;
+use base_types::json::Tree;
 use base_types::{OutOfMemory, Revision};
 use hash_seed::Seed;
-use packed_tree::PackedRef;
 use std::alloc::Global;
 
 // The namespace of an object: one of a namespaced resource has one, and one of a cluster-wide resource none.
-fn own_namespace<'a>(tracked: &Tracked, metadata: &PackedRef<'a>) -> Option<&'a str>
+fn own_namespace<'a>(tracked: &Tracked, metadata: &'a Tree) -> Option<&'a str>
     ensures { option_map (λ text. text.now) result ≡ own_namespace tracked.now metadata.now }
 {
     if tracked.namespaced {
-        return metadata.filled_at("namespace");
+        return Some(metadata.filled_at("namespace")?.as_str());
     }
     match metadata.filled_at("namespace") {
         Some(_) => None,
@@ -32,20 +31,20 @@ fn own_namespace<'a>(tracked: &Tracked, metadata: &PackedRef<'a>) -> Option<&'a 
 }
 
 // `kind` may be absent.
-fn may_be_kind(tracked: &Tracked, value: &PackedRef<'_>) -> bool
-    ensures { result ≡ may_be_kind tracked.now value.now }
+fn may_be_kind(tracked: &Tracked, tree: &Tree) -> bool
+    ensures { result ≡ may_be_kind tracked.now tree.now }
 {
-    has_no(value, "kind") || has_text_at(value, "kind", tracked.kind.as_str())
+    has_no(tree, "kind") || has_text_at(tree, "kind", tracked.kind.as_str())
 }
 
 fn read_object(
     alloc: Global,
     tracked: &Tracked,
-    value: &PackedRef<'_>,
+    tree: &Tree,
 ) -> Result<Option<SnapshotObject>, OutOfMemory>
-    ensures { IfOk result (λ found. found ≡ snapshot_object_of tracked.now value.now) }
+    ensures { IfOk result (λ found. found ≡ snapshot_object_of tracked.now tree.now) }
 {
-    let Some(metadata) = value.member("metadata") else {
+    let Some(metadata) = tree.member("metadata") else {
         return Ok(None);
     };
     let Some(name) = metadata.filled_at("name") else {
@@ -57,51 +56,51 @@ fn read_object(
     let Some(revision) = metadata.revision_at("resourceVersion") else {
         return Ok(None);
     };
-    let Some(namespace) = own_namespace(tracked, &metadata) else {
+    let Some(namespace) = own_namespace(tracked, metadata) else {
         return Ok(None);
     };
-    if !may_be_kind(tracked, value) {
+    if !may_be_kind(tracked, tree) {
         return Ok(None);
     }
-    let object = object_with(alloc, tracked, namespace, name, uid, revision, value)?;
+    let object = object_with(alloc, tracked, namespace, name, uid, revision, tree)?;
     Ok(Some(object))
 }
 
 fn read_entry(
     alloc: Global,
     resources: &TrackedList,
-    value: &PackedRef<'_>,
+    tree: &Tree,
 ) -> Result<Option<SnapshotObject>, OutOfMemory>
-    ensures { IfOk result (λ found. found ≡ snapshot_entry_of resources.now value.now) }
+    ensures { IfOk result (λ found. found ≡ snapshot_entry_of resources.now tree.now) }
 {
-    if !is_form(&["group", "resource", "object"], value) {
+    if !is_form(&["group", "resource", "object"], tree) {
         return Ok(None);
     }
-    let Some(group) = value.text_at("group") else {
+    let Some(group) = tree.text_at("group") else {
         return Ok(None);
     };
-    let Some(resource) = value.text_at("resource") else {
+    let Some(resource) = tree.text_at("resource") else {
         return Ok(None);
     };
-    let Some(tracked) = resources.find_named(alloc, group, resource)? else {
+    let Some(tracked) = resources.find(group, resource) else {
         return Ok(None);
     };
-    let Some(object) = value.member("object") else {
+    let Some(object) = tree.member("object") else {
         return Ok(None);
     };
-    read_object(alloc, tracked, &object)
+    read_object(alloc, tracked, object)
 }
 
 fn read_entries(
     alloc: Global,
     resources: &TrackedList,
-    values: &[PackedRef<'_>],
+    trees: &[Tree],
 ) -> Result<Option<Snapshot>, OutOfMemory>
-    ensures { IfOk result (λ found. found ≡ snapshot_in resources.now values.now) }
+    ensures { IfOk result (λ found. found ≡ snapshot_in resources.now trees.now) }
 {
     let mut objects = Snapshot::new(alloc);
-    for value in values {
-        let Some(object) = read_entry(alloc, resources, value)? else {
+    for tree in trees {
+        let Some(object) = read_entry(alloc, resources, tree)? else {
             return Ok(None);
         };
         objects.push(object)?;
@@ -179,20 +178,16 @@ pub fn read_snapshot(
     alloc: Global,
     start: Revision,
     resources: &TrackedList,
-    value: &PackedRef<'_>,
+    tree: &Tree,
     seed: Seed,
 ) -> Result<Snapshot, SetupFault>
-    ensures snapshot { IfOk result (λ snapshot. snapshot_at start resources.now value.now ≡ Ok snapshot) }
-    ensures cause { IfErr result (IsCause (snapshot_at start resources.now value.now)) }
+    ensures snapshot { IfOk result (λ snapshot. snapshot_at start resources.now tree.now ≡ Ok snapshot) }
+    ensures cause { IfErr result (IsCause (snapshot_at start resources.now tree.now)) }
 {
-    let Some(member) = value.member("snapshot") else {
+    let Some(list) = tree.member("snapshot").and_then(Tree::as_items) else {
         return Err(SetupFault::Rule(SetupRule::S12));
     };
-    let Some(list) = member.as_items() else {
-        return Err(SetupFault::Rule(SetupRule::S12));
-    };
-    let values = values_of(alloc, list)?;
-    let Some(objects) = read_entries(alloc, resources, &values)? else {
+    let Some(objects) = read_entries(alloc, resources, list.all.as_slice())? else {
         return Err(SetupFault::Rule(SetupRule::S12));
     };
     if !are_at_start(alloc, start, objects.as_slice(), seed)? {

@@ -1,6 +1,6 @@
 ghost use Rattle.std.specs.Prelude.{◌<◌, IfSome, length};
 
-use crate::reading::{check, is_tree, packed, read};
+use crate::reading::{check, is_tree, read};
 use base_types::Text;
 use base_types::json::read_pointer;
 use hash_seed::Seed;
@@ -25,9 +25,9 @@ fn intern(
     interner: &mut Interner,
     text: &str,
 ) -> Result<NodeId, PoolFault> {
-    let value = packed(rt, text);
-    let interned = interner.intern(&value.root());
-    drop(value);
+    let tree = read(rt, text);
+    let interned = interner.intern(&tree);
+    drop(tree);
     interned
 }
 
@@ -51,11 +51,11 @@ fn intern_like(
     like: &str,
     text: &str,
 ) -> Result<NodeId, PoolFault> {
-    let value = packed(rt, text);
+    let tree = read(rt, text);
     let like = Text::from_str(rt.alloc(), like).expect(rt, "memory");
-    let interned = interner.intern_like(&like, &value.root());
+    let interned = interner.intern_like(&like, &tree);
     drop(like);
-    drop(value);
+    drop(tree);
     interned
 }
 
