@@ -1,11 +1,11 @@
 -- The first rule that a value breaks, rule after rule.
-use Rattle.std.proofs.Common.{◌≡◌, ℕ, ◌+◌, ◌<◌, ◌≤◌, Bool, true, List, Option, Some, IsSome, refl, sym, ap, subst, ◌∙◌, ◌⊎◌, inl, inr, ◌==◌, if◌then◌else◌, arith, rules}
+use Rattle.std.proofs.Common.{◌≡◌, ℕ, ◌+◌, ◌<◌, ◌≤◌, Bool, true, List, Option, Some, IsSome, refl, sym, ap, subst, ◌∙◌, inl, inr, ◌==◌, if◌then◌else◌, arith, rules}
 use Rattle.std.proofs.Math.Nat.{eq-or-lt_of_le}
 use Rattle.std.proofs.lemmas.Bool.{cases_lt}
 use Rattle.serde_json.specs.Data.{Data}
 use Rattle.request_attrs.specs.declared.fault.UriFault.{UriFault}
 use Rattle.request_attrs.specs.declared.fault.UriFault.TheVariants.{NoSlash, BadEscape, NotText, OutOfMemory}
-use Rattle.request_attrs.specs.Refusals.{IsReadable, IsCause}
+use Rattle.request_attrs.specs.Refusals.{IsCause}
 use Rattle.audit_event.specs.declared.fault.Malformed.{Malformed}
 use Rattle.audit_event.specs.declared.fault.Malformed.TheVariants.{M1, M2, M3, M4, M5, M6, M7, M8, M9, M10, M11, M12}
 use Rattle.audit_event.specs.declared.fault.EventFault.{EventFault}

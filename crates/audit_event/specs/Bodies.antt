@@ -1,5 +1,5 @@
 -- What an event records of a request's and a response's object.
-use Rattle.std.specs.Prelude.{ℕ, Bool, true, false, List, Option, Some, None, codes}
+use Rattle.std.specs.Prelude.{Bool, true, false, Option, Some, None, codes}
 use Rattle.serde_json.specs.Data.{Data}
 use Rattle.base_types.specs.Meaning.{Meaning}
 use Rattle.base_types.specs.Values.{of_data, InRange}

@@ -1,5 +1,5 @@
 -- How a request was answered (Kubernetes `audit.k8s.io/v1`, Event: `responseStatus`; `meta/v1`, Status).
-use Rattle.std.specs.Prelude.{ℕ, ◌==◌, ◌&&◌, Bool, List, Option, Some, None, option_and_then, nat_le, bytes_eq, codes, if◌then◌else◌}
+use Rattle.std.specs.Prelude.{ℕ, ◌==◌, ◌&&◌, Bool, Option, Some, None, option_and_then, nat_le, bytes_eq, codes, if◌then◌else◌}
 use Rattle.serde_json.specs.Data.{Data}
 use Rattle.serde_json.specs.Find.{get, as_number, as_u64, as_object}
 use Rattle.base_types.specs.Texts.{◌>>=◌}

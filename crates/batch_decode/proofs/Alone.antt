@@ -1,6 +1,6 @@
 -- A line decodes in one way: its value is one, each event is that of its value, and the first broken value stops them.
-use Rattle.std.proofs.Common.{◌≡◌, ◌≢◌, ℕ, zero, suc, ◌+◌, ◌<◌, ◌≤◌, ◌⊎◌, inl, inr, ⊎_elim, Bool, true, List, [], ◌∷◌, length, max, Option, Some, None, slice_get, refl, sym, ap, ◌∙◌, subst, arith}
-use Rattle.std.specs.Prelude.{IsSome, IfSome, IfNone, is_some, ◌==◌, if◌then◌else◌}
+use Rattle.std.proofs.Common.{◌≡◌, ℕ, zero, suc, ◌<◌, ◌≤◌, ◌⊎◌, inl, inr, ⊎_elim, Bool, List, [], ◌∷◌, length, Option, Some, None, slice_get, refl, sym, ap, ◌∙◌, subst, arith}
+use Rattle.std.specs.Prelude.{IsSome, is_some, ◌==◌, if◌then◌else◌}
 use Rattle.std.proofs.lemmas.Bool.{cases_lt}
 use Rattle.std.proofs.lemmas.Option.{same_Some, slice_get_within}
 use Rattle.base_types.specs.declared.request.RequestAttrs.{RequestAttrs}
@@ -8,10 +8,10 @@ use Rattle.serde_json.specs.Data.{Data}
 use Rattle.audit_event.specs.declared.event.Event.{Event}
 use Rattle.audit_event.specs.declared.fault.Malformed.{Malformed}
 use Rattle.audit_event.specs.declared.fault.Malformed.TheVariants.{M1, M2, M3, M4, M5, M6, M7, M8, M9, M10, M11, M12}
-use Rattle.audit_event.specs.Events.{HasFieldsOf, IsEventOf, IsJson, IsRequestOf, IsValueOf}
-use Rattle.audit_event.specs.Rules.{BreaksFrom, IsFirstBroken, Keeps, rank}
+use Rattle.audit_event.specs.Events.{HasFieldsOf, IsEventOf, IsRequestOf, IsValueOf}
+use Rattle.audit_event.specs.Rules.{IsFirstBroken, Keeps, rank}
 use Rattle.audit_event.specs.Statuses.{status_in}
-use Rattle.batch_decode.specs.Batches.{AreEventsOf, Decodes, DecodesValue, DecodesValues, IsDecoded, IsFaultBehind, not_json}
+use Rattle.batch_decode.specs.Batches.{AreEventsOf, Decodes, DecodesValue, DecodesValues, IsDecoded, IsFaultBehind}
 use Rattle.batch_decode.specs.Lists.{heading_of, list_items, values_of}
 use Rattle.batch_decode.specs.declared.decoded.Decoded.{Decoded}
 use Rattle.batch_decode.specs.declared.decoded.ItemFault.{ItemFault}

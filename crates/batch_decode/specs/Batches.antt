@@ -1,5 +1,5 @@
 -- The events of a line and how many numbers of the log it takes, one line after another.
-use Rattle.std.specs.Prelude.{◌≡◌, ℕ, ◌≤◌, ◌<◌, max, Bool, List, [], length, Option, Some, None, IfSome, IfNone, All, slice_get, ◌⊎◌}
+use Rattle.std.specs.Prelude.{◌≡◌, ℕ, ◌≤◌, ◌<◌, max, Bool, List, [], length, Option, Some, IfSome, IfNone, All, slice_get, ◌⊎◌}
 use Rattle.serde_json.specs.Data.{Data}
 use Rattle.line_reader.specs.declared.line.Line.{Line}
 use Rattle.audit_event.specs.declared.event.Event.{Event}

@@ -1,5 +1,5 @@
 -- The places at which a decision could be given, as contexts and as claims say them.
-use Rattle.std.proofs.Common.{◌≡◌, ℕ, Bool, Option}
+use Rattle.std.proofs.Common.{ℕ, Bool, Option}
 use Rattle.std.specs.Prelude.{IfSome, IfNone}
 use Rattle.base_types.specs.PlaceOrder.{AreLeastPlaces}
 use Rattle.base_types.specs.declared.placed.Places.{Places}

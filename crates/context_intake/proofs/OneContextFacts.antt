@@ -1,5 +1,5 @@
 -- The bytes of a setup and a log are refused in one way, or tell one history.
-use Rattle.std.proofs.Common.{◌≡◌, ◌<◌, ◌≤◌, ℕ, List, Ok, Err, length, refl, sym, ◌∙◌, ap, subst, arith}
+use Rattle.std.proofs.Common.{◌≡◌, ◌≤◌, ℕ, List, Ok, Err, length, sym, ◌∙◌, subst, arith}
 use Rattle.audit_event.specs.declared.event.Event.{Event}
 use Rattle.log_intake.specs.declared.stop.LogStop.{LogStop}
 use Rattle.log_intake.specs.declared.stop.LogStop.TheVariants as log_stop

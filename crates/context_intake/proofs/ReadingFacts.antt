@@ -22,7 +22,7 @@ use Rattle.version_store.specs.Told.{IsTold}
 use Rattle.version_store.specs.declared.log.fault.BuildFault.{BuildFault}
 use Rattle.version_store.specs.declared.log.fault.BuildFault.TheVariants as build_fault
 use Rattle.context_intake.specs.Built.{IsBuiltAs}
-use Rattle.context_intake.specs.Contexts.{IsFoundIn, IsRefused, IsToldBy, RefusesNothing, most_nodes, of_log, of_pool, of_setup, with_chains}
+use Rattle.context_intake.specs.Contexts.{IsFoundIn, IsToldBy, RefusesNothing, most_nodes, of_log, of_pool, of_setup, with_chains}
 use Rattle.context_intake.specs.Refusals.{IsSetupStopOf, IsStopOf}
 use Rattle.context_intake.specs.Taking.{IsReadBefore, IsReadFor, ReadsSetupAndLog, TakesSetupAndLog}
 use Rattle.context_intake.specs.declared.refusal.Refusal.{Refusal}

@@ -1,6 +1,6 @@
 -- The verdict on what an event is, by its recorded fault.
 use Rattle.std.proofs.Common.{◌≡◌, ℕ, Bool, true, false, List, [], Option, Some, None, refl, sym, ◌∙◌, subst, arith, true≢false}
-use Rattle.std.specs.Prelude.{◌↔◌, IsTrue, IsNone}
+use Rattle.std.specs.Prelude.{◌↔◌, IsTrue}
 use Rattle.base_types.specs.Choices.{IsChoice}
 use Rattle.base_types.specs.declared.claim.Range.{Range}
 use Rattle.base_types.specs.declared.claim.Reason.{Reason}
@@ -13,7 +13,7 @@ use Rattle.history_model.specs.Events.{Item, Event, Answer, Made, Removed, Opaqu
 use Rattle.history_model.specs.Groups.{Making}
 use Rattle.history_model.specs.Histories.{History, Version, IsEvent, ranges}
 use Rattle.history_model.specs.Local.{IsFixedBy}
-use Rattle.history_model.specs.Making.{IsEntryBefore, IsLeastFault, CouldHaveFound}
+use Rattle.history_model.specs.Making.{IsEntryBefore, IsLeastFault}
 use Rattle.history_model.specs.Readable.{IsReadable}
 use Rattle.history_model.specs.Windows.{low_end, high_end}
 use Rattle.history_model.specs.Words.{Makes, At, word}

@@ -1,5 +1,5 @@
 -- Events by their numbers.
-use Rattle.std.proofs.Common.{◌≡◌, ℕ, ◌<◌, List, length, get_or, slice_get, ap, ◌∙◌}
+use Rattle.std.proofs.Common.{ℕ, ◌<◌, List, length, get_or, slice_get, ap, ◌∙◌}
 use Rattle.std.specs.Prelude.{option_map}
 use Rattle.std.proofs.lemmas.Option.{slice_get-map, slice_get-get_or}
 use Rattle.history_model.specs.Histories.{History, IsEvent}

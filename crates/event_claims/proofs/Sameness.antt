@@ -1,5 +1,5 @@
 -- An event has one claim.
-use Rattle.std.proofs.Common.{◌≡◌, ◌≢◌, ℕ, zero, suc, ◌<◌, ◌≤◌, ◌⊎◌, ◌↔◌, Bool, true, false, ◌==◌, List, [], ◌∷◌, Option, Some, None, length, map, set, slice_get, slice_index, Contains, inl, inr, refl, sym, ap, ◌∙◌, subst, arith, true≢false, get_or-set_same, get_or-set_other}
+use Rattle.std.proofs.Common.{◌≡◌, ◌≢◌, ℕ, zero, suc, ◌<◌, ◌≤◌, ◌⊎◌, Bool, true, false, ◌==◌, List, [], ◌∷◌, Option, Some, None, length, set, slice_get, slice_index, Contains, inl, inr, refl, sym, ap, ◌∙◌, subst, arith, true≢false, get_or-set_same, get_or-set_other}
 use Rattle.std.specs.Prelude.{option_map}
 use Rattle.std.proofs.lemmas.Bool.Decides.{eqb_tells}
 use Rattle.std.proofs.lemmas.Option.{slice_get-map, slice_get_within, same_Some}
@@ -15,15 +15,13 @@ use Rattle.history_model.proofs.SameSorted.{same_sorted}
 use Rattle.history_model.specs.Clouds.{IsClouded}
 use Rattle.history_model.specs.Codes as codes
 use Rattle.history_model.specs.Codes.{HasCode}
-use Rattle.history_model.specs.Events.{Item, Event, Answer, Made}
+use Rattle.history_model.specs.Events.{Item, Event, Made}
 use Rattle.history_model.specs.Exact.{SometimesHolds, IsFailure, AreExactBounds, IsExactClaim}
 use Rattle.history_model.specs.Histories.{History, Removal, ranges}
-use Rattle.history_model.specs.Local.{AnswerHolds, IsFixedBy, IsFixedRight}
+use Rattle.history_model.specs.Local.{IsFixedBy, IsFixedRight}
 use Rattle.history_model.specs.Making.{HasFoundFault}
 use Rattle.history_model.specs.Right.{IsRightAnswer}
 use Rattle.history_model.specs.States.{state}
-use Rattle.history_model.specs.Windows.{InWindow}
-use Rattle.history_model.specs.Words.{word}
 use Rattle.local_bounds.specs.Asked.{AreDeciding, IsDeciding}
 
 moved : (rs : List Range) (choice : List ℕ) (i place : ℕ) (range : Range) → IsChoice rs choice → slice_get rs i ≡ Some range → IsPlaceOf range place

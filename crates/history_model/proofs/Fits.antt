@@ -6,7 +6,6 @@ use Rattle.history_model.proofs.CutLemmas.{cut_removal, cut_chosen, cuts_apart}
 use Rattle.history_model.proofs.JudgingLemmas.{first_same}
 use Rattle.history_model.proofs.Members.{apart}
 use Rattle.history_model.proofs.WindowLemmas.{start_lowest}
-use Rattle.history_model.specs.Events.{Text}
 use Rattle.history_model.specs.Histories.{History, Version, IsEvent, ranges}
 use Rattle.history_model.specs.Incarnations.{EndsBefore, IsRemoval, IsRemovalOf, place_before}
 use Rattle.history_model.specs.Judging.{IsFirst}

@@ -1,5 +1,5 @@
 -- A setup and a log have one order, one list of spans, one of versions and one of removals.
-use Rattle.std.proofs.Common.{◌≡◌, ◌≢◌, ℕ, ℤ, zero, suc, ◌<◌, ◌≤◌, ◌≤ℤ◌, ◌+◌, ◌-◌, max, min, ◌⊎◌, Bool, true, false, if◌then◌else◌, nat_le, ◌&&◌, List, [], ◌∷◌, length, Option, Some, None, AllPairs, Contains, inl, inr, refl, sym, ap, ap₂, ◌∙◌, subst, arith}
+use Rattle.std.proofs.Common.{◌≡◌, ℕ, ℤ, zero, suc, ◌<◌, ◌≤◌, ◌≤ℤ◌, ◌+◌, ◌-◌, max, min, ◌⊎◌, false, if◌then◌else◌, nat_le, ◌&&◌, List, length, Option, Some, None, AllPairs, Contains, inl, inr, refl, sym, ap, ap₂, ◌∙◌, subst, arith}
 use Rattle.std.proofs.lemmas.Int.{ints}
 use Rattle.base_types.specs.declared.claim.Reason.{Reason}
 use Rattle.base_types.specs.declared.key.ObjectKey.{ObjectKey}
@@ -16,7 +16,7 @@ use Rattle.history_model.specs.Histories.{History, Span, Version, Removal, Maker
 use Rattle.history_model.specs.Incarnations.{EndsBefore, IsFirstWithUid, IsRemovalOf, IsRemovalBehind, IsRemoval, place_before}
 use Rattle.history_model.specs.Judging.{IsJudgedBefore, IsFirst}
 use Rattle.history_model.specs.Makers.{CouldHaveMade, MustHaveMade, IsMakerOf, sole, able, unrecorded, faulty, IsShowing, IsMadeVersion, IsSnapshotVersion, item_of}
-use Rattle.history_model.specs.Making.{IsOutOfReach, HasFault, outside, present, used, replaced, unmet, unasked, HasNoFault, HasFoundFault, creates, excludes, changes, IsClear, IsUsedUid, IsAnew, IsEntryAfter, IsEntryBefore}
+use Rattle.history_model.specs.Making.{IsOutOfReach, HasFault, outside, present, used, replaced, unmet, unasked, HasFoundFault, creates, excludes, changes, IsClear, IsAnew, IsEntryAfter, IsEntryBefore}
 use Rattle.history_model.specs.Readable.{IsReadable, HaveOneLog}
 use Rattle.history_model.specs.States.{latest, IsLatest}
 use Rattle.history_model.specs.Windows.{lowest, highest, lowest_of, highest_of, low_end, high_end, low_end_of, high_end_of}

@@ -8,7 +8,7 @@ use Rattle.base_types.specs.declared.claim.Claim.{Claim}
 use Rattle.base_types.specs.declared.claim.Reason.{Reason}
 use Rattle.history_model.proofs.CodeLemmas.{right_no_code}
 use Rattle.history_model.proofs.Global.{run_is_right, right_has_run, global_is}
-use Rattle.history_model.proofs.Members.{not_in_none, here, there, in_cons, all_at, all_from, at_in, in_take}
+use Rattle.history_model.proofs.Members.{not_in_none, here, there, in_cons, all_at, all_from, at_in}
 use Rattle.history_model.proofs.WordLemmas.{is_at}
 use Rattle.history_model.specs.Codes.{HasCode, answer, NeverHolds, IsChoiceUpTo, IsCandidate, IsLeastCandidate}
 use Rattle.history_model.specs.Events.{Event}

@@ -6,7 +6,6 @@ use Rattle.base_types.specs.declared.key.ObjectKey.{ObjectKey}
 use Rattle.history_model.proofs.Members.{all_at, all_from, at_in, in_cons, not_in_none, pairs_head, pairs_tail}
 use Rattle.history_model.proofs.WordLemmas.{eq_test, find_is, found_in, not_found, test_eq}
 use Rattle.history_model.specs.Histories as past
-use Rattle.history_model.specs.Histories.{History}
 use Rattle.history_model.specs.States.{latest}
 use Rattle.object_past.proofs.Looking.{from_map, in_map}
 use Rattle.object_past.proofs.Searching.{find_none}

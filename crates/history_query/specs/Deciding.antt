@@ -1,5 +1,5 @@
 -- What `can` prints: which decisions an authorizer could have given whose four caches all stood at a place.
-use Rattle.std.specs.Prelude.{◌≡◌, ◌↔◌, ℕ, Bool, true, false, List, codes, if◌then◌else◌}
+use Rattle.std.specs.Prelude.{◌≡◌, ◌↔◌, ℕ, Bool, true, false, List, codes}
 use Rattle.base_types.specs.declared.placed.Places.{Places}
 use Rattle.base_types.specs.declared.request.Decision.TheVariants.{Allow, Forbid}
 use Rattle.base_types.specs.declared.request.RequestAttrs.{RequestAttrs}

@@ -1,19 +1,16 @@
 -- Answers that are passed on.
 use Rattle.std.proofs.Common.{◌≡◌, ◌<◌, ◌⊎◌, ℕ, List, Option, Some, None, Result, Ok, Err, IfOk, IsErrOf, inl, inr, refl, sym, ◌∙◌, subst, arith}
 use Rattle.std.specs.Io.KnownBytes.{Appends, IsAtEnd, Keeps}
-use Rattle.context_intake.specs.Contexts.{IsRefused}
-use Rattle.context_intake.specs.declared.refusal.Refusal.{Refusal}
 use Rattle.context_intake.proofs.ReadingFacts.{taken_none, taken_upto, whole_untouched}
 use Rattle.edge_io.specs.Faults.{Rose}
-use Rattle.edge_io.specs.Whole.{TakesWhole}
 use Rattle.command_words.specs.Command.{Ask, Asked, AsksOf, IsAsked, IsOfNames, Judge, Make, MayWantMemory, Reads, Spells, Strict, Tells, TellsWords, Verify}
 use Rattle.log_verdict.specs.Endings.{IsAnswered, IsBrokenStatus, IsVerdictStatus, ReadsNames}
 use Rattle.edge_io.specs.Endings.{Ends}
 use Rattle.kubepast.specs.Program.{Concludes, IsAnswer, IsAnswerTo, IsOfTable, IsStatusOf, usage_answer}
-use Rattle.log_verdict.specs.Answers.{Answer, IsPlacementText, answer, report_answer, status_number}
+use Rattle.log_verdict.specs.Answers.{Answer, IsPlacementText, report_answer, status_number}
 use Rattle.kubepast.specs.Reported.{HasBrokenStatus, HasVerdictStatus, IsReported, PrintsPlacement, Takes, TakesNames, TakesPlacement}
 use Rattle.kubepast.specs.Running.{ReadsDesk, ReadsPlacement, StatusTells}
-use Rattle.log_verdict.specs.Verifying.{IsReadLast, most_placement}
+use Rattle.log_verdict.specs.Verifying.{most_placement}
 use Rattle.command_words.proofs.AskedFacts.{one_command}
 use Rattle.log_verdict.proofs.VerifyingFacts.{whole_from}
 use Rattle.log_verdict.specs.declared.report.Report.{Report}

@@ -1,5 +1,5 @@
 -- What a question comes to, of what a setup and a log tell.
-use Rattle.std.proofs.Common.{◌≡◌, ℕ, List, Option, sym, subst}
+use Rattle.std.proofs.Common.{ℕ, List, Option, sym, subst}
 use Rattle.context_intake.specs.Contexts.{IsToldBy}
 use Rattle.context_intake.specs.Taking.{IsReadFor}
 use Rattle.context_intake.specs.declared.told.Told.{Told}

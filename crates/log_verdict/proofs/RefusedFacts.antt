@@ -1,5 +1,5 @@
 -- What the status of a refusal tells.
-use Rattle.std.proofs.Common.{◌≡◌, ℕ, inl, inr, List, Option, arith}
+use Rattle.std.proofs.Common.{ℕ, inl, inr, List, Option, arith}
 use Rattle.std.specs.Io.KnownBytes.{IsAtEnd}
 use Rattle.context_intake.specs.Taking.{IsReadBefore}
 use Rattle.context_intake.specs.declared.refusal.Refusal.{Refusal}

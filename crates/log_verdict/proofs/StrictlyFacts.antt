@@ -1,5 +1,5 @@
 -- What a setup and a log come to where moments are asked for, of what they tell.
-use Rattle.std.proofs.Common.{◌≡◌, ℕ, List, Option, sym, subst}
+use Rattle.std.proofs.Common.{ℕ, List, Option, sym, subst}
 use Rattle.context_intake.specs.Contexts.{IsToldBy}
 use Rattle.context_intake.specs.Taking.{IsReadFor}
 use Rattle.context_intake.specs.declared.told.Told.{Told}

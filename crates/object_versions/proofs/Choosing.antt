@@ -1,9 +1,6 @@
 -- Who made a revision, found among the writes of its group one after another.
-use Rattle.std.proofs.Common.{◌≡◌, ◌≢◌, ℕ, zero, suc, ◌<◌, ◌≤◌, ◌⊎◌, inl, inr, ⊎_elim, Bool, true, false, ◌&&◌, List, [], ◌∷◌, map, Option, Some, None, slice_get, option_and_then, option_map, refl, sym, ap, ◌∙◌, subst, true≢false}
-use Rattle.std.specs.Prelude.{◌↔◌, IsTrue, is_none, is_some, if◌then◌else◌, All, AllPairs, Contains, find}
-use Rattle.std.specs.List.{AllZip}
-use Rattle.std.proofs.lemmas.Bool.{cases_Bool}
-use Rattle.std.proofs.lemmas.Option.{same_Some}
+use Rattle.std.proofs.Common.{◌≡◌, ◌≢◌, ℕ, ◌<◌, ◌⊎◌, ⊎_elim, Bool, true, false, ◌&&◌, List, [], ◌∷◌, Option, Some, None, option_and_then, option_map, refl, sym, ap, ◌∙◌, subst, true≢false}
+use Rattle.std.specs.Prelude.{◌↔◌, IsTrue, is_none, is_some, if◌then◌else◌, Contains, find}
 use Rattle.base_types.specs.declared.claim.Reason.{Reason}
 use Rattle.base_types.specs.declared.key.ObjectKey.{ObjectKey}
 use Rattle.history_model.proofs.JudgingLemmas.{judged_once}
@@ -14,9 +11,9 @@ use Rattle.history_model.specs.Groups.{Making, IsMaking, IsKeyOf, IsMember, IsFi
 use Rattle.history_model.specs.Histories as past
 use Rattle.history_model.specs.Judging.{IsJudgedBefore}
 use Rattle.history_model.specs.Makers.{CouldHaveMade, MustHaveMade, NoMaking, IsMakerOf, IsMadeVersion, IsShowing, sole, able, unrecorded, faulty}
-use Rattle.history_model.specs.Making.{HasFault, HasFoundFault, IsEntryBefore, IsLeastFault}
+use Rattle.history_model.specs.Making.{HasFault, IsEntryBefore, IsLeastFault}
 use Rattle.write_groups.specs.Members.{AreInOrder, IsGroupOf}
-use Rattle.write_groups.specs.Modelled.{HasEvents, event_of}
+use Rattle.write_groups.specs.Modelled.{HasEvents}
 use Rattle.write_groups.specs.declared.event.LogEvent.{LogEvent}
 use Rattle.write_groups.specs.declared.groups.Group.{Group}
 use Rattle.object_versions.proofs.Entries.{entry_same}
@@ -29,10 +26,10 @@ use Rattle.object_versions.specs.Removals.{or_first}
 use Rattle.object_past.specs.Faulted.{IsLeastFoundFault}
 use Rattle.object_past.specs.Modelled.{maker_of, version_of}
 use Rattle.object_past.specs.declared.version.Version.{Version}
-use Rattle.object_versions.specs.Written.{making_at, IsJudgement, IsJudgedAt, AreJudged}
+use Rattle.object_versions.specs.Written.{making_at, IsJudgement, AreJudged}
 use Rattle.object_versions.specs.declared.maker.Judged.{Judged}
 use Rattle.object_past.specs.declared.version.Maker.{Maker}
-use Rattle.object_past.specs.declared.version.Maker.TheVariants.{Snapshot, Event, Unknown}
+use Rattle.object_past.specs.declared.version.Maker.TheVariants.{Event}
 
 -- the first of the numbers whose judgement passes a test
 pub record IsFoundFirst (h : past.History) (members : List ℕ) (Holds : Making → Type 0) (number : ℕ) : Type 0 where

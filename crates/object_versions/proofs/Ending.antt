@@ -1,15 +1,11 @@
 -- What is found behind a version that may end its incarnation.
-use Rattle.std.proofs.Common.{◌≡◌, ◌≢◌, ℕ, Bool, true, false, not, List, Option, Some, None, option_map, Bor, refl, sym, ap, ◌∙◌, subst, true≢false}
-use Rattle.std.specs.Prelude.{◌↔◌, IfNone, IfSome, IsTrue, is_some}
+use Rattle.std.proofs.Common.{◌≡◌, ◌≢◌, ℕ, Bool, true, false, not, List, Option, Some, None, option_map, Bor, refl, sym, ap, subst, true≢false}
+use Rattle.std.specs.Prelude.{IfNone, IfSome, is_some}
 use Rattle.base_types.specs.declared.claim.Range.{Range}
 use Rattle.base_types.specs.declared.key.ObjectKey.{ObjectKey}
-use Rattle.history_model.specs.Histories as past
-use Rattle.history_model.specs.Incarnations.{IsRemovalBehind}
 use Rattle.object_past.specs.Modelled.{recorded}
 use Rattle.object_versions.specs.Ended.{IsEnd, revision_of}
-use Rattle.object_past.specs.Modelled.{version_of}
 use Rattle.object_versions.specs.Modelled.{removal_of}
-use Rattle.object_past.specs.declared.removal.Removal.{Removal}
 use Rattle.object_past.specs.declared.version.Version.{Version}
 
 -- a removal with copies of the version's texts

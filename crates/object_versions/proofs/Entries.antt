@@ -1,6 +1,6 @@
 -- The object before a write, found among the versions of lower revisions.
-use Rattle.std.proofs.Common.{◌≡◌, ◌≢◌, ℕ, ◌+◌, ◌-◌, ◌<◌, ◌≤◌, ◌⊎◌, inl, inr, ⊎_elim, Bool, true, false, List, [], ◌∷◌, ◌++◌, map, Option, Some, None, refl, sym, ap, ◌∙◌, subst, arith}
-use Rattle.std.specs.Prelude.{◌↔◌, IsTrue, All, AllPairs, Any, Contains}
+use Rattle.std.proofs.Common.{◌≡◌, ◌≢◌, ℕ, ◌-◌, ◌<◌, ◌≤◌, ◌⊎◌, inl, inr, ⊎_elim, Bool, List, map, Option, Some, None, refl, sym, ap, ◌∙◌, subst, arith}
+use Rattle.std.specs.Prelude.{◌↔◌, IsTrue, Any, Contains}
 use Rattle.std.proofs.lemmas.List.Elements.{Contains-append_cases, Contains-append_left}
 use Rattle.base_types.specs.declared.key.ObjectKey.{ObjectKey}
 use Rattle.history_model.proofs.Latest.{latest_is, latest_same}
@@ -9,7 +9,7 @@ use Rattle.history_model.specs.Groups.{Making}
 use Rattle.history_model.specs.Histories as past
 use Rattle.history_model.specs.Incarnations.{IsFirstWithUid}
 use Rattle.history_model.specs.Making.{IsAnew, IsEntryAfter, IsEntryBefore, IsUsedUid}
-use Rattle.history_model.specs.States.{IsLatest, latest}
+use Rattle.history_model.specs.States.{latest}
 use Rattle.object_versions.proofs.Firsts.{first_later}
 use Rattle.object_past.proofs.Looking.{in_map, from_map}
 use Rattle.object_versions.proofs.Mapped.{any_in, in_any}

@@ -1,14 +1,12 @@
 -- The least fault of a write.
-use Rattle.std.proofs.Common.{◌≡◌, ◌≢◌, ℕ, ◌≤◌, ◌-◌, ◌<◌, ◌⊎◌, inl, inr, Bool, true, false, ◌&&◌, not, List, Option, Some, None, refl, sym, ap, ◌∙◌, subst, arith, true≢false}
-use Rattle.std.specs.Prelude.{◌↔◌, IsTrue, IsSome, is_some, option_map, bytes_eq, ◌==◌}
+use Rattle.std.proofs.Common.{◌≡◌, ◌≢◌, ◌≤◌, Bool, true, false, Option, Some, None, refl, sym, ap, ◌∙◌, arith, true≢false}
+use Rattle.std.specs.Prelude.{◌↔◌, IsTrue, IsSome}
 use Rattle.base_types.specs.declared.claim.Reason.{Reason}
 use Rattle.base_types.specs.declared.claim.Reason.TheVariants.{U3, U4, U5, U6, U7, U8}
 use Rattle.base_types.specs.Reasons.{code_number}
-use Rattle.history_model.specs.Clouds.{IsClouded}
 use Rattle.history_model.specs.Groups.{Making}
 use Rattle.history_model.specs.Histories.{History, Version}
-use Rattle.history_model.specs.Making.{AreMet, MeetsConditions, tree_of, IsClear, IsUsedUid, IsOtherObject, IsOutOfReach, HasFault, outside, present, used, replaced, unmet, unasked, HasNoFault, IsLeastFault, HasFoundFault, creates, excludes, changes, CouldHaveFound}
-use Rattle.history_model.specs.Windows.{lowest, highest}
+use Rattle.history_model.specs.Making.{AreMet, MeetsConditions, tree_of, IsClear, IsUsedUid, IsOtherObject, HasFault, outside, present, used, replaced, unmet, unasked, IsLeastFault, HasFoundFault, creates, excludes, changes}
 use Rattle.object_versions.proofs.Mapped.{no_true}
 use Rattle.object_past.specs.Faulted.{IsLeastFoundFault}
 use Rattle.object_versions.specs.Faults.{asked_code, object_code, IsOutside}

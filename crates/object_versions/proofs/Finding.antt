@@ -13,12 +13,11 @@ use Rattle.base_types.specs.declared.key.ObjectKey.{ObjectKey}
 use Rattle.clouds.proofs.Adding.{key_order_total, same_key_from}
 use Rattle.clouds.specs.Kept.{key_order}
 use Rattle.history_model.proofs.CutLemmas.{same_removal}
-use Rattle.history_model.proofs.JudgingLemmas.{judged_once}
-use Rattle.history_model.proofs.Members.{all_at, all_from, apart, at_apart, at_in, here, in_at, in_cons, not_in_none, pairs_cons}
+use Rattle.history_model.proofs.Members.{all_at, all_from, apart, at_apart, at_in, here, in_at}
 use Rattle.history_model.specs.Events as event
 use Rattle.history_model.specs.Histories as past
 use Rattle.history_model.specs.Incarnations.{AreRemovals, EndsBefore, IsFirstWithUid, IsRemoval, IsRemovalBehind, IsRemovalOf, place_before}
-use Rattle.history_model.specs.Judging.{IsFirst, IsJudgedBefore, IsOrder}
+use Rattle.history_model.specs.Judging.{IsFirst, IsOrder}
 use Rattle.history_model.specs.Windows.{lowest, highest}
 use Rattle.time_windows.specs.History as timed_history
 use Rattle.write_groups.proofs.Lists.{pairs_map}

@@ -1,7 +1,7 @@
 -- Members of mapped lists, and pairs of lists that are joined.
-use Rattle.std.proofs.Common.{◌≡◌, ℕ, zero, suc, ◌+◌, ◌<◌, ◌⊎◌, inl, inr, ⊎_elim, List, [], ◌∷◌, ◌++◌, length, get_or, take, map, refl, sym, ap, ◌∙◌, subst, arith, true, false, true≢false}
+use Rattle.std.proofs.Common.{◌≡◌, ℕ, zero, suc, ◌+◌, ◌<◌, ◌⊎◌, ⊎_elim, List, [], ◌∷◌, ◌++◌, length, get_or, take, map, refl, sym, ap, ◌∙◌, subst, arith, true, false, true≢false}
 use Rattle.std.specs.List.{AllZip, find}
-use Rattle.std.specs.Prelude.{if◌then◌else◌, Option, Some, None, Bool, IsTrue, All, AllPairs, Any, Contains}
+use Rattle.std.specs.Prelude.{Some, Bool, IsTrue, All, AllPairs, Any, Contains}
 use Rattle.history_model.proofs.Members.{here, there, in_cons, all_from, all_at, pairs_head, pairs_tail, pairs_cons, not_in_none}
 use Rattle.std.proofs.lemmas.List.Elements.{Contains-push_cases}
 use Rattle.std.proofs.lemmas.List.{take_more}

@@ -1,5 +1,5 @@
 -- A number has one write.
-use Rattle.std.proofs.Common.{◌≡◌, ℕ, Bool, true, false, List, Option, Some, None, map, option_map, option_and_then, slice_get, refl, sym, ap, ◌∙◌, subst}
+use Rattle.std.proofs.Common.{◌≡◌, ℕ, Bool, List, Option, Some, None, option_map, option_and_then, slice_get, refl, sym, ap, ◌∙◌, subst}
 use Rattle.std.specs.Prelude.{IsSome}
 use Rattle.std.proofs.lemmas.Option.{same_Some, slice_get-map}
 use Rattle.history_model.specs.Events as event
@@ -7,7 +7,7 @@ use Rattle.history_model.specs.Groups.{Making, IsMaking}
 use Rattle.history_model.specs.Histories.{History, IsEvent}
 use Rattle.write_groups.proofs.Belonging.{IsFound, item_from}
 use Rattle.write_groups.specs.Grouped.{item_at, made_item, item_in as shown_item}
-use Rattle.write_groups.specs.Modelled.{HasEvents, answer_of, event_of, item_of}
+use Rattle.write_groups.specs.Modelled.{HasEvents, answer_of, event_of}
 use Rattle.write_groups.specs.declared.event.LogEvent.{LogEvent}
 use Rattle.write_groups.specs.declared.event.Shown.{Shown}
 use Rattle.write_groups.specs.declared.event.Shown.TheVariants.{Made, Removed, Opaque, Saw, SawNone, SawSome, SawOther, Listed, Free, Aside}

@@ -1,5 +1,5 @@
 -- What the tests of a write and of the object before it tell.
-use Rattle.std.proofs.Common.{◌≡◌, ◌≢◌, ℕ, ◌-◌, Bool, true, false, ◌==◌, not, Option, Some, None, refl, sym, ap, ◌∙◌, subst, Bor, true≢false}
+use Rattle.std.proofs.Common.{◌≡◌, ◌≢◌, ℕ, Bool, true, false, not, Option, Some, None, refl, sym, ap, ◌∙◌, subst, Bor, true≢false}
 use Rattle.std.specs.Prelude.{◌↔◌, ◌&&◌, IsTrue, IsSome, if◌then◌else◌, is_none, is_some, option_map, bytes_eq}
 use Rattle.std.specs.Cmp.Lexicographic.{bytes_decides}
 use Rattle.base_types.specs.declared.claim.Reason.TheVariants.{U4}
@@ -10,7 +10,7 @@ use Rattle.write_groups.specs.Modelled.{conditions_of, event_of, item_of}
 use Rattle.write_groups.specs.declared.event.Item.{Item}
 use Rattle.write_groups.specs.declared.event.LogEvent.{LogEvent}
 use Rattle.write_groups.specs.declared.event.Preconditions.{Preconditions}
-use Rattle.object_versions.proofs.Faulting.{AreTold, clear_least, found_changed, found_created, found_there, found_unmet}
+use Rattle.object_versions.proofs.Faulting.{clear_least, found_changed, found_created, found_there, found_unmet}
 use Rattle.object_versions.proofs.Mapped.{no_true}
 use Rattle.object_versions.specs.Faults.{asked_code, meets, is_other, node_of, clear_code, found_code, IsOutside}
 use Rattle.object_past.specs.Faulted.{IsLeastFoundFault}

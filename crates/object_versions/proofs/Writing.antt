@@ -1,14 +1,14 @@
 -- Versions that are written group by group are those of each history that goes on with them.
-use Rattle.std.proofs.Common.{◌≡◌, ◌≢◌, ℕ, ◌+◌, ◌<◌, ◌≤◌, ◌⊎◌, inl, inr, ⊎_elim, List, [], ◌∷◌, ◌++◌, map, take, length, get_or, Option, Some, None, option_map, Bor, refl, sym, ap, ◌∙◌, subst, arith}
-use Rattle.std.specs.Prelude.{IsSome, Bool, true, false, is_none, All, AllPairs, Any, Contains, find}
+use Rattle.std.proofs.Common.{◌≡◌, ℕ, ◌+◌, ◌<◌, ◌≤◌, ◌⊎◌, inl, inr, ⊎_elim, List, [], ◌∷◌, ◌++◌, map, take, length, get_or, Option, Some, None, option_map, Bor, refl, sym, ap, ◌∙◌, subst, arith}
+use Rattle.std.specs.Prelude.{IsSome, Bool, true, false, is_none, All, AllPairs, Contains, find}
 use Rattle.std.specs.List.Sorted.{IsPermutation}
 use Rattle.std.proofs.lemmas.List.{take_more, map-append, append-nil}
-use Rattle.std.proofs.lemmas.List.Elements.{All-append, Contains-append_cases, Contains-append_left, Contains-append_right, Contains-push_cases}
+use Rattle.std.proofs.lemmas.List.Elements.{All-append, Contains-append_left, Contains-append_right, Contains-push_cases}
 use Rattle.std.proofs.lemmas.List.Sorted.{Contains-permutation, IsPermutation-sym}
 use Rattle.std.proofs.lemmas.Option.{same_Some}
 use Rattle.history_model.proofs.Members.{all_at, all_from, in_cons, not_in_none, pairs_head}
 use Rattle.history_model.specs.Events as event
-use Rattle.history_model.specs.Groups.{Making, IsMaking, IsMember}
+use Rattle.history_model.specs.Groups.{Making}
 use Rattle.history_model.specs.Histories as past
 use Rattle.history_model.specs.Makers.{AreVersions, IsMadeVersion, IsSnapshotVersion, item_of as item_in}
 use Rattle.write_groups.specs.Members.{AreGroupsOf, IsGroupOf}

@@ -1,5 +1,5 @@
 -- How incarnations ended.
-use Rattle.std.specs.Prelude.{◌≡◌, ◌≢◌, ◌<◌, ◌≤◌, ◌↔◌, ◌⊎◌, ℕ, Bool, true, false, IsTrue, List, Option, Some, None, map, All, AllPairs, Any, Contains, option_map}
+use Rattle.std.specs.Prelude.{◌≢◌, ◌↔◌, ℕ, Bool, IsTrue, List, Option, Some, None, map, All, AllPairs, Contains, option_map}
 use Rattle.std.specs.BTreeMap.{BTreeMap}
 use Rattle.base_types.specs.declared.key.ObjectKey.{ObjectKey}
 use Rattle.history_model.specs.Histories as past

@@ -1,5 +1,5 @@
 -- When a request could have made the revision that it was answered with, or have found it there.
-use Rattle.std.specs.Prelude.{◌&&◌, not, ℕ, Bool, true, false, Option, Some, None, if◌then◌else◌, bytes_eq, is_none, is_some, option_map}
+use Rattle.std.specs.Prelude.{◌&&◌, not, ℕ, Bool, true, Option, Some, None, if◌then◌else◌, bytes_eq, is_none, is_some, option_map}
 use Rattle.base_types.specs.declared.claim.Reason.{Reason}
 use Rattle.base_types.specs.declared.claim.Reason.TheVariants.{U4, U5, U6, U7, U8}
 use Rattle.history_model.specs.Groups as model

@@ -1,5 +1,5 @@
 -- Versions in order, and what is known of their keys and uids.
-use Rattle.std.specs.Prelude.{◌≡◌, ◌≢◌, ◌<◌, ◌≤◌, ◌↔◌, ◌⊎◌, ℕ, Bool, true, List, Option, Some, None, IsTrue, IsNone, length, map, slice_get, All, AllPairs, Any, Contains}
+use Rattle.std.specs.Prelude.{◌≡◌, ◌≢◌, ◌<◌, ◌≤◌, ◌↔◌, ◌⊎◌, ℕ, Bool, List, Option, Some, None, IsTrue, length, map, slice_get, All, AllPairs, Any, Contains}
 use Rattle.std.specs.BTreeMap.{BTreeMap, get}
 use Rattle.std.specs.BTreeSet.{BTreeSet, contains}
 use Rattle.base_types.specs.declared.key.ObjectKey.{ObjectKey}

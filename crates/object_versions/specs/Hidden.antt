@@ -1,5 +1,5 @@
 -- What is hidden by unrecorded writes, and what shows objects again.
-use Rattle.std.specs.Prelude.{◌≡◌, ◌↔◌, ℕ, List, [], ◌∷◌, ◌++◌, Option, Some, None, map, Contains}
+use Rattle.std.specs.Prelude.{◌≡◌, ◌↔◌, ℕ, List, ◌++◌, Option, Some, None, map, Contains}
 use Rattle.std.specs.List.{filter_map}
 use Rattle.base_types.specs.declared.key.ObjectKey.{ObjectKey}
 use Rattle.clouds.specs.declared.span.KeyRevision.{KeyRevision}

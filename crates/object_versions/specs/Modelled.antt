@@ -1,5 +1,5 @@
 -- Versions, makings and removals in the terms of the model of history.
-use Rattle.std.specs.Prelude.{◌≡◌, ◌↔◌, ℕ, List, Option, option_map}
+use Rattle.std.specs.Prelude.{◌↔◌, ℕ}
 use Rattle.base_types.specs.declared.claim.Range.{Range}
 use Rattle.base_types.specs.declared.key.ObjectKey.{ObjectKey}
 use Rattle.clouds.specs.Clouds as cloud
@@ -9,8 +9,6 @@ use Rattle.history_model.specs.Groups as model
 use Rattle.history_model.specs.Histories as past
 use Rattle.write_groups.specs.Modelled.{event_of, item_of}
 use Rattle.object_versions.specs.declared.making.Making.{Making}
-use Rattle.object_past.specs.declared.version.Maker.{Maker}
-use Rattle.object_past.specs.declared.version.Maker.TheVariants.{Snapshot, Event, Unknown}
 use Rattle.object_past.specs.declared.version.Version.{Version}
 
 -- the removal of the version's object at a place of the range

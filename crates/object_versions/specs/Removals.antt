@@ -1,5 +1,5 @@
 -- The first removal of each uid of each key (Kubernetes "Object Names and IDs", UIDs).
-use Rattle.std.specs.Prelude.{◌≡◌, ◌&&◌, ℕ, Bool, true, false, List, Option, Some, None, if◌then◌else◌, bytes_eq, option_map, option_and_then, slice_get, find}
+use Rattle.std.specs.Prelude.{◌≡◌, ◌&&◌, ℕ, Bool, false, List, Option, Some, None, if◌then◌else◌, bytes_eq, option_and_then, slice_get, find}
 use Rattle.std.specs.BTreeMap.{BTreeMap, get}
 use Rattle.base_types.specs.declared.key.ObjectKey.{ObjectKey}
 use Rattle.clouds.specs.Kept.{key_order, text_order}

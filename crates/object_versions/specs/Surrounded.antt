@@ -1,5 +1,5 @@
 -- What of a history is known before its versions are.
-use Rattle.std.specs.Prelude.{◌≡◌, ◌↔◌, ℕ, Bool, true, List, Option, option_map}
+use Rattle.std.specs.Prelude.{◌≡◌, ℕ, Bool, List, Option}
 use Rattle.base_types.specs.declared.key.ObjectKey.{ObjectKey}
 use Rattle.std.specs.BTreeMap.{BTreeMap}
 use Rattle.clouds.specs.Writes.{Writes}

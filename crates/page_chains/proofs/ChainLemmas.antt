@@ -1,16 +1,15 @@
 -- Each chain is of a tracked resource, and isn't below the start: the page after its first was asked for by a token.
-use Rattle.std.proofs.Common.{◌≡◌, ℕ, ◌≤◌, Bool, true, false, ◌&&◌, ◌||◌, List, [], ◌∷◌, length, Option, Some, None, refl, sym, ap, subst, ◌∙◌, if◌then◌else◌, codes, not}
+use Rattle.std.proofs.Common.{◌≡◌, ◌≤◌, Bool, true, false, ◌||◌, List, [], ◌∷◌, Option, Some, None, refl, sym, ap, subst, ◌∙◌, if◌then◌else◌, codes}
 use Rattle.std.specs.Prelude.{IsSome, ⊤, All, is_some, cond, filter}
-use Rattle.std.specs.List.{filter_map, list_any}
+use Rattle.std.specs.List.{list_any}
 use Rattle.std.proofs.lemmas.Bool.{true≢false, false≢true, and_parts}
 use Rattle.base_types.specs.declared.request.Pair.{Pair}
 use Rattle.audit_event.specs.declared.event.Event.{Event}
 use Rattle.setup_file.specs.Resources.{tracked_as}
 use Rattle.setup_file.specs.declared.setup.Checkpoint.{Checkpoint}
 use Rattle.setup_file.specs.declared.setup.Setup.{Setup}
-use Rattle.setup_file.specs.declared.setup.SnapshotObject.{SnapshotObject}
 use Rattle.answer_class.specs.Classes.{class_of}
-use Rattle.answer_class.specs.Requests.{is_filled, has_filled}
+use Rattle.answer_class.specs.Requests.{is_filled}
 use Rattle.answer_class.specs.declared.answer.Answer.{Answer}
 use Rattle.answer_class.specs.declared.answer.Answer.TheVariants.{Made, Removed, Opaque, Saw, SawNone, SawSome, SawOther, Listed, Free, Aside}
 use Rattle.page_chains.specs.declared.page.Asked.{Asked}
@@ -18,7 +17,7 @@ use Rattle.page_chains.specs.declared.page.Asked.TheVariants.{First, Next, Uncle
 use Rattle.page_chains.specs.declared.page.Page.{Page}
 use Rattle.page_chains.specs.declared.page.PageKey.{PageKey}
 use Rattle.page_chains.specs.Pages.{asked_by, is_first, is_selective, page_in, page_of, pages_of}
-use Rattle.page_chains.specs.Chains.{key_with, is_asked_by, asks, next_of, begins, chain_of, chains_in, chains_of}
+use Rattle.page_chains.specs.Chains.{key_with, is_asked_by, begins, chain_of, chains_in, chains_of}
 use Rattle.page_chains.specs.Following.{AreAfter, IsChain, IsChainOf, AreChains}
 use Rattle.page_chains.proofs.ClassLemmas.{IsLikely, class_likely}
 use Rattle.page_chains.proofs.FollowLemmas.{followed, chain_is}

@@ -1,8 +1,8 @@
 -- What the class of an event tells of a list: its resource is tracked, one that was continued isn't below the start, and
 -- its items are those of the answer.
-use Rattle.std.proofs.Common.{◌≡◌, ℕ, ◌<◌, ◌≤◌, Bool, true, false, ◌&&◌, ◌||◌, List, [], ◌∷◌, Option, Some, None, refl, sym, ap, subst, ◌∙◌, if◌then◌else◌, codes, arith}
-use Rattle.std.specs.Prelude.{IsSome, ⊤, nat_lt, is_some}
-use Rattle.std.proofs.lemmas.Bool.{true≢false, false≢true, and_parts, or_parts, ltb-false}
+use Rattle.std.proofs.Common.{◌≡◌, ℕ, ◌≤◌, Bool, true, false, ◌&&◌, ◌||◌, List, Option, Some, None, refl, ap, subst, ◌∙◌, if◌then◌else◌, codes, arith}
+use Rattle.std.specs.Prelude.{IsSome, ⊤, is_some}
+use Rattle.std.proofs.lemmas.Bool.{false≢true, or_parts, ltb-false}
 use Rattle.base_types.specs.Parts.{member_of}
 use Rattle.base_types.specs.Texts.{◌>>=◌, revision_at}
 use Rattle.audit_event.specs.declared.event.Event.{Event}
@@ -16,11 +16,11 @@ use Rattle.base_types.proofs.Found.{found_both, where_true}
 use Rattle.audit_event.specs.Bodies.{kept}
 use Rattle.answer_class.specs.Bodies.{answered_object}
 use Rattle.answer_class.specs.Covers.{cover_of}
-use Rattle.answer_class.specs.Lists.{answered_list, answered_at, is_below, is_old_list, asks_revision, extent_of, is_odd}
+use Rattle.answer_class.specs.Lists.{answered_list, answered_at, is_below, is_old_list, asks_revision, is_odd}
 use Rattle.setup_file.specs.Requests.{tracked_of}
 use Rattle.answer_class.specs.Requests.{verb_of, is_write, is_read, is_completing, effect_of, is_own, is_unknown, has_filled, first_value, succeeds, is_code, is_done, is_open, is_empty}
 use Rattle.answer_class.specs.Times.{is_early, is_before}
-use Rattle.answer_class.specs.Classes.{saw, listed, got, gathered, read_by, read_class, is_missing, asked_name, is_taken, is_conflict, conflict_class, taken_class, refused_class, is_outside, is_out_of_sight, later_class, removed_uid, removed, is_made_by, made, made_class, is_hidden, is_dry, is_idle, succeeded_class, tracked_class, class_in, class_of}
+use Rattle.answer_class.specs.Classes.{saw, listed, read_by, read_class, is_missing, asked_name, is_taken, is_conflict, conflict_class, taken_class, refused_class, is_outside, is_out_of_sight, later_class, removed_uid, removed, is_made_by, made, made_class, is_hidden, is_dry, is_idle, succeeded_class, tracked_class, class_in, class_of}
 use Rattle.answer_class.specs.declared.answer.Answer.{Answer}
 use Rattle.answer_class.specs.declared.answer.Answer.TheVariants.{Made, Removed, Opaque, Saw, SawNone, SawSome, SawOther, Listed, Free, Aside}
 use Rattle.answer_class.specs.declared.request.Verb.{Verb}

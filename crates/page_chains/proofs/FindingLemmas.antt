@@ -1,6 +1,6 @@
 -- The first page that each token leads to, found one page after another.
-use Rattle.std.proofs.Common.{◌≡◌, ℕ, ◌+◌, ◌<◌, ◌==◌, Bool, true, false, ◌&&◌, List, [], ◌∷◌, ◌++◌, length, get_or, take, drop, Option, Some, None, refl, sym, ap, subst, ◌∙◌, if◌then◌else◌, arith}
-use Rattle.std.specs.Prelude.{cond, filter, fold, option_map, option_and_then, slice_get}
+use Rattle.std.proofs.Common.{◌≡◌, ℕ, ◌+◌, ◌<◌, Bool, true, false, List, [], ◌∷◌, ◌++◌, length, get_or, take, Option, Some, None, refl, sym, ap, subst, ◌∙◌, if◌then◌else◌}
+use Rattle.std.specs.Prelude.{cond, filter, fold, option_and_then, slice_get}
 use Rattle.std.specs.Option.{option_map_or}
 use Rattle.std.specs.HashMap.{get}
 use Rattle.std.proofs.lemmas.Bool.{true≢false}
@@ -11,7 +11,7 @@ use Rattle.page_chains.specs.declared.page.Asked.{Asked}
 use Rattle.page_chains.specs.declared.page.Asked.TheVariants.{First, Next, Unclear}
 use Rattle.page_chains.specs.declared.page.Page.{Page}
 use Rattle.page_chains.specs.declared.page.PageKey.{PageKey}
-use Rattle.page_chains.specs.Chains.{key_with, same_page_key, is_asked_by, asks, comes_before, sooner, earliest}
+use Rattle.page_chains.specs.Chains.{same_page_key, is_asked_by, asks, comes_before, sooner, earliest}
 use Rattle.page_chains.specs.Finding.{Places, key_asked, asked_key, known, FindsFirst}
 use Rattle.page_chains.proofs.KeyLemmas.{same, same_means}
 

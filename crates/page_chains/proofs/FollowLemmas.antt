@@ -1,12 +1,11 @@
 -- A chain that is sought up to a bound is a chain whatever its length: no page comes twice in one, so there are no more
 -- pages in a chain than there are pages.
 use Rattle.std.proofs.Common.{◌≡◌, ◌≢◌, ℕ, zero, suc, ◌<◌, ◌≤◌, Bool, true, false, List, [], ◌∷◌, length, Option, Some, None, refl, sym, ap, subst, ◌∙◌, if◌then◌else◌, arith}
-use Rattle.std.specs.Prelude.{⊤, is_some, filter, fold, option_map, option_and_then}
-use Rattle.std.proofs.lemmas.Bool.{true≢false, false≢true}
-use Rattle.setup_file.specs.declared.setup.Checkpoint.{Checkpoint}
+use Rattle.std.specs.Prelude.{is_some, filter, fold, option_map, option_and_then}
+use Rattle.std.proofs.lemmas.Bool.{true≢false}
 use Rattle.page_chains.specs.declared.page.Page.{Page}
-use Rattle.page_chains.specs.Chains.{key_with, asks, comes_before, sooner, earliest, next_by, next_of, chain_within, checkpoint_of, begins, chain_of}
-use Rattle.page_chains.specs.Following.{AreAfter, IsChain, IsChainOf}
+use Rattle.page_chains.specs.Chains.{key_with, asks, comes_before, sooner, next_by, next_of, chain_within, checkpoint_of, begins, chain_of}
+use Rattle.page_chains.specs.Following.{AreAfter, IsChainOf}
 use Rattle.page_chains.proofs.Members.{Each, Maybe, each_kept, Among, among_itself, AreApart, few_apart}
 
 sooner_of : (P : Page → Type 0) (o : Option Page) (page : Page) → Maybe P o → P page → Maybe P (sooner o page)

@@ -1,5 +1,5 @@
 -- Equality of keys.
-use Rattle.std.proofs.Common.{◌≡◌, ◌==◌, Bool, true, ◌&&◌, refl}
+use Rattle.std.proofs.Common.{◌≡◌, ◌==◌, Bool, true, refl}
 use Rattle.std.specs.Prelude.{bytes_eq}
 use Rattle.std.proofs.lemmas.Bool.{and_parts, eqb-true}
 use Rattle.std.proofs.lemmas.Slice.Eq.{bytes_eq-Decides}

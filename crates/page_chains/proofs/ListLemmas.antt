@@ -1,5 +1,5 @@
 -- What a list was read of: its revision is that of the metadata, and its items are those of the tree.
-use Rattle.std.proofs.Common.{◌≡◌, ℕ, List, Option, Some, None, subst, codes}
+use Rattle.std.proofs.Common.{◌≡◌, ℕ, List, Some, subst, codes}
 use Rattle.base_types.specs.Meaning.{Meaning}
 use Rattle.base_types.specs.Parts.{member_of}
 use Rattle.base_types.specs.Texts.{revision_at, items_or_none}

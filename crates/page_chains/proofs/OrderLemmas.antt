@@ -1,13 +1,13 @@
 -- The earliest of some pages: none of them comes before it.
-use Rattle.std.proofs.Common.{◌≡◌, ℕ, ℤ, zero, suc, ◌<◌, ◌<ℤ◌, ◌⊎◌, inl, inr, Bool, true, false, ◌&&◌, ◌||◌, List, [], ◌∷◌, ◌++◌, length, Option, Some, None, refl, sym, ap, subst, ◌∙◌, if◌then◌else◌, append_assoc, arith}
-use Rattle.std.specs.Prelude.{⊤, All, Contains, filter, fold, int_lt, nat_lt}
+use Rattle.std.proofs.Common.{◌≡◌, ℕ, ℤ, ◌<◌, ◌<ℤ◌, inl, inr, Bool, true, false, ◌&&◌, ◌||◌, List, [], ◌∷◌, ◌++◌, Option, Some, None, refl, sym, ap, subst, ◌∙◌, if◌then◌else◌, append_assoc, arith}
+use Rattle.std.specs.Prelude.{filter, fold, int_lt, nat_lt}
 use Rattle.std.specs.Ordering.{int_eq}
 use Rattle.std.proofs.lemmas.Int.{ints}
-use Rattle.std.proofs.lemmas.Bool.{true≢false, false≢true, or_cases, and_parts, and_from, lt-ltb, le-ltb, ltb-true}
+use Rattle.std.proofs.lemmas.Bool.{true≢false, or_cases, and_parts, and_from, lt-ltb, le-ltb, ltb-true}
 use Rattle.std.proofs.lemmas.Bool.Decides.{Decides-int_eq}
 use Rattle.page_chains.specs.declared.page.Page.{Page}
 use Rattle.page_chains.specs.Chains.{key_with, asks, comes_before, sooner, earliest, next_by, next_of}
-use Rattle.page_chains.specs.Following.{IsFirstOf, IsEarliest}
+use Rattle.page_chains.specs.Following.{IsEarliest}
 use Rattle.page_chains.proofs.Members.{Each, all_of, each_mapped, each_append, Among, contains_of, among_front, among_end}
 
 -- the order of two times and lines

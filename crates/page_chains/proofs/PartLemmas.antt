@@ -1,8 +1,8 @@
 -- The pages that can be parts of a chain make the same chains as all pages.
-use Rattle.std.proofs.Common.{◌≡◌, ℕ, Bool, true, false, ◌&&◌, ◌||◌, not, List, [], ◌∷◌, length, Option, Some, None, refl, sym, ap, subst, ◌∙◌, if◌then◌else◌}
-use Rattle.std.specs.Prelude.{⊤, cond, is_some, filter, option_map}
+use Rattle.std.proofs.Common.{◌≡◌, ℕ, Bool, true, false, ◌&&◌, ◌||◌, not, List, [], ◌∷◌, length, Option, Some, None, refl, sym, ap, ◌∙◌, if◌then◌else◌}
+use Rattle.std.specs.Prelude.{cond, is_some, filter, option_map}
 use Rattle.std.specs.List.{filter_map, cons_option}
-use Rattle.std.proofs.lemmas.Bool.{true≢false, false≢true, or_parts, and_parts}
+use Rattle.std.proofs.lemmas.Bool.{true≢false, false≢true, or_parts}
 use Rattle.audit_event.specs.declared.event.Event.{Event}
 use Rattle.setup_file.specs.declared.setup.Checkpoint.{Checkpoint}
 use Rattle.setup_file.specs.declared.setup.Setup.{Setup}
@@ -15,8 +15,8 @@ use Rattle.page_chains.specs.declared.page.Page.{Page}
 use Rattle.page_chains.specs.declared.page.PageKey.{PageKey}
 use Rattle.page_chains.specs.Pages.{token_of, asked_of, is_first, is_selective, page_in, page_of, pages_of}
 use Rattle.page_chains.specs.Parts.{is_part, part_in, part_of, parts_of}
-use Rattle.page_chains.specs.Chains.{key_with, is_asked_by, asks, earliest, next_by, next_of, chain_within, checkpoint_of, begins, chain_of, chains_in, chains_of}
-use Rattle.page_chains.specs.Following.{AreAfter, IsChain, IsChainOf}
+use Rattle.page_chains.specs.Chains.{key_with, is_asked_by, asks, earliest, next_by, next_of, chain_within, checkpoint_of, chain_of, chains_in, chains_of}
+use Rattle.page_chains.specs.Following.{AreAfter, IsChainOf}
 use Rattle.page_chains.proofs.Members.{Each, Among, among_itself, among_kept}
 use Rattle.page_chains.proofs.FollowLemmas.{same_after, chain_is}
 

@@ -1,6 +1,5 @@
 -- The tokens of a query, and what is made of the items of a list where something is.
 use Rattle.std.proofs.Common.{◌≡◌, ℕ, ◌+◌, ◌<◌, List, [], ◌∷◌, ◌++◌, length, get_or, drop, Option, Some, None, refl, sym, ap, ◌∙◌, append_assoc}
-use Rattle.std.specs.Prelude.{option_map}
 use Rattle.std.specs.List.{filter_map, cons_option}
 use Rattle.base_types.specs.declared.request.Pair.{Pair}
 use Rattle.setup_file.proofs.Seen.{cut}

@@ -1,7 +1,6 @@
 -- Each chain of sound events is a list that isn't older than the log, with trees that can be read.
-use Rattle.std.proofs.Common.{◌≡◌, ◌≤◌, Bool, true, false, List, ◌∷◌, Option, Some, None, refl, sym, subst, if◌then◌else◌, codes}
-use Rattle.std.specs.Prelude.{IsSome, All, is_some}
-use Rattle.std.specs.List.{flat_map}
+use Rattle.std.proofs.Common.{◌≡◌, Bool, true, false, List, ◌∷◌, Option, Some, None, refl, sym, subst, if◌then◌else◌, codes}
+use Rattle.std.specs.Prelude.{IsSome, All}
 use Rattle.base_types.specs.Parts.{member_of}
 use Rattle.base_types.specs.Values.{InRange}
 use Rattle.audit_event.specs.Bodies.{kept}

@@ -1,8 +1,7 @@
 -- The chain that begins at a place, if one does.
-use Rattle.std.proofs.Common.{◌≡◌, ℕ, zero, suc, ◌+◌, ◌-◌, ◌<◌, Bool, true, false, List, [], ◌∷◌, length, get_or, Option, Some, None, refl, sym, ap, subst, ◌∙◌, if◌then◌else◌, arith}
+use Rattle.std.proofs.Common.{◌≡◌, ℕ, suc, ◌-◌, ◌<◌, Bool, true, false, List, length, get_or, Option, Some, None, refl, sym, ap, ◌∙◌, if◌then◌else◌, arith}
 use Rattle.std.specs.Prelude.{is_some, option_map, option_and_then, slice_get}
 use Rattle.std.proofs.lemmas.Option.{slice_get_read}
-use Rattle.setup_file.specs.declared.setup.Checkpoint.{Checkpoint}
 use Rattle.page_chains.specs.declared.page.Page.{Page}
 use Rattle.page_chains.specs.Chains.{checkpoint_of, begins, chain_within, chain_of}
 use Rattle.page_chains.specs.Links.{AreLinks, stepped}

@@ -1,10 +1,10 @@
 -- Where many steps lead to, and what that tells of chains.
-use Rattle.std.proofs.Common.{◌≡◌, ℕ, zero, suc, ◌+◌, ◌*◌, ◌/◌, ◌%◌, ◌<◌, Bool, true, false, List, [], ◌∷◌, length, get_or, Option, Some, None, refl, sym, ap, subst, ◌∙◌, arith}
-use Rattle.std.specs.Prelude.{All, map, is_some, option_map, option_and_then, slice_get, slice_index, if◌then◌else◌}
+use Rattle.std.proofs.Common.{◌≡◌, ℕ, zero, suc, ◌+◌, ◌/◌, ◌%◌, ◌<◌, true, false, List, [], ◌∷◌, length, get_or, Option, Some, None, refl, sym, ap, subst, ◌∙◌, arith}
+use Rattle.std.specs.Prelude.{All, map, is_some, option_map, option_and_then, slice_get, slice_index}
 use Rattle.std.proofs.lemmas.Bool.{false≢true}
 use Rattle.page_chains.specs.declared.page.Page.{Page}
 use Rattle.page_chains.specs.Chains.{next_by, next_of, chain_within}
-use Rattle.page_chains.specs.Links.{LeadsTo, IsLink, AreLinks, stepped}
+use Rattle.page_chains.specs.Links.{LeadsTo, AreLinks, stepped}
 
 stuck : (links : List ℕ) (steps from : ℕ) → slice_index links from ≡ from → stepped links steps from ≡ from
 stuck links zero from here = refl

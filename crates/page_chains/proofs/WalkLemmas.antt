@@ -1,10 +1,10 @@
 -- The pages of a chain, walked from link to link.
-use Rattle.std.proofs.Common.{◌≡◌, ◌≢◌, ℕ, zero, suc, ◌+◌, ◌-◌, ◌<◌, ◌≤◌, Bool, true, false, List, [], ◌∷◌, ◌++◌, length, get_or, Option, Some, None, refl, sym, ap, subst, ◌∙◌, if◌then◌else◌, append_assoc, arith}
+use Rattle.std.proofs.Common.{◌≡◌, ◌≢◌, ℕ, zero, suc, ◌+◌, ◌-◌, ◌<◌, true, false, List, [], ◌∷◌, ◌++◌, length, get_or, Option, Some, None, refl, sym, ap, subst, ◌∙◌, if◌then◌else◌, append_assoc, arith}
 use Rattle.std.specs.Prelude.{is_some, option_map, option_and_then, slice_get, slice_index}
 use Rattle.std.proofs.lemmas.Option.{slice_get_read}
 use Rattle.page_chains.specs.declared.page.Page.{Page}
 use Rattle.page_chains.specs.Chains.{next_of, chain_within}
-use Rattle.page_chains.specs.Links.{LeadsTo, IsLink, AreLinks}
+use Rattle.page_chains.specs.Links.{LeadsTo, AreLinks}
 
 pub begun : (o : Option (List Page)) → o ≡ option_map (λ rest. [] ++ rest) o
 begun None = refl

@@ -1,5 +1,5 @@
 -- Chains of pages: from a first page, by the tokens, to a page without one.
-use Rattle.std.specs.Prelude.{ℕ, zero, suc, ◌==◌, ◌&&◌, ◌||◌, Bool, true, false, List, [], ◌∷◌, ◌++◌, length, Option, Some, None, is_some, filter, fold, option_map, option_and_then, bytes_eq, codes, decimal, nat_lt, int_lt, if◌then◌else◌}
+use Rattle.std.specs.Prelude.{ℕ, zero, suc, ◌==◌, ◌&&◌, ◌||◌, Bool, false, List, [], ◌∷◌, ◌++◌, length, Option, Some, None, is_some, filter, fold, option_map, option_and_then, bytes_eq, codes, decimal, nat_lt, int_lt, if◌then◌else◌}
 use Rattle.std.specs.List.{filter_map, flat_map}
 use Rattle.std.specs.Ordering.{int_eq}
 use Rattle.audit_event.specs.declared.event.Event.{Event}

@@ -1,5 +1,5 @@
 -- What the ranges that are left say of the events that were taken.
-use Rattle.std.proofs.Common.{◌≡◌, ℕ, ◌+◌, ◌<◌, ◌≤◌, ⊎_elim, inl, inr, ◌↔◌, List, [], ◌∷◌, length, get_or, map, take, drop, ◌++◌, Bool, true, false, All, None, IfSome, slice_get, arith, subst, sym, refl}
+use Rattle.std.proofs.Common.{◌≡◌, ℕ, ◌+◌, ◌<◌, ◌≤◌, ⊎_elim, inl, inr, ◌↔◌, List, [], ◌∷◌, length, get_or, map, take, Bool, true, false, All, None, IfSome, slice_get, arith, subst, sym, refl}
 use Rattle.std.specs.List.{AllZip, range_with_len}
 use Rattle.std.specs.List.Sorted.{IsPermutation}
 use Rattle.std.proofs.lemmas.List.{take_all}

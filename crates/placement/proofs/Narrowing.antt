@@ -1,6 +1,5 @@
 -- What one bound leaves of one range, and of all choices.
-use Rattle.std.proofs.Common.{◌≡◌, ℕ, zero, suc, ◌+◌, ◌<◌, ◌≤◌, List, [], ◌∷◌, length, get_or, set, take, All, min, max, arith, subst, sym, ◌∙◌}
-use Rattle.std.proofs.lemmas.List.{get_or-take, length-take}
+use Rattle.std.proofs.Common.{◌≡◌, ℕ, zero, suc, ◌+◌, ◌<◌, ◌≤◌, List, [], ◌∷◌, length, get_or, set, take, All, min, max, arith, subst, sym}
 use Rattle.std.proofs.lemmas.List.Elements.{All-more, All-take}
 use Rattle.base_types.proofs.Quantifiers.{All-fewer, All-last}
 use Rattle.base_types.specs.declared.claim.Bound.{Bound}

@@ -1,5 +1,5 @@
 -- The example of the tests is sound.
-use Rattle.std.proofs.Common.{◌≡◌, true, List, map, refl, sym, ◌∙◌, ap}
+use Rattle.std.proofs.Common.{◌≡◌, List, map, refl, ◌∙◌, ap}
 use Rattle.clouds.specs.declared.span.KeyRevision.{KeyRevision}
 use Rattle.rbac_timeline.specs.declared.version.RbacEnd.{RbacEnd}
 use Rattle.rbac_timeline.specs.declared.version.RbacVersion.{RbacVersion}

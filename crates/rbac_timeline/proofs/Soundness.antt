@@ -1,7 +1,7 @@
 -- A test that tells of versions and removals that they are sound.
-use Rattle.std.proofs.Common.{◌≡◌, ℕ, ◌<◌, ◌≤◌, ◌⊎◌, ⊎_elim, inl, inr, Bool, true, false, not, ◌&&◌, ◌||◌, ◌==◌, List, [], ◌∷◌, length, get_or, map, Decides, refl, sym, subst, ap, arith}
+use Rattle.std.proofs.Common.{◌≡◌, ◌<◌, ◌⊎◌, Bool, true, false, not, ◌&&◌, ◌||◌, ◌==◌, List, [], ◌∷◌, length, get_or, map, Decides, refl, subst, arith}
 use Rattle.std.specs.Prelude.{nat_le, nat_lt}
-use Rattle.std.specs.List.{All, AllPairs, Any, Contains, list_all, list_any}
+use Rattle.std.specs.List.{All, AllPairs, Contains, list_all, list_any}
 use Rattle.std.specs.declared.cmp.Ordering.{Ordering}
 use Rattle.std.specs.declared.cmp.Ordering.TheVariants.{Equal, Greater, Less}
 use Rattle.std.proofs.lemmas.Bool.{and_parts}
@@ -16,7 +16,7 @@ use Rattle.rbac_timeline.specs.declared.version.RbacVersion.{RbacVersion}
 use Rattle.base_types.specs.Keys.{same_key}
 use Rattle.clouds.specs.Kept.{key_order}
 use Rattle.rbac_timeline.specs.Known.{key_revision}
-use Rattle.rbac_timeline.specs.Sound.{AreSound, IsBefore, IsSoundEnd}
+use Rattle.rbac_timeline.specs.Sound.{AreSound, IsSoundEnd}
 use Rattle.rbac_timeline.proofs.Hiding.{same_key-Decides}
 use Rattle.rbac_timeline.proofs.Passing.{Decides-leb}
 use Rattle.rbac_timeline.proofs.Telling.{Decides-all, Decides-any, Decides-implies}

@@ -1,7 +1,6 @@
 -- The bindings that name a subject.
 use Rattle.std.specs.Prelude.{◌≡◌, ◌↔◌, ◌⊎◌, List, AllPairs, Contains}
 use Rattle.std.specs.declared.cmp.Ordering.TheVariants.{Less}
-use Rattle.base_types.specs.contracts.key.ObjectKeyOrd.TheImpl as key_ord
 use Rattle.base_types.specs.declared.key.ObjectKey.{ObjectKey}
 use Rattle.clouds.specs.Kept.{key_order}
 use Rattle.rbac_rules.specs.declared.binding.Binding.{Binding}

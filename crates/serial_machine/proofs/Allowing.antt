@@ -1,18 +1,17 @@
 -- Why steps aren't allowed, and the least code of each.
-use Rattle.std.proofs.Common.{◌≡◌, ◌≢◌, ℕ, ◌≤◌, ◌⊎◌, Bool, true, false, Option, Some, None, IfSome, Contains, inl, inr, refl, sym, ap, ◌∙◌, subst, arith, true≢false}
+use Rattle.std.proofs.Common.{◌≡◌, ℕ, ◌≤◌, ◌⊎◌, Bool, Option, Some, None, Contains, inl, inr, refl, sym, ap, ◌∙◌, subst, arith}
 use Rattle.std.specs.Prelude.{◌↔◌, IsTrue}
 use Rattle.base_types.specs.Reasons.{code_number}
 use Rattle.base_types.specs.declared.claim.Reason.{Reason}
-use Rattle.base_types.specs.declared.claim.Reason.TheVariants.{U4, U7, U8, U10}
-use Rattle.base_types.specs.declared.key.ObjectKey.{ObjectKey}
+use Rattle.base_types.specs.declared.claim.Reason.TheVariants.{U7}
 use Rattle.history_model.proofs.Fits.{same_event}
-use Rattle.history_model.proofs.WordLemmas.{IsMadeBy, made_version, same_making}
+use Rattle.history_model.proofs.WordLemmas.{IsMadeBy, made_version}
 use Rattle.history_model.specs.Checking.{HasStepCode, at_put, at_remove, at_found, at_reply}
 use Rattle.history_model.specs.Clouds.{IsClouded}
-use Rattle.history_model.specs.Events.{Text, Item, Event, Answer, Made, Removed, Opaque, Saw, SawNone, SawSome, SawOther, Listed, Free, Aside}
+use Rattle.history_model.specs.Events.{Item, Event, Answer, Made, Removed, Opaque, Saw, SawNone, SawSome, SawOther, Listed, Free, Aside}
 use Rattle.history_model.specs.Groups.{Making, IsMaking}
-use Rattle.history_model.specs.Histories.{History, Version, Maker, Snapshot, ByEvent, Unknown, Removal, IsEvent}
-use Rattle.history_model.specs.Machine.{Step, Put, Remove, Reply, IsAllowed, MayRemove}
+use Rattle.history_model.specs.Histories.{History, Version, ByEvent, IsEvent}
+use Rattle.history_model.specs.Machine.{Put, Remove, Reply, MayRemove}
 use Rattle.history_model.specs.Making.{HasFault, HasFoundFault, CouldHaveFound, IsLeastFault, creates, excludes, changes}
 use Rattle.history_model.specs.Readable.{IsReadable}
 use Rattle.history_model.specs.Right.{IsRight, IsRightAnswer, IsShown, answer_code}

@@ -1,9 +1,8 @@
 -- Rows that are sorted by their turns are in the machine's order.
-use Rattle.std.proofs.Common.{◌≡◌, ◌≢◌, ℕ, ◌<◌, ◌≤◌, ◌⊎◌, ◌&&◌, eqb, Bool, true, false, cond, List, [], ◌∷◌, ◌++◌, map, length, get_or, Decides, AllPairs, Contains, All, inl, inr, refl, sym, ap, ◌∙◌, subst, arith, true≢false}
-use Rattle.std.specs.Cmp.{IsStrictWeakOrder, nat_cmp_total, bool_cmp_total, nat_eq_equiv}
+use Rattle.std.proofs.Common.{◌≡◌, ◌≢◌, ℕ, ◌<◌, ◌⊎◌, ◌&&◌, eqb, Bool, true, false, List, [], ◌∷◌, map, length, get_or, Decides, AllPairs, Contains, inl, inr, refl, sym, ap, ◌∙◌, subst, arith, true≢false}
+use Rattle.std.specs.Cmp.{IsStrictWeakOrder, nat_cmp_total, bool_cmp_total}
 use Rattle.std.specs.List.Sorted.{IsPermutation, IsSortedByKey}
 use Rattle.std.specs.Ordering.{ordering_then, is_lt, bool_cmp, nat_cmp}
-use Rattle.std.specs.declared.cmp.Ordering.{Ordering}
 use Rattle.std.specs.declared.cmp.Ordering.TheVariants.{Less, Equal}
 use Rattle.std.proofs.lemmas.Bool.Decides.{Decides-and, Decides-eqb, Decides-like}
 use Rattle.std.proofs.lemmas.Cmp.{on_total, then_total}
@@ -14,7 +13,7 @@ use Rattle.std.proofs.lemmas.Map.Made.{AllPairs-from_IsDistinct, IsDistinct-from
 use Rattle.base_types.specs.Placements.{RisesByLine}
 use Rattle.base_types.specs.declared.placed.PlacedLine.{PlacedLine}
 use Rattle.base_types.proofs.Orderings.{nat_equal, nat_less, then_less, then_next}
-use Rattle.history_model.proofs.Members.{not_in_none, here, there, in_cons, all_at, all_from, pairs_head, pairs_tail}
+use Rattle.history_model.proofs.Members.{not_in_none, in_cons, all_at, all_from, pairs_head, pairs_tail}
 use Rattle.history_model.proofs.StepsOf.{steps_of}
 use Rattle.history_model.specs.Checking.{IsFitting}
 use Rattle.history_model.specs.Histories.{History}

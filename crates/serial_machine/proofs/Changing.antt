@@ -1,11 +1,11 @@
 -- What a step leaves of the objects that are held.
-use Rattle.std.proofs.Common.{◌≡◌, ◌≢◌, ℕ, ◌⊎◌, ◌↔◌, ◌==◌, Bool, true, false, cond, List, [], ◌∷◌, ◌++◌, map, find, Option, Some, None, IsSome, AllPairs, Contains, inl, inr, refl, sym, ap, ◌∙◌, subst, true≢false}
+use Rattle.std.proofs.Common.{◌≡◌, ◌≢◌, ℕ, ◌⊎◌, ◌↔◌, ◌==◌, Bool, true, false, cond, List, [], ◌∷◌, ◌++◌, find, Option, Some, None, IsSome, Contains, inl, inr, refl, sym, ap, ◌∙◌, subst}
 use Rattle.std.specs.Prelude.{option_and_then}
-use Rattle.std.specs.BTreeMap.{BTreeMap, Updates, get, is_at}
+use Rattle.std.specs.BTreeMap.{BTreeMap, Updates, get}
 use Rattle.std.specs.Ordering.{is_eq}
 use Rattle.base_types.specs.declared.key.ObjectKey.{ObjectKey}
 use Rattle.base_types.specs.Keys.{same_key}
-use Rattle.clouds.proofs.Adding.{key_order_total, same_key_from}
+use Rattle.clouds.proofs.Adding.{same_key_from}
 use Rattle.clouds.specs.Kept.{key_order}
 use Rattle.history_model.proofs.KeyLemmas.{key_tells}
 use Rattle.history_model.proofs.Members.{apart}
@@ -16,7 +16,7 @@ use Rattle.history_model.specs.Machine.{Step, Put, Remove, Reply, after, after_a
 use Rattle.history_model.specs.Readable.{IsReadable}
 use Rattle.history_model.specs.States.{Cut, Map}
 use Rattle.serial_machine.proofs.Unmade.{after_append, end_append}
-use Rattle.serial_machine.specs.Held.{HasMade, HasRooms, held, objects_in, end_of_steps}
+use Rattle.serial_machine.specs.Held.{HasMade, HasRooms, held, objects_in}
 use Rattle.serial_machine.specs.declared.machine.Machine.{Machine}
 
 -- the version of a revision is found

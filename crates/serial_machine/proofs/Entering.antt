@@ -1,9 +1,8 @@
 -- One line of a placement, and its step.
-use Rattle.std.proofs.Common.{◌≡◌, ◌≢◌, ℕ, zero, suc, ◌<◌, ◌≤◌, ◌⊎◌, ◌==◌, true, List, [], ◌∷◌, ◌++◌, length, map, find, Option, Some, None, slice_get, Contains, inl, inr, refl, sym, ap, ◌∙◌, subst, arith}
+use Rattle.std.proofs.Common.{◌≡◌, ◌≢◌, ℕ, zero, suc, ◌<◌, ◌==◌, true, List, [], ◌∷◌, ◌++◌, length, map, find, Some, None, slice_get, Contains, refl, sym, ap, ◌∙◌, subst, arith}
 use mathlib.Core.Path.{fun_ext}
 use Rattle.std.specs.Prelude.{option_map}
 use Rattle.std.proofs.lemmas.Option.{slice_get-map, same_Some}
-use Rattle.base_types.specs.Reasons.{code_number}
 use Rattle.base_types.specs.declared.claim.Reason.{Reason}
 use Rattle.base_types.specs.declared.placed.PlacedLine.{PlacedLine}
 use Rattle.history_model.proofs.Fits.{same_event}
@@ -16,7 +15,6 @@ use Rattle.history_model.specs.Histories as histories
 use Rattle.history_model.specs.Histories.{History, IsEvent}
 use Rattle.history_model.specs.Machine.{Step, Put, Remove, Reply, after_all, snapshot_map, step_place, event_line}
 use Rattle.history_model.specs.Readable.{IsReadable}
-use Rattle.history_model.specs.States.{Map}
 use Rattle.history_model.specs.Words.{Word, Makes, Removes, At, Strays, Nothing, word}
 use Rattle.history_model.specs.Placed.{answer_place}
 use Rattle.object_past.specs.Modelled.{recorded, version_of}

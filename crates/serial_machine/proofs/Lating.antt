@@ -1,11 +1,11 @@
 -- The versions without a maker are put, one after another.
-use Rattle.std.proofs.Common.{◌≡◌, ℕ, zero, suc, ◌+◌, ◌<◌, ◌≤◌, ◌⊎◌, Bool, true, false, leb, cond, List, [], ◌∷◌, ◌++◌, append_assoc, append-nil, length, get_or, take, drop, map, All, AllPairs, Contains, inl, inr, refl, sym, ap, ◌∙◌, subst, arith}
+use Rattle.std.proofs.Common.{◌≡◌, ℕ, zero, suc, ◌+◌, ◌<◌, ◌≤◌, ◌⊎◌, true, false, List, [], ◌∷◌, ◌++◌, append-nil, length, get_or, take, drop, map, AllPairs, Contains, inl, inr, refl, sym, ap, ◌∙◌, subst, arith}
 use Rattle.std.specs.List.{filter}
 use Rattle.std.proofs.lemmas.Bool.{leb-true}
 use Rattle.base_types.proofs.Upto.{Upto}
-use Rattle.std.proofs.lemmas.List.{map-append, take_more, take-append-drop, take_all, get_or-take, length-take}
-use Rattle.std.proofs.lemmas.List.Elements.{Contains-get_or, filter-append, Contains-append_left, Contains-append_right}
-use Rattle.history_model.proofs.Members.{not_in_none, here, there, in_cons, all_at, pairs_head, pairs_tail}
+use Rattle.std.proofs.lemmas.List.{map-append, take_more, take-append-drop, get_or-take, length-take}
+use Rattle.std.proofs.lemmas.List.Elements.{Contains-get_or, filter-append}
+use Rattle.history_model.proofs.Members.{here, there, in_cons, all_at, pairs_head, pairs_tail}
 use Rattle.history_model.specs.Histories as histories
 use Rattle.history_model.specs.Histories.{History}
 use Rattle.history_model.specs.Machine.{Step, Put}

@@ -1,16 +1,15 @@
 -- One step after another, up to the first that isn't allowed.
-use Rattle.std.proofs.Common.{◌≡◌, ℕ, suc, ◌+◌, ◌<◌, ◌≤◌, ◌⊎◌, List, [], ◌∷◌, ◌++◌, length, get_or, take, drop, map, Option, Some, None, IfSome, All, Contains, inl, inr, refl, sym, ap, ◌∙◌, subst, arith}
+use Rattle.std.proofs.Common.{◌≡◌, ℕ, ◌+◌, ◌<◌, ◌≤◌, List, [], ◌∷◌, ◌++◌, length, get_or, take, drop, map, Option, Some, None, IfSome, All, Contains, sym, ap, ◌∙◌, subst}
 use Rattle.std.specs.Prelude.{IfNone}
 use Rattle.std.proofs.lemmas.List.{map-append, take_more, take_all, take-append-drop}
 use Rattle.std.proofs.lemmas.List.Elements.{Contains-append_right}
-use Rattle.base_types.specs.Reasons.{code_number}
 use Rattle.base_types.specs.declared.claim.Reason.{Reason}
 use Rattle.base_types.specs.declared.placed.PlacedLine.{PlacedLine}
 use Rattle.history_model.proofs.CutLemmas.{cut_removal}
-use Rattle.history_model.proofs.Members.{here, there, in_cons, all_at, all_from}
-use Rattle.history_model.specs.Checking.{AreAllowed, EachStep, HasStepCode, IsStepFault}
+use Rattle.history_model.proofs.Members.{here, all_at, all_from}
+use Rattle.history_model.specs.Checking.{AreAllowed, EachStep, IsStepFault}
 use Rattle.history_model.specs.Histories.{History}
-use Rattle.history_model.specs.Machine.{Step, Put, Remove, Reply, IsAllowed, Runs, after, after_all, snapshot_map, step_line}
+use Rattle.history_model.specs.Machine.{Step, Put, Remove, Reply, IsAllowed, Runs, after, after_all, snapshot_map}
 use Rattle.history_model.specs.Placed.{placement_of}
 use Rattle.history_model.specs.Runs.{IsStep, Placement}
 use Rattle.history_model.specs.States.{Map}

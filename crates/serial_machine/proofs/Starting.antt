@@ -9,7 +9,7 @@ use Rattle.base_types.specs.declared.key.ObjectKey.{ObjectKey}
 use Rattle.base_types.specs.Keys.{same_key}
 use Rattle.clouds.proofs.Adding.{same_key_from}
 use Rattle.clouds.specs.Kept.{key_order}
-use Rattle.history_model.proofs.KeyLemmas.{key_tells, key_decides, key_is}
+use Rattle.history_model.proofs.KeyLemmas.{key_decides, key_is}
 use Rattle.history_model.proofs.Latest.{latest_is}
 use Rattle.history_model.proofs.WordLemmas.{found_in, not_found}
 use Rattle.history_model.specs.Histories as histories

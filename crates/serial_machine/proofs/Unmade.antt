@@ -1,5 +1,5 @@
 -- Versions without a maker, put one after the other.
-use Rattle.std.proofs.Common.{◌≡◌, ◌≢◌, ℕ, suc, ◌<◌, ◌≤◌, ◌⊎◌, Bool, true, false, cond, ◌&&◌, nat_lt, nat_le, List, [], ◌∷◌, ◌++◌, map, Option, Some, None, All, AllPairs, Contains, inl, inr, refl, sym, ap, ◌∙◌, subst, arith, true≢false}
+use Rattle.std.proofs.Common.{◌≡◌, ◌≢◌, ℕ, suc, ◌<◌, ◌≤◌, ◌⊎◌, Bool, true, false, cond, ◌&&◌, nat_lt, nat_le, List, [], ◌∷◌, ◌++◌, map, Option, Some, None, All, AllPairs, inl, inr, refl, sym, ap, ◌∙◌, arith, true≢false}
 use Rattle.std.specs.List.{filter}
 use Rattle.std.proofs.lemmas.Bool.Decides.{leb_tells}
 use Rattle.std.proofs.lemmas.List.Kept.{AllPairs-filter}
@@ -7,7 +7,7 @@ use Rattle.base_types.specs.declared.key.ObjectKey.{ObjectKey}
 use Rattle.base_types.specs.Keys.{same_key}
 use Rattle.history_model.proofs.KeyLemmas.{key_tells, key_is, key_differs}
 use Rattle.history_model.proofs.Latest.{latest_is}
-use Rattle.history_model.proofs.Members.{not_in_none, here, there, in_cons, all_at, all_from, pairs_head, pairs_tail}
+use Rattle.history_model.proofs.Members.{here, there, all_at, all_from, pairs_head, pairs_tail}
 use Rattle.history_model.proofs.Steps.{in_filter}
 use Rattle.history_model.specs.Histories.{History, Version}
 use Rattle.history_model.specs.Machine.{Step, Put, put_at, after, after_all, snapshot_map, step_place}

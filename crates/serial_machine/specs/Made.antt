@@ -6,8 +6,7 @@ use Rattle.base_types.specs.declared.claim.Reason.TheVariants.{U3}
 use Rattle.base_types.specs.declared.placed.PlacedLine.{PlacedLine}
 use Rattle.history_model.specs.Checking.{CheckCode, V1, V2, Judged, HasStepCode, HasWords, IsOutside}
 use Rattle.history_model.specs.Events.{Event}
-use Rattle.history_model.specs.Groups.{Making}
-use Rattle.history_model.specs.Histories.{History, Version, Removal, IsEvent}
+use Rattle.history_model.specs.Histories.{History, Version, IsEvent}
 use Rattle.history_model.specs.Machine.{Step, Put, Remove, Reply, IsAllowed, Precedes, after_all, snapshot_map, step_place}
 use Rattle.history_model.specs.Placed.{answer_place, decision_places}
 use Rattle.history_model.specs.States.{Map}

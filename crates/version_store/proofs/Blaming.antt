@@ -1,25 +1,23 @@
 -- The fault of a write, by what is found at its revision.
-use Rattle.std.proofs.Common.{rules, ◌≡◌, ◌≢◌, ℕ, ◌+◌, ◌-◌, ◌++◌, ◌<◌, ◌≤◌, ◌==◌, ◌⊎◌, inl, inr, Bool, true, false, if◌then◌else◌, nat_le, List, [], ◌∷◌, length, get_or, map, Option, Some, None, slice_get, option_map, find, Any, Contains, refl, sym, ap, ◌∙◌, subst, arith}
+use Rattle.std.proofs.Common.{rules, ◌≡◌, ◌≢◌, ℕ, ◌+◌, ◌-◌, ◌++◌, ◌<◌, ◌≤◌, ◌==◌, ◌⊎◌, inl, inr, Bool, true, false, nat_le, List, [], ◌∷◌, length, map, Option, Some, None, slice_get, option_map, find, Any, Contains, refl, sym, ap, ◌∙◌, subst, arith}
 use Rattle.std.specs.BTreeMap.{get}
 use Rattle.std.specs.Ordering.{nat_cmp}
 use Rattle.std.proofs.lemmas.Bool.Decides.{eqb_tells}
 use Rattle.std.proofs.lemmas.List.{length-append}
-use Rattle.std.proofs.lemmas.List.Elements.{Contains-get_or}
 use Rattle.std.proofs.lemmas.Option.{same_Some}
 use Rattle.base_types.specs.declared.claim.Reason.{Reason}
 use Rattle.base_types.specs.declared.claim.Reason.TheVariants.{U3}
 use Rattle.base_types.specs.declared.key.ObjectKey.{ObjectKey}
 use Rattle.history_model.proofs.KeyLemmas.{key_is, key_differs}
-use Rattle.history_model.proofs.Members.{all_at, at_in}
+use Rattle.history_model.proofs.Members.{all_at}
 use Rattle.history_model.proofs.OneList.{first_making_same}
 use Rattle.history_model.proofs.WordLemmas.{IsMadeBy, found_in, eq_test, made_version, same_making, test_eq}
 use Rattle.history_model.specs.Events as model
-use Rattle.history_model.specs.Groups.{Making, IsMaking, IsAnsweredWith, IsKeyOf, IsMember}
+use Rattle.history_model.specs.Groups.{Making, IsMaking, IsAnsweredWith, IsKeyOf}
 use Rattle.history_model.specs.Histories as past
 use Rattle.history_model.specs.Histories.{History, ByEvent, IsEvent}
-use Rattle.base_types.specs.Keys.{same_key}
 use Rattle.history_model.specs.Makers.{IsMadeVersion, IsSnapshotVersion}
-use Rattle.history_model.specs.Making.{IsAnew, IsEntryAfter, IsEntryBefore, IsLeastFault}
+use Rattle.history_model.specs.Making.{IsEntryAfter, IsEntryBefore, IsLeastFault}
 use Rattle.history_model.specs.Readable.{IsReadable}
 use Rattle.history_model.specs.States.{latest}
 use Rattle.history_model.specs.Words.{answer_word, is_by, word, write_word, At, Makes, Strays}
@@ -32,7 +30,7 @@ use Rattle.object_past.specs.declared.version.Maker.TheVariants.{Snapshot, Event
 use Rattle.object_past.specs.declared.version.Version.{Version}
 use Rattle.object_versions.proofs.Mapped.{any_in}
 use Rattle.object_versions.proofs.Numbered.{making_from}
-use Rattle.object_versions.specs.Written.{making_at, AreAllJudged, IsJudgedAt, IsJudgement}
+use Rattle.object_versions.specs.Written.{making_at, AreAllJudged, IsJudgedAt}
 use Rattle.object_versions.specs.declared.maker.Judged.{Judged}
 use Rattle.write_groups.specs.Members.{AreGroupsOf, IsGroupOf}
 use Rattle.write_groups.specs.Modelled.{HasEvents}

@@ -1,8 +1,7 @@
 -- What is found of a setup and a log, put together.
-use Rattle.std.proofs.Common.{rules, ◌≡◌, ◌≢◌, ℕ, ℤ, pos, neg_ℤ, ◌≤ℤ◌, ◌-ℤ◌, ◌+◌, ◌-◌, ◌<◌, ◌≤◌, ◌^◌, max, min, ◌⊎◌, inl, inr, Bool, List, [], ◌∷◌, length, get_or, map, Option, Some, None, slice_get, All, AllPairs, Any, Contains, refl, sym, ap, ◌∙◌, subst, arith}
+use Rattle.std.proofs.Common.{◌≡◌, ◌≢◌, ℕ, ℤ, pos, neg_ℤ, ◌≤ℤ◌, ◌-ℤ◌, ◌+◌, ◌-◌, ◌<◌, ◌≤◌, ◌^◌, min, ◌⊎◌, inl, inr, Bool, List, [], ◌∷◌, length, get_or, map, Option, Some, None, slice_get, All, AllPairs, Any, Contains, refl, sym, ap, ◌∙◌, subst, arith}
 use Rattle.std.specs.List.{AllZip}
 use Rattle.std.proofs.lemmas.Int.{ints}
-use Rattle.std.proofs.lemmas.List.{length-map}
 use Rattle.std.proofs.lemmas.List.Elements.{Contains-get_or}
 use Rattle.std.proofs.lemmas.Option.{same_Some, slice_get_within}
 use Rattle.std.proofs.lemmas.Slice.Zip.{AllZip-long}
@@ -13,17 +12,17 @@ use Rattle.answer_class.specs.declared.answer.Answer.TheVariants as class
 use Rattle.audit_event.specs.Events as audit
 use Rattle.audit_event.specs.declared.event.Event.{Event}
 use Rattle.base_types.specs.declared.key.ObjectKey.{ObjectKey}
-use Rattle.history_model.proofs.Members.{all_at, all_from, apart, pairs_head, pairs_tail, pairs_cons, in_at, at_in, not_in_none}
+use Rattle.history_model.proofs.Members.{all_at, all_from, apart, pairs_head, pairs_tail, pairs_cons, at_in}
 use Rattle.history_model.specs.Events as model
 use Rattle.history_model.specs.Groups.{Making, IsMaking}
 use Rattle.history_model.specs.Histories as past
 use Rattle.history_model.specs.Histories.{History, IsEvent}
-use Rattle.history_model.specs.Incarnations.{AreRemovals, EndsBefore, IsRemoval, IsRemovalBehind, IsRemovalOf, place_before}
+use Rattle.history_model.specs.Incarnations.{AreRemovals, EndsBefore, IsRemoval, IsRemovalOf, place_before}
 use Rattle.history_model.specs.Judging.{IsFirst, IsOrder}
 use Rattle.history_model.specs.Makers.{item_of as shown_item}
 use Rattle.history_model.specs.Makers.{AreVersions, IsMadeVersion, IsShowing, IsSnapshotVersion}
 use Rattle.history_model.specs.Readable.{IsReadable}
-use Rattle.history_model.specs.Windows.{lowest, highest}
+use Rattle.history_model.specs.Windows.{highest}
 use Rattle.base_types.specs.Meaning.{Meaning}
 use Rattle.object_past.specs.Modelled.{recorded, version_of}
 use Rattle.object_past.specs.Past.{AreEnds, Recorded}
@@ -53,7 +52,7 @@ use Rattle.version_store.specs.Known.{Known}
 use Rattle.version_store.specs.Makings.{AreMakersCodes, AreMakingsOf, Makings}
 use Rattle.version_store.specs.Log.{IsLogOf, IsNotOlder, RiseByLine}
 use Rattle.version_store.specs.declared.log.Log.{Log}
-use Rattle.version_store.specs.Logged.{AreLogged, IsLogged, IsLoggedCheckpoint}
+use Rattle.version_store.specs.Logged.{AreLogged}
 use Rattle.version_store.specs.Shown.{AreItemsOf, IsItemOf, IsShownAs}
 
 -- what holds of each two of a list holds of each two of what stands for them

@@ -1,5 +1,5 @@
 -- Decisions of a log by the roles and bindings at places.
-use Rattle.std.proofs.Common.{◌≡◌, ◌<◌, ◌≤◌, ◌↔◌, ℕ, ◌⊎◌, inl, inr, Bool, true, false, List, Option, Some, None, option_map, option_and_then, slice_get, refl, sym, ap, ◌∙◌, subst, arith}
+use Rattle.std.proofs.Common.{◌≡◌, ◌<◌, ◌≤◌, ◌↔◌, ℕ, ◌⊎◌, inl, inr, Bool, true, false, List, Option, Some, None, option_map, option_and_then, slice_get, refl, sym, ap, ◌∙◌, arith}
 use Rattle.std.specs.Option.{IfNone, IfSome}
 use Rattle.std.proofs.lemmas.Bool.{cases_lt}
 use Rattle.std.proofs.lemmas.Option.{same_Some}
@@ -13,7 +13,7 @@ use Rattle.base_types.specs.declared.request.RequestAttrs.{RequestAttrs}
 use Rattle.base_types.specs.declared.request.User.{User}
 use Rattle.rbac_timeline.proofs.Possible.{is_possible-Decides}
 use Rattle.rbac_timeline.specs.Deciding.{is_possible}
-use Rattle.rbac_timeline.specs.Decisions.{AreWithin, IsDecidedAt, IsPossible}
+use Rattle.rbac_timeline.specs.Decisions.{IsDecidedAt, IsPossible}
 use Rattle.rbac_timeline.specs.Known.{Known}
 use Rattle.rbac_timeline.specs.Searched.{all_at}
 use Rattle.rbac_timeline.specs.Sound.{AreSound}

@@ -4,7 +4,7 @@ use Rattle.std.specs.BTreeMap.{get, Updates}
 use Rattle.std.specs.Ordering.{is_eq, nat_cmp}
 use Rattle.std.proofs.lemmas.Bool.{cond-true, cond-false}
 use Rattle.std.proofs.lemmas.Bool.Decides.{nat_tests}
-use Rattle.std.proofs.lemmas.List.{take_more, take_all}
+use Rattle.std.proofs.lemmas.List.{take_more}
 use Rattle.std.proofs.lemmas.List.Elements.{Contains-append_left, Contains-push, Contains-push_cases}
 use Rattle.base_types.specs.declared.claim.Reason.{Reason}
 use Rattle.object_versions.specs.declared.maker.Judged.{Judged}

@@ -1,10 +1,10 @@
 -- Keys that are gathered in a set.
-use Rattle.std.proofs.Common.{◌≡◌, ℕ, ◌+◌, ◌<◌, ◌⊎◌, inl, inr, Bool, true, false, List, [], ◌∷◌, ◌++◌, length, get_or, take, Option, Some, Contains, refl, sym, ap, subst, ◌∙◌, true≢false, arith}
+use Rattle.std.proofs.Common.{◌≡◌, ℕ, ◌+◌, ◌<◌, ◌⊎◌, inl, inr, Bool, true, false, List, [], ◌∷◌, ◌++◌, length, get_or, take, Contains, refl, sym, ap, subst, ◌∙◌, true≢false}
 use Rattle.std.specs.BTreeSet.{BTreeSet, contains, Updates, IsOrdered}
 use Rattle.std.specs.List.{list_any}
 use Rattle.std.specs.Ordering.{is_eq}
 use Rattle.std.specs.Prelude.{◌↔◌, IsTrue, Any}
-use Rattle.std.proofs.lemmas.Bool.{cases_Bool, cond-true, cond-false}
+use Rattle.std.proofs.lemmas.Bool.{cond-true, cond-false}
 use Rattle.std.proofs.lemmas.Cmp.{tied_itself}
 use Rattle.std.proofs.lemmas.List.{take_more}
 use Rattle.std.proofs.lemmas.List.Elements.{Contains-append_left, Contains-push, Contains-push_cases}
@@ -12,7 +12,6 @@ use Rattle.std.proofs.lemmas.Map.Keys.{Less-from_sorted}
 use Rattle.std.proofs.lemmas.Map.Views.{btree_set_contains_iff}
 use Rattle.std.proofs.lemmas.Option.{same_Some}
 use Rattle.base_types.proofs.Quantifiers.{Any-contains}
-use Rattle.base_types.specs.Covers.{NamesExactly}
 use Rattle.base_types.specs.declared.key.Cover.{Cover}
 use Rattle.base_types.specs.declared.key.CoverName.TheVariants.{Exact}
 use Rattle.base_types.specs.declared.key.ObjectKey.{ObjectKey}
@@ -23,7 +22,6 @@ use Rattle.object_past.specs.Scopes.{AreInOrder}
 use Rattle.object_past.specs.declared.version.Version.{Version}
 use Rattle.object_versions.proofs.Mapped.{any_in}
 use Rattle.write_groups.specs.declared.event.LogEvent.{LogEvent}
-use Rattle.write_groups.specs.declared.event.Shown.TheVariants.{Opaque}
 use Rattle.version_store.specs.Keyed.{AreKeys, IsNamedBy, IsTold}
 
 abbrev Holds : BTreeSet ObjectKey → ObjectKey → Type 0

@@ -1,10 +1,9 @@
 -- What stands at each number of a log.
-use Rattle.std.proofs.Common.{◌≡◌, ◌⊎◌, inl, inr, ℕ, zero, suc, ◌+◌, ◌-◌, ◌<◌, ◌≤◌, Bool, true, List, [], ◌∷◌, ◌++◌, length, get_or, Option, Some, None, codes, slice_get, option_and_then, refl, sym, ap, subst, ◌∙◌, arith, length-append}
+use Rattle.std.proofs.Common.{◌≡◌, ◌⊎◌, inl, inr, ℕ, zero, suc, ◌+◌, ◌-◌, ◌<◌, ◌≤◌, true, List, [], ◌∷◌, ◌++◌, length, Option, Some, None, codes, slice_get, option_and_then, refl, sym, ap, ◌∙◌, arith, length-append}
 use Rattle.std.specs.BTreeMap.{get}
 use Rattle.std.specs.Ordering.{nat_cmp}
 use Rattle.std.proofs.lemmas.Bool.{cases_lt}
-use Rattle.std.proofs.lemmas.List.{get_or-append-add, get_or_append_left}
-use Rattle.std.proofs.lemmas.Option.{slice_get-get_or, slice_get_past, slice_get_within}
+use Rattle.std.proofs.lemmas.Option.{slice_get_past, slice_get_within}
 use Rattle.base_types.specs.Meaning.{Meaning}
 use Rattle.audit_event.specs.declared.event.Event.{Event}
 use Rattle.setup_file.specs.declared.setup.Checkpoint.{Checkpoint}
@@ -20,7 +19,6 @@ use Rattle.write_groups.specs.declared.event.LogEvent.{LogEvent}
 use Rattle.version_store.specs.Histories.{listable_by, listable_test}
 use Rattle.version_store.specs.Logged.{IsLogged, IsLoggedCheckpoint, AreLogged}
 use Rattle.version_store.specs.LogSelectors.{Selectors, AreSelectorsOf, selector_in, is_taken}
-use Rattle.version_store.proofs.LineLemmas.{some_of}
 
 pub logged_length : (setup : Setup) (trees : List Meaning) (events : List Event) (logged : List LogEvent) → AreLogged setup trees events logged → length logged ≡ length events + length setup.checkpoints
 logged_length setup trees events logged are =

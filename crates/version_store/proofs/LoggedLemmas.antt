@@ -1,5 +1,5 @@
 -- Events that were put into the model's terms, one after another.
-use Rattle.std.proofs.Common.{◌≡◌, ℕ, zero, suc, ◌+◌, ◌<◌, List, [], ◌∷◌, ◌++◌, length, get_or, take, Some, slice_get, refl, sym, ap, subst, ◌∙◌, arith, length-append}
+use Rattle.std.proofs.Common.{◌≡◌, ℕ, zero, suc, ◌+◌, ◌<◌, List, [], ◌∷◌, ◌++◌, length, get_or, take, Some, slice_get, sym, subst, arith, length-append}
 use Rattle.base_types.specs.Meaning.{Meaning}
 use Rattle.node_pool.specs.Subtrees.{Begins}
 use Rattle.audit_event.specs.declared.event.Event.{Event}

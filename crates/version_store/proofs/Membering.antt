@@ -1,5 +1,5 @@
 -- The group of a revision.
-use Rattle.std.proofs.Common.{◌≡◌, ◌==◌, ℕ, List, [], Option, Some, None, find, refl, sym, ◌∙◌}
+use Rattle.std.proofs.Common.{◌≡◌, ◌==◌, ℕ, List, [], Some, None, find, refl, sym, ◌∙◌}
 use Rattle.history_model.proofs.Members.{all_at}
 use Rattle.history_model.proofs.WordLemmas.{eq_test, found_in, not_found, test_eq}
 use Rattle.history_model.specs.Histories.{History}

@@ -1,10 +1,9 @@
 -- A setup and the events of a log tell one history.
-use Rattle.std.proofs.Common.{◌≡◌, ◌⊎◌, inl, inr, ℕ, ◌+◌, ◌<◌, Bool, true, false, ◌&&◌, nat_le, max, List, [], ◌∷◌, ◌++◌, length, map, Option, Some, None, if◌then◌else◌, slice_get, Contains, refl, sym, ap, ap₂, ◌∙◌, subst, arith}
+use Rattle.std.proofs.Common.{◌≡◌, inl, inr, ℕ, ◌+◌, ◌<◌, Bool, true, false, ◌&&◌, nat_le, max, List, [], ◌∷◌, ◌++◌, map, Some, if◌then◌else◌, slice_get, refl, sym, ap, ap₂, ◌∙◌, subst, arith}
 use Rattle.std.specs.Prelude.{fold}
 use Rattle.std.specs.List.{filter_map, list_any}
 use Rattle.std.specs.Ordering.{ordering_reverse}
-use Rattle.std.specs.declared.cmp.Ordering.{Ordering}
-use Rattle.std.specs.declared.cmp.Ordering.TheVariants.{Less, Equal, Greater}
+use Rattle.std.specs.declared.cmp.Ordering.TheVariants.{Less, Greater}
 use Rattle.std.proofs.lemmas.Option.{slice_get_within}
 use Rattle.answer_class.specs.Classes.{class_of}
 use Rattle.answer_class.specs.declared.answer.Answer.{Answer}
@@ -12,7 +11,6 @@ use Rattle.answer_class.specs.declared.answer.Answer.TheVariants.{Made, Removed,
 use Rattle.audit_event.specs.declared.event.Event.{Event}
 use Rattle.base_types.specs.declared.key.ObjectKey.{ObjectKey}
 use Rattle.clouds.proofs.Adding.{key_order_total}
-use Rattle.clouds.specs.declared.span.OpaqueSpan.{OpaqueSpan}
 use Rattle.history_model.proofs.OneList.{one_list_is}
 use Rattle.history_model.proofs.OutcomeLaw.{get_within}
 use Rattle.history_model.proofs.SameSorted.{same_by_get, same_sorted}

@@ -1,6 +1,6 @@
 -- Each number in the trees of a sound log is one that can be read.
 use Rattle.std.proofs.Common.{◌≡◌, ℕ, Bool, true, false, ◌&&◌, List, [], ◌∷◌, ◌++◌, Option, Some, None, if◌then◌else◌, All, refl, sym, subst}
-use Rattle.std.specs.Prelude.{fold, is_some}
+use Rattle.std.specs.Prelude.{fold}
 use Rattle.std.specs.List.{flat_map, list_any}
 use Rattle.std.proofs.lemmas.List.Concat.{flat_map-cons}
 use Rattle.std.proofs.lemmas.List.Elements.{All-nil, All-cons, All-head, All-tail, All-append, All-push, All-map}
@@ -22,13 +22,13 @@ use Rattle.setup_file.specs.declared.setup.Tracked.{Tracked}
 use Rattle.base_types.proofs.Found.{found_both}
 use Rattle.answer_class.specs.Bodies.{answered_object}
 use Rattle.answer_class.specs.Covers.{cover_of}
-use Rattle.answer_class.specs.Lists.{answered_list, is_odd, is_old_list}
+use Rattle.answer_class.specs.Lists.{answered_list}
 use Rattle.setup_file.specs.Requests.{tracked_of}
-use Rattle.answer_class.specs.Requests.{verb_of, is_write, is_read, is_completing, effect_of, is_own, is_unknown, first_value, succeeds, is_code, is_done, is_open, is_empty}
+use Rattle.answer_class.specs.Requests.{verb_of, is_write, is_read, is_completing, effect_of, is_own, is_unknown, succeeds, is_code, is_done, is_open, is_empty}
 use Rattle.answer_class.specs.Times.{is_early, is_before}
-use Rattle.answer_class.specs.Classes.{saw, listed, got, gathered, read_by, read_class, is_missing, asked_name, is_taken, is_conflict, conflict_class, taken_class, refused_class, is_outside, is_out_of_sight, later_class, removed_uid, removed, is_made_by, made, made_class, is_hidden, is_dry, is_idle, succeeded_class, tracked_class, class_in, class_of}
+use Rattle.answer_class.specs.Classes.{saw, listed, read_by, read_class, is_missing, asked_name, is_taken, is_conflict, conflict_class, taken_class, refused_class, is_outside, is_out_of_sight, later_class, removed_uid, removed, is_made_by, made, made_class, is_hidden, is_dry, is_idle, succeeded_class, tracked_class, class_in, class_of}
 use Rattle.answer_class.specs.declared.answer.Answer.{Answer}
-use Rattle.answer_class.specs.declared.answer.Answer.TheVariants.{Made, Opaque, Listed, Free, Aside}
+use Rattle.answer_class.specs.declared.answer.Answer.TheVariants.{Made, Opaque, Free, Aside}
 use Rattle.answer_class.specs.declared.request.Verb.{Verb}
 use Rattle.answer_class.specs.declared.request.Verb.TheVariants.{Create, Update, Patch, Delete, DeleteCollection, Get, Listing, Other}
 use Rattle.audit_event.proofs.BodyLemmas.{kept_in_range}

@@ -1,19 +1,16 @@
 -- Roles and bindings, once their turns are sorted, come by key and revision.
-use Rattle.std.proofs.Common.{◌≡◌, ◌≢◌, ℕ, zero, suc, ◌+◌, ◌-◌, ◌<◌, ◌≤◌, ◌⊎◌, inl, inr, Bool, true, false, List, [], ◌∷◌, length, get_or, Option, Some, None, slice_get, All, AllPairs, Contains, refl, sym, ap, ◌∙◌, subst, true≢false, is_some, option_and_then, arith}
-use Rattle.std.specs.Cmp.{IsStrictWeakOrder, IsTotalOrder, nat_cmp_total}
-use Rattle.std.specs.List.{filter_map}
+use Rattle.std.proofs.Common.{◌≡◌, ◌≢◌, ℕ, zero, suc, ◌+◌, ◌-◌, ◌<◌, ◌≤◌, ◌⊎◌, inl, inr, Bool, true, false, List, [], ◌∷◌, length, Option, Some, None, slice_get, All, AllPairs, Contains, refl, sym, ap, ◌∙◌, subst, true≢false, is_some, option_and_then, arith}
+use Rattle.std.specs.Cmp.{IsStrictWeakOrder, nat_cmp_total}
 use Rattle.std.specs.List.Sorted.{IsPermutation, IsSorted}
 use Rattle.std.specs.Ordering.{ordering_then, ordering_reverse, is_eq, is_lt, nat_cmp}
 use Rattle.std.specs.declared.cmp.Ordering.{Ordering}
 use Rattle.std.specs.declared.cmp.Ordering.TheVariants.{Less, Equal, Greater}
-use Rattle.std.proofs.lemmas.Cmp.{on_total, then_total, tied_itself}
-use Rattle.std.proofs.lemmas.List.Elements.{Contains-get_or}
+use Rattle.std.proofs.lemmas.Cmp.{on_total, then_total}
 use Rattle.std.proofs.lemmas.List.Sorted.{Contains-permutation, IsPermutation-sym, ranks_by, sorted_far}
 use Rattle.std.proofs.lemmas.Option.{same_Some, slice_get_within}
-use Rattle.base_types.specs.declared.key.ObjectKey.{ObjectKey}
 use Rattle.clouds.proofs.Adding.{key_order_total, same_key_from}
 use Rattle.clouds.specs.Kept.{key_order}
-use Rattle.history_model.proofs.Members.{here, there, in_cons, not_in_none, all_at, all_from, at_apart, pairs_head, pairs_tail, pairs_cons, in_at, at_in}
+use Rattle.history_model.proofs.Members.{here, there, in_cons, not_in_none, all_from, at_apart, pairs_cons, in_at, at_in}
 use Rattle.base_types.specs.Meaning.{Meaning}
 use Rattle.base_types.proofs.Orderings.{nat_less, then_less, then_next}
 use Rattle.object_past.specs.declared.version.Version.{Version}

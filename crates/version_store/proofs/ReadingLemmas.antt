@@ -1,5 +1,5 @@
 -- Where events and checkpoints may be read, against the snapshot.
-use Rattle.std.proofs.Common.{◌≡◌, ◌⊎◌, inl, inr, ℕ, ◌+◌, ◌-◌, ◌<◌, ◌≤◌, Bool, true, false, not, List, [], ◌∷◌, ◌++◌, length, get_or, Option, Some, None, if◌then◌else◌, codes, refl, sym, ap, subst, ◌∙◌, arith, length-append}
+use Rattle.std.proofs.Common.{◌≡◌, ◌⊎◌, inl, inr, ℕ, ◌+◌, ◌-◌, ◌<◌, ◌≤◌, Bool, true, false, not, List, ◌++◌, length, get_or, Option, Some, None, if◌then◌else◌, codes, sym, subst, arith, length-append}
 use Rattle.std.specs.List.{All}
 use Rattle.std.proofs.lemmas.Bool.{cases_lt}
 use Rattle.std.proofs.lemmas.List.{get_or-append-add, get_or_append_left}
@@ -9,7 +9,6 @@ use Rattle.base_types.specs.Meaning.{Meaning}
 use Rattle.audit_event.specs.declared.event.Event.{Event}
 use Rattle.base_types.specs.Revisions.{revision_of}
 use Rattle.setup_file.specs.Sound.{IsSound}
-use Rattle.setup_file.specs.declared.setup.Checkpoint.{Checkpoint}
 use Rattle.setup_file.specs.declared.setup.Setup.{Setup}
 use Rattle.answer_class.specs.Requests.{first_value}
 use Rattle.write_groups.specs.declared.event.LogEvent.{LogEvent}
@@ -17,7 +16,7 @@ use Rattle.write_groups.specs.declared.event.Reading.{Reading}
 use Rattle.write_groups.specs.declared.event.Reading.TheVariants.{MostRecent, AnyVersion, NotOlderThan, Exactly}
 use Rattle.version_store.specs.Log.{IsNotOlder}
 use Rattle.version_store.specs.Logged.{AreLoggedEvents, AreLoggedCheckpoints, AreLogged}
-use Rattle.version_store.specs.Readings.{is_read, takes_any, wants_exactly, reading_at, reading_by, reading_from, reading_of}
+use Rattle.version_store.specs.Readings.{is_read, takes_any, wants_exactly, reading_by, reading_from, reading_of}
 use Rattle.version_store.proofs.LineLemmas.{some_of}
 
 either : (start : ℕ) (b : Bool) (x y : Reading) → IsNotOlder start x → IsNotOlder start y → IsNotOlder start (if b then x else y)

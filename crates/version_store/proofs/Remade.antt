@@ -1,5 +1,5 @@
 -- Why a write could not have made its revision.
-use Rattle.std.proofs.Common.{◌≡◌, ◌<◌, ◌↔◌, ℕ, List, map, Option, Some, None, option_map, slice_get, Any, Contains, refl, sym, ap, ◌∙◌, subst}
+use Rattle.std.proofs.Common.{◌≡◌, ◌<◌, ◌↔◌, ℕ, List, map, Some, None, Any, Contains, sym, ap, ◌∙◌, subst}
 use Rattle.std.proofs.lemmas.Option.{same_Some}
 use Rattle.base_types.proofs.Quantifiers.{Any-contains}
 use Rattle.history_model.specs.Groups.{Making, IsMaking}

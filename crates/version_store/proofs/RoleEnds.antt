@@ -1,9 +1,9 @@
 -- The removals of roles and bindings end their versions.
-use Rattle.std.proofs.Common.{rules, ◌≡◌, ◌≢◌, ◌<◌, ◌≤◌, Bool, true, List, [], ◌∷◌, length, map, filter, Option, Some, None, slice_get, is_some, All, AllPairs, Any, Contains, refl, sym, ap, ◌∙◌, subst, arith}
+use Rattle.std.proofs.Common.{◌≡◌, ◌<◌, true, List, length, filter, Option, Some, None, slice_get, is_some, All, AllPairs, Any, Contains, refl, sym, ap, ◌∙◌, subst}
 use Rattle.std.proofs.lemmas.List.Kept.{AllPairs-filter}
 use Rattle.std.proofs.lemmas.Option.{same_Some, slice_get-get_or}
 use Rattle.base_types.proofs.Quantifiers.{Any-contains}
-use Rattle.history_model.proofs.Members.{all_at, all_from, pairs_head, pairs_tail, pairs_cons, in_at}
+use Rattle.history_model.proofs.Members.{all_at, all_from}
 use Rattle.base_types.specs.Meaning.{Meaning, null}
 use Rattle.object_past.specs.Past.{AreEnds}
 use Rattle.object_past.specs.declared.removal.Removal.{Removal}

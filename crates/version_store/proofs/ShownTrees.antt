@@ -1,5 +1,5 @@
 -- What events are called, and the trees that their answers show.
-use Rattle.std.proofs.Common.{◌≡◌, ◌≢◌, ℕ, zero, suc, ◌+◌, ◌-◌, ◌<◌, ◌≤◌, List, [], ◌∷◌, ◌++◌, length, map, Option, Some, None, slice_get, option_map, refl, sym, ap, ◌∙◌, subst, arith}
+use Rattle.std.proofs.Common.{◌≡◌, ◌≢◌, ℕ, zero, suc, ◌+◌, ◌-◌, ◌<◌, ◌≤◌, List, [], ◌∷◌, length, map, Option, Some, None, slice_get, option_map, refl, sym, ap, ◌∙◌, subst, arith}
 use Rattle.std.proofs.lemmas.List.{length-map}
 use Rattle.std.proofs.lemmas.Option.{same_Some, slice_get-map, slice_get_within}
 use Rattle.answer_class.specs.Classes.{class_of}
@@ -16,8 +16,8 @@ use Rattle.write_groups.specs.declared.event.Item.{Item}
 use Rattle.write_groups.specs.declared.event.LogEvent.{LogEvent}
 use Rattle.write_groups.specs.declared.event.Shown.{Shown}
 use Rattle.version_store.specs.Answered.{names, shown_trees}
-use Rattle.version_store.specs.Logged.{AreLogged, IsLogged, IsLoggedCheckpoint}
-use Rattle.version_store.specs.Shown.{AreItemsOf, IsItemOf, IsShownAs, IsShownByCheckpoint, object_of}
+use Rattle.version_store.specs.Logged.{AreLogged}
+use Rattle.version_store.specs.Shown.{AreItemsOf, IsItemOf, IsShownAs, object_of}
 use Rattle.version_store.proofs.LogLemmas.{Standing, look_left, look_right, of_checkpoint, of_event, standing}
 
 pub alone_none : (x n : ℕ) → n ≢ 0 → slice_get (x ∷ []) n ≡ None

@@ -1,5 +1,5 @@
 -- The keys that a log tells of.
-use Rattle.std.specs.Prelude.{◌≡◌, ◌⊎◌, ◌↔◌, List, AllPairs, Any, Contains}
+use Rattle.std.specs.Prelude.{◌≡◌, ◌⊎◌, ◌↔◌, List, Any, Contains}
 use Rattle.base_types.specs.Covers.{NamesExactly}
 use Rattle.base_types.specs.declared.key.Cover.{Cover}
 use Rattle.base_types.specs.declared.key.ObjectKey.{ObjectKey}

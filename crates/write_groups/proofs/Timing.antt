@@ -19,7 +19,7 @@ use Rattle.history_model.proofs.Members.{here, all_at, all_from, at_in, in_at}
 use Rattle.history_model.specs.Events as model
 use Rattle.history_model.specs.Events.{Event}
 use Rattle.history_model.specs.Groups as model_groups
-use Rattle.history_model.specs.Groups.{Making, IsMaking, IsMember, Hides, MadeSurely, IsSure, IsEnd, IsBeginning, IsLeastMoment, AreSpans}
+use Rattle.history_model.specs.Groups.{Making, IsMember, Hides, MadeSurely, IsSure, IsEnd, IsBeginning, IsLeastMoment, AreSpans}
 use Rattle.history_model.specs.Histories as model_histories
 use Rattle.history_model.specs.Histories.{History, IsEvent}
 use Rattle.time_windows.specs.declared.span.Span.{Span}

@@ -1,5 +1,5 @@
 -- What small closed histories need.
-use Rattle.std.proofs.Common.{◌≡◌, ◌≢◌, ℕ, ℤ, pos, zero, suc, ◌<◌, ◌≤◌, ◌≤ℤ◌, ◌<ℤ◌, ◌+◌, ◌-◌, min, max, bytes_eq, ◌⊎◌, Bool, true, false, not, ◌&&◌, nat_lt, int_lt, ◌==◌, List, [], ◌∷◌, length, map, take, slice_get, Option, Some, None, IsSome, All, AllPairs, Contains, inl, inr, refl, sym, ap, ap₂, ◌∙◌, subst, arith, true≢false}
+use Rattle.std.proofs.Common.{◌≡◌, ◌≢◌, ℕ, ℤ, zero, suc, ◌<◌, ◌≤◌, ◌≤ℤ◌, ◌<ℤ◌, ◌+◌, ◌-◌, min, max, bytes_eq, ◌⊎◌, Bool, true, false, not, ◌&&◌, nat_lt, int_lt, ◌==◌, List, [], ◌∷◌, length, map, take, slice_get, Option, Some, None, IsSome, AllPairs, Contains, inl, inr, refl, sym, ap, ap₂, ◌∙◌, subst, arith, true≢false}
 use Rattle.std.specs.List.{AllZip, list_any}
 use Rattle.std.specs.Cmp.Lexicographic.{bytes_decides}
 use Rattle.std.proofs.lemmas.Int.{ints}
@@ -17,7 +17,6 @@ use Rattle.history_model.proofs.Global.{global_is, right_has_run}
 use Rattle.history_model.proofs.JudgingLemmas.{judged_once}
 use Rattle.history_model.proofs.KeyLemmas.{key_decides}
 use Rattle.history_model.proofs.Members.{not_in_none, here, there, in_cons, all_from, pairs_cons}
-use Rattle.history_model.proofs.OutcomeLaw.{take_next, take_whole}
 use Rattle.history_model.proofs.StateLaw.{Stands, never, removed, stays, state_stands}
 use Rattle.history_model.proofs.WordLemmas.{eq_test}
 use Rattle.history_model.specs.Clouds.{IsClouded, MayBeUnrecorded}

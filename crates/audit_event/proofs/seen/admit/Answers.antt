@@ -1,4 +1,4 @@
-use Rattle.std.proofs.Common.{◌≡◌, List, ◌∷◌, [], ◌++◌, map, Bool, true, false, not, get_or, Some, slice_get, if◌then◌else◌, refl, sym, ap, subst, ◌∙◌, rules, true≢false}
+use Rattle.std.proofs.Common.{◌≡◌, ◌∷◌, [], ◌++◌, map, Bool, true, false, not, get_or, Some, slice_get, if◌then◌else◌, refl, sym, ap, subst, ◌∙◌, rules}
 use Rattle.std.specs.List.{list_any}
 use Rattle.audit_event.specs.Keeping.{identity_of}
 use Rattle.audit_event.specs.contracts.seen.IdentityPartialEq.TheImpl as same

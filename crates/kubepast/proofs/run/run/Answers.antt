@@ -1,5 +1,5 @@
 use Rattle.std.proofs.Common.{◌≡◌, None, map, string_bytes, Global, inl, inr, refl, subst}
-use Rattle.command_words.specs.Command.{IsAsked, IsRead, Judge, command_asked}
+use Rattle.command_words.specs.Command.{IsRead, Judge, command_asked}
 use Rattle.kubepast.specs.Program.{usage_answer}
 use Rattle.kubepast.proofs.RunFacts.{HasRun, keeps_same, run_answer, run_printed, run_read, run_status, run_table, unread_read, unread_status, usage_read, usage_status}
 use Rattle.kubepast.proofs.run.run.Given.{Over}

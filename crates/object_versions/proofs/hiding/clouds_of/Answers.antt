@@ -1,4 +1,4 @@
-use Rattle.std.proofs.Common.{◌≡◌, rules}
+use Rattle.std.proofs.Common.{rules}
 use Rattle.object_versions.proofs.Clouding.{are_clouds}
 use Rattle.object_versions.proofs.hiding.clouds_of.Goals as goal
 

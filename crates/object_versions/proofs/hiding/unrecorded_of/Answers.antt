@@ -1,5 +1,4 @@
-use Rattle.std.proofs.Common.{◌≡◌, ◌∙◌, sym, ap, Some, None, arith}
-use Rattle.history_model.specs.Histories.{History}
+use Rattle.std.proofs.Common.{◌≡◌, ◌∙◌, sym, Some, None, arith}
 use Rattle.write_groups.proofs.Lists.{made_one, made_none}
 use Rattle.object_versions.specs.Hidden.{unrecorded_at}
 use Rattle.object_versions.proofs.hiding.unrecorded_of.Goals as goal

@@ -1,5 +1,5 @@
-use Rattle.std.proofs.Common.{◌≡◌, ◌≢◌, ◌-◌, Bool, true, false, ap, refl, rules, sym, ◌∙◌, subst, true≢false}
-use Rattle.std.specs.Prelude.{IsTrue, option_map}
+use Rattle.std.proofs.Common.{◌≢◌, ◌-◌, true, false, sym, ◌∙◌, subst, true≢false}
+use Rattle.std.specs.Prelude.{option_map}
 use Rattle.std.proofs.lemmas.Result.{IfOk-weaker}
 use Rattle.clouds.specs.Clouds as cloud
 use Rattle.history_model.specs.Making.{IsLeastFault}
@@ -7,7 +7,6 @@ use Rattle.object_versions.proofs.Faulting.{clouded_used, clouded_none}
 use Rattle.object_versions.proofs.Telling.{clear_is_least, lent_is}
 use Rattle.object_past.specs.Modelled.{version_of}
 use Rattle.object_versions.specs.Modelled.{making_of}
-use Rattle.object_versions.specs.Faults.{clear_code}
 use Rattle.object_versions.proofs.making.making_fault.Goals as goal
 use Rattle.object_versions.proofs.making.making_fault.Goals.{else-making-via-then-making+else-is_used, else-making-via-else-making}
 

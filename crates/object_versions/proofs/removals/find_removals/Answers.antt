@@ -1,7 +1,6 @@
-use Rattle.std.proofs.Common.{◌≡◌, ◌<◌, ◌+◌, ◌-◌, ◌++◌, ◌∷◌, [], Bool, false, Option, Some, None, option_and_then, option_map, length, slice_get, get_or, rules, refl, sym, ap, ◌∙◌, subst, arith}
+use Rattle.std.proofs.Common.{◌≡◌, ◌<◌, ◌+◌, ◌-◌, false, Some, None, option_map, length, slice_get, get_or, rules, sym, ap, ◌∙◌, subst, arith}
 use Rattle.std.proofs.lemmas.Option.{slice_get-get_or}
 use Rattle.base_types.proofs.KeyLemmas.{key_from_parts}
-use Rattle.object_past.specs.declared.removal.Removal.{Removal}
 use Rattle.object_versions.proofs.Finding.{AreFoundBehind, AreFoundFrom, all_found, found_behind}
 use Rattle.object_versions.specs.Ended.{IsFoundAfter}
 use Rattle.object_versions.proofs.removals.find_removals.Goals as goal

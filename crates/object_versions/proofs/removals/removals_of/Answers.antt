@@ -1,4 +1,4 @@
-use Rattle.std.proofs.Common.{◌≡◌, map, rules, ap, ◌∙◌}
+use Rattle.std.proofs.Common.{map, rules, ap, ◌∙◌}
 use Rattle.std.proofs.lemmas.List.Sorted.{IsNonDecreasingBy-from_sort_by_key}
 use Rattle.object_past.specs.Modelled.{recorded}
 use Rattle.object_past.specs.declared.removal.Removal.{Removal}

@@ -1,5 +1,5 @@
-use Rattle.std.proofs.Common.{◌≡◌, List, ℕ, Some, None, rules, refl, sym, subst, ◌∙◌}
-use Rattle.std.specs.BTreeMap.{Updates, get}
+use Rattle.std.proofs.Common.{◌≡◌, Some, rules, sym, subst}
+use Rattle.std.specs.BTreeMap.{Updates}
 use Rattle.base_types.proofs.KeyLemmas.{key_from_parts}
 use Rattle.clouds.specs.Kept.{key_order, text_order}
 use Rattle.object_versions.proofs.Filing.{filed_before, filed_in, filed_new}

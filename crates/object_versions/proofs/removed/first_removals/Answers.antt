@@ -1,4 +1,4 @@
-use Rattle.std.proofs.Common.{◌≡◌, List, ℕ, Some, None, slice_index_or, rules, refl, sym, ap, ◌∙◌}
+use Rattle.std.proofs.Common.{slice_index_or, rules, refl, sym, ap, ◌∙◌}
 use Rattle.object_versions.proofs.Filing.{first_with, first_without}
 use Rattle.object_versions.specs.Removals.{number_if, or_first}
 use Rattle.object_versions.proofs.removed.first_removals.Goals as goal

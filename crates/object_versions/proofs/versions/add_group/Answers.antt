@@ -1,4 +1,4 @@
-use Rattle.std.proofs.Common.{◌<◌, ◌≡◌, ◌∙◌, List, sym, subst}
+use Rattle.std.proofs.Common.{◌<◌, ◌∙◌, List, sym, subst}
 use Rattle.std.specs.Prelude.{All}
 use Rattle.object_past.specs.declared.version.Version.{Version}
 use Rattle.object_versions.specs.Written.{AreJudged, IsAnsweredAt, IsOfGroup}

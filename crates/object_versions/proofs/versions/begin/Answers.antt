@@ -1,4 +1,4 @@
-use Rattle.std.proofs.Common.{◌≡◌, ◌<◌, rules}
+use Rattle.std.proofs.Common.{rules}
 use Rattle.object_versions.proofs.Writing.{begun_below}
 use Rattle.object_versions.proofs.versions.begin.Goals as goal
 

@@ -1,9 +1,8 @@
-use Rattle.std.proofs.Common.{◌≡◌, ◌≢◌, Option, Some, None, Bool, true, false, not, refl, sym, ap, ◌∙◌, subst, true≢false}
+use Rattle.std.proofs.Common.{◌≢◌, true, false, not, sym, ap, ◌∙◌, subst, true≢false}
 use Rattle.std.specs.Prelude.{bytes_eq}
 use Rattle.std.specs.Cmp.Lexicographic.{bytes_decides}
 use Rattle.object_versions.proofs.Entries.{entry_gone, entry_none, entry_there, first_in}
 use Rattle.object_versions.proofs.Ending.{found_range, no_range, unlike}
-use Rattle.object_past.specs.Modelled.{version_of}
 use Rattle.object_versions.specs.Growing.{IsLatestIn}
 use Rattle.object_versions.specs.Modelled.{making_of, removal_of}
 use Rattle.object_versions.proofs.versions.entry_before.Goals as goal

@@ -1,4 +1,4 @@
-use Rattle.std.proofs.Common.{◌≡◌, Some, option_map, sym, ap, ◌∙◌}
+use Rattle.std.proofs.Common.{option_map, sym, ap, ◌∙◌}
 use Rattle.object_versions.proofs.Numbered.{write_found}
 use Rattle.object_versions.specs.Modelled.{making_of}
 use Rattle.object_versions.proofs.versions.write_at.Goals as goal

@@ -1,16 +1,12 @@
-use Rattle.std.proofs.Common.{◌≡◌, ◌≤◌, ◌<◌, ◌+◌, ◌++◌, ◌∷◌, [], map, take, length, get_or, List, refl, sym, ap, ◌∙◌, subst, arith}
-use Rattle.std.specs.Prelude.{All}
+use Rattle.std.proofs.Common.{◌≡◌, ◌<◌, ◌+◌, ◌++◌, ◌∷◌, [], map, take, length, sym, ap, ◌∙◌, subst, arith}
 use Rattle.std.proofs.lemmas.List.{take_all}
 use Rattle.std.proofs.lemmas.List.Sorted.{Contains-permutation, IsPermutation-sym}
 use Rattle.history_model.proofs.Members.{all_at}
 use Rattle.write_groups.specs.Members.{IsGroupOf}
-use Rattle.write_groups.specs.declared.event.Item.{Item}
-use Rattle.write_groups.specs.declared.groups.Group.{Group}
 use Rattle.object_past.specs.Modelled.{version_of}
-use Rattle.object_past.specs.declared.version.Version.{Version}
 use Rattle.object_versions.proofs.Growth.{AreGrown, grown_slots}
 use Rattle.object_versions.proofs.Writing.{AreWritten, GoesOn, answered, are_versions, before_group, begun_grown, begun_written, extends, goes_on_before, goes_on_to, grown_with, written_more}
-use Rattle.object_versions.specs.Written.{snapshot_version, AreAllJudged, AreJudged, IsAnsweredAt, IsSnapshot}
+use Rattle.object_versions.specs.Written.{snapshot_version, AreAllJudged, AreJudged, IsSnapshot}
 use Rattle.object_versions.proofs.versions.write_versions.Goals as goal
 
 pub loop-group-init : goal.loop-group-init

@@ -1,5 +1,5 @@
-use Rattle.std.proofs.Common.{◌≡◌, Bool, true, false, Bor, List, map, Some, None, sym, ap, ◌∙◌, rules}
-use Rattle.std.specs.Prelude.{is_some, option_map}
+use Rattle.std.proofs.Common.{◌≡◌, true, false, Bor, List, map, Some, sym, ap, ◌∙◌, rules}
+use Rattle.std.specs.Prelude.{is_some}
 use Rattle.page_chains.specs.declared.page.Page.{Page}
 use Rattle.page_chains.specs.Chains.{checkpoint_of, begins}
 use Rattle.page_chains.proofs.StartLemmas.{not_begun, begun_with, endless}

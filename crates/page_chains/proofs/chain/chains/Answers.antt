@@ -1,4 +1,4 @@
-use Rattle.std.proofs.Common.{◌≡◌, ◌≤◌, sym, subst}
+use Rattle.std.proofs.Common.{◌≤◌, sym, subst}
 use Rattle.std.specs.Prelude.{All, IsSome}
 use Rattle.setup_file.specs.Resources.{tracked_as}
 use Rattle.setup_file.specs.Sound.{IsLaterList}

@@ -1,4 +1,4 @@
-use Rattle.std.proofs.Common.{Bor, map, sym, ◌∙◌}
+use Rattle.std.proofs.Common.{Bor, sym, ◌∙◌}
 use Rattle.std.proofs.lemmas.List.Folds.{flat_map-map}
 use Rattle.page_chains.specs.declared.page.Page.{Page}
 use Rattle.page_chains.proofs.chain.checkpoint_of.Goals as goal

@@ -1,4 +1,4 @@
-use Rattle.std.proofs.Common.{◌≡◌, ℕ, ◌/◌, List, map, refl, sym, ap, subst, ◌∙◌, arith}
+use Rattle.std.proofs.Common.{◌≡◌, ℕ, ◌/◌, List, map, sym, ap, subst, ◌∙◌}
 use Rattle.std.specs.Prelude.{slice_index}
 use Rattle.page_chains.proofs.StepLemmas.{AreUnderWay, even, odd}
 use Rattle.page_chains.proofs.reaching.reached_after.Goals.{then-left-eq1+in_ok-reached-2, else-left-eq1}

@@ -1,8 +1,7 @@
-use Rattle.std.proofs.Common.{◌≡◌, ◌<◌, AllPairs, refl, ap, sym, subst, ◌∙◌}
+use Rattle.std.proofs.Common.{◌<◌, refl}
 use Rattle.version_store.specs.Histories.{history_of}
 use Rattle.write_groups.proofs.Lists.{pairs_unmap}
 use Rattle.write_groups.specs.Modelled.{event_of}
-use Rattle.write_groups.specs.declared.event.LogEvent.{LogEvent}
 use Rattle.serial_machine.proofs.Entering.{event_there, line_of, no_line, no_words}
 use Rattle.serial_machine.proofs.Telling.{untold}
 use Rattle.serial_machine.proofs.entry.event_of_line.Goals as goal

@@ -1,4 +1,4 @@
-use Rattle.std.proofs.Common.{◌≡◌, ◌-◌, ◌<◌, length, leb, Some, arith, rules, refl, sym, ap, ◌∙◌}
+use Rattle.std.proofs.Common.{◌≡◌, ◌-◌, ◌<◌, length, leb, arith, rules, refl, sym, ap, ◌∙◌}
 use Rattle.std.proofs.lemmas.List.Sorted.{IsPartitionPoint-from_clause, IsPartitionedBy-leb}
 use Rattle.std.proofs.lemmas.Option.{slice_get_read, same_Some}
 use Rattle.base_types.proofs.Upto.{none_upto}

@@ -1,4 +1,4 @@
-use Rattle.std.proofs.Common.{refl, sym, subst}
+use Rattle.std.proofs.Common.{refl}
 use Rattle.version_store.specs.Histories.{history_of}
 use Rattle.serial_machine.proofs.Entering.{event_there, nothing_left, step_known, step_wrong, step_right}
 use Rattle.serial_machine.proofs.Telling.{untold}

@@ -1,4 +1,4 @@
-use Rattle.std.proofs.Common.{◌≡◌, Some, IsSome, subst, sym, ◌∙◌}
+use Rattle.std.proofs.Common.{◌≡◌, Some, IsSome, subst, sym}
 use Rattle.std.specs.BTreeMap.{Updates, get}
 use Rattle.clouds.specs.Kept.{key_order}
 use Rattle.history_model.specs.Machine as model

@@ -1,4 +1,3 @@
-use Rattle.version_store.specs.Histories.{history_of}
 use Rattle.serial_machine.specs.Stepping.{scene_objects}
 use Rattle.serial_machine.proofs.Telling.{untold}
 use Rattle.serial_machine.proofs.replies.reply_verdict.Goals as goal

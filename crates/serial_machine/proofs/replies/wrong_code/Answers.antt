@@ -1,4 +1,4 @@
-use Rattle.std.proofs.Common.{Some, sym, subst, length, map}
+use Rattle.std.proofs.Common.{Some, sym, subst}
 use Rattle.history_model.specs.Machine.{Reply}
 use Rattle.version_store.specs.Histories.{history_of}
 use Rattle.write_groups.specs.Modelled.{event_of}

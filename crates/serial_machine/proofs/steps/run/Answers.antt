@@ -1,7 +1,7 @@
 use Rattle.std.proofs.Common.{map, take, refl}
 use Rattle.version_store.specs.Histories.{history_of}
 use Rattle.history_model.proofs.Members.{all_at}
-use Rattle.serial_machine.proofs.Running.{HasRun, run_begins, run_more, run_stops, run_all, row_in}
+use Rattle.serial_machine.proofs.Running.{run_begins, run_more, run_stops, run_all, row_in}
 use Rattle.serial_machine.specs.Ordered.{row_step}
 use Rattle.serial_machine.specs.Stepping.{IsOfHistory}
 use Rattle.serial_machine.specs.declared.rows.Row.{Row}

@@ -1,11 +1,6 @@
-use Rattle.std.proofs.Common.{subst, sym, All}
 use Rattle.std.proofs.lemmas.Result.{IfOk-weaker}
-use Rattle.base_types.specs.declared.claim.Reason.{Reason}
 use Rattle.version_store.specs.Histories.{history_of}
 use Rattle.serial_machine.proofs.Running.{rows_known, forbidden_is, allowed_are, some_weaker, none_weaker}
-use Rattle.serial_machine.specs.Ordered.{row_step}
-use Rattle.serial_machine.specs.Stepping.{IsOfHistory}
-use Rattle.serial_machine.specs.declared.rows.Row.{Row}
 use Rattle.serial_machine.proofs.steps.steps_fault.Goals as goal
 
 pub run-requires-clause-made : goal.run-requires-clause-made

@@ -2,7 +2,7 @@ use Rattle.object_past.specs.Modelled.{recorded, version_of}
 use Rattle.version_store.specs.Histories.{history_of}
 use Rattle.write_groups.specs.Modelled.{event_of}
 use Rattle.serial_machine.specs.Stepping.{scene_objects}
-use Rattle.serial_machine.proofs.Telling.{nothing_to_remove, other_to_remove, may_by, uid_same}
+use Rattle.serial_machine.proofs.Telling.{nothing_to_remove, may_by, uid_same}
 use Rattle.serial_machine.proofs.verdicts.may_remove.Goals as goal
 
 pub returns-in_default : goal.returns-in_default

@@ -1,4 +1,4 @@
-use Rattle.std.proofs.Common.{◌≡◌, sym}
+use Rattle.std.proofs.Common.{sym}
 use Rattle.version_store.proofs.build.parts_of.Goals as goal
 
 pub returns-clause-same : goal.returns-clause-same

@@ -1,5 +1,4 @@
-use Rattle.std.proofs.Common.{◌≡◌, ◌<◌, ℕ, Option, Some, length, slice_get}
-use Rattle.base_types.specs.declared.claim.Reason.{Reason}
+use Rattle.std.proofs.Common.{◌≡◌}
 use Rattle.history_model.specs.Histories.{History}
 use Rattle.history_model.specs.Readable.{IsReadable}
 use Rattle.object_past.specs.Past.{HasPast}

@@ -1,4 +1,4 @@
-use Rattle.std.proofs.Common.{rules, ◌≡◌, subst, sym, true}
+use Rattle.std.proofs.Common.{rules, ◌≡◌, subst, true}
 use Rattle.std.specs.BTreeSet.{Updates}
 use Rattle.clouds.specs.Kept.{key_order}
 use Rattle.version_store.proofs.Keying.{key_next}

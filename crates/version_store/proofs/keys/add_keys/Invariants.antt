@@ -1,4 +1,4 @@
-use Rattle.std.specs.Prelude.{◌≡◌, ◌⊎◌, ◌↔◌, take, IsTrue, Contains}
+use Rattle.std.specs.Prelude.{◌⊎◌, ◌↔◌, take, IsTrue, Contains}
 use Rattle.std.specs.BTreeSet.{contains}
 use Rattle.base_types.specs.declared.key.ObjectKey.{ObjectKey}
 use Rattle.clouds.specs.Kept.{key_order}

@@ -1,4 +1,4 @@
-use Rattle.std.proofs.Common.{rules, ◌≡◌, subst, sym, ◌⊎◌, inl, inr}
+use Rattle.std.proofs.Common.{rules, subst, ◌⊎◌}
 use Rattle.std.proofs.lemmas.List.{take_all}
 use Rattle.std.specs.BTreeSet.{contains}
 use Rattle.std.specs.Prelude.{◌↔◌, IsTrue, IfNone, Any}

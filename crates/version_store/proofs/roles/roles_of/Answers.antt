@@ -1,7 +1,7 @@
-use Rattle.std.proofs.Common.{◌≡◌, ◌<◌, subst, sym, All, length, IfOk, rules}
+use Rattle.std.proofs.Common.{◌<◌, subst, sym, All, length, rules}
 use Rattle.std.specs.List.Sorted.{IsPermutation}
 use Rattle.version_store.proofs.Ranked.{turns_within, roles_are}
-use Rattle.version_store.specs.Roles.{AreRoles, turns_from}
+use Rattle.version_store.specs.Roles.{turns_from}
 use Rattle.version_store.specs.declared.roles.Turn.{Turn}
 use Rattle.version_store.proofs.roles.roles_of.Goals as goal
 

@@ -1,4 +1,4 @@
-use Rattle.std.proofs.Common.{◌≡◌, ◌∙◌, sym, ap, subst}
+use Rattle.std.proofs.Common.{◌∙◌, sym, ap, subst}
 use Rattle.rbac_timeline.specs.Sound.{AreSound}
 use Rattle.version_store.proofs.RoleEnds.{roles_sound}
 use Rattle.version_store.proofs.TimelineLemmas.{timeline_is}

@@ -1,4 +1,4 @@
-use Rattle.std.proofs.Common.{◌≡◌, ◌<◌, ◌≤◌, length, All, AllPairs}
+use Rattle.std.proofs.Common.{◌<◌, ◌≤◌, length, All, AllPairs}
 use Rattle.audit_event.specs.declared.event.Event.{Event}
 use Rattle.audit_event.specs.Events.{IsSound}
 use Rattle.worked_logs.proofs.reading.events.Given as goal

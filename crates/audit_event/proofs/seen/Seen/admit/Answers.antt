@@ -1,5 +1,3 @@
-use Rattle.std.proofs.Common.{sym, subst}
-use Rattle.audit_event.specs.Keeping.{AreKept}
 use Rattle.audit_event.proofs.KeepingLemmas.{kept_after}
 use Rattle.audit_event.proofs.seen.Seen.admit.Goals as goal
 

@@ -1,4 +1,4 @@
-use Rattle.std.proofs.Common.{◌≡◌, rules, sym}
+use Rattle.std.proofs.Common.{rules}
 use Rattle.object_versions.proofs.Keeping.{latest_found}
 use Rattle.object_versions.proofs.grown.Grown.latest.Goals as goal
 

@@ -1,4 +1,4 @@
-use Rattle.std.proofs.Common.{ℕ, ◌<◌, ◌≤◌, arith}
+use Rattle.std.proofs.Common.{◌≤◌, arith}
 use Rattle.rbac_timeline.proofs.Firsts.{AreBehind-more, AreBehind-start, least_of_all, none_at_all}
 use Rattle.rbac_timeline.proofs.search.Asked.first_forbidden.Goals as goal
 

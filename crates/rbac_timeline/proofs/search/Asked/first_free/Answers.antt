@@ -1,4 +1,4 @@
-use Rattle.std.proofs.Common.{ℕ, ◌<◌, ◌≤◌, arith}
+use Rattle.std.proofs.Common.{ℕ, ◌≤◌, arith}
 use Rattle.rbac_timeline.specs.Searched.{NoneFreeFrom, NoneFreeWith}
 use Rattle.rbac_timeline.proofs.Firsts.{least_from, none_from}
 use Rattle.rbac_timeline.proofs.Throughout.{AreBarred-all, AreBarred-more, AreBarred-start, IsLast-map}

@@ -1,4 +1,4 @@
-use Rattle.std.proofs.Common.{ℕ, ◌<◌, ◌≤◌, arith}
+use Rattle.std.proofs.Common.{◌≤◌, arith}
 use Rattle.rbac_timeline.specs.Searched.{IsFreePlain}
 use Rattle.rbac_timeline.proofs.Throughout.{AreHeldBack-all, AreHeldBack-more, AreHeldBack-start, least_there}
 use Rattle.rbac_timeline.proofs.search.Asked.first_free_binding.Goals as goal

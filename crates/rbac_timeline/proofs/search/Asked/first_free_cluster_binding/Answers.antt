@@ -1,4 +1,4 @@
-use Rattle.std.proofs.Common.{ℕ, ◌<◌, ◌≤◌, arith}
+use Rattle.std.proofs.Common.{ℕ, ◌≤◌, arith}
 use Rattle.rbac_timeline.specs.declared.way.Way.TheVariants.{ClusterBindings}
 use Rattle.rbac_timeline.specs.Extents.{MustGrantInWay}
 use Rattle.rbac_timeline.specs.Searched.{IsFreeCluster}

@@ -1,5 +1,3 @@
-use Rattle.std.proofs.Common.{ℕ}
-use Rattle.rbac_timeline.specs.Extents.{MustGrantByKey}
 use Rattle.rbac_timeline.specs.Lasting.{IsStill}
 use Rattle.rbac_timeline.specs.States.{ReadsRules}
 use Rattle.rbac_timeline.proofs.Constancy.{must_still}

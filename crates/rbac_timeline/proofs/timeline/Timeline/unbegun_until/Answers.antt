@@ -1,9 +1,8 @@
-use Rattle.std.proofs.Common.{◌≡◌, ℕ, ◌<◌, List, [], length, ap, arith, sym}
+use Rattle.std.proofs.Common.{◌≡◌, ℕ, ◌<◌, [], ap, arith, sym}
 use Rattle.std.specs.List.{Contains}
 use Rattle.clouds.specs.Items.{items_at, items_of}
 use Rattle.clouds.specs.Kept.{key_order}
 use Rattle.rbac_timeline.specs.declared.history.Stored.{Stored}
-use Rattle.rbac_timeline.specs.Lasting.{NoneBegins}
 use Rattle.rbac_timeline.proofs.Throughout.{IsLast-all, IsLast-map, NoneBegins-stored}
 use Rattle.rbac_timeline.proofs.timeline.Timeline.unbegun_until.Goals as goal
 

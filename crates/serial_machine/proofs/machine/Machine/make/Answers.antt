@@ -1,4 +1,3 @@
-use Rattle.history_model.specs.Machine.{Step}
 use Rattle.serial_machine.specs.Stepping.{step_of}
 use Rattle.serial_machine.proofs.Changing.{made_more}
 use Rattle.serial_machine.proofs.machine.Machine.make.Goals as goal

@@ -1,5 +1,5 @@
-use Rattle.std.proofs.Common.{◌++◌, ◌+◌, ◌<◌, ◌∷◌, [], List, Contains, map, take, drop, refl, append_assoc, append-nil, sym, subst, ap, ◌∙◌}
-use Rattle.history_model.specs.Machine.{Step, Put}
+use Rattle.std.proofs.Common.{◌++◌, ◌+◌, ◌<◌, ◌∷◌, [], Contains, map, take, drop, refl, append_assoc, append-nil, sym, subst, ap, ◌∙◌}
+use Rattle.history_model.specs.Machine.{Put}
 use Rattle.object_past.specs.Modelled.{version_of}
 use Rattle.version_store.specs.Histories.{history_of}
 use Rattle.write_groups.proofs.Lists.{map_has}

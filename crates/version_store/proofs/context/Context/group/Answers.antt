@@ -1,4 +1,3 @@
-use Rattle.std.proofs.Common.{sym}
 use Rattle.version_store.proofs.Membering.{group_found, group_lacking}
 use Rattle.version_store.proofs.context.Context.group.Goals as goal
 

@@ -1,4 +1,4 @@
-use Rattle.std.proofs.Common.{◌≡◌, ◌<◌, arith, length, sym, ap, ◌∙◌}
+use Rattle.std.proofs.Common.{◌<◌, arith, length, sym, ap, ◌∙◌}
 use Rattle.label_select.specs.Meeting.{matches}
 use Rattle.version_store.proofs.LogLemmas.{labels_tell}
 use Rattle.version_store.proofs.context.Context.is_listable.Goals as goal

@@ -1,7 +1,5 @@
-use Rattle.std.proofs.Common.{◌≡◌, ◌<◌, List, Some, ap, length, refl, slice_get, subst, sym, ◌∙◌, arith}
+use Rattle.std.proofs.Common.{◌≡◌, List, Some, ap, length, refl, slice_get, subst, sym, ◌∙◌}
 use Rattle.std.proofs.lemmas.Option.{slice_get_read}
-use Rattle.history_model.specs.Events as model
-use Rattle.history_model.specs.Histories.{IsEvent}
 use Rattle.history_model.specs.Windows.{low_end, high_end}
 use Rattle.write_groups.specs.Modelled.{HasTimes}
 use Rattle.write_groups.specs.declared.event.LogEvent.{LogEvent}

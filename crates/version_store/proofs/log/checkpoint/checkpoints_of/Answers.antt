@@ -1,4 +1,4 @@
-use Rattle.std.proofs.Common.{◌≡◌, ◌∙◌, ◌+◌, ◌∷◌, [], Err, ap, length, subst, sym, take}
+use Rattle.std.proofs.Common.{◌≡◌, ◌∙◌, ◌∷◌, [], Err, ap}
 use Rattle.setup_file.specs.declared.setup.Checkpoint.{Checkpoint}
 use Rattle.version_store.specs.LogTrees.{object_trees, checkpoint_trees}
 use Rattle.version_store.specs.declared.log.fault.BuildFault.TheVariants.{PoolFull}
