@@ -19,7 +19,9 @@ RENAMED = re.compile(r"use [\w.\-]+ as (\S+)")
 
 
 def is_used(name, body):
-    """Whether a name stands in a text; of an operator, with a hole for each operand, each part."""
+    """Whether a name stands in a text; of an operator, each part between its holes. A `do` block binds by `>>=`."""
+    if name == "◌>>=◌" and "←" in body:
+        return True
     if "◌" in name:
         return all(part in body for part in name.split("◌"))
     return re.search(rf"(?<![\w\-]){re.escape(name)}(?![\w\-])", body) is not None

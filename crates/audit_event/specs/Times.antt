@@ -5,6 +5,7 @@ use Rattle.base_types.specs.declared.revision.Moment.{Moment}
 use Rattle.audit_event.specs.declared.times.Times.{Times}
 use Rattle.audit_event.specs.Members.{text_at}
 use Rattle.base_types.specs.Moments.{IsMoment}
+use Rattle.base_types.specs.Texts.{◌>>=◌}
 use Rattle.timestamps.specs.Timestamps.{moment_of}
 
 abbrev pub moment_at : List ℕ → Data → Option Moment

@@ -4,7 +4,7 @@ use Rattle.std.specs.List.{list_all}
 use Rattle.base_types.specs.Meaning.{Meaning}
 use Rattle.base_types.specs.Parts.{items_of, members_of}
 use Rattle.base_types.specs.Pointers.{pointer_of}
-use Rattle.base_types.specs.Texts.{text_at}
+use Rattle.base_types.specs.Texts.{◌>>=◌, text_at}
 use Rattle.path_shape.specs.declared.shape.FieldClass.{FieldClass}
 use Rattle.path_shape.specs.declared.shape.FieldClass.TheVariants.{Asked, Defaulted, Owned, Kept}
 use Rattle.path_shape.specs.declared.shape.ShapeEntry.{ShapeEntry}

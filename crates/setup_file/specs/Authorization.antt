@@ -3,7 +3,7 @@ use Rattle.std.specs.Prelude.{ℕ, Bool, true, false, ◌&&◌, ◌||◌, List, 
 use Rattle.std.specs.List.{list_all}
 use Rattle.base_types.specs.Meaning.{Meaning}
 use Rattle.base_types.specs.Parts.{member_of, flag_of}
-use Rattle.base_types.specs.Texts.{texts_of}
+use Rattle.base_types.specs.Texts.{◌>>=◌, texts_of}
 use Rattle.rbac_rules.specs.Forms.{role_of, binding_of}
 use Rattle.setup_file.specs.declared.authorization.Authorization.{Authorization}
 use Rattle.setup_file.specs.declared.setup.Tracked.{Tracked}

@@ -2,7 +2,7 @@
 use Rattle.std.specs.Prelude.{ℕ, Bool, true, false, not, List, [], ◌∷◌, Option, Some, None, codes, if◌then◌else◌}
 use Rattle.base_types.specs.Meaning.{Meaning}
 use Rattle.base_types.specs.Parts.{member_of, text_of, is_null}
-use Rattle.base_types.specs.Texts.{items_or_none, revision_at}
+use Rattle.base_types.specs.Texts.{◌>>=◌, items_or_none, revision_at}
 use Rattle.setup_file.specs.declared.lists.ListRead.{ListRead}
 use Rattle.setup_file.specs.declared.setup.Tracked.{Tracked}
 use Rattle.setup_file.specs.declared.setup.SnapshotObject.{SnapshotObject}

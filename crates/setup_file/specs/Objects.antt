@@ -4,7 +4,7 @@ use Rattle.base_types.specs.Matching.{combined}
 use Rattle.base_types.specs.Meaning.{Meaning}
 use Rattle.base_types.specs.Parts.{member_of}
 use Rattle.base_types.specs.Stored.{stored}
-use Rattle.base_types.specs.Texts.{text_at, filled_at, revision_at}
+use Rattle.base_types.specs.Texts.{◌>>=◌, text_at, filled_at, revision_at}
 use Rattle.setup_file.specs.declared.setup.Tracked.{Tracked}
 use Rattle.setup_file.specs.declared.setup.SnapshotObject.{SnapshotObject}
 

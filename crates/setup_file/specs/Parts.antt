@@ -12,7 +12,7 @@ use Rattle.setup_file.specs.declared.setup.Tracked.{Tracked}
 use Rattle.setup_file.specs.Authorization.{authorization_of, is_authorized}
 use Rattle.setup_file.specs.Checkpoints.{is_no_text, is_whole_at, checkpoints_of}
 use Rattle.setup_file.specs.Lists.{list_of}
-use Rattle.setup_file.specs.Steps.{or_breaks, unless_breaks}
+use Rattle.setup_file.specs.Steps.{◌>>=◌, or_breaks, unless_breaks}
 
 -- a list that a checkpoint may have
 abbrev pub fit_list_of : ℕ → Tracked → List ℕ → Meaning → Option ListRead

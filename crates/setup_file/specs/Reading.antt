@@ -23,7 +23,7 @@ use Rattle.setup_file.specs.Forms.{is_form}
 use Rattle.setup_file.specs.Objects.{has_text_at}
 use Rattle.setup_file.specs.Resources.{entries_in, are_apart, has_shape, tracked_in}
 use Rattle.setup_file.specs.Snapshots.{snapshot_in, are_at_start}
-use Rattle.setup_file.specs.Steps.{or_breaks, unless_breaks}
+use Rattle.setup_file.specs.Steps.{◌>>=◌, or_breaks, unless_breaks}
 
 -- the members that every setup has, `version` aside
 abbrev pub required : List (List ℕ)
