@@ -66,7 +66,8 @@ def main():
         for part in ("specs", "proofs"):
             for at, folders, names in os.walk(os.path.join(ROOT, "crates", crate, part)):
                 folders.sort()
-                count += sum(look(os.path.join(at, name), asked.drop) for name in sorted(names) if name.endswith(".antt"))
+                files = [os.path.join(at, name) for name in sorted(names) if name.endswith(".antt")]
+                count += sum(look(file, asked.drop) for file in files)
     print(f"{count} names are imported and not used")
     if count and not asked.drop:
         sys.exit(1)
