@@ -1,9 +1,11 @@
 -- The removals of a log, found from its latest version on.
-use Rattle.std.proofs.Common.{◌≡◌, ◌≢◌, ℕ, zero, suc, ◌+◌, ◌<◌, ◌≤◌, ◌⊎◌, inl, inr, ⊎_elim, Bool, true, false, List, [], ◌∷◌, ◌++◌, map, length, get_or, Option, Some, None, option_and_then, slice_get, max, min, refl, sym, ap, ◌∙◌, subst, arith, true≢false}
+use Rattle.std.proofs.Common.{◌≡◌, ◌≢◌, ℕ, zero, suc, ◌+◌, ◌<◌, ◌≤◌, ◌⊎◌, inl, inr, ⊎_elim, Bool, true, List, [], ◌∷◌, ◌++◌, map, length, get_or, Option, Some, None, option_and_then, slice_get, take, max, min, refl, sym, ap, ◌∙◌, subst, arith, true≢false}
 use Rattle.std.specs.Prelude.{◌↔◌, IsTrue, All, AllPairs, Contains}
 use Rattle.std.specs.BTreeMap.{BTreeMap, Updates, get}
 use Rattle.std.specs.List.Sorted.{IsPermutation}
-use Rattle.std.specs.Ordering.{is_eq}
+use Rattle.std.specs.Ordering.{is_eq, ordering_reverse}
+use Rattle.std.specs.declared.cmp.Ordering.{Ordering}
+use Rattle.std.specs.declared.cmp.Ordering.TheVariants.{Equal, Greater, Less}
 use Rattle.std.proofs.lemmas.Bool.{cases_Bool, cases_lt, cond-false, cond-true}
 use Rattle.std.proofs.lemmas.List.{map-append}
 use Rattle.std.proofs.lemmas.List.Elements.{Contains-push_cases, Contains-append_left, Contains-append_right}
@@ -25,12 +27,14 @@ use Rattle.write_groups.specs.declared.event.LogEvent.{LogEvent}
 use Rattle.object_past.specs.Modelled.{recorded, version_of}
 use Rattle.object_past.specs.declared.removal.Removal.{Removal}
 use Rattle.object_past.specs.declared.version.Version.{Version}
-use Rattle.object_versions.proofs.Keeping.{rising_in, tied_self}
+use Rattle.object_versions.proofs.Keeping.{rising_in}
 use Rattle.object_past.proofs.Looking.{from_map, in_map}
 use Rattle.object_versions.proofs.Mapped.{pairs_push}
 use Rattle.object_versions.proofs.Removing.{Precedes, in_turn}
 use Rattle.object_versions.specs.Ended.{AreFound, IsEnd, IsFoundAfter, revision_of}
-use Rattle.object_versions.specs.Growing.{AreFlagged}
+use Rattle.object_versions.specs.Following.{AreBefore, AreNexts}
+use Rattle.object_versions.specs.Growing.{AreFlagged, AreLinked}
+use Rattle.object_versions.specs.Keyed.{RemovalNumbers}
 use Rattle.object_versions.specs.Surrounded.{HasLog}
 
 -- the key's first version from a position on
@@ -41,6 +45,15 @@ IsNextAt versions from key (Some p) = (from ≤ p) × ((v : Version) × (slice_g
 
 abbrev pub AreNext : List Version → ℕ → BTreeMap ObjectKey ℕ → Type 0
 AreNext versions from next = (key : ObjectKey) → IsNextAt versions from key (get key_order next key)
+
+-- each key ties with itself
+tied_self : (k : ObjectKey) → is_eq (key_order k k) ≡ true
+tied_self k = go (key_order k k) (key_order_total.antisymm k k)
+  where
+    go : (o : Ordering) → o ≡ ordering_reverse o → is_eq o ≡ true
+    go Less is = cc
+    go Equal is = refl
+    go Greater is = cc
 
 next_kept : (versions : List Version) (i : ℕ) (v : Version) (key : ObjectKey) (at : Option ℕ) → slice_get versions i ≡ Some v → v.key ≢ key → IsNextAt versions (i + 1) key at → IsNextAt versions i key at
 next_kept versions i v key None here' other next = λ j w from at. ⊎_elim
@@ -69,7 +82,7 @@ next_more versions i v old new at next updates key = ⊎_elim
     (λ tied. subst (IsNextAt versions i key) (sym (updates.0 key ∙ cond-true (is_eq (key_order v.key key)) (Some i) (get key_order old key) tied))
     (omega arith, (v, at, same_key_from v.key key tied), λ j w from before here'. absurd (omega (arith, from, before))))
     (λ other. subst (IsNextAt versions i key) (sym (updates.0 key ∙ cond-false (is_eq (key_order v.key key)) (Some i) (get key_order old key) other))
-    (next_kept versions i v key (get key_order old key) at (λ same. true≢false (sym (subst (λ k. is_eq (key_order v.key k) ≡ true) same (tied_self key_order key_order_total v.key)) ∙ other)) (next key)))
+    (next_kept versions i v key (get key_order old key) at (λ same. true≢false (sym (subst (λ k. is_eq (key_order v.key k) ≡ true) same (tied_self v.key)) ∙ other)) (next key)))
     (cases_Bool (is_eq (key_order v.key key)))
 
 -- the next version of v's key
@@ -123,6 +136,82 @@ next_of versions i v (Some p) rising at next =
           (λ upto. inl (ranked_upto versions i place.0 v w rising at place.1 upto))
           (cases_lt i place.0),
     )
+
+-- a list has an item at each of its positions
+item_at : {X : Type 0} (xs : List X) (i : ℕ) → i < length xs → (x : X) × (slice_get xs i ≡ Some x)
+item_at [] i within = absurd (omega (arith, within))
+item_at (x ∷ xs) zero within = (x, refl)
+item_at (x ∷ xs) (suc i) within = item_at xs i (omega (arith, within))
+
+taken_at : {X : Type 0} (n : ℕ) (xs : List X) (i : ℕ) (x : X) → slice_get (take n xs) i ≡ Some x → (i < n) × (slice_get xs i ≡ Some x)
+taken_at zero xs i x at = absurd (cc at)
+taken_at (suc n) [] i x at = absurd (cc at)
+taken_at (suc n) (y ∷ xs) zero x at = (omega arith, at)
+taken_at (suc n) (y ∷ xs) (suc i) x at = let rest = taken_at n xs i x at in ((let under = rest.0 in omega (arith, under)), rest.1)
+
+at_taken : {X : Type 0} (n : ℕ) (xs : List X) (i : ℕ) (x : X) → i < n → slice_get xs i ≡ Some x → slice_get (take n xs) i ≡ Some x
+at_taken zero xs i x under at = absurd (omega (arith, under))
+at_taken (suc n) [] i x under at = absurd (cc at)
+at_taken (suc n) (y ∷ xs) zero x under at = at
+at_taken (suc n) (y ∷ xs) (suc i) x under at = at_taken n xs i x (omega (arith, under)) at
+
+-- the position of the key's version before one is before it
+pub linked_before : (versions : List Version) (earlier : List (Option ℕ)) → AreLinked versions earlier → AreBefore earlier
+linked_before versions earlier linked position before at =
+    let within = slice_get_within earlier position (Some before) at in
+    let long = linked.all in
+    let v = item_at versions position (omega (arith, within, long)) in
+    let last = linked.each position v.0 (Some before) v.1 at in
+    (taken_at position versions before last.0 last.1).0
+
+module _ (versions : List Version) (earlier nexts : List (Option ℕ)) (i : ℕ) (v : Version) (rising : AllPairs (λ a b. a.revision < b.revision) versions) (linked : AreLinked versions earlier)
+    (follow : AreNexts earlier nexts) (at_v : slice_get versions i ≡ Some v) where
+  -- a version is among those in front of a later one
+  in_front : (j : ℕ) → i < j → Contains (take j versions) v
+  in_front j later = at_in (take j versions) i v (at_taken j versions i v later at_v)
+
+  -- behind a version that none follows there is none of its key
+  none_later : slice_get nexts i ≡ Some None → (fuel j : ℕ) (w : Version) → j ≤ fuel → i < j → slice_get versions j ≡ Some w → w.key ≡ v.key → ⊥
+  none_later none zero j w upto later at same = omega (arith, upto, later)
+  none_later none (suc fuel) j w upto later at same =
+      let within = slice_get_within versions j w at in
+      let before = item_at earlier j (let long = linked.all in omega (arith, within, long)) in
+      by before.0 before.1 (none_later none fuel)
+    where
+      by : (b : Option ℕ) → slice_get earlier j ≡ Some b → ((p : ℕ) (x : Version) → p ≤ fuel → i < p → slice_get versions p ≡ Some x → x.key ≡ v.key → ⊥) → ⊥
+      by None is rest = all_at (λ x. x.key ≢ w.key) (take j versions) v (linked.each j w None at is) (in_front j later) (sym same)
+      by (Some p) is rest =
+          let last = linked.each j w (Some p) at is in
+          let x = last.0 in
+          let taken = taken_at j versions p x last.1 in
+          let order = all_at (λ y. y.key ≡ w.key → y.revision ≤ x.revision) (take j versions) v last.2.greatest (in_front j later) (sym same) in
+          ⊎_elim
+          (λ behind. rest p x (let under = taken.0 in omega (arith, under, upto)) behind taken.1 (last.2.of_key ∙ same))
+          (λ upto_i. ⊎_elim
+          (λ in_front_of. let below = ranked versions p i x v rising taken.1 at_v in_front_of in omega (arith, below, order))
+          (λ from. let one : p ≡ i = omega (arith, upto_i, from) in
+          follow.each i None none j (slice_get_within earlier j (Some p) is) (is ∙ ap (λ n. Some (Some n)) one))
+          (cases_lt p i))
+          (cases_lt i p)
+
+  -- the key's next version, as it is found
+  pub next_in : (found : Option ℕ) → slice_get nexts i ≡ Some found → IsNextAt versions (i + 1) v.key found
+  next_in None none = λ j w from at same. none_later none j j w (omega arith) (omega (arith, from)) at same
+  next_in (Some j) is =
+      let link : slice_get earlier j ≡ Some (Some i) = follow.each i (Some j) is in
+      let w = item_at versions j (let within = slice_get_within earlier j (Some i) link in let long = linked.all in omega (arith, within, long)) in
+      let last = linked.each j w.0 (Some i) w.1 link in
+      let taken = taken_at j versions i last.0 last.1 in
+      let one : last.0 ≡ v = same_Some last.0 v (sym taken.1 ∙ at_v) in
+      let keys : w.0.key ≡ v.key = sym last.2.of_key ∙ ap (λ (x : Version). x.key) one in (
+        (let under = taken.0 in omega (arith, under)),
+        (w.0, w.1, keys),
+        λ k u from before at_u same.
+            let upto = all_at (λ y. y.key ≡ w.0.key → y.revision ≤ last.0.revision) (take j versions) u last.2.greatest (at_in (take j versions) k u (at_taken j versions k u before at_u)) (same ∙ sym keys) in
+            let revision = ap (λ (x : Version). x.revision) one in
+            let above = ranked versions i k v u rising at_v at_u (omega (arith, from)) in
+            omega (arith, upto, revision, above),
+      )
 
 -- a version ends its incarnation where the next one of its key is of another object
 pub ends_if : (versions : List Version) (v : Version) (after : Option Version) → IsNextOf versions v after → IsEnd v after → EndsBefore (map version_of versions) (version_of v) (revision_of after)
@@ -228,7 +317,7 @@ abbrev pub with_found : List Removal → Option Removal → List Removal
 with_found removals None = removals
 with_found removals (Some removal) = removals ++ removal ∷ []
 
-module _ (windows : timed_history.History) (events : List LogEvent) (removed : BTreeMap ObjectKey (BTreeMap (List ℕ) ℕ)) (h : past.History) (versions : List Version) (i : ℕ) (v : Version) (is_first : Bool) (after : Option Version)
+module _ (windows : timed_history.History) (events : List LogEvent) (removed : RemovalNumbers) (h : past.History) (versions : List Version) (i : ℕ) (v : Version) (is_first : Bool) (after : Option Version)
     (log : HasLog windows events removed h) (is : h.versions ≡ map version_of versions) (rising : AllPairs (λ a b. a.revision < b.revision) versions) (at : slice_get versions i ≡ Some v)
     (next : IsNextOf versions v after) (flag : IsTrue is_first ↔ IsFirstWithUid h.versions (version_of v)) (removals : List Removal) (done : AreFoundFrom h versions (i + 1) removals) where
   rising_h : AllPairs (λ a b. a.revision < b.revision) h.versions
@@ -326,24 +415,20 @@ are_removals h found sorted same rising f is = record {
       subst (λ l. Contains l removal) (sym is) (subst (Contains (map recorded sorted)) from.2 (in_map recorded sorted from.0 (Contains-permutation found sorted from.0 same from.1)));
 }
 
--- what is known behind a position: the next versions of keys, and all removals
-abbrev pub AreFoundBehind : timed_history.History → List LogEvent → BTreeMap ObjectKey (BTreeMap (List ℕ) ℕ) → List Version → ℕ → BTreeMap ObjectKey ℕ → List Removal → Type 0
-AreFoundBehind windows events removed versions from next removals = AreNext versions from next
-    × ((h : past.History) → HasLog windows events removed h → h.versions ≡ map version_of versions → AreFoundFrom h versions from removals)
+-- what is known behind a position
+abbrev pub AreFoundBehind : timed_history.History → List LogEvent → RemovalNumbers → List Version → ℕ → List Removal → Type 0
+AreFoundBehind windows events removed versions from removals = (h : past.History) → HasLog windows events removed h → h.versions ≡ map version_of versions → AreFoundFrom h versions from removals
 
 -- the same, one position earlier
-pub found_behind : (windows : timed_history.History) (events : List LogEvent) (removed : BTreeMap ObjectKey (BTreeMap (List ℕ) ℕ)) (versions : List Version) (firsts : List Bool) (i : ℕ) (v : Version) (is_first : Bool)
-    (key : ObjectKey) (old new : BTreeMap ObjectKey ℕ) (replaced : Option ℕ) (after : Option Version) (removals : List Removal) (found : Option Removal)
-    → AllPairs (λ a b. a.revision < b.revision) versions → AreFlagged versions firsts → slice_get versions i ≡ Some v → slice_get firsts i ≡ Some is_first → key ≡ v.key
-    → replaced ≡ get key_order old key → Updates key_order old new key (Some i) → after ≡ option_and_then (slice_get versions) replaced
-    → IsFoundAfter windows events removed v is_first after found → AreFoundBehind windows events removed versions (i + 1) old removals
-    → AreFoundBehind windows events removed versions i new (with_found removals found)
-found_behind windows events removed versions firsts i v is_first key old new replaced after removals found rising flagged at flag_at key_is replaced_is updates after_is found_after done = (
-  next_more versions i v old new at done.0 (subst (λ k. Updates key_order old new k (Some i)) key_is updates),
-  (λ h log is. found_more windows events removed h versions i v is_first after log is rising at next
-      (subst (λ l. IsTrue is_first ↔ IsFirstWithUid l (version_of v)) (sym is) (flagged.each i v is_first at flag_at)) removals (done.1 h log is) found found_after),
-)
+pub found_behind : (windows : timed_history.History) (events : List LogEvent) (removed : RemovalNumbers) (versions : List Version) (firsts : List Bool) (earlier nexts : List (Option ℕ)) (i : ℕ) (v : Version)
+    (is_first : Bool) (next : Option ℕ) (after : Option Version) (removals : List Removal) (found : Option Removal)
+    → AllPairs (λ a b. a.revision < b.revision) versions → AreFlagged versions firsts → AreLinked versions earlier → AreNexts earlier nexts
+    → slice_get versions i ≡ Some v → slice_get firsts i ≡ Some is_first → slice_get nexts i ≡ Some next → after ≡ option_and_then (slice_get versions) next
+    → IsFoundAfter windows events removed v is_first after found → AreFoundBehind windows events removed versions (i + 1) removals
+    → AreFoundBehind windows events removed versions i (with_found removals found)
+found_behind windows events removed versions firsts earlier nexts i v is_first next after removals found rising flagged linked follow at flag_at next_at after_is found_after done = λ h log is.
+    found_more windows events removed h versions i v is_first after log is rising at next_v
+    (subst (λ l. IsTrue is_first ↔ IsFirstWithUid l (version_of v)) (sym is) (flagged.each i v is_first at flag_at)) removals (done h log is) found found_after
   where
-    next : IsNextOf versions v after
-    next = subst (IsNextOf versions v) (sym (after_is ∙ ap (option_and_then (slice_get versions)) (replaced_is ∙ ap (get key_order old) key_is)))
-        (next_of versions i v (get key_order old v.key) rising at (done.0 v.key))
+    next_v : IsNextOf versions v after
+    next_v = subst (IsNextOf versions v) (sym after_is) (next_of versions i v next rising at (next_in versions earlier nexts i v rising linked follow at next next_at))

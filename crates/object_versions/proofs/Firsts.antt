@@ -4,7 +4,6 @@ use Rattle.std.specs.Prelude.{◌↔◌, AllPairs, Contains}
 use Rattle.history_model.specs.Histories as past
 use Rattle.history_model.specs.Incarnations.{IsFirstWithUid}
 use Rattle.history_model.proofs.Members.{apart}
-use Rattle.object_past.specs.declared.version.Version.{Version}
 use Rattle.std.proofs.lemmas.Bool.{cases_lt}
 use Rattle.std.proofs.lemmas.List.Elements.{Contains-append_cases, Contains-append_left, Contains-push_cases}
 

@@ -1,31 +1,27 @@
 -- What is kept of versions is kept with one more.
-use Rattle.std.proofs.Common.{◌≡◌, ◌≢◌, ℕ, zero, suc, ◌+◌, ◌<◌, ◌≤◌, ◌⊎◌, inl, inr, ⊎_elim, Bool, true, false, not, List, [], ◌∷◌, ◌++◌, length, map, slice_get, Option, Some, None, refl, sym, ap, ◌∙◌, subst, arith, true≢false, length-append}
+use Rattle.std.proofs.Common.{◌≡◌, ◌≢◌, ℕ, zero, suc, ◌+◌, ◌<◌, ◌≤◌, ◌⊎◌, inl, inr, ⊎_elim, Bool, true, false, not, bytes_eq, Decides, List, [], ◌∷◌, ◌++◌, length, map, slice_get, Option, Some, None, refl, sym, ap, ◌∙◌, subst, arith, true≢false, length-append}
 use Rattle.std.specs.Prelude.{◌↔◌, IsTrue, All, AllPairs, Any, Contains}
-use Rattle.std.proofs.lemmas.Bool.{cases_Bool, cond-true, cond-false}
+use Rattle.std.proofs.lemmas.Bool.{cond-true, cond-false}
+use Rattle.std.proofs.lemmas.Bool.Decides.{Decides-and, Decides-like}
 use Rattle.std.proofs.lemmas.List.Elements.{Contains-push, Contains-push_cases, Contains-append_left}
 use Rattle.std.proofs.lemmas.Option.{same_Some, slice_get_within}
-use Rattle.std.proofs.lemmas.List.{map-append}
-use Rattle.std.specs.BTreeMap.{BTreeMap, get, Updates}
-use Rattle.std.specs.BTreeSet as set
-use Rattle.std.specs.Ordering.{is_eq}
+use Rattle.std.proofs.lemmas.List.{map-append, take-append-le, take_at}
+use Rattle.std.specs.Cmp.Lexicographic.{bytes_decides}
+use Rattle.std.specs.HashMap.{get, Updates}
+use Rattle.std.specs.HashSet as set
 use Rattle.base_types.specs.declared.key.ObjectKey.{ObjectKey}
-use Rattle.std.specs.Cmp.{IsTotalOrder}
-use Rattle.std.specs.Ordering.{ordering_reverse, ordering_then}
-use Rattle.std.specs.declared.cmp.Ordering.{Ordering}
-use Rattle.std.specs.declared.cmp.Ordering.TheVariants.{Equal, Greater, Less}
-use Rattle.std.proofs.lemmas.Cmp.{nat_list_cmp_total, on_total, then_total}
-use Rattle.std.proofs.lemmas.Map.Lookups.{exact_bytes}
-use Rattle.clouds.proofs.Adding.{key_order_total, same_key_from}
-use Rattle.clouds.specs.Kept.{key_order, text_order}
+use Rattle.hash_seed.specs.declared.seed.Seeded.{Seeded}
+use Rattle.history_model.proofs.KeyLemmas.{key_decides, key_tells}
 use Rattle.history_model.proofs.Members.{all_at, all_from, apart, at_in, in_cons, not_in_none, pairs_cons, pairs_head, pairs_tail}
 use Rattle.history_model.specs.Histories as past
 use Rattle.history_model.specs.Incarnations.{IsFirstWithUid}
 use Rattle.object_versions.proofs.Firsts.{first_later, first_continued, first_new, not_first}
 use Rattle.object_past.proofs.Looking.{in_map, from_map}
 use Rattle.object_versions.proofs.Mapped.{no_true, pairs_push, any_in, in_any}
-use Rattle.object_versions.specs.Growing.{AddsUid, AreFlagged, AreKept, HasNone, IsFirst, IsLastAt, IsLastOf}
+use Rattle.object_versions.specs.Growing.{AddsUid, AreFlagged, AreKept, AreLinked, HasNone, IsContinued, IsFirst, IsLastAt, IsLastOf}
+use Rattle.object_versions.specs.Keyed.{OwnerSet, Positions, UidSet, key_eq}
 use Rattle.object_past.specs.Modelled.{version_of}
-use Rattle.object_versions.specs.Owners.{owner_of, owner_order}
+use Rattle.object_versions.specs.Owners.{owner_eq, owner_of}
 use Rattle.object_versions.specs.declared.owner.Owner.{Owner}
 use Rattle.object_past.specs.declared.version.Version.{Version}
 
@@ -76,54 +72,67 @@ lasts_kept : (versions : List Version) (v : Version) (key : ObjectKey) (at : Opt
 lasts_kept versions v key None other none = none_kept versions v key other none
 lasts_kept versions v key (Some position) other last = (last.0, get_before versions (v ∷ []) position last.0 last.1, last_kept versions v last.0 key other last.2)
 
--- each key ties with itself
-pub tied_self : {K : Type 0} (order : K → K → Ordering) → IsTotalOrder order → (k : K) → is_eq (order k k) ≡ true
-tied_self {K} order total k = go (order k k) (total.antisymm k k)
-  where
-    go : (o : Ordering) → o ≡ ordering_reverse o → is_eq o ≡ true
-    go Less is = cc
-    go Equal is = refl
-    go Greater is = cc
-
 -- the positions of the latest versions, with that of one more
-pub lasts_more : (versions : List Version) (v : Version) (old new : BTreeMap ObjectKey ℕ) → All (λ w. w.revision < v.revision) versions
-    → ((key : ObjectKey) → IsLastAt versions key (get key_order old key)) → Updates key_order old new v.key (Some (length versions))
-    → (key : ObjectKey) → IsLastAt (versions ++ v ∷ []) key (get key_order new key)
+pub lasts_more : (versions : List Version) (v : Version) (old new : Positions) → All (λ w. w.revision < v.revision) versions
+    → ((key : ObjectKey) → IsLastAt versions key (get key_eq old key)) → Updates key_eq old new v.key (Some (length versions))
+    → (key : ObjectKey) → IsLastAt (versions ++ v ∷ []) key (get key_eq new key)
 lasts_more versions v old new below lasts updates key = ⊎_elim
-    (λ tied. let same : v.key ≡ key = same_key_from v.key key tied in
-    subst (IsLastAt (versions ++ v ∷ []) key) (sym (updates.0 key ∙ cond-true (is_eq (key_order v.key key)) (Some (length versions)) (get key_order old key) tied))
-    (v, get_last versions v, subst (λ k. IsLastOf (versions ++ v ∷ []) k v) same (last_new versions v below)))
-    (λ apart. subst (IsLastAt (versions ++ v ∷ []) key) (sym (updates.0 key ∙ cond-false (is_eq (key_order v.key key)) (Some (length versions)) (get key_order old key) apart))
-    (lasts_kept versions v key (get key_order old key) (λ same. true≢false (sym (tied_at v.key key same) ∙ apart)) (lasts key)))
-    (cases_Bool (is_eq (key_order v.key key)))
+    (λ same. subst (IsLastAt (versions ++ v ∷ []) key) (sym (updates.0 key ∙ cond-true (key_eq v.key key) (Some (length versions)) (get key_eq old key) same.0))
+    (v, get_last versions v, subst (λ k. IsLastOf (versions ++ v ∷ []) k v) same.1 (last_new versions v below)))
+    (λ other. subst (IsLastAt (versions ++ v ∷ []) key) (sym (updates.0 key ∙ cond-false (key_eq v.key key) (Some (length versions)) (get key_eq old key) other.0))
+    (lasts_kept versions v key (get key_eq old key) other.1 (lasts key)))
+    (key_tells v.key key)
+
+-- the positions of the versions before others of their keys, with that of one more
+links_more : (versions : List Version) (earlier : List (Option ℕ)) (v : Version) (before : Option ℕ) → AreLinked versions earlier → IsLastAt versions v.key before
+    → AreLinked (versions ++ v ∷ []) (earlier ++ before ∷ [])
+links_more versions earlier v before linked last = record {
+  all = length-append earlier (before ∷ []) ∙ ap (λ n. n + 1) linked.all ∙ sym (length-append versions (v ∷ []));
+  each = λ position w b at_w at_b. ⊎_elim
+      (λ old. ⊎_elim
+      (λ old_b. let within = slice_get_within versions position w old in
+      subst (λ l. IsLastAt l w.key b) (sym (take-append-le position versions (v ∷ []) (omega (arith, within)))) (linked.each position w b old old_b))
+      (λ last_b. absurd (let within = slice_get_within versions position w old in let e = linked.all in let i = last_b.0 in omega arith))
+      (get_cases earlier before position b at_b))
+      (λ new. ⊎_elim
+      (λ old_b. absurd (let within = slice_get_within earlier position b old_b in let e = linked.all in let i = new.0 in omega arith))
+      (λ last_b. subst (λ l. IsLastAt l w.key b) (sym (take_at versions (v ∷ []) position (sym new.0)))
+      (subst (λ (x : Version). IsLastAt versions x.key b) new.1 (subst (IsLastAt versions v.key) last_b.1 last)))
+      (get_cases earlier before position b at_b))
+      (get_cases versions v position w at_w);
+}
+
+-- what a test that decides whether two are one tells of them
+told : {K : Type 0} (eq : K → K → Bool) → ((a b : K) → Decides (eq a b) (a ≡ b)) → (a b : K) → ((eq a b ≡ true) × (a ≡ b)) ⊎ ((eq a b ≡ false) × (a ≢ b))
+told {K} eq decides a b = go (eq a b) refl
   where
-    tied_at : (a b : ObjectKey) → a ≡ b → is_eq (key_order a b) ≡ true
-    tied_at a b same = subst (λ k. is_eq (key_order a k) ≡ true) same (tied_self key_order key_order_total a)
+    go : (t : Bool) → eq a b ≡ t → ((eq a b ≡ true) × (a ≡ b)) ⊎ ((eq a b ≡ false) × (a ≢ b))
+    go true is = inl (is, (decides a b).0 is)
+    go false is = inr (is, λ same. true≢false (sym ((decides a b).1 same) ∙ is))
 
 -- a set of what versions have, with that of one more
-set_more : {K : Type 0} (order : K → K → Ordering) (total : IsTotalOrder order) (exact : (a b : K) → is_eq (order a b) ≡ true → a ≡ b) (f : Version → K)
-    (versions : List Version) (v : Version) (old new : set.BTreeSet K)
-    → ((k : K) → IsTrue (set.contains order old k) ↔ Any (λ w. f w ≡ k) versions) → set.Updates order old new (f v) true
-    → (k : K) → IsTrue (set.contains order new k) ↔ Any (λ w. f w ≡ k) (versions ++ v ∷ [])
-set_more {K} order total exact f versions v old new has updates k = (forth, back)
+set_more : {K : Type 0} (eq : K → K → Bool) → ((a b : K) → Decides (eq a b) (a ≡ b)) → (f : Version → K) (versions : List Version) (v : Version) (old new : set.HashSet K Seeded)
+    → ((k : K) → IsTrue (set.contains eq old k) ↔ Any (λ w. f w ≡ k) versions) → set.Updates eq old new (f v) true
+    → (k : K) → IsTrue (set.contains eq new k) ↔ Any (λ w. f w ≡ k) (versions ++ v ∷ [])
+set_more {K} eq decides f versions v old new has updates k = (forth, back)
   where
-    forth : IsTrue (set.contains order new k) → Any (λ w. f w ≡ k) (versions ++ v ∷ [])
-    forth yes' = ⊎_elim
-        (λ tied. in_any (λ w. f w ≡ k) (versions ++ v ∷ []) v (Contains-push versions v) (exact (f v) k tied))
-        (λ apart'. let before = (has k).0 (subst IsTrue (updates.0 k ∙ cond-false (is_eq (order (f v) k)) true (set.contains order old k) apart') yes') in
+    forth : IsTrue (set.contains eq new k) → Any (λ w. f w ≡ k) (versions ++ v ∷ [])
+    forth held = ⊎_elim
+        (λ same. in_any (λ w. f w ≡ k) (versions ++ v ∷ []) v (Contains-push versions v) same.1)
+        (λ other. let before = (has k).0 (subst IsTrue (updates.0 k ∙ cond-false (eq (f v) k) true (set.contains eq old k) other.0) held) in
         let found = any_in (λ w. f w ≡ k) versions before in
         in_any (λ w. f w ≡ k) (versions ++ v ∷ []) found.0 (Contains-append_left versions (v ∷ []) found.0 found.1) found.2)
-        (cases_Bool (is_eq (order (f v) k)))
+        (told eq decides (f v) k)
 
-    back : Any (λ w. f w ≡ k) (versions ++ v ∷ []) → IsTrue (set.contains order new k)
+    back : Any (λ w. f w ≡ k) (versions ++ v ∷ []) → IsTrue (set.contains eq new k)
     back any = let found = any_in (λ w. f w ≡ k) (versions ++ v ∷ []) any in ⊎_elim
-        (λ tied. subst IsTrue (sym (updates.0 k ∙ cond-true (is_eq (order (f v) k)) true (set.contains order old k) tied)) refl)
-        (λ apart'. subst IsTrue (sym (updates.0 k ∙ cond-false (is_eq (order (f v) k)) true (set.contains order old k) apart'))
+        (λ same. subst IsTrue (sym (updates.0 k ∙ cond-true (eq (f v) k) true (set.contains eq old k) same.0)) refl)
+        (λ other. subst IsTrue (sym (updates.0 k ∙ cond-false (eq (f v) k) true (set.contains eq old k) other.0))
         (⊎_elim
         (λ before. (has k).1 (in_any (λ w. f w ≡ k) versions found.0 before found.2))
-        (λ same. absurd (true≢false (sym (subst (λ x. is_eq (order (f v) x) ≡ true) (ap f same ∙ found.2) (tied_self order total (f v))) ∙ apart')))
+        (λ last. absurd (other.1 (ap f last ∙ found.2)))
         (Contains-push_cases versions v found.0 found.1)))
-        (cases_Bool (is_eq (order (f v) k)))
+        (told eq decides (f v) k)
 
 -- the set, where another version has the same as the one more
 set_same : {K : Type 0} (f : Version → K) (versions : List Version) (p v : Version) (Has : K → Type 0) → Contains versions p → f p ≡ f v
@@ -140,62 +149,52 @@ set_same {K} f versions p v Has known same has k = (forth, back)
         (λ is. (has k).1 (in_any (λ w. f w ≡ k) versions p known (same ∙ ap f is ∙ found.2)))
         (Contains-push_cases versions v found.0 found.1)
 
-text_exact : (a b : List ℕ) → is_eq (text_order a b) ≡ true → a ≡ b
-text_exact a b tied = exact_bytes a b (equal_is (text_order a b) tied)
-  where
-    equal_is : (o : Ordering) → is_eq o ≡ true → o ≡ Equal
-    equal_is Less other = cc
-    equal_is Equal same = refl
-    equal_is Greater other = cc
-
 -- a uid that was there adds nothing
-pub uid_there : (uids : set.BTreeSet (List ℕ)) (uid : List ℕ) → IsTrue (set.contains text_order uids uid) → AddsUid uids uids uid
-uid_there uids uid has other = (inr, λ either. ⊎_elim (λ same. subst (λ u. IsTrue (set.contains text_order uids u)) same has) (λ held. held) either)
+pub uid_there : (uids : UidSet) (uid : List ℕ) → IsTrue (set.contains bytes_eq uids uid) → AddsUid uids uids uid
+uid_there uids uid has other = (inr, λ either. ⊎_elim (λ same. subst (λ u. IsTrue (set.contains bytes_eq uids u)) same has) (λ held. held) either)
 
-pub uid_added : (old new : set.BTreeSet (List ℕ)) (uid : List ℕ) → set.Updates text_order old new uid true → AddsUid old new uid
-uid_added old new uid updates other = ⊎_elim
-    (λ tied. (
-      (λ held. inl (text_exact uid other tied)),
-      λ either. subst IsTrue (sym (updates.0 other ∙ cond-true (is_eq (text_order uid other)) true (set.contains text_order old other) tied)) refl,
+pub uid_added : (old new : UidSet) (uid : List ℕ) → set.Updates bytes_eq old new uid true → AddsUid old new uid
+uid_added old new uid updates k = ⊎_elim
+    (λ same. (
+      (λ held. inl same.1),
+      λ either. subst IsTrue (sym (updates.0 k ∙ cond-true (bytes_eq uid k) true (set.contains bytes_eq old k) same.0)) refl,
     ))
-    (λ apart'. let kept = updates.0 other ∙ cond-false (is_eq (text_order uid other)) true (set.contains text_order old other) apart' in (
+    (λ other. let kept = updates.0 k ∙ cond-false (bytes_eq uid k) true (set.contains bytes_eq old k) other.0 in (
       (λ held. inr (subst IsTrue kept held)),
       λ either. ⊎_elim
-          (λ same. absurd (true≢false (sym (subst (λ u. is_eq (text_order uid u) ≡ true) same (tied_self text_order nat_list_cmp_total uid)) ∙ apart')))
+          (λ same. absurd (other.1 same))
           (λ held. subst IsTrue (sym kept) held)
           either,
     ))
-    (cases_Bool (is_eq (text_order uid other)))
+    (told bytes_eq bytes_decides uid k)
 
 -- the uids of versions, with that of one more
-uids_more : (versions : List Version) (v : Version) (old new : set.BTreeSet (List ℕ)) → ((uid : List ℕ) → IsTrue (set.contains text_order old uid) ↔ Any (λ w. w.uid ≡ uid) versions)
-    → AddsUid old new v.uid → (uid : List ℕ) → IsTrue (set.contains text_order new uid) ↔ Any (λ w. w.uid ≡ uid) (versions ++ v ∷ [])
+uids_more : (versions : List Version) (v : Version) (old new : UidSet) → ((uid : List ℕ) → IsTrue (set.contains bytes_eq old uid) ↔ Any (λ w. w.uid ≡ uid) versions)
+    → AddsUid old new v.uid → (uid : List ℕ) → IsTrue (set.contains bytes_eq new uid) ↔ Any (λ w. w.uid ≡ uid) (versions ++ v ∷ [])
 uids_more versions v old new has adds uid = (forth, back)
   where
-    forth : IsTrue (set.contains text_order new uid) → Any (λ w. w.uid ≡ uid) (versions ++ v ∷ [])
+    forth : IsTrue (set.contains bytes_eq new uid) → Any (λ w. w.uid ≡ uid) (versions ++ v ∷ [])
     forth held = ⊎_elim
         (λ same. in_any (λ w. w.uid ≡ uid) (versions ++ v ∷ []) v (Contains-push versions v) same)
         (λ before. let found = any_in (λ w. w.uid ≡ uid) versions ((has uid).0 before) in
         in_any (λ w. w.uid ≡ uid) (versions ++ v ∷ []) found.0 (Contains-append_left versions (v ∷ []) found.0 found.1) found.2)
         ((adds uid).0 held)
 
-    back : Any (λ w. w.uid ≡ uid) (versions ++ v ∷ []) → IsTrue (set.contains text_order new uid)
+    back : Any (λ w. w.uid ≡ uid) (versions ++ v ∷ []) → IsTrue (set.contains bytes_eq new uid)
     back any = let found = any_in (λ w. w.uid ≡ uid) (versions ++ v ∷ []) any in (adds uid).1 (⊎_elim
         (λ before. inr ((has uid).1 (in_any (λ w. w.uid ≡ uid) versions found.0 before found.2)))
         (λ same. inl (ap (λ (w : Version). w.uid) same ∙ found.2))
         (Contains-push_cases versions v found.0 found.1))
 
-owner_total : IsTotalOrder owner_order
-owner_total = then_total (on_total (λ (o : Owner). o.key) key_order_total) (on_total (λ (o : Owner). o.uid) nat_list_cmp_total)
+abbrev owner_with : ObjectKey → List ℕ → Owner
+owner_with key uid = record { key = key; uid = uid }
 
-owner_exact : (a b : Owner) → is_eq (owner_order a b) ≡ true → a ≡ b
-owner_exact a b tied = let parts = both (key_order a.key b.key) (text_order a.uid b.uid) tied in
-    rw (same_key_from a.key b.key parts.0, text_exact a.uid b.uid parts.1) refl
-  where
-    both : (x y : Ordering) → is_eq (ordering_then x y) ≡ true → (is_eq x ≡ true) × (is_eq y ≡ true)
-    both Less y other = cc
-    both Equal y is = (refl, is)
-    both Greater y other = cc
+owner_same : (a b : Version) → a.key ≡ b.key → a.uid ≡ b.uid → owner_of a ≡ owner_of b
+owner_same a b key uid = λ i. owner_with (key i) (uid i)
+
+owner_decides : (a b : Owner) → Decides (owner_eq a b) (a ≡ b)
+owner_decides a b = Decides-like (owner_eq a b) (λ parts. λ i. owner_with (parts.0 i) (parts.1 i)) (λ same. (ap (λ (o : Owner). o.key) same, ap (λ (o : Owner). o.uid) same))
+    (Decides-and (key_eq a.key b.key) (bytes_eq a.uid b.uid) (key_decides a.key b.key) (bytes_decides a.uid b.uid))
 
 -- the flags of versions, with that of one more
 flagged_more : (versions : List Version) (firsts : List Bool) (v : Version) (is_first : Bool) → All (λ w. w.revision < v.revision) versions
@@ -257,12 +256,6 @@ begun_flag versions v false rising below other at last owned = (
       (owner_same from.0 v (ap (λ (x : past.Version). x.key) from.2 ∙ of_key) (ap (λ (x : past.Version). x.uid) from.2 ∙ of_uid))))))),
   λ first. refl,
 )
-  where
-    owner : ObjectKey → List ℕ → Owner
-    owner key uid = record { key = key; uid = uid }
-
-    owner_same : (a b : Version) → a.key ≡ b.key → a.uid ≡ b.uid → owner_of a ≡ owner_of b
-    owner_same a b key uid = λ i. owner (key i) (uid i)
 begun_flag versions v true rising below other None none owned =
     let found = any_in (λ w. owner_of w ≡ owner_of v) versions (owned.0 refl) in
     absurd (all_at (λ w. w.key ≢ v.key) versions found.0 none found.1 (ap (λ (o : Owner). o.key) found.2))
@@ -279,19 +272,20 @@ begun_flag versions v true rising below other (Some position) last owned =
     )
 
 -- how the owners, the uids and the flag come of the key's latest version
-pub data IsOwned (versions : List Version) (v : Version) (owners new : set.BTreeSet Owner) (uids new_uids : set.BTreeSet (List ℕ)) (is_first : Bool) : Type 0 where
+pub data IsOwned (versions : List Version) (v : Version) (owners new : OwnerSet) (uids new_uids : UidSet) (is_first : Bool) : Type 0 where
   continued : (p : Version) → IsLastOf versions v.key p → p.uid ≡ v.uid → (IsTrue is_first ↔ IsFirst versions p) → new ≡ owners → new_uids ≡ uids
       → IsOwned versions v owners new uids new_uids is_first
-  begun : ((p : Version) → IsLastOf versions v.key p → p.uid ≢ v.uid) → is_first ≡ not (set.contains owner_order owners (owner_of v))
-      → set.Updates owner_order owners new (owner_of v) true → AddsUid uids new_uids v.uid → IsOwned versions v owners new uids new_uids is_first
+  begun : ((p : Version) → IsLastOf versions v.key p → p.uid ≢ v.uid) → is_first ≡ not (set.contains owner_eq owners (owner_of v))
+      → set.Updates owner_eq owners new (owner_of v) true → AddsUid uids new_uids v.uid → IsOwned versions v owners new uids new_uids is_first
 
-pub kept_more : (versions : List Version) (firsts : List Bool) (last new_last : BTreeMap ObjectKey ℕ) (owners new_owners : set.BTreeSet Owner) (uids new_uids : set.BTreeSet (List ℕ))
-    (v : Version) (is_first : Bool) → AreKept versions firsts last owners uids → All (λ w. w.revision < v.revision) versions
-    → Updates key_order last new_last v.key (Some (length versions)) → IsOwned versions v owners new_owners uids new_uids is_first
-    → AreKept (versions ++ v ∷ []) (firsts ++ is_first ∷ []) new_last new_owners new_uids
-kept_more versions firsts last new_last owners new_owners uids new_uids v is_first kept below lasts owned = record {
+pub kept_more : (versions : List Version) (firsts : List Bool) (earlier : List (Option ℕ)) (last new_last : Positions) (owners new_owners : OwnerSet) (uids new_uids : UidSet)
+    (v : Version) (before : Option ℕ) (is_first : Bool) → AreKept versions firsts earlier last owners uids → All (λ w. w.revision < v.revision) versions
+    → before ≡ get key_eq last v.key → Updates key_eq last new_last v.key (Some (length versions)) → IsOwned versions v owners new_owners uids new_uids is_first
+    → AreKept (versions ++ v ∷ []) (firsts ++ is_first ∷ []) (earlier ++ before ∷ []) new_last new_owners new_uids
+kept_more versions firsts earlier last new_last owners new_owners uids new_uids v before is_first kept below found lasts owned = record {
   rising = pairs_push (λ a b. a.revision < b.revision) versions v kept.rising below;
   flagged = flagged_more versions firsts v is_first below kept.flagged (flag owned);
+  linked = links_more versions earlier v before kept.linked (subst (IsLastAt versions v.key) (sym found) (kept.last_of v.key));
   last_of = lasts_more versions v last new_last below kept.last_of lasts;
   owned = owners_of owned;
   used = uids_of owned;
@@ -300,54 +294,73 @@ kept_more versions firsts last new_last owners new_owners uids new_uids v is_fir
     flag : IsOwned versions v owners new_owners uids new_uids is_first → IsTrue is_first ↔ IsFirst (versions ++ v ∷ []) v
     flag (continued p at same first is stay) = continued_flag versions p v is_first kept.rising below at same first
     flag (begun other is updates adds) = subst (λ b. IsTrue b ↔ IsFirst (versions ++ v ∷ []) v) (sym is)
-        (begun_flag versions v (set.contains owner_order owners (owner_of v)) kept.rising below other (get key_order last v.key) (kept.last_of v.key) (kept.owned (owner_of v)))
+        (begun_flag versions v (set.contains owner_eq owners (owner_of v)) kept.rising below other (get key_eq last v.key) (kept.last_of v.key) (kept.owned (owner_of v)))
 
-    owners_of : IsOwned versions v owners new_owners uids new_uids is_first → (owner : Owner) → IsTrue (set.contains owner_order new_owners owner) ↔ Any (λ w. owner_of w ≡ owner) (versions ++ v ∷ [])
-    owners_of (continued p at same first is stay) = λ owner. subst (λ o. IsTrue (set.contains owner_order o owner) ↔ Any (λ w. owner_of w ≡ owner) (versions ++ v ∷ [])) (sym is)
-        (set_same owner_of versions p v (λ k. IsTrue (set.contains owner_order owners k)) at.known (owner_same p v at.of_key same) kept.owned owner)
-      where
-        owner_at : ObjectKey → List ℕ → Owner
-        owner_at key uid = record { key = key; uid = uid }
+    owners_of : IsOwned versions v owners new_owners uids new_uids is_first → (owner : Owner) → IsTrue (set.contains owner_eq new_owners owner) ↔ Any (λ w. owner_of w ≡ owner) (versions ++ v ∷ [])
+    owners_of (continued p at same first is stay) = λ owner. subst (λ o. IsTrue (set.contains owner_eq o owner) ↔ Any (λ w. owner_of w ≡ owner) (versions ++ v ∷ [])) (sym is)
+        (set_same owner_of versions p v (λ k. IsTrue (set.contains owner_eq owners k)) at.known (owner_same p v at.of_key same) kept.owned owner)
+    owners_of (begun other is updates adds) = set_more owner_eq owner_decides owner_of versions v owners new_owners kept.owned updates
 
-        owner_same : (a b : Version) → a.key ≡ b.key → a.uid ≡ b.uid → owner_of a ≡ owner_of b
-        owner_same a b key uid = λ i. owner_at (key i) (uid i)
-    owners_of (begun other is updates adds) = set_more owner_order owner_total owner_exact owner_of versions v owners new_owners kept.owned updates
-
-    uids_of : IsOwned versions v owners new_owners uids new_uids is_first → (uid : List ℕ) → IsTrue (set.contains text_order new_uids uid) ↔ Any (λ w. w.uid ≡ uid) (versions ++ v ∷ [])
-    uids_of (continued p at same first is stay) = λ uid. subst (λ s. IsTrue (set.contains text_order s uid) ↔ Any (λ w. w.uid ≡ uid) (versions ++ v ∷ [])) (sym stay)
-        (set_same (λ w. w.uid) versions p v (λ u. IsTrue (set.contains text_order uids u)) at.known same kept.used uid)
+    uids_of : IsOwned versions v owners new_owners uids new_uids is_first → (uid : List ℕ) → IsTrue (set.contains bytes_eq new_uids uid) ↔ Any (λ w. w.uid ≡ uid) (versions ++ v ∷ [])
+    uids_of (continued p at same first is stay) = λ uid. subst (λ s. IsTrue (set.contains bytes_eq s uid) ↔ Any (λ w. w.uid ≡ uid) (versions ++ v ∷ [])) (sym stay)
+        (set_same (λ w. w.uid) versions p v (λ u. IsTrue (set.contains bytes_eq uids u)) at.known same kept.used uid)
     uids_of (begun other is updates adds) = uids_more versions v uids new_uids kept.used adds
 
+none_past : (xs : List Bool) (i : ℕ) → slice_get xs i ≡ None → length xs ≤ i
+none_past [] i none = omega arith
+none_past (x ∷ xs) zero none = absurd (cc none)
+none_past (x ∷ xs) (suc i) none = omega (arith, none_past xs i none)
+
 -- the key's latest version, as it is found
-pub latest_found : (versions : List Version) (firsts : List Bool) (last : BTreeMap ObjectKey ℕ) (owners : set.BTreeSet Owner) (uids : set.BTreeSet (List ℕ)) (key : ObjectKey) (position : ℕ) (v : Version) (is_first : Bool)
-    → AreKept versions firsts last owners uids → get key_order last key ≡ Some position → slice_get versions position ≡ Some v → slice_get firsts position ≡ Some is_first
+pub latest_found : (versions : List Version) (firsts : List Bool) (earlier : List (Option ℕ)) (last : Positions) (owners : OwnerSet) (uids : UidSet) (key : ObjectKey) (position : ℕ) (v : Version) (is_first : Bool)
+    → AreKept versions firsts earlier last owners uids → get key_eq last key ≡ Some position → slice_get versions position ≡ Some v → slice_get firsts position ≡ Some is_first
     → IsLastOf versions key v × (IsTrue is_first ↔ IsFirst versions v)
-latest_found versions firsts last owners uids key position v is_first kept found at flag =
+latest_found versions firsts earlier last owners uids key position v is_first kept found at flag =
     let known : IsLastAt versions key (Some position) = subst (IsLastAt versions key) found (kept.last_of key) in
     let same : known.0 ≡ v = same_Some known.0 v (sym known.1 ∙ at) in
     (subst (IsLastOf versions key) same known.2, kept.flagged.each position v is_first at flag)
 
-pub latest_known : (versions : List Version) (firsts : List Bool) (last : BTreeMap ObjectKey ℕ) (owners : set.BTreeSet Owner) (uids : set.BTreeSet (List ℕ)) (key : ObjectKey) (position : ℕ)
-    → AreKept versions firsts last owners uids → get key_order last key ≡ Some position → slice_get versions position ≡ None → ⊥
-latest_known versions firsts last owners uids key position kept found none =
+pub latest_known : (versions : List Version) (firsts : List Bool) (earlier : List (Option ℕ)) (last : Positions) (owners : OwnerSet) (uids : UidSet) (key : ObjectKey) (position : ℕ)
+    → AreKept versions firsts earlier last owners uids → get key_eq last key ≡ Some position → slice_get versions position ≡ None → ⊥
+latest_known versions firsts earlier last owners uids key position kept found none =
     let known : IsLastAt versions key (Some position) = subst (IsLastAt versions key) found (kept.last_of key) in cc (sym known.1 ∙ none)
 
-pub latest_flagged : (versions : List Version) (firsts : List Bool) (last : BTreeMap ObjectKey ℕ) (owners : set.BTreeSet Owner) (uids : set.BTreeSet (List ℕ)) (key : ObjectKey) (position : ℕ)
-    → AreKept versions firsts last owners uids → get key_order last key ≡ Some position → slice_get firsts position ≡ None → ⊥
-latest_flagged versions firsts last owners uids key position kept found none =
+pub latest_flagged : (versions : List Version) (firsts : List Bool) (earlier : List (Option ℕ)) (last : Positions) (owners : OwnerSet) (uids : UidSet) (key : ObjectKey) (position : ℕ)
+    → AreKept versions firsts earlier last owners uids → get key_eq last key ≡ Some position → slice_get firsts position ≡ None → ⊥
+latest_flagged versions firsts earlier last owners uids key position kept found none =
     let known : IsLastAt versions key (Some position) = subst (IsLastAt versions key) found (kept.last_of key) in
     let within = slice_get_within versions position known.0 known.1 in
     let long = kept.flagged.all in
     let past = none_past firsts position none in
     omega arith
-  where
-    none_past : (xs : List Bool) (i : ℕ) → slice_get xs i ≡ None → length xs ≤ i
-    none_past [] i none = omega arith
-    none_past (x ∷ xs) zero none = absurd (cc none)
-    none_past (x ∷ xs) (suc i) none = omega (arith, none_past xs i none)
 
 -- a key has one latest version
 pub last_same : (versions : List Version) (key : ObjectKey) (a b : Version) → AllPairs (λ x y. x.revision < y.revision) versions → IsLastOf versions key a → IsLastOf versions key b → a ≡ b
 last_same versions key a b rising x y = apart (λ (v : Version). v.revision) versions a b rising x.known y.known
     (let up = all_at (λ w. w.key ≡ key → w.revision ≤ a.revision) versions b x.greatest y.known y.of_key in
     let down = all_at (λ w. w.key ≡ key → w.revision ≤ b.revision) versions a y.greatest x.known x.of_key in omega arith)
+
+-- the key's latest version, by its position
+latest_at : (versions : List Version) (key : ObjectKey) (before : Option ℕ) (position : ℕ) (v : Version) → IsLastAt versions key before → before ≡ Some position
+    → slice_get versions position ≡ Some v → IsLastOf versions key v
+latest_at versions key before position v last is at =
+    let known : IsLastAt versions key (Some position) = subst (IsLastAt versions key) is last in
+    subst (IsLastOf versions key) (same_Some known.0 v (sym known.1 ∙ at)) known.2
+
+-- a version of another uid than its key's latest one continues none
+pub continues_other : (versions : List Version) (version : Version) (before : Option ℕ) (position : ℕ) (latest : Version) → AllPairs (λ a b. a.revision < b.revision) versions
+    → IsLastAt versions version.key before → before ≡ Some position → slice_get versions position ≡ Some latest → latest.uid ≢ version.uid → IsContinued versions version None
+continues_other versions version before position latest rising last is at other = λ v of_v same.
+    other (ap (λ (w : Version). w.uid) (last_same versions version.key latest v rising (latest_at versions version.key before position latest last is at) of_v) ∙ same)
+
+-- a version of the latest one's uid continues that
+pub continues_latest : (versions : List Version) (firsts : List Bool) (version : Version) (before : Option ℕ) (position : ℕ) (latest : Version) (flag : Option Bool) → AreFlagged versions firsts
+    → IsLastAt versions version.key before → before ≡ Some position → slice_get versions position ≡ Some latest → latest.uid ≡ version.uid → flag ≡ slice_get firsts position
+    → IsContinued versions version flag
+continues_latest versions firsts version before position latest None flagged last is at same flag_is = absurd (
+    let within = slice_get_within versions position latest at in
+    let long = flagged.all in
+    let past = none_past firsts position (sym flag_is) in
+    omega (arith, within, long, past))
+continues_latest versions firsts version before position latest (Some is_first) flagged last is at same flag_is =
+    (latest, latest_at versions version.key before position latest last is at, same, flagged.each position latest is_first at (sym flag_is))

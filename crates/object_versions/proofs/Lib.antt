@@ -8,6 +8,7 @@ pub mod Faulting
 pub mod Filing
 pub mod Finding
 pub mod Firsts
+pub mod Following
 pub mod Growth
 pub mod Keeping
 pub mod Mapped

@@ -1,5 +1,5 @@
 -- The first removal of an object, and the places at which it may have happened.
-use Rattle.std.proofs.Common.{◌≡◌, ◌≢◌, ℕ, ◌+◌, ◌-◌, ◌≤◌, ◌⊎◌, inl, inr, ⊎_elim, Bool, true, false, ◌&&◌, List, [], ◌∷◌, map, Option, Some, None, option_map, option_and_then, slice_get, max, min, refl, sym, ap, ◌∙◌, subst, arith, true≢false}
+use Rattle.std.proofs.Common.{◌≡◌, ℕ, ◌+◌, ◌≤◌, ◌⊎◌, inl, inr, ⊎_elim, Bool, true, false, ◌&&◌, List, [], ◌∷◌, map, Option, Some, None, option_map, option_and_then, slice_get, max, min, refl, sym, ap, ◌∙◌, subst, arith, true≢false}
 use Rattle.std.specs.Prelude.{AllPairs, Contains, find, bytes_eq, if◌then◌else◌}
 use Rattle.std.proofs.lemmas.Option.{same_Some, slice_get-map, slice_get_within}
 use Rattle.std.specs.Cmp.Lexicographic.{bytes_decides}
@@ -18,8 +18,8 @@ use Rattle.write_groups.specs.Modelled.{HasEvents, answer_of, event_of}
 use Rattle.write_groups.specs.declared.event.LogEvent.{LogEvent}
 use Rattle.write_groups.specs.declared.event.Shown.{Shown}
 use Rattle.write_groups.specs.declared.event.Shown.TheVariants.{Made, Removed, Opaque, Saw, SawNone, SawSome, SawOther, Listed, Free, Aside}
-use Rattle.std.specs.BTreeMap.{BTreeMap}
 use Rattle.time_windows.specs.History as timed_history
+use Rattle.object_versions.specs.Keyed.{RemovalNumbers}
 use Rattle.object_versions.specs.Surrounded.{HasLog}
 use Rattle.object_past.specs.Modelled.{version_of}
 use Rattle.object_versions.specs.Modelled.{removal_of}
@@ -235,7 +235,7 @@ behind_none h events v next n e removal only no_place behind =
     omega arith
 
 -- what is known of the first removal that was kept
-pub kept_first : (windows : timed_history.History) (events : List LogEvent) (removed : BTreeMap ObjectKey (BTreeMap (List ℕ) ℕ)) (h : past.History) (v : Version) (n : ℕ) (e : LogEvent)
+pub kept_first : (windows : timed_history.History) (events : List LogEvent) (removed : RemovalNumbers) (h : past.History) (v : Version) (n : ℕ) (e : LogEvent)
     → HasLog windows events removed h → found_at removed v.key v.uid ≡ Some n → slice_get events n ≡ Some e
     → IsFirst h (IsRemovalOf v.key v.uid) n (event_of e) × ((m : ℕ) (x : event.Event) → IsFirst h (IsRemovalOf v.key v.uid) m x → (m ≡ n) × (x ≡ event_of e))
 kept_first windows events removed h v n e log found at =
@@ -243,12 +243,12 @@ kept_first windows events removed h v n e log found at =
     let same : known.0 ≡ e = same_Some known.0 e (sym known.1 ∙ at) in
     (subst (λ x. IsFirst h (IsRemovalOf v.key v.uid) n (event_of x)) same known.2, λ m x first. ((known.3 m x first).0, (known.3 m x first).1 ∙ ap event_of same))
 
-pub kept_none : (windows : timed_history.History) (events : List LogEvent) (removed : BTreeMap ObjectKey (BTreeMap (List ℕ) ℕ)) (h : past.History) (v : Version) (next : Option ℕ) (removal : past.Removal)
+pub kept_none : (windows : timed_history.History) (events : List LogEvent) (removed : RemovalNumbers) (h : past.History) (v : Version) (next : Option ℕ) (removal : past.Removal)
     → HasLog windows events removed h → found_at removed v.key v.uid ≡ None → IsRemovalBehind h (version_of v) next removal → ⊥
 kept_none windows events removed h v next removal log none behind =
     none_removed h events v.key v.uid removal.range.event behind.event log.all log.order (sym (log.removals v.key v.uid) ∙ none) behind.first.known behind.first.holds
 
-pub kept_there : (windows : timed_history.History) (events : List LogEvent) (removed : BTreeMap ObjectKey (BTreeMap (List ℕ) ℕ)) (h : past.History) (v : Version) (n : ℕ)
+pub kept_there : (windows : timed_history.History) (events : List LogEvent) (removed : RemovalNumbers) (h : past.History) (v : Version) (n : ℕ)
     → HasLog windows events removed h → found_at removed v.key v.uid ≡ Some n → slice_get events n ≡ None → ⊥
 kept_there windows events removed h v n log found none =
     let known = first_is h events v.key v.uid n log.all log.order (sym (log.removals v.key v.uid) ∙ found) in cc (sym known.1 ∙ none)

@@ -1,12 +1,11 @@
 -- How incarnations ended.
 use Rattle.std.specs.Prelude.{◌≢◌, ◌↔◌, ℕ, Bool, IsTrue, List, Option, Some, None, map, All, AllPairs, Contains, option_map}
-use Rattle.std.specs.BTreeMap.{BTreeMap}
-use Rattle.base_types.specs.declared.key.ObjectKey.{ObjectKey}
 use Rattle.history_model.specs.Histories as past
 use Rattle.history_model.specs.Incarnations.{IsFirstWithUid, IsRemoval, IsRemovalBehind}
 use Rattle.time_windows.specs.History as timed_history
 use Rattle.write_groups.specs.declared.event.LogEvent.{LogEvent}
 use Rattle.object_past.specs.Modelled.{recorded, version_of}
+use Rattle.object_versions.specs.Keyed.{RemovalNumbers}
 use Rattle.object_versions.specs.Surrounded.{HasLog}
 use Rattle.object_past.specs.declared.removal.Removal.{Removal}
 use Rattle.object_past.specs.declared.version.Version.{Version}
@@ -20,7 +19,7 @@ abbrev pub revision_of : Option Version → Option ℕ
 revision_of after = option_map (λ v. v.revision) after
 
 -- what is found behind a version: the removal of its object, if the version ended its incarnation and there is one
-abbrev pub IsFoundAfter : timed_history.History → List LogEvent → BTreeMap ObjectKey (BTreeMap (List ℕ) ℕ) → Version → Bool → Option Version → Option Removal → Type 0
+abbrev pub IsFoundAfter : timed_history.History → List LogEvent → RemovalNumbers → Version → Bool → Option Version → Option Removal → Type 0
 IsFoundAfter windows events removed v is_first after (Some removal) = IsEnd v after
     × ((h : past.History) → HasLog windows events removed h → (IsTrue is_first ↔ IsFirstWithUid h.versions (version_of v))
     → IsRemovalBehind h (version_of v) (revision_of after) (recorded removal))

@@ -1,12 +1,12 @@
 -- Versions in order, and what is known of their keys and uids.
-use Rattle.std.specs.Prelude.{◌≡◌, ◌≢◌, ◌<◌, ◌≤◌, ◌↔◌, ◌⊎◌, ℕ, Bool, List, Option, Some, None, IsTrue, length, map, slice_get, All, AllPairs, Any, Contains}
-use Rattle.std.specs.BTreeMap.{BTreeMap, get}
-use Rattle.std.specs.BTreeSet.{BTreeSet, contains}
+use Rattle.std.specs.Prelude.{◌≡◌, ◌≢◌, ◌<◌, ◌≤◌, ◌↔◌, ◌⊎◌, ℕ, Bool, List, Option, Some, None, IsTrue, bytes_eq, length, map, slice_get, take, All, AllPairs, Any, Contains}
+use Rattle.std.specs.HashMap.{get}
+use Rattle.std.specs.HashSet.{contains}
 use Rattle.base_types.specs.declared.key.ObjectKey.{ObjectKey}
-use Rattle.clouds.specs.Kept.{key_order, text_order}
 use Rattle.history_model.specs.Incarnations.{IsFirstWithUid}
 use Rattle.object_past.specs.Modelled.{version_of}
-use Rattle.object_versions.specs.Owners.{owner_order, owner_of}
+use Rattle.object_versions.specs.Keyed.{OwnerSet, Positions, UidSet, key_eq}
+use Rattle.object_versions.specs.Owners.{owner_eq, owner_of}
 use Rattle.object_versions.specs.declared.grown.Latest.{Latest}
 use Rattle.object_versions.specs.declared.owner.Owner.{Owner}
 use Rattle.object_past.specs.declared.version.Version.{Version}
@@ -39,16 +39,23 @@ pub record AreFlagged (versions : List Version) (firsts : List Bool) : Type 0 wh
   pub each : (position : ℕ) (v : Version) (is_first : Bool) → slice_get versions position ≡ Some v → slice_get firsts position ≡ Some is_first
       → IsTrue is_first ↔ IsFirst versions v
 
-pub record AreKept (versions : List Version) (firsts : List Bool) (last : BTreeMap ObjectKey ℕ) (owners : BTreeSet Owner) (uids : BTreeSet (List ℕ)) : Type 0 where
+-- of each version, the position of its key's version before it
+pub record AreLinked (versions : List Version) (earlier : List (Option ℕ)) : Type 0 where
+  pub all : length earlier ≡ length versions
+  pub each : (position : ℕ) (v : Version) (before : Option ℕ) → slice_get versions position ≡ Some v → slice_get earlier position ≡ Some before
+      → IsLastAt (take position versions) v.key before
+
+pub record AreKept (versions : List Version) (firsts : List Bool) (earlier : List (Option ℕ)) (last : Positions) (owners : OwnerSet) (uids : UidSet) : Type 0 where
   pub rising : AllPairs (λ a b. a.revision < b.revision) versions
   pub flagged : AreFlagged versions firsts
-  pub last_of : (key : ObjectKey) → IsLastAt versions key (get key_order last key)
-  pub owned : (owner : Owner) → IsTrue (contains owner_order owners owner) ↔ Any (λ v. owner_of v ≡ owner) versions
-  pub used : (uid : List ℕ) → IsTrue (contains text_order uids uid) ↔ Any (λ v. v.uid ≡ uid) versions
+  pub linked : AreLinked versions earlier
+  pub last_of : (key : ObjectKey) → IsLastAt versions key (get key_eq last key)
+  pub owned : (owner : Owner) → IsTrue (contains owner_eq owners owner) ↔ Any (λ v. owner_of v ≡ owner) versions
+  pub used : (uid : List ℕ) → IsTrue (contains bytes_eq uids uid) ↔ Any (λ v. v.uid ≡ uid) versions
 
 -- the uids of the set, and one more
-abbrev pub AddsUid : (old new : BTreeSet (List ℕ)) → List ℕ → Type 0
-AddsUid old new uid = (other : List ℕ) → IsTrue (contains text_order new other) ↔ ((uid ≡ other) ⊎ IsTrue (contains text_order old other))
+abbrev pub AddsUid : (old new : UidSet) → List ℕ → Type 0
+AddsUid old new uid = (other : List ℕ) → IsTrue (contains bytes_eq new other) ↔ ((uid ≡ other) ⊎ IsTrue (contains bytes_eq old other))
 
 -- the key's latest version, and whether its incarnation is the first with its uid
 abbrev pub IsLatestIn : List Version → ObjectKey → Option Latest → Type 0

@@ -1,9 +1,11 @@
 pub mod Chosen
 pub mod Ended
 pub mod Faults
+pub mod Following
 pub mod Found
 pub mod Growing
 pub mod Hidden
+pub mod Keyed
 pub mod Modelled
 pub mod Owners
 pub mod Removals

@@ -1,9 +1,11 @@
 -- The first removal of each uid of each key (Kubernetes "Object Names and IDs", UIDs).
 use Rattle.std.specs.Prelude.{◌≡◌, ◌&&◌, ℕ, Bool, false, List, Option, Some, None, if◌then◌else◌, bytes_eq, option_and_then, slice_get, find}
-use Rattle.std.specs.BTreeMap.{BTreeMap, get}
+use Rattle.std.specs.BTreeMap as tree
+use Rattle.std.specs.HashMap as table
 use Rattle.base_types.specs.declared.key.ObjectKey.{ObjectKey}
-use Rattle.clouds.specs.Kept.{key_order, text_order}
+use Rattle.clouds.specs.Kept.{text_order}
 use Rattle.base_types.specs.Keys.{same_key}
+use Rattle.object_versions.specs.Keyed.{RemovalNumbers, key_eq}
 use Rattle.write_groups.specs.declared.event.LogEvent.{LogEvent}
 use Rattle.write_groups.specs.declared.event.Shown.{Shown}
 use Rattle.write_groups.specs.declared.event.Shown.TheVariants.{Made, Removed, Opaque, Saw, SawNone, SawSome, SawOther, Listed, Free, Aside}
@@ -33,8 +35,8 @@ abbrev pub first_removal : List LogEvent → List ℕ → ObjectKey → List ℕ
 first_removal events numbers key uid = find (λ number. is_gone key uid (gone_at events number)) numbers
 
 -- the number that is kept for the uid of the key
-abbrev pub found_at : BTreeMap ObjectKey (BTreeMap (List ℕ) ℕ) → ObjectKey → List ℕ → Option ℕ
-found_at removed key uid = option_and_then (λ uids. get text_order uids uid) (get key_order removed key)
+abbrev pub found_at : RemovalNumbers → ObjectKey → List ℕ → Option ℕ
+found_at removed key uid = option_and_then (λ uids. tree.get text_order uids uid) (table.get key_eq removed key)
 
 abbrev pub or_first : Option ℕ → Option ℕ → Option ℕ
 or_first None other = other
@@ -43,5 +45,5 @@ or_first (Some number) other = Some number
 abbrev pub number_if : ObjectKey → List ℕ → ℕ → ObjectKey → List ℕ → Option ℕ
 number_if key uid number other_key other_uid = if same_key key other_key && bytes_eq uid other_uid then Some number else None
 
-abbrev pub AreFirstRemovals : List LogEvent → List ℕ → BTreeMap ObjectKey (BTreeMap (List ℕ) ℕ) → Type 0
+abbrev pub AreFirstRemovals : List LogEvent → List ℕ → RemovalNumbers → Type 0
 AreFirstRemovals events order removed = (key : ObjectKey) (uid : List ℕ) → found_at removed key uid ≡ first_removal events order key uid

@@ -1,18 +1,17 @@
 -- What of a history is known before its versions are.
 use Rattle.std.specs.Prelude.{◌≡◌, ℕ, Bool, List, Option}
-use Rattle.base_types.specs.declared.key.ObjectKey.{ObjectKey}
-use Rattle.std.specs.BTreeMap.{BTreeMap}
 use Rattle.clouds.specs.Writes.{Writes}
 use Rattle.history_model.specs.Histories.{History}
 use Rattle.history_model.specs.Judging.{IsOrder}
 use Rattle.time_windows.specs.History as timed_history
 use Rattle.write_groups.specs.Modelled.{HasEvents, HasTimes}
 use Rattle.write_groups.specs.declared.event.LogEvent.{LogEvent}
+use Rattle.object_versions.specs.Keyed.{RemovalNumbers}
 use Rattle.object_versions.specs.Modelled.{AreCloudsOf}
 use Rattle.object_versions.specs.Removals.{AreFirstRemovals}
 
 -- the history is one of this log: its events, its windows, its order of judgement and its first removals
-pub record HasLog (windows : timed_history.History) (events : List LogEvent) (removed : BTreeMap ObjectKey (BTreeMap (List ℕ) ℕ)) (h : History) : Type 0 where
+pub record HasLog (windows : timed_history.History) (events : List LogEvent) (removed : RemovalNumbers) (h : History) : Type 0 where
   pub times : HasTimes windows h
   pub all : HasEvents events h
   pub order : IsOrder h

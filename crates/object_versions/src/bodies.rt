@@ -1,5 +1,5 @@
 use base_types::OutOfMemory;
-use node_pool::NodeId;
+use node_number::NodeId;
 use std::alloc::Global;
 
 /// What a request's body asks for. It is judged by the log's bodies, which the past of the objects doesn't look into.

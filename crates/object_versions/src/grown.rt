@@ -1,26 +1,34 @@
 ghost use Rattle.std.specs.Prelude.{◌≡◌, ◌<◌, ◌++◌, ◌∷◌, [], ◌↔◌, not, true, IfOk, OnOk, IsTrue, All, AllPairs};
 ghost use Rattle.std.specs.Prelude.{Any, Some, option_map, slice_get};
-ghost use Rattle.std.specs.BTreeMap.{Updates as UpdatesMap};
-ghost use Rattle.std.specs.BTreeSet.{contains, Updates};
-ghost use Rattle.clouds.specs.Kept.{key_order};
-ghost use Rattle.object_versions.specs.Growing.{AddsUid, AreFlagged, AreKept, IsContinued, IsLatestIn};
-ghost use Rattle.object_versions.specs.Owners.{owner_order, owner_of};
+ghost use Rattle.std.specs.HashMap.{get, Updates as UpdatesMap};
+ghost use Rattle.std.specs.HashSet.{contains, Updates};
+ghost use Rattle.object_versions.specs.Growing.{AddsUid, AreFlagged, AreKept, AreLinked};
+ghost use Rattle.object_versions.specs.Growing.{IsContinued, IsLastAt, IsLatestIn};
+ghost use Rattle.object_versions.specs.Keyed.{key_eq};
+ghost use Rattle.object_versions.specs.Owners.{owner_eq, owner_of};
 
 use crate::owner::{Owner, owned};
 use base_types::{ObjectKey, OutOfMemory, Text};
+use hash_seed::{Seed, Seeded};
 use object_past::{Version, Versions};
 use std::alloc::Global;
-use std::collections::{BTreeMap, BTreeSet};
+use std::collections::{HashMap, HashSet};
 use std::marker::Model;
 
-/// What is known of the keys and uids of versions.
+// Positions of versions by their keys.
+type Positions = HashMap<ObjectKey, usize, Seeded>;
+
+/// What is known of the keys and uids of versions. The hashes begin with a seed, since whoever creates objects chooses
+/// their names.
 struct Index {
     // Of each version, whether its incarnation is the first of its key with its uid.
     firsts: Vec<bool>,
+    // Of each version, the position of its key's version before it.
+    earlier: Vec<Option<usize>>,
     // The position of each key's latest version.
-    last: BTreeMap<ObjectKey, usize>,
-    owners: BTreeSet<Owner>,
-    uids: BTreeSet<Text>,
+    last: Positions,
+    owners: HashSet<Owner, Seeded>,
+    uids: HashSet<Text, Seeded>,
 }
 
 // Written out, so that a function that lets an index go has one call and not the steps of each field.
@@ -28,6 +36,7 @@ impl Drop for Index {
     fn drop(self) {
         let Index {
             firsts: _,
+            earlier: _,
             last: _,
             owners: _,
             uids: _,
@@ -61,7 +70,8 @@ impl Model for Grown {
 
     ghost view = { λ g. g.versions };
 
-    ghost invariant = { λ g. AreKept g.versions g.index.firsts.items g.index.last g.index.owners g.index.uids };
+    ghost invariant = { λ g. AreKept g.versions g.index.firsts.items g.index.earlier.items
+        g.index.last g.index.owners g.index.uids };
 }
 
 /// The latest version of a key, and whether its incarnation is the first of the key with its uid.
@@ -83,17 +93,39 @@ fn flag_at(firsts: &[bool], position: usize) -> Option<bool>
     firsts.get(position).copied()
 }
 
+// Whether a version's incarnation is the first of its key with its uid, where it continues the key's latest version,
+// whose position is this one.
+fn continued(
+    versions: &[Version],
+    firsts: &[bool],
+    version: &Version,
+    before: Option<usize>,
+) -> Option<bool>
+    requires rising { AllPairs (λ a b. a.revision < b.revision) versions.now }
+    requires flagged { AreFlagged versions.now firsts.now }
+    requires last { IsLastAt versions.now version.now.key before }
+    ensures { IsContinued versions.now version.now result }
+{
+    let position = before?;
+    let latest = version_at(versions, position)?;
+    if latest.uid != version.uid {
+        return None;
+    }
+    flag_at(firsts, position)
+}
+
 // Keeps that the key had the uid, and tells whether it hadn't before.
-fn add_owner(owners: &mut BTreeSet<Owner>, version: &Version) -> Result<bool, OutOfMemory>
-    ensures added { IfOk result (λ added. added ≡ not (contains owner_order owners.old (owner_of version.now))) }
-    ensures updates { OnOk result (Updates owner_order owners.old owners.new (owner_of version.now) true) }
+fn add_owner(owners: &mut HashSet<Owner, Seeded>, version: &Version) -> Result<bool, OutOfMemory>
+    ensures added { IfOk result (λ added. added
+        ≡ not (contains owner_eq owners.old (owner_of version.now))) }
+    ensures put { OnOk result (Updates owner_eq owners.old owners.new (owner_of version.now) true) }
 {
     let owner = owned(&version.key, &version.uid)?;
     Ok(owners.insert(owner)?)
 }
 
 // Keeps that a version has the uid. It is copied only where it wasn't there.
-fn add_uid(uids: &mut BTreeSet<Text>, uid: &Text) -> Result<(), OutOfMemory>
+fn add_uid(uids: &mut HashSet<Text, Seeded>, uid: &Text) -> Result<(), OutOfMemory>
     ensures { OnOk result (AddsUid uids.old uids.new uid.now) }
 {
     if uids.contains(uid) {
@@ -103,95 +135,91 @@ fn add_uid(uids: &mut BTreeSet<Text>, uid: &Text) -> Result<(), OutOfMemory>
     Ok(())
 }
 
-// Keeps where the key's latest version is. The key is copied only where it wasn't there.
-fn set_last(
-    last: &mut BTreeMap<ObjectKey, usize>,
+// Puts the key's latest version, and tells where the one before it is. The key is copied only where it wasn't there.
+fn put_last(
+    last: &mut Positions,
     key: &ObjectKey,
     position: usize,
-) -> Result<(), OutOfMemory>
-    ensures { OnOk result (UpdatesMap key_order last.old last.new key.now (Some position)) }
+) -> Result<Option<usize>, OutOfMemory>
+    ensures before { IfOk result (λ before. before ≡ get key_eq last.old key.now) }
+    ensures put { OnOk result (UpdatesMap key_eq last.old last.new key.now (Some position)) }
 {
     match last.get_mut(key) {
         Some(held) => {
+            let before = *held;
             *held = position;
-            return Ok(());
+            return Ok(Some(before));
         }
         None => {
             let _none = last.insert(key.clone()?, position)?;
         }
     }
-    Ok(())
+    Ok(None)
 }
 
 impl Index {
-    // Takes the version behind these; `continued` tells whether its incarnation is the first of its key with its uid,
-    // where it continues the latest one. Then an earlier version has its uid.
-    fn add(
-        &mut self,
-        versions: &[Version],
-        version: &Version,
-        continued: Option<bool>,
-    ) -> Result<(), OutOfMemory>
-        requires kept { AreKept versions.now self.old.firsts.items self.old.last self.old.owners self.old.uids }
+    // Takes the version behind these. Where it continues its key's latest one, an earlier version has its uid.
+    fn add(&mut self, versions: &[Version], version: &Version) -> Result<(), OutOfMemory>
+        requires kept { AreKept versions.now self.old.firsts.items self.old.earlier.items
+            self.old.last self.old.owners self.old.uids }
         requires above { All (λ v. v.revision < version.now.revision) versions.now }
-        requires continued { IsContinued versions.now version.now continued }
-        ensures { OnOk result (AreKept (versions.now ++ version.now ∷ []) self.new.firsts.items self.new.last
-            self.new.owners self.new.uids) }
+        ensures { OnOk result (AreKept (versions.now ++ version.now ∷ []) self.new.firsts.items
+            self.new.earlier.items self.new.last self.new.owners self.new.uids) }
     {
-        let is_first = match continued {
+        let before = put_last(&mut self.last, &version.key, versions.len())?;
+        let is_first = match continued(versions, &self.firsts, version, before) {
             Some(is_first) => is_first,
             None => {
                 add_uid(&mut self.uids, &version.uid)?;
                 add_owner(&mut self.owners, version)?
             }
         };
-        set_last(&mut self.last, &version.key, versions.len())?;
         self.firsts.push(is_first)?;
+        self.earlier.push(before)?;
         Ok(())
     }
 
-    fn into_firsts(self) -> Vec<bool>
-        ensures { result ≡ self.firsts }
+    fn into_lists(self) -> (Vec<bool>, Vec<Option<usize>>)
+        ensures firsts { result.0 ≡ self.firsts }
+        ensures earlier { result.1 ≡ self.earlier }
     {
         let Index {
             firsts,
+            earlier,
             last: _,
             owners: _,
             uids: _,
         } = self;
-        firsts
+        (firsts, earlier)
     }
 }
 
-// Puts the version behind these; `continued` is as for the index.
-fn add(
-    versions: &mut Versions,
-    index: &mut Index,
-    version: Version,
-    continued: Option<bool>,
-) -> Result<(), OutOfMemory>
-    requires kept { AreKept versions.old index.old.firsts.items index.old.last index.old.owners index.old.uids }
+// Puts the version behind these.
+fn add(versions: &mut Versions, index: &mut Index, version: Version) -> Result<(), OutOfMemory>
+    requires kept { AreKept versions.old index.old.firsts.items index.old.earlier.items
+        index.old.last index.old.owners index.old.uids }
     requires above { All (λ v. v.revision < version.revision) versions.old }
-    requires continued { IsContinued versions.old version continued }
     ensures versions { OnOk result (versions.new ≡ versions.old ++ version ∷ []) }
-    ensures kept { OnOk result (AreKept versions.new index.new.firsts.items index.new.last index.new.owners
-        index.new.uids) }
+    ensures kept { OnOk result (AreKept versions.new index.new.firsts.items
+        index.new.earlier.items index.new.last index.new.owners index.new.uids) }
 {
-    index.add(versions.as_slice(), &version, continued)?;
+    index.add(versions.as_slice(), &version)?;
     versions.push(version)
 }
 
 impl Grown {
-    pub fn new(alloc: Global) -> Grown
+    pub fn new(alloc: Global, seed: Seed) -> Grown
         ensures { result ≡ [] }
     {
+        let seeded = Seeded::new(seed);
         Grown {
             versions: Versions::new(alloc),
             index: Index {
                 firsts: Vec::new(alloc),
-                last: BTreeMap::new(alloc),
-                owners: BTreeSet::new(alloc),
-                uids: BTreeSet::new(alloc),
+                earlier: Vec::new(alloc),
+                last: HashMap::with_hasher(alloc, seeded),
+                owners: HashSet::with_hasher(alloc, seeded),
+                uids: HashSet::with_hasher(alloc, seeded),
             },
         }
     }
@@ -214,38 +242,29 @@ impl Grown {
         self.index.uids.contains(uid)
     }
 
-    // Whether a version's incarnation is the first of its key with its uid, where it continues the latest one.
-    fn continues(&self, version: &Version) -> Option<bool>
-        ensures { IsContinued self.now version.now result }
-    {
-        let latest = self.latest(&version.key)?;
-        if latest.version.uid == version.uid {
-            return Some(latest.is_first);
-        }
-        None
-    }
-
     /// Takes a version whose revision is above those of the others.
     pub fn with(self, version: Version) -> Result<Grown, OutOfMemory>
         requires above { All (λ v. v.revision < version.revision) self }
         ensures { IfOk result (λ grown. grown ≡ self ++ version ∷ []) }
     {
-        let continued = self.continues(&version);
         let Grown {
             mut versions,
             mut index,
         } = self;
-        add(&mut versions, &mut index, version, continued)?;
+        add(&mut versions, &mut index, version)?;
         Ok(Grown { versions, index })
     }
 
-    /// The versions, and of each whether its incarnation is the first of its key with its uid.
-    pub fn into_parts(self) -> (Versions, Vec<bool>)
+    /// The versions, of each whether its incarnation is the first of its key with its uid, and of each the position of
+    /// its key's version before it.
+    pub fn into_parts(self) -> (Versions, Vec<bool>, Vec<Option<usize>>)
         ensures versions { result.0 ≡ self }
         ensures rising { AllPairs (λ a b. a.revision < b.revision) self }
         ensures firsts { AreFlagged self result.1.items }
+        ensures earlier { AreLinked self result.2.items }
     {
         let Grown { versions, index } = self;
-        (versions, index.into_firsts())
+        let (firsts, earlier) = index.into_lists();
+        (versions, firsts, earlier)
     }
 }

@@ -22,6 +22,7 @@ use crate::removed::first_removals;
 use crate::versions::{Log, Written, write_versions};
 use base_types::{OutOfMemory, Revision};
 use clouds::Clouds;
+use hash_seed::Seed;
 use object_past::{Removals, Versions};
 use std::alloc::Global;
 use time_windows::Windows;
@@ -131,6 +132,7 @@ fn ended_of<B: Bodies>(
     events: &[LogEvent],
     timed: &Timed,
     clouds: &Clouds,
+    seed: Seed,
 ) -> Result<Ended, OutOfMemory>
     requires snapshot { IsSnapshot start snapshot.now }
     requires rising { AllPairs (λ a b. a.revision < b.revision) timed.now.groups }
@@ -144,7 +146,7 @@ fn ended_of<B: Bodies>(
         → h.versions ≡ map version_of ended.written.versions → h.removals ≡ map recorded ended.removals
         → AreVersions h × AreAllJudged h events.now timed.now.groups ended.written.judged.items × AreRemovals h) }
 {
-    let removed = first_removals(alloc, events, &timed.order)?;
+    let removed = first_removals(alloc, events, &timed.order, seed)?;
     let log = Log {
         windows: &timed.windows,
         clouds,
@@ -152,8 +154,14 @@ fn ended_of<B: Bodies>(
         removed: &removed,
     };
     let groups = timed.groups.as_slice();
-    let written = write_versions(alloc, log, bodies, start, snapshot, groups)?;
-    let removals = removals_of(alloc, log, written.versions.as_slice(), &written.firsts)?;
+    let written = write_versions(alloc, log, bodies, start, snapshot, groups, seed)?;
+    let removals = removals_of(
+        alloc,
+        log,
+        written.versions.as_slice(),
+        &written.firsts,
+        &written.earlier,
+    )?;
     Ok(Ended { written, removals })
 }
 
@@ -178,6 +186,7 @@ impl Timed {
         let Written {
             versions,
             firsts: _,
+            earlier: _,
             judged,
         } = written;
         LogPast {
@@ -192,13 +201,15 @@ impl Timed {
     }
 }
 
-/// The past that a log shows, its lines rising, behind a snapshot of the start.
+/// The past that a log shows, its lines rising, behind a snapshot of the start. The hashes of what is looked up begin
+/// with the seed.
 pub fn past_of<B: Bodies>(
     alloc: Global,
     bodies: &B,
     start: Revision,
     snapshot: &[Item],
     events: &[LogEvent],
+    seed: Seed,
 ) -> Result<LogPast, OutOfMemory>
     requires few { length events.now < 2 ^ 32 }
     requires lines { AllPairs (λ a b. a.line < b.line) events.now }
@@ -211,6 +222,8 @@ pub fn past_of<B: Bodies>(
 {
     let timed = timed_of(alloc, start, events)?;
     let clouds = hidden_of(alloc, start, snapshot, events, &timed)?;
-    let ended = ended_of(alloc, bodies, start, snapshot, events, &timed, &clouds)?;
+    let ended = ended_of(
+        alloc, bodies, start, snapshot, events, &timed, &clouds, seed,
+    )?;
     Ok(timed.joined(clouds, ended))
 }

@@ -13,7 +13,7 @@ ghost use Rattle.object_versions.specs.Written.{making_at};
 use crate::bodies::Bodies;
 use base_types::{OutOfMemory, Reason, Revision, Text};
 use clouds::Clouds;
-use node_pool::NodeId;
+use node_number::NodeId;
 use object_past::Version;
 use std::alloc::Global;
 use time_windows::Windows;

@@ -3,7 +3,7 @@ ghost use Rattle.std.specs.Prelude.{◌≡◌, IfOk};
 use base_types::{ObjectKey, OutOfMemory, Text};
 
 /// A key and the uid of an object that had it.
-#[derive(Drop, PartialEq, Eq, PartialOrd, Ord)]
+#[derive(Drop, PartialEq, Eq, Hash)]
 pub struct Owner {
     pub key: ObjectKey,
     pub uid: Text,

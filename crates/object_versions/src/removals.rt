@@ -4,17 +4,17 @@ ghost use Rattle.history_model.specs.Histories.{History};
 ghost use Rattle.history_model.specs.Incarnations.{AreRemovals};
 ghost use Rattle.object_past.specs.Modelled.{recorded};
 ghost use Rattle.object_versions.specs.Ended.{AreFound, IsFoundAfter};
-ghost use Rattle.object_versions.specs.Growing.{AreFlagged};
+ghost use Rattle.object_versions.specs.Following.{AreBefore, AreNexts};
+ghost use Rattle.object_versions.specs.Growing.{AreFlagged, AreLinked};
 ghost use Rattle.object_past.specs.Modelled.{version_of};
 ghost use Rattle.object_versions.specs.Surrounded.{HasLog};
 
 use crate::owner::{Owner, owned};
 use crate::removal::range_behind;
 use crate::versions::Log;
-use base_types::{ObjectKey, OutOfMemory};
+use base_types::OutOfMemory;
 use object_past::{Removal, Removals, Version};
 use std::alloc::Global;
-use std::collections::BTreeMap;
 
 // The removal behind a version, where the version is the last of its incarnation; `after` is the key's next version.
 fn removal_after(
@@ -62,24 +62,40 @@ fn version_at(versions: &[Version], position: Option<usize>) -> Option<&Version>
     versions.get(position?)
 }
 
+// Of each position the one behind it, where `earlier` tells of each the one before it.
+fn nexts_of(alloc: Global, earlier: &[Option<usize>]) -> Result<Vec<Option<usize>>, OutOfMemory>
+    requires { AreBefore earlier.now }
+    ensures { IfOk result (λ nexts. AreNexts earlier.now nexts.items) }
+{
+    let mut nexts = vec![in alloc; None; earlier.len()]?;
+    for position in 0..earlier.len() {
+        if let Some(before) = earlier[position] {
+            nexts[before] = Some(position);
+        }
+    }
+    Ok(nexts)
+}
+
 // The removals of all versions, from the latest version on.
 fn find_removals(
     alloc: Global,
     log: Log<'_>,
     versions: &[Version],
     firsts: &[bool],
+    earlier: &[Option<usize>],
 ) -> Result<Vec<Removal>, OutOfMemory>
     requires rising { AllPairs (λ a b. a.revision < b.revision) versions.now }
     requires firsts { AreFlagged versions.now firsts.now }
+    requires earlier { AreLinked versions.now earlier.now }
     ensures { IfOk result (λ removals. (h : History) → HasLog log.entry.windows.now log.entry.events.now
         log.entry.removed.now h
         → h.versions ≡ map version_of versions.now → AreFound h removals.items) }
 {
-    let mut next: BTreeMap<ObjectKey, usize> = BTreeMap::new(alloc);
+    let nexts = nexts_of(alloc, earlier)?;
     let mut removals = Vec::new(alloc);
     for i in (0..versions.len()).rev() {
         let version = &versions[i];
-        let after = version_at(versions, next.insert(version.key.clone()?, i)?);
+        let after = version_at(versions, nexts[i]);
         if let Some(removal) = removal_after(log, version, firsts[i], after)? {
             removals.push(removal)?;
         }
@@ -88,20 +104,22 @@ fn find_removals(
 }
 
 /// The removals of a log, whose versions rise by revision; `firsts` tells of each version whether its incarnation is
-/// the first of its key with its uid.
+/// the first of its key with its uid, and `earlier` where its key's version before it is.
 pub fn removals_of(
     alloc: Global,
     log: Log<'_>,
     versions: &[Version],
     firsts: &[bool],
+    earlier: &[Option<usize>],
 ) -> Result<Removals, OutOfMemory>
     requires rising { AllPairs (λ a b. a.revision < b.revision) versions.now }
     requires firsts { AreFlagged versions.now firsts.now }
+    requires earlier { AreLinked versions.now earlier.now }
     ensures { IfOk result (λ removals. (h : History) → HasLog log.entry.windows.now log.entry.events.now
         log.entry.removed.now h
         → h.versions ≡ map version_of versions.now → h.removals ≡ map recorded removals → AreRemovals h) }
 {
-    let mut removals = find_removals(alloc, log, versions, firsts)?;
+    let mut removals = find_removals(alloc, log, versions, firsts, earlier)?;
     removals.sort_by_key(|removal| removal.range.event)?;
     Ok(Removals::from_vec(removals))
 }

@@ -3,12 +3,13 @@ ghost use Rattle.object_versions.specs.Removals.{found_at, first_removal, gone_a
 ghost use Rattle.object_versions.specs.Removals.{number_if};
 
 use base_types::{ObjectKey, OutOfMemory, Text};
+use hash_seed::{Seed, Seeded};
 use std::alloc::Global;
-use std::collections::BTreeMap;
+use std::collections::{BTreeMap, HashMap};
 use write_groups::{LogEvent, Shown};
 
 /// The first removal of each uid of each key, by its event's number.
-pub type Removed = BTreeMap<ObjectKey, BTreeMap<Text, u32>>;
+pub type Removed = HashMap<ObjectKey, BTreeMap<Text, u32>, Seeded>;
 
 // The object that an event removed.
 #[derive(Clone, Copy)]
@@ -58,10 +59,11 @@ pub fn first_removals(
     alloc: Global,
     events: &[LogEvent],
     order: &[u32],
+    seed: Seed,
 ) -> Result<Removed, OutOfMemory>
     ensures { IfOk result (AreFirstRemovals events.now order.now) }
 {
-    let mut removed = BTreeMap::new(alloc);
+    let mut removed = HashMap::with_hasher(alloc, Seeded::new(seed));
     for number in order {
         if let Some(gone) = gone_at(events, *number) {
             add(alloc, &mut removed, gone.key, gone.uid, *number)?;

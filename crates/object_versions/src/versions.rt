@@ -10,7 +10,7 @@ ghost use Rattle.write_groups.specs.Modelled.{item_of};
 ghost use Rattle.object_past.specs.Modelled.{version_of};
 ghost use Rattle.object_past.specs.declared.version.Version.{Version};
 ghost use Rattle.object_versions.specs.Chosen.{first_write, shown_by};
-ghost use Rattle.object_versions.specs.Growing.{AreFlagged, IsLatestIn};
+ghost use Rattle.object_versions.specs.Growing.{AreFlagged, AreLinked, IsLatestIn};
 ghost use Rattle.object_versions.specs.declared.maker.Judged.{Judged as Writing};
 ghost use Rattle.object_versions.specs.Hidden.{slots_of};
 ghost use Rattle.object_versions.specs.Modelled.{making_of};
@@ -28,6 +28,7 @@ use crate::removal::range_behind;
 use crate::removed::Removed;
 use base_types::{OutOfMemory, Revision};
 use clouds::Clouds;
+use hash_seed::Seed;
 use object_past::{Maker, Version, Versions};
 use std::alloc::Global;
 use time_windows::Windows;
@@ -197,23 +198,24 @@ fn by_revision(alloc: Global, snapshot: &[Item]) -> Result<Vec<&Item>, OutOfMemo
 }
 
 // The versions that were there at the start.
-fn begin(alloc: Global, order: &[&Item]) -> Result<Grown, OutOfMemory>
+fn begin(alloc: Global, order: &[&Item], seed: Seed) -> Result<Grown, OutOfMemory>
     requires { AllPairs (λ a b. a.now.revision < b.now.revision) order.now }
     ensures { IfOk result (λ grown. grown ≡ map (λ item. snapshot_version item.now) order.now) }
 {
-    let mut grown = Grown::new(alloc);
+    let mut grown = Grown::new(alloc, seed);
     for item in order {
         grown = grown.with(snapshot_version(item)?)?;
     }
     Ok(grown)
 }
 
-/// The versions of a log, of each whether its incarnation is the first of its key with its uid, and of each write of a
-/// group why it could not have made its revision.
+/// The versions of a log, of each whether its incarnation is the first of its key with its uid and where its key's
+/// version before it is, and of each write of a group why it could not have made its revision.
 #[derive(Drop)]
 pub struct Written {
     pub versions: Versions,
     pub firsts: Vec<bool>,
+    pub earlier: Vec<Option<usize>>,
     pub judged: Vec<Judged>,
 }
 
@@ -251,6 +253,7 @@ pub fn write_versions<B: Bodies>(
     start: Revision,
     snapshot: &[Item],
     groups: &[Group],
+    seed: Seed,
 ) -> Result<Written, OutOfMemory>
     requires snapshot { IsSnapshot start snapshot.now }
     requires rising { AllPairs (λ a b. a.revision < b.revision) groups.now }
@@ -262,21 +265,23 @@ pub fn write_versions<B: Bodies>(
         → AreGroupsOf h groups.now → h.start ≡ start
         → h.snapshot ≡ map item_of snapshot.now → h.versions ≡ map version_of written.versions → AreVersions h) }
     ensures firsts { IfOk result (λ written. AreFlagged written.versions written.firsts.items) }
+    ensures earlier { IfOk result (λ written. AreLinked written.versions written.earlier.items) }
     ensures judged { IfOk result (λ written. (h : History) → IsOfLog log.entry (B.body bodies.now) h
         → AreGroupsOf h groups.now → h.start ≡ start
         → h.versions ≡ map version_of written.versions → AreAllJudged h log.entry.events.now groups.now
         written.judged.items) }
 {
     let order = by_revision(alloc, snapshot)?;
-    let mut grown = begin(alloc, &order)?;
+    let mut grown = begin(alloc, &order, seed)?;
     let mut judged = Vec::new(alloc);
     for group in groups {
         grown = add_group(alloc, log, bodies, grown, &mut judged, group)?;
     }
-    let (versions, firsts) = grown.into_parts();
+    let (versions, firsts, earlier) = grown.into_parts();
     Ok(Written {
         versions,
         firsts,
+        earlier,
         judged,
     })
 }

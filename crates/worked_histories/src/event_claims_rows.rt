@@ -6,7 +6,7 @@ use base_types::{OutOfMemory, PlacedAnswer, Places, Reason, Revision};
 use clouds::Clouds;
 use event_claims::{Decisions, View, claim_of, placed_line};
 use local_bounds::Listable;
-use node_pool::NodeId;
+use node_number::NodeId;
 use object_past::{Past, Removals, Versions};
 use std::process::Abort;
 use time_windows::Windows;

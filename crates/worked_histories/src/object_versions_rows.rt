@@ -1,7 +1,8 @@
 use crate::parts::Asked::MostRecent;
 use crate::parts::{Row, Told, check, log, revision};
 use base_types::{OutOfMemory, Reason};
-use node_pool::NodeId;
+use hash_seed::Seed;
+use node_number::NodeId;
 use object_past::{Maker, Removal, Version};
 use object_versions::{Bodies, Judged, LogPast, past_of};
 use std::alloc::Global;
@@ -136,7 +137,8 @@ fn is_one_removal(removals: &[Removal]) -> bool {
 fn past(rt: &(impl Abort + AllocGlobal)) -> LogPast {
     let events = log(rt, &LOG);
     let start = revision(rt, 10);
-    let past = past_of(rt.alloc(), &AllRight, start, &[], &events).expect(rt, "memory");
+    let seed = Seed::of(b"");
+    let past = past_of(rt.alloc(), &AllRight, start, &[], &events, seed).expect(rt, "memory");
     drop(events);
     past
 }

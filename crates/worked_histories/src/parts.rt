@@ -2,7 +2,7 @@
 ghost use Rattle.std.specs.Prelude.{◌≡◌, ◌<◌, ◌^◌, ◌++◌, ◌∷◌, [], length, AllPairs};
 
 use base_types::{Cover, CoverName, Decision, Moment, ObjectKey, Revision, Text};
-use node_pool::NodeId;
+use node_number::NodeId;
 use std::process::Abort;
 use write_groups::{Item, Items, Listing, LogEvent, Preconditions, Reading, Shown};
 

@@ -1,6 +1,5 @@
-use Rattle.std.proofs.Common.{true, sym, ◌∙◌, subst}
-use Rattle.std.specs.BTreeSet as set
-use Rattle.clouds.specs.Kept.{text_order}
+use Rattle.std.proofs.Common.{bytes_eq, true, sym, ◌∙◌, subst}
+use Rattle.std.specs.HashSet as set
 use Rattle.object_versions.proofs.Keeping.{uid_added, uid_there}
 use Rattle.object_versions.proofs.grown.add_uid.Goals as goal
 
@@ -9,4 +8,4 @@ returns-then-contains c = uid_there c.args.uids.now c.args.uid.now (sym c.contai
 
 pub returns : goal.returns
 returns c = uid_added c.args.uids.now c.insert.new.self c.args.uid.now
-    (subst (λ u. set.Updates text_order c.args.uids.now c.insert.new.self u true) c.in_ok-clone.ensures.cases c.in_ok-_added.ensures.updates)
+    (subst (λ u. set.Updates bytes_eq c.args.uids.now c.insert.new.self u true) c.in_ok-clone.ensures.cases c.in_ok-_added.ensures.updates)

@@ -1,4 +1,4 @@
-use Rattle.std.proofs.Common.{◌≡◌, ◌+◌, true, false, max, min, ap, ap₂, refl, sym, ◌∙◌, arith}
+use Rattle.std.proofs.Common.{◌≡◌, ◌+◌, max, min, ap, ap₂, refl, sym, ◌∙◌, arith}
 use Rattle.history_model.specs.Incarnations.{place_before}
 use Rattle.history_model.specs.Windows.{lowest, highest}
 use Rattle.object_versions.proofs.Removing.{behind_is, behind_none, kept_first, kept_none, kept_there}

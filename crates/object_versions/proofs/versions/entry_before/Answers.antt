@@ -1,4 +1,4 @@
-use Rattle.std.proofs.Common.{◌≢◌, true, false, not, sym, ap, ◌∙◌, subst, true≢false}
+use Rattle.std.proofs.Common.{not, sym, ap, ◌∙◌, subst, true≢false}
 use Rattle.std.specs.Prelude.{bytes_eq}
 use Rattle.std.specs.Cmp.Lexicographic.{bytes_decides}
 use Rattle.object_versions.proofs.Entries.{entry_gone, entry_none, entry_there, first_in}

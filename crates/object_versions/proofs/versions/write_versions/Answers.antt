@@ -1,9 +1,10 @@
-use Rattle.std.proofs.Common.{◌≡◌, ◌<◌, ◌+◌, ◌++◌, ◌∷◌, [], map, take, length, sym, ap, ◌∙◌, subst, arith}
+use Rattle.std.proofs.Common.{◌≡◌, ◌<◌, ◌+◌, ◌++◌, ◌∷◌, [], AllPairs, map, take, length, sym, ap, ◌∙◌, subst, arith}
 use Rattle.std.proofs.lemmas.List.{take_all}
 use Rattle.std.proofs.lemmas.List.Sorted.{Contains-permutation, IsPermutation-sym}
 use Rattle.history_model.proofs.Members.{all_at}
 use Rattle.write_groups.specs.Members.{IsGroupOf}
 use Rattle.object_past.specs.Modelled.{version_of}
+use Rattle.object_past.specs.declared.version.Version.{Version}
 use Rattle.object_versions.proofs.Growth.{AreGrown, grown_slots}
 use Rattle.object_versions.proofs.Writing.{AreWritten, GoesOn, answered, are_versions, before_group, begun_grown, begun_written, extends, goes_on_before, goes_on_to, grown_with, written_more}
 use Rattle.object_versions.specs.Written.{snapshot_version, AreAllJudged, AreJudged, IsSnapshot}
@@ -53,6 +54,9 @@ loop-group-preserved g c =
           (written_more h events begun c.args.groups.now i group c.loop-group.grown version c.loop-group.judged.items more within (sym c.group-item.is) before made zipped
           added.6))),
     )
+
+pub returns-clause-rising : goal.returns-clause-rising
+returns-clause-rising g c = subst (AllPairs (λ (a b : Version). a.revision < b.revision)) (sym c.into_parts-versions.ensures.versions) c.into_parts-versions.ensures.rising
 
 pub returns-clause-slots : goal.returns-clause-slots
 returns-clause-slots g c =

@@ -1,11 +1,7 @@
 use Rattle.std.proofs.Common.{◌<◌, sym, subst}
 use Rattle.std.specs.Prelude.{All}
 use Rattle.object_past.specs.declared.version.Version.{Version}
-use Rattle.object_versions.specs.Growing.{IsContinued}
 use Rattle.object_versions.proofs.grown.Grown.with.Goals as goal
 
 pub add-requires-clause-above : goal.add-requires-clause-above
 add-requires-clause-above c = subst (All (λ (v : Version). v.revision < c.args.version.revision)) (sym c.self.view_is) c.requires.above
-
-pub add-requires-clause-continued : goal.add-requires-clause-continued
-add-requires-clause-continued c = subst (λ l. IsContinued l c.args.version c.continues-continued.result) (sym c.self.view_is) c.continues-continued.ensures
