@@ -1,6 +1,6 @@
-use base_types::json::Tree;
 use base_types::{Cover, ObjectKey, Revision, Text};
 use label_select::Selector;
+use packed_tree::Packed;
 use setup_file::{Snapshot, SnapshotObject};
 
 /// An object of a list.
@@ -9,7 +9,7 @@ pub type Item = SnapshotObject;
 /// The objects of a list in its order.
 pub type Items = Snapshot;
 
-/// What an event says of the cluster. Trees are in stored form.
+/// What an event says of the cluster. Trees are in stored form, and packed.
 #[derive(Drop)]
 pub enum Answer {
     /// A write that made this object.
@@ -17,7 +17,7 @@ pub enum Answer {
         key: ObjectKey,
         revision: Revision,
         uid: Text,
-        tree: Tree,
+        tree: Packed,
         /// Whether the answer was `201 Created`.
         created: bool,
     },
@@ -35,7 +35,7 @@ pub enum Answer {
         key: ObjectKey,
         revision: Revision,
         uid: Text,
-        tree: Tree,
+        tree: Packed,
     },
     /// `404 NotFound`: there was no object.
     SawNone {

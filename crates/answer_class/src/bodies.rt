@@ -1,4 +1,4 @@
-ghost use Rattle.std.specs.Prelude.{◌≡◌, IfOk, OnErr, IsSome, option_map, option_and_then};
+ghost use Rattle.std.specs.Prelude.{◌≡◌, IfOk, option_and_then};
 ghost use Rattle.base_types.specs.Parts.{member_of};
 ghost use Rattle.audit_event.specs.Bodies.{kept};
 ghost use Rattle.answer_class.specs.Bodies.{has_items, is_positive, is_there, metadata_at, is_deleted};
@@ -7,28 +7,28 @@ ghost use Rattle.answer_class.specs.Bodies.{is_finalizing, is_ended, answered_ob
 use crate::request::Verb;
 use audit_event::{Body, Event};
 use base_types::OutOfMemory;
-use base_types::json::Tree;
 use packed_tree::PackedRef;
 use setup_file::{SnapshotObject, Tracked, read_object};
 use std::alloc::Global;
 
-fn has_items(member: Option<&Tree>) -> bool
-    ensures { result ≡ has_items (option_map (λ tree. tree.now) member.entry) }
+// Whether a member is a list that isn't empty.
+fn has_items(member: Option<PackedRef<'_>>) -> bool
+    ensures { result ≡ has_items member.entry }
 {
     match member {
-        Some(tree) => match tree.as_items() {
-            Some(items) => !items.all.is_empty(),
+        Some(value) => match value.as_items() {
+            Some(items) => !items.is_empty(),
             None => false,
         },
         None => false,
     }
 }
 
-fn is_positive(member: Option<&Tree>) -> bool
-    ensures { result ≡ is_positive (option_map (λ tree. tree.now) member.entry) }
+fn is_positive(member: Option<PackedRef<'_>>) -> bool
+    ensures { result ≡ is_positive member.entry }
 {
     match member {
-        Some(tree) => match tree.as_whole() {
+        Some(value) => match value.as_whole() {
             Some(number) => 0 < number,
             None => false,
         },
@@ -36,42 +36,42 @@ fn is_positive(member: Option<&Tree>) -> bool
     }
 }
 
-fn is_there(member: Option<&Tree>) -> bool
-    ensures { result ≡ is_there (option_map (λ tree. tree.now) member.entry) }
+fn is_there(member: Option<PackedRef<'_>>) -> bool
+    ensures { result ≡ is_there member.entry }
 {
     match member {
-        Some(tree) => !tree.is_null(),
+        Some(value) => !value.is_null(),
         None => false,
     }
 }
 
 /// A member of an object's `metadata`.
-pub fn metadata_at<'a>(tree: &'a Tree, name: &str) -> Option<&'a Tree>
-    ensures { option_map (λ tree. tree.now) result ≡ metadata_at name.now tree.now }
+pub fn metadata_at<'a>(object: &PackedRef<'a>, name: &str) -> Option<PackedRef<'a>>
+    ensures { result ≡ metadata_at name.now object.now }
 {
-    tree.member("metadata")?.member(name)
+    object.member("metadata")?.member(name)
 }
 
-fn is_deleted(tree: &Tree) -> bool
-    ensures { result ≡ is_deleted tree.now }
+fn is_deleted(object: &PackedRef<'_>) -> bool
+    ensures { result ≡ is_deleted object.now }
 {
-    is_there(metadata_at(tree, "deletionTimestamp"))
+    is_there(metadata_at(object, "deletionTimestamp"))
 }
 
 /// Whether an object was deleted and still waits for finalizers, or for its grace period.
-pub fn is_finalizing(tree: &Tree) -> bool
-    ensures { result ≡ is_finalizing tree.now }
+pub fn is_finalizing(object: &PackedRef<'_>) -> bool
+    ensures { result ≡ is_finalizing object.now }
 {
-    is_deleted(tree)
-        && (has_items(metadata_at(tree, "finalizers"))
-            || is_positive(metadata_at(tree, "deletionGracePeriodSeconds")))
+    is_deleted(object)
+        && (has_items(metadata_at(object, "finalizers"))
+            || is_positive(metadata_at(object, "deletionGracePeriodSeconds")))
 }
 
 /// Whether an object was deleted and waits for nothing more.
-pub fn is_ended(tree: &Tree) -> bool
-    ensures { result ≡ is_ended tree.now }
+pub fn is_ended(object: &PackedRef<'_>) -> bool
+    ensures { result ≡ is_ended object.now }
 {
-    is_deleted(tree) && !is_finalizing(tree)
+    is_deleted(object) && !is_finalizing(object)
 }
 
 /// The value of a body that was kept, to be read in place.
@@ -88,17 +88,6 @@ pub fn body_member<'a>(body: &'a Body, name: &str) -> Option<PackedRef<'a>>
     value_of(body)?.member(name)
 }
 
-/// The tree of a body that was kept.
-pub fn body_tree(alloc: Global, body: &Body) -> Result<Option<Tree>, OutOfMemory>
-    ensures tree { IfOk result (λ found. found ≡ kept body.now) }
-    ensures memory { OnErr result (IsSome (kept body.now)) }
-{
-    match body.kept() {
-        Some(packed) => Ok(Some(packed.tree(alloc)?)),
-        None => Ok(None),
-    }
-}
-
 /// The object that the answer is, under the request's path.
 pub fn answered_object(
     alloc: Global,
@@ -108,22 +97,9 @@ pub fn answered_object(
     ensures { IfOk result (λ found. found ≡ answered_object tracked.now event.now) }
 {
     let attrs = &event.attrs;
-    match body_tree(alloc, &event.response)? {
-        Some(tree) => read_object(alloc, tracked, &attrs.name, &attrs.namespace, &tree),
+    match value_of(&event.response) {
+        Some(value) => read_object(alloc, tracked, &attrs.name, &attrs.namespace, &value),
         None => Ok(None),
-    }
-}
-
-// Whether a body's member is a list that isn't empty.
-fn is_list_of_some(member: Option<PackedRef<'_>>) -> bool
-    ensures { result ≡ has_items member.entry }
-{
-    match member {
-        Some(value) => match value.as_items() {
-            Some(items) => !items.is_empty(),
-            None => false,
-        },
-        None => false,
     }
 }
 
@@ -132,7 +108,7 @@ pub fn asks_dry(verb: Verb, request: &Body) -> bool
     ensures { result ≡ asks_dry verb request.now }
 {
     match verb {
-        Verb::Delete | Verb::DeleteCollection => is_list_of_some(body_member(request, "dryRun")),
+        Verb::Delete | Verb::DeleteCollection => has_items(body_member(request, "dryRun")),
         _ => false,
     }
 }

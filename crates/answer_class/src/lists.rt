@@ -7,7 +7,7 @@ ghost use Rattle.answer_class.specs.Lists.{asks_revision, is_odd, is_below, is_o
 ghost use Rattle.answer_class.specs.Requests.{is_filled, has_filled};
 ghost use Rattle.label_select.specs.Readings.{selector_of};
 
-use crate::bodies::{body_member, body_tree};
+use crate::bodies::{body_member, value_of};
 use crate::request::{Verb, first_value, has_filled, is_filled};
 use audit_event::Event;
 use base_types::{OutOfMemory, Pair, RequestAttrs, Revision, Text, revision_of};
@@ -101,8 +101,8 @@ pub fn answered_list(
     ensures memory { OnErr result (IsSome (kept event.now.response)) }
 {
     let attrs = &event.attrs;
-    match body_tree(alloc, &event.response)? {
-        Some(tree) => read_list(alloc, tracked, &attrs.name, &attrs.namespace, &tree),
+    match value_of(&event.response) {
+        Some(value) => read_list(alloc, tracked, &attrs.name, &attrs.namespace, &value),
         None => Ok(None),
     }
 }

@@ -14,8 +14,8 @@ use crate::request::{
 };
 use crate::times::{is_early, is_late};
 use audit_event::{Event, Status};
-use base_types::json::Tree;
 use base_types::{OutOfMemory, Text};
+use packed_tree::PackedRef;
 use setup_file::{Setup, SnapshotObject, Tracked};
 use std::alloc::Global;
 
@@ -32,7 +32,7 @@ fn deleted_uid(
     let Some(object) = object else {
         return Ok(None);
     };
-    if is_finalizing(&object.tree) {
+    if is_finalizing(&object.tree.root()) {
         return Ok(None);
     }
     Ok(Some(object.uid.clone()?))
@@ -45,7 +45,7 @@ fn ended_uid(object: Option<&SnapshotObject>) -> Result<Option<Text>, OutOfMemor
     let Some(object) = object else {
         return Ok(None);
     };
-    if is_ended(&object.tree) {
+    if is_ended(&object.tree.root()) {
         return Ok(Some(object.uid.clone()?));
     }
     Ok(None)
@@ -97,13 +97,13 @@ fn removed(
 }
 
 // Whether the object that a write was answered is what it made.
-fn is_made_by(verb: Verb, tree: &Tree) -> bool
-    ensures { result ≡ is_made_by verb tree.now }
+fn is_made_by(verb: Verb, object: &PackedRef<'_>) -> bool
+    ensures { result ≡ is_made_by verb object.now }
 {
     match verb {
         Verb::Create => true,
-        Verb::Update | Verb::Patch => !is_ended(tree),
-        Verb::Delete => is_finalizing(tree),
+        Verb::Update | Verb::Patch => !is_ended(object),
+        Verb::Delete => is_finalizing(object),
         _ => false,
     }
 }
@@ -162,7 +162,7 @@ fn object_class(
     ensures { IfOk result (λ answer. answer ≡ made_class setup.now tracked.now event.now (Some object)) }
 {
     let verb = verb_of(event.attrs.verb.as_str());
-    if is_done(event.status.code) && is_made_by(verb, &object.tree) {
+    if is_done(event.status.code) && is_made_by(verb, &object.tree.root()) {
         return Ok(made(setup, event, object));
     }
     let answer = removed_class(alloc, setup, tracked, event, Some(&object));

@@ -6,7 +6,7 @@ ghost use Rattle.version_store.specs.Histories.{history_of};
 use base_types::{OutOfMemory, Places};
 use event_claims::{Decisions, View};
 use local_bounds::Listable;
-use node_pool::NodeId;
+use node_number::NodeId;
 use version_store::Context;
 
 /// A context as the judge of the selectors of lists, and of decisions.

@@ -7,7 +7,8 @@ ghost use Rattle.verdict_text.specs.Words.{ended};
 
 use base_types::OutOfMemory;
 use base_types::json::{Tree, to_value};
-use node_pool::{NodeId, Pool};
+use node_number::NodeId;
+use node_pool::Pool;
 use std::alloc::Global;
 
 // The compact JSON text of a tree. Read again it is that tree, where it isn't deeper than JSON that is read.

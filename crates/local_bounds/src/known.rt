@@ -1,6 +1,6 @@
 use base_types::OutOfMemory;
 use clouds::Clouds;
-use node_pool::NodeId;
+use node_number::NodeId;
 use object_past::Past;
 
 /// What is known beside the events: the past of the objects, and what unrecorded writes hide.

@@ -125,11 +125,9 @@ kept-take limit ns k ps kept = record {
   narrow = kept.narrow;
 }
 
--- a name's number, and names among which a new one is put
-pub found_name : (name : List ℕ) (ns : List (List ℕ)) (n : ℕ) → position (bytes_eq name) ns ≡ Some n → slice_get ns n ≡ Some name
-found_name name ns n e =
-    let found = position-Some (bytes_eq name) ns n [] e in
-    slice_get-get_or ns n [] found.0 ∙ ap Some (sym ((bytes_eq-Decides name (get_or ns n [])).0 found.1))
+-- a name that was put in at a number, and names among which a new one is put
+pub stored_name : (ns : List (List ℕ)) (n : ℕ) (name there : List ℕ) → slice_get ns n ≡ Some there → bytes_eq name there ≡ true → slice_get ns n ≡ Some name
+stored_name ns n name there at same = at ∙ ap Some (sym ((bytes_eq-Decides name there).0 same))
 
 pub names-insert : (ns : List (List ℕ)) (name : List ℕ) → Begins ns (insert_key bytes_eq ns name)
 names-insert ns name = go (list_any (bytes_eq name) ns)

@@ -4,6 +4,7 @@ use Rattle.std.specs.Bool.{Decides}
 use Rattle.std.specs.List.{list_any}
 use Rattle.std.proofs.lemmas.Bool.{false≢true}
 use Rattle.std.proofs.lemmas.List.{append-nil, take-append-drop}
+use Rattle.node_number.proofs.Growing.{slice_get-front, slice_get-last}
 use Rattle.node_pool.specs.Pooled.{AreDistinct}
 use Rattle.node_pool.specs.Subtrees.{Begins}
 
@@ -30,18 +31,8 @@ Begins-take xs ys p = ap (take (length xs)) p.1 ∙ seam xs p.0
 pub length-snoc : {X : Type 0} (xs : List X) (x : X) → length xs + 1 ≡ length (xs ++ x ∷ [])
 length-snoc xs x = omega (arith, length-append xs (x ∷ []))
 
--- a look-up in the front
-pub slice_get-front : {X : Type 0} (xs more : List X) (k : ℕ) (x : X) → slice_get xs k ≡ Some x → slice_get (xs ++ more) k ≡ Some x
-slice_get-front [] more k x e = absurd (cc)
-slice_get-front (y ∷ xs) more zero x e = e
-slice_get-front (y ∷ xs) more (suc k) x e = slice_get-front xs more k x e
-
 pub slice_get-Begins : {X : Type 0} (xs ys : List X) (k : ℕ) (x : X) → Begins xs ys → slice_get xs k ≡ Some x → slice_get ys k ≡ Some x
 slice_get-Begins xs ys k x p e = ap (λ l. slice_get l k) p.1 ∙ slice_get-front xs p.0 k x e
-
-pub slice_get-last : {X : Type 0} (xs : List X) (x : X) → slice_get (xs ++ x ∷ []) (length xs) ≡ Some x
-slice_get-last [] x = refl
-slice_get-last (y ∷ xs) x = slice_get-last xs x
 
 -- what stands in a list and one more is in the list, or is the one more
 snoc_cases : {X : Type 0} (xs : List X) (y : X) (i : ℕ) (x : X) → slice_get (xs ++ y ∷ []) i ≡ Some x → (slice_get xs i ≡ Some x) ⊎ ((i ≡ length xs) × (x ≡ y))

@@ -7,3 +7,4 @@ pub mod Stays
 pub mod Answered
 pub mod Looks
 pub mod Prefixes
+pub mod Cursors

@@ -1,5 +1,6 @@
 ghost use Rattle.std.specs.Prelude.{◌≡◌, ◌<◌, ◌≤◌, [], Some, Err, length, take, slice_get, OnOk, OnErr, IfOk, IfSome};
 ghost use Rattle.indexmap.specs.IndexSet.{insert_key};
+ghost use Rattle.packed_tree.specs.Showing.{meaning_of};
 ghost use Rattle.node_pool.specs.Flat.{flat_eq};
 ghost use Rattle.node_pool.specs.Kept.{Grows};
 ghost use Rattle.node_pool.specs.Pooled.{AreDistinct};
@@ -10,10 +11,10 @@ use crate::fault::PoolFault;
 use crate::form::Level;
 use crate::near;
 use crate::store::Store;
-use base_types::json::Tree;
 use base_types::{OutOfMemory, Text};
 use hash_seed::{Seed, Seeded};
 use indexmap::IndexSet;
+use packed_tree::Shown;
 use std::alloc::Global;
 use std::hash::Hash;
 use std::marker::Model;
@@ -72,21 +73,22 @@ impl GrowingStore {
     }
 
     /// The number of a name, which is a new one where the name is new.
-    pub fn number_of(&mut self, name: &Text) -> Result<usize, OutOfMemory>
+    pub fn number_of(&mut self, name: Text) -> Result<usize, OutOfMemory>
         ensures grows { Grows self.old self.new }
         ensures trees { self.new.trees ≡ self.old.trees }
-        ensures number { IfOk result (λ n. slice_get self.new.names n ≡ Some name.now) }
+        ensures number { IfOk result (λ n. slice_get self.new.names n ≡ Some name) }
     {
         numbered(&mut self.names, name)
     }
 
     /// As `number_of`. A number that is guessed is of an object in which the name may stand: there it is met without a
-    /// hash, from the position that an earlier name left.
+    /// hash or a copy, from the position that an earlier name left.
     pub fn number_near(
         &mut self,
+        alloc: Global,
         near: Option<u32>,
         from: usize,
-        name: &Text,
+        name: &str,
     ) -> Result<Named, OutOfMemory>
         ensures grows { Grows self.old self.new }
         ensures trees { self.new.trees ≡ self.old.trees }
@@ -100,7 +102,8 @@ impl GrowingStore {
                 next: met.next,
             });
         }
-        let number = self.number_of(name)?;
+        let text = Text::from_str(alloc, name)?;
+        let number = self.number_of(text)?;
         Ok(Named {
             name: number,
             value: None,
@@ -108,7 +111,7 @@ impl GrowingStore {
         })
     }
 
-    fn met(&self, near: Option<u32>, from: usize, name: &Text) -> near::Met
+    fn met(&self, near: Option<u32>, from: usize, name: &str) -> near::Met
         ensures { IfSome result.member (λ m. slice_get self.now.names m.0 ≡ Some name.now) }
     {
         near::meet(&self.names, &self.levels, near, from, name)
@@ -119,13 +122,18 @@ impl GrowingStore {
         near::item(&self.levels, near, index)
     }
 
-    /// The guessed number, where it has this tree, and nothing is within the tree. So the tree adds nothing.
-    pub fn leaf_near(&self, near: Option<u32>, tree: &Tree) -> Option<u32>
-        ensures number { IfSome result (λ n. slice_get self.now.trees n ≡ Some tree.now) }
-        ensures added { IfSome result (λ _. interned self.now.trees tree.now ≡ self.now.trees) }
+    /// A guess: how many children the array or object that is guessed has.
+    pub fn width_near(&self, near: Option<u32>) -> usize {
+        near::width(&self.levels, near).unwrap_or(0)
+    }
+
+    /// The guessed number, where it has this value, and nothing is within the value. So the value adds nothing.
+    pub fn leaf_near(&self, near: Option<u32>, shown: &Shown<'_>) -> Option<u32>
+        ensures number { IfSome result (λ n. slice_get self.now.trees n ≡ Some (meaning_of shown.now)) }
+        ensures added { IfSome result (λ _. interned self.now.trees (meaning_of shown.now) ≡ self.now.trees) }
         ensures room { length self.now.trees ≤ self.now.limit }
     {
-        near::leaf(&self.levels, near, tree)
+        near::leaf(&self.levels, near, shown)
     }
 
     /// As `place`. The number that is guessed is the answer where it has this level: a tree that is there adds nothing.
@@ -215,15 +223,12 @@ fn listed<T: Eq + Hash + Drop>(
 }
 
 // The position of a name, which is put behind the others where it is new.
-fn numbered(names: &mut IndexSet<Text, Seeded>, name: &Text) -> Result<usize, OutOfMemory>
+fn numbered(names: &mut IndexSet<Text, Seeded>, name: Text) -> Result<usize, OutOfMemory>
     ensures begins { Begins names.old.keys names.new.keys }
     ensures distinct { AreDistinct names.old.keys → AreDistinct names.new.keys }
-    ensures number { IfOk result (λ n. slice_get names.new.keys n ≡ Some name.now) }
+    ensures number { IfOk result (λ n. slice_get names.new.keys n ≡ Some name) }
 {
-    if let Some(number) = names.get_index_of(name) {
-        return Ok(number);
-    }
-    let (number, _) = names.insert_full(name.clone()?)?;
+    let (number, _) = names.insert_full(name)?;
     Ok(number)
 }
 

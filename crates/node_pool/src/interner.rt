@@ -6,10 +6,11 @@ use crate::fault::PoolFault;
 use crate::growing::GrowingStore;
 use crate::guesses::Guesses;
 use crate::interning::add;
-use crate::pool::{NodeId, Pool};
-use base_types::json::Tree;
+use crate::pool::Pool;
 use base_types::{OutOfMemory, Text};
 use hash_seed::Seed;
+use node_number::NodeId;
+use packed_tree::PackedRef;
 use std::alloc::Global;
 use std::marker::Model;
 
@@ -54,32 +55,32 @@ impl Interner {
         self.store.len()
     }
 
-    /// The number of a tree. The tree and each value within it that the pool lacks are put behind the others; after a
-    /// refusal the pool is as before.
-    pub fn intern(&mut self, tree: &Tree) -> Result<NodeId, PoolFault>
-        ensures added { OnOk result (self.new.trees ≡ interned self.old.trees tree.now) }
-        ensures number { IfOk result (λ node. slice_get self.new.trees node.0 ≡ Some tree.now) }
-        ensures fits { OnOk result (length (interned self.old.trees tree.now) ≤ self.old.limit) }
-        ensures full { result ≡ Err PoolFault.Full → self.old.limit < length (interned self.old.trees tree.now) }
+    /// The number of a value, which is read where it stands. The value and each value within it that the pool lacks are
+    /// put behind the others; after a refusal the pool is as before.
+    pub fn intern(&mut self, value: &PackedRef<'_>) -> Result<NodeId, PoolFault>
+        ensures added { OnOk result (self.new.trees ≡ interned self.old.trees value.now) }
+        ensures number { IfOk result (λ node. slice_get self.new.trees node.0 ≡ Some value.now) }
+        ensures fits { OnOk result (length (interned self.old.trees value.now) ≤ self.old.limit) }
+        ensures full { result ≡ Err PoolFault.Full → self.old.limit < length (interned self.old.trees value.now) }
         ensures refused { OnErr result (self.new ≡ self.old) }
         ensures limit { self.new.limit ≡ self.old.limit }
     {
-        self.intern_near(None, tree)
+        self.intern_near(None, value)
     }
 
-    /// As `intern`, and quicker where the tree is much like the one that was interned last under the same text: what
+    /// As `intern`, and quicker where the value is much like the one that was interned last under the same text: what
     /// the two have at equal places is found without a hash.
-    pub fn intern_like(&mut self, like: &Text, tree: &Tree) -> Result<NodeId, PoolFault>
-        ensures added { OnOk result (self.new.trees ≡ interned self.old.trees tree.now) }
-        ensures number { IfOk result (λ node. slice_get self.new.trees node.0 ≡ Some tree.now) }
-        ensures fits { OnOk result (length (interned self.old.trees tree.now) ≤ self.old.limit) }
-        ensures full { result ≡ Err PoolFault.Full → self.old.limit < length (interned self.old.trees tree.now) }
+    pub fn intern_like(&mut self, like: &Text, value: &PackedRef<'_>) -> Result<NodeId, PoolFault>
+        ensures added { OnOk result (self.new.trees ≡ interned self.old.trees value.now) }
+        ensures number { IfOk result (λ node. slice_get self.new.trees node.0 ≡ Some value.now) }
+        ensures fits { OnOk result (length (interned self.old.trees value.now) ≤ self.old.limit) }
+        ensures full { result ≡ Err PoolFault.Full → self.old.limit < length (interned self.old.trees value.now) }
         ensures refused { OnErr result (self.new ≡ self.old) }
         ensures limit { self.new.limit ≡ self.old.limit }
     {
         let place = self.guesses.place(like)?;
         let near = self.guesses.at(place);
-        match self.intern_near(near, tree) {
+        match self.intern_near(near, value) {
             Ok(node) => {
                 self.guesses.keep(place, node.0);
                 Ok(node)
@@ -88,18 +89,18 @@ impl Interner {
         }
     }
 
-    // The number of a tree, with a guess for it.
-    fn intern_near(&mut self, near: Option<u32>, tree: &Tree) -> Result<NodeId, PoolFault>
-        ensures added { OnOk result (self.new.trees ≡ interned self.old.trees tree.now) }
-        ensures number { IfOk result (λ node. slice_get self.new.trees node.0 ≡ Some tree.now) }
-        ensures fits { OnOk result (length (interned self.old.trees tree.now) ≤ self.old.limit) }
-        ensures full { result ≡ Err PoolFault.Full → self.old.limit < length (interned self.old.trees tree.now) }
+    // The number of a value, with a guess for it.
+    fn intern_near(&mut self, near: Option<u32>, value: &PackedRef<'_>) -> Result<NodeId, PoolFault>
+        ensures added { OnOk result (self.new.trees ≡ interned self.old.trees value.now) }
+        ensures number { IfOk result (λ node. slice_get self.new.trees node.0 ≡ Some value.now) }
+        ensures fits { OnOk result (length (interned self.old.trees value.now) ≤ self.old.limit) }
+        ensures full { result ≡ Err PoolFault.Full → self.old.limit < length (interned self.old.trees value.now) }
         ensures refused { OnErr result (self.new ≡ self.old) }
         ensures limit { self.new.limit ≡ self.old.limit }
     {
         let alloc = self.alloc;
         let before = self.store.len();
-        match add(alloc, &mut self.store, near, tree) {
+        match add(alloc, &mut self.store, near, value) {
             Ok(number) => Ok(NodeId(number)),
             Err(fault) => {
                 self.store.cut(before);

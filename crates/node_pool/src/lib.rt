@@ -17,4 +17,4 @@ mod store;
 
 pub use fault::PoolFault;
 pub use interner::Interner;
-pub use pool::{NodeId, Pool};
+pub use pool::Pool;

@@ -2,14 +2,15 @@
 //! level, more is looked up by hashes. So the functions that only guess have no clause.
 
 ghost use Rattle.std.specs.Prelude.{◌≡◌, Some, slice_get, IfSome, IsTrue};
+ghost use Rattle.packed_tree.specs.Showing.{meaning_of};
 ghost use Rattle.node_pool.specs.Flat.{Flat};
 ghost use Rattle.node_pool.specs.Leaves.{leaf_of};
 
 use crate::form::{Form, Level};
 use base_types::Text;
-use base_types::json::{Node, Tree};
 use hash_seed::Seeded;
 use indexmap::IndexSet;
+use packed_tree::Shown;
 
 /// The guessed number, where it has this level.
 pub fn standing(levels: &IndexSet<Level, Seeded>, near: Option<u32>, level: &Level) -> Option<u32>
@@ -30,29 +31,40 @@ fn is_level(there: &Level, level: &Level) -> bool
     *there == *level
 }
 
-/// The guessed number, where it has the level of this tree, and nothing is within the tree.
-pub fn leaf(levels: &IndexSet<Level, Seeded>, near: Option<u32>, tree: &Tree) -> Option<u32>
-    ensures { IfSome result (λ n. (p : Flat) × (slice_get levels.now.keys n ≡ Some p) × (leaf_of tree.now ≡ Some p)) }
+/// The guessed number, where it has the level of this value, and nothing is within the value.
+pub fn leaf(levels: &IndexSet<Level, Seeded>, near: Option<u32>, shown: &Shown<'_>) -> Option<u32>
+    ensures { IfSome result (λ n. (p : Flat) × (slice_get levels.now.keys n ≡ Some p) × (leaf_of
+        (meaning_of shown.now) ≡ Some p)) }
 {
     let number = near?;
     let there = levels.get_index(number as usize)?;
-    if is_leaf(there, tree) {
+    if is_leaf(there, shown) {
         Some(number)
     } else {
         None
     }
 }
 
-// Whether the tree has nothing within it, and this level.
-fn is_leaf(level: &Level, tree: &Tree) -> bool
-    ensures { IsTrue result → leaf_of tree.now ≡ Some level.now }
+// Whether the value has nothing within it, and this level. A text is compared where it stands.
+fn is_leaf(level: &Level, shown: &Shown<'_>) -> bool
+    ensures { IsTrue result → leaf_of (meaning_of shown.now) ≡ Some level.now }
 {
-    match (&level.form, &tree.node) {
-        (Form::Null, Node::Null) => true,
-        (Form::Flag(a), Node::Flag(b)) => *a == *b,
-        (Form::Whole(a), Node::Whole(b)) => *a == *b,
-        (Form::Words(a), Node::Words(b)) => *a == *b,
+    match (&level.form, shown) {
+        (Form::Null, Shown::Null) => true,
+        (Form::Flag(a), Shown::Flag(b)) => *a == *b,
+        (Form::Whole(a), Shown::Whole(b)) => *a == *b,
+        (Form::Words(a), Shown::Words(b)) => a.as_str() == *b,
         _ => false,
+    }
+}
+
+/// A guess: how many children the guessed array or object has.
+pub fn width(levels: &IndexSet<Level, Seeded>, near: Option<u32>) -> Option<usize> {
+    let there = levels.get_index(near? as usize)?;
+    match &there.form {
+        Form::Items(numbers) => Some(numbers.len()),
+        Form::Members(numbers) => Some(numbers.len()),
+        _ => None,
     }
 }
 
@@ -90,7 +102,7 @@ pub fn meet(
     levels: &IndexSet<Level, Seeded>,
     near: Option<u32>,
     from: usize,
-    name: &Text,
+    name: &str,
 ) -> Met
     ensures { IfSome result.member (λ m. slice_get names.now.keys m.0 ≡ Some name.now) }
 {
@@ -122,18 +134,18 @@ pub fn meet(
 }
 
 // Whether a number's name is this one.
-fn is_name(names: &IndexSet<Text, Seeded>, number: usize, name: &Text) -> bool
+fn is_name(names: &IndexSet<Text, Seeded>, number: usize, name: &str) -> bool
     ensures { IsTrue result → slice_get names.now.keys number ≡ Some name.now }
 {
     match names.get_index(number) {
-        Some(there) => *there == *name,
+        Some(there) => there.as_str() == name,
         None => false,
     }
 }
 
-fn is_before(names: &IndexSet<Text, Seeded>, number: usize, name: &Text) -> bool {
+fn is_before(names: &IndexSet<Text, Seeded>, number: usize, name: &str) -> bool {
     match names.get_index(number) {
-        Some(there) => *there < *name,
+        Some(there) => there.as_str() < name,
         None => false,
     }
 }

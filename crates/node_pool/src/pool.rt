@@ -10,12 +10,9 @@ use crate::rebuilding::rebuild;
 use crate::store::Store;
 use base_types::OutOfMemory;
 use base_types::json::{Pointer, Tree};
+use node_number::NodeId;
 use std::alloc::Global;
 use std::marker::Model;
-
-/// The number of a tree in its pool, from 0.
-#[derive(Clone, Copy, Debug, PartialEq, Eq)]
-pub struct NodeId(pub u32);
 
 /// Trees of which each stands once, so that two numbers are equal exactly where their trees are. Contracts see a
 /// pool as the list of its trees and its limit.

@@ -14,7 +14,7 @@ use Rattle.clouds.proofs.Adding.{same_key_from}
 use Rattle.clouds.specs.Kept.{key_order}
 use Rattle.history_model.proofs.KeyLemmas.{key_tells}
 use Rattle.history_model.proofs.Members.{at_in, not_in_none}
-use Rattle.node_pool.proofs.Fronts.{slice_get-front, slice_get-last}
+use Rattle.node_number.proofs.Growing.{slice_get-front, slice_get-last}
 use Rattle.object_past.specs.Indexed.{AreEntries, AreFound, AreGone, ChangesAt, Found, HasVersion, IsFoundBy, IsGrown, entry_of, found_at, found_in, position_of}
 use Rattle.object_past.specs.Incarnated.{AreIncarnations}
 use Rattle.object_past.specs.Past.{AreRising}

@@ -1,5 +1,5 @@
 use base_types::{Listed, ObjectKey, Revision, Text};
-use node_pool::NodeId;
+use node_number::NodeId;
 
 /// Who wrote a version.
 #[derive(Clone, Copy, Debug, Drop, PartialEq, Eq)]

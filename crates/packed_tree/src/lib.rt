@@ -7,6 +7,7 @@ mod packed;
 mod packing;
 mod reading;
 mod scalars;
+mod storing;
 
 pub use packed::{Packed, pack};
 pub use reading::{PackedItems, PackedMembers, PackedRef, Shown};

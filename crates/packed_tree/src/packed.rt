@@ -1,6 +1,8 @@
 ghost use Rattle.std.specs.Prelude.{◌≡◌, Some, None, Err, IfOk};
 ghost use Rattle.serde_json.specs.View.{view};
 ghost use Rattle.base_types.specs.Values.{of_data, InRange};
+ghost use Rattle.packed_tree.specs.Decoding.{decode};
+ghost use Rattle.packed_tree.specs.Sound.{IsPacked};
 
 use crate::packing::push_value;
 use crate::reading::{PackedRef, reader};
@@ -45,6 +47,14 @@ pub fn pack(alloc: Global, value: &Value) -> Result<Packed, TreeFault>
     Ok(Packed { bytes })
 }
 
+/// The value of these bytes.
+pub(crate) fn packed_of(bytes: Vec<u8>) -> Packed
+    requires { IsPacked bytes.items }
+    ensures { result ≡ decode bytes.items }
+{
+    Packed { bytes }
+}
+
 impl Packed {
     /// The value, to be read in place.
     pub fn root(&self) -> PackedRef<'_>
@@ -58,6 +68,14 @@ impl Packed {
         ensures { IfOk result (λ tree. tree ≡ self.now) }
     {
         self.root().tree(alloc)
+    }
+
+    /// The same value once more.
+    pub fn copy(&self, alloc: Global) -> Result<Packed, OutOfMemory>
+        ensures { IfOk result (λ packed. packed ≡ self.now) }
+    {
+        let bytes = Vec::from_slice(alloc, self.bytes.as_slice())?;
+        Ok(Packed { bytes })
     }
 }
 

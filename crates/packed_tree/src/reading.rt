@@ -4,8 +4,9 @@ ghost use Rattle.base_types.specs.Names.{AreSorted};
 ghost use Rattle.base_types.specs.Parts.{lookup, member_of, is_null, whole_of, text_of, items_of, members_of};
 ghost use Rattle.base_types.specs.Texts.{text_at, non_empty, filled_at, revision_at};
 ghost use Rattle.packed_tree.specs.Decoding.{decode};
+ghost use Rattle.packed_tree.specs.Encoding.{encode};
 ghost use Rattle.packed_tree.specs.Showing.{meaning_of};
-ghost use Rattle.packed_tree.specs.Sound.{IsSound};
+ghost use Rattle.packed_tree.specs.Sound.{IsSound, IsPacked};
 
 use crate::building::build;
 use crate::framing::cut;
@@ -37,7 +38,7 @@ impl<'a> Model for PackedRef<'a> {
     ghost use Rattle.base_types.specs.Meaning.{Meaning};
     ghost use Rattle.base_types.specs.Code.{coded_meaning};
     ghost use Rattle.packed_tree.specs.Decoding.{decode};
-    ghost use Rattle.packed_tree.specs.Sound.{IsSound};
+    ghost use Rattle.packed_tree.specs.Sound.{IsPacked};
 
     ghost Value = { Meaning };
 
@@ -45,7 +46,7 @@ impl<'a> Model for PackedRef<'a> {
 
     ghost view = { λ r. decode r.bytes.now };
 
-    ghost invariant = { λ r. IsSound (decode r.bytes.now) };
+    ghost invariant = { λ r. IsPacked r.bytes.now };
 }
 
 impl<'a> Model for PackedItems<'a> {
@@ -54,7 +55,7 @@ impl<'a> Model for PackedItems<'a> {
     ghost use Rattle.base_types.specs.Meaning.{Meaning, kids_list};
     ghost use Rattle.base_types.specs.Code.{coded_meaning};
     ghost use Rattle.packed_tree.specs.Decoding.{kids_in};
-    ghost use Rattle.packed_tree.specs.Sound.{AreKidsSound};
+    ghost use Rattle.packed_tree.specs.Sound.{AreKidsPacked};
 
     ghost Value = { List Meaning };
 
@@ -62,7 +63,7 @@ impl<'a> Model for PackedItems<'a> {
 
     ghost view = { λ r. kids_list (kids_in r.bytes.now) };
 
-    ghost invariant = { λ r. AreKidsSound (kids_in r.bytes.now) };
+    ghost invariant = { λ r. AreKidsPacked r.bytes.now };
 }
 
 impl<'a> Model for PackedMembers<'a> {
@@ -70,9 +71,8 @@ impl<'a> Model for PackedMembers<'a> {
     ghost use Rattle.std.specs.Coded.{coded_list, coded×};
     ghost use Rattle.base_types.specs.Meaning.{Meaning, fields_list};
     ghost use Rattle.base_types.specs.Code.{coded_meaning, coded_bytes};
-    ghost use Rattle.base_types.specs.Names.{AreSorted};
     ghost use Rattle.packed_tree.specs.Decoding.{fields_in};
-    ghost use Rattle.packed_tree.specs.Sound.{AreFieldsSound};
+    ghost use Rattle.packed_tree.specs.Sound.{AreFieldsPacked};
 
     ghost Value = { List (List ℕ × Meaning) };
 
@@ -80,7 +80,7 @@ impl<'a> Model for PackedMembers<'a> {
 
     ghost view = { λ r. fields_list (fields_in r.bytes.now) };
 
-    ghost invariant = { λ r. AreFieldsSound (fields_in r.bytes.now) × AreSorted (fields_list (fields_in r.bytes.now)) };
+    ghost invariant = { λ r. AreFieldsPacked r.bytes.now };
 }
 
 /// One level of a packed value.
@@ -96,7 +96,7 @@ pub enum Shown<'a> {
 
 // The value of these bytes.
 pub(crate) fn reader(bytes: &[u8]) -> PackedRef<'_>
-    requires { IsSound (decode bytes.now) }
+    requires { IsPacked bytes.now }
     ensures { result ≡ decode bytes.entry.now }
 {
     PackedRef { bytes }
@@ -104,7 +104,7 @@ pub(crate) fn reader(bytes: &[u8]) -> PackedRef<'_>
 
 // One level of the value of these bytes.
 fn level_of(bytes: &[u8]) -> Shown<'_>
-    requires { IsSound (decode bytes.now) }
+    requires { IsPacked bytes.now }
     ensures { meaning_of result ≡ decode bytes.entry.now }
 {
     match bytes {
@@ -115,7 +115,7 @@ fn level_of(bytes: &[u8]) -> Shown<'_>
 
 // What a byte in front, and those behind it, show.
 fn tagged_level(tag: u8, rest: &[u8]) -> Shown<'_>
-    requires { IsSound (decode (tag ∷ rest.now)) }
+    requires { IsPacked (tag ∷ rest.now) }
     ensures { meaning_of result ≡ decode (tag ∷ rest.entry.now) }
 {
     match tag {
@@ -217,6 +217,14 @@ impl<'a> PackedRef<'a> {
         }
     }
 
+    /// The bytes that stand for the value.
+    pub(crate) fn as_bytes(&self) -> &'a [u8]
+        ensures value { result.now ≡ encode self.now }
+        ensures sound { IsSound self.now }
+    {
+        self.bytes
+    }
+
     /// The tree of this value.
     pub fn tree(&self, alloc: Global) -> Result<Tree, OutOfMemory>
         ensures { IfOk result (λ tree. tree ≡ self.now) }
@@ -275,7 +283,7 @@ impl<'a> PackedMembers<'a> {
     }
 
     /// The names are in order. It does nothing.
-    pub(crate) fn sorted(&self)
+    pub fn sorted(&self)
         ensures { AreSorted self.now }
     {
         let _bytes = &self.bytes;

@@ -15,7 +15,6 @@ use crate::page::{Asked, Page};
 use crate::reaching::reached_after;
 use crate::reading::parts_of;
 use audit_event::Events;
-use base_types::json::copy;
 use base_types::{OutOfMemory, Text};
 use hash_seed::Seed;
 use setup_file::{Checkpoint, Checkpoints, Setup, Snapshot, SnapshotObject};
@@ -28,7 +27,7 @@ fn copied(alloc: Global, object: &SnapshotObject) -> Result<SnapshotObject, OutO
         key: object.key.clone()?,
         revision: object.revision,
         uid: object.uid.clone()?,
-        tree: copy(alloc, &object.tree)?,
+        tree: object.tree.copy(alloc)?,
     })
 }
 

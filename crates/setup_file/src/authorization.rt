@@ -1,5 +1,6 @@
-ghost use Rattle.std.specs.Prelude.{◌≡◌, IfOk, option_map, is_some, codes};
+ghost use Rattle.std.specs.Prelude.{◌≡◌, IfOk, OnErr, IsSome, IsTrue, is_some, codes};
 ghost use Rattle.std.specs.List.{list_all};
+ghost use Rattle.base_types.specs.Parts.{member_of};
 ghost use Rattle.rbac_rules.specs.Forms.{role_of, binding_of};
 ghost use Rattle.setup_file.specs.Authorization.{authorize_of, groups_or, authorization_of, rbac_group, is_rbac};
 ghost use Rattle.setup_file.specs.Authorization.{is_readable, has_rbac, is_authorized, rbac_resources};
@@ -7,8 +8,9 @@ ghost use Rattle.setup_file.specs.Resources.{tracked_as};
 
 use crate::setup::SnapshotObject;
 use crate::tracked_list::TrackedList;
-use base_types::json::Tree;
+use crate::values::flag_of;
 use base_types::{OutOfMemory, Text, Texts};
+use packed_tree::{Packed, PackedRef};
 use rbac_rules::{RbacFault, read_binding, read_role};
 use std::alloc::Global;
 
@@ -22,11 +24,11 @@ pub struct Authorization {
 
 const RBAC_GROUP: &str = "rbac.authorization.k8s.io";
 
-fn authorize_of(member: Option<&Tree>) -> Option<bool>
-    ensures { result ≡ authorize_of (option_map (λ tree. tree.now) member.entry) }
+fn authorize_of(member: Option<PackedRef<'_>>) -> Option<bool>
+    ensures { result ≡ authorize_of member.entry }
 {
     match member {
-        Some(tree) => tree.as_flag(),
+        Some(value) => flag_of(&value),
         None => Some(false),
     }
 }
@@ -35,29 +37,34 @@ fn authorize_of(member: Option<&Tree>) -> Option<bool>
 fn groups_or(
     alloc: Global,
     usual: &str,
-    member: Option<&Tree>,
+    member: Option<PackedRef<'_>>,
 ) -> Result<Option<Texts>, OutOfMemory>
-    ensures { IfOk result (λ found. found ≡ groups_or usual.now (option_map (λ tree. tree.now) member.entry)) }
+    ensures { IfOk result (λ found. found ≡ groups_or usual.now member.entry) }
 {
-    let Some(tree) = member else {
+    let Some(member) = member else {
         let mut groups = Texts::new(alloc);
         groups.push(Text::from_str(alloc, usual)?)?;
         return Ok(Some(groups));
     };
+    let tree = member.tree(alloc)?;
     tree.to_texts(alloc)
 }
 
 /// Reads what a setup says of authorization.
-pub fn read_authorization(alloc: Global, tree: &Tree) -> Result<Option<Authorization>, OutOfMemory>
-    ensures { IfOk result (λ found. found ≡ authorization_of tree.now) }
+pub fn read_authorization(
+    alloc: Global,
+    value: &PackedRef<'_>,
+) -> Result<Option<Authorization>, OutOfMemory>
+    ensures authorization { IfOk result (λ found. found ≡ authorization_of value.now) }
+    ensures memory { OnErr result (IsSome (authorize_of (member_of (codes "authorize") value.now))) }
 {
-    let Some(authorize) = authorize_of(tree.member("authorize")) else {
+    let Some(authorize) = authorize_of(value.member("authorize")) else {
         return Ok(None);
     };
-    let Some(bypass) = groups_or(alloc, "system:masters", tree.member("bypassGroups"))? else {
+    let Some(bypass) = groups_or(alloc, "system:masters", value.member("bypassGroups"))? else {
         return Ok(None);
     };
-    let Some(skip) = groups_or(alloc, "system:nodes", tree.member("skipGroups"))? else {
+    let Some(skip) = groups_or(alloc, "system:nodes", value.member("skipGroups"))? else {
         return Ok(None);
     };
     Ok(Some(Authorization {
@@ -73,20 +80,22 @@ fn is_rbac(object: &SnapshotObject, resource: &str) -> bool
     object.key.group.as_str() == RBAC_GROUP && object.key.resource.as_str() == resource
 }
 
-fn is_role(alloc: Global, tree: &Tree) -> Result<bool, OutOfMemory>
-    ensures { IfOk result (λ is. is ≡ is_some (role_of tree.now)) }
+fn is_role(alloc: Global, object: &Packed) -> Result<bool, OutOfMemory>
+    ensures { IfOk result (λ is. is ≡ is_some (role_of object.now)) }
 {
-    match read_role(alloc, tree) {
+    let tree = object.tree(alloc)?;
+    match read_role(alloc, &tree) {
         Ok(_) => Ok(true),
         Err(RbacFault::Form) => Ok(false),
         Err(RbacFault::OutOfMemory) => Err(OutOfMemory),
     }
 }
 
-fn is_binding(alloc: Global, tree: &Tree) -> Result<bool, OutOfMemory>
-    ensures { IfOk result (λ is. is ≡ is_some (binding_of tree.now)) }
+fn is_binding(alloc: Global, object: &Packed) -> Result<bool, OutOfMemory>
+    ensures { IfOk result (λ is. is ≡ is_some (binding_of object.now)) }
 {
-    match read_binding(alloc, tree) {
+    let tree = object.tree(alloc)?;
+    match read_binding(alloc, &tree) {
         Ok(_) => Ok(true),
         Err(RbacFault::Form) => Ok(false),
         Err(RbacFault::OutOfMemory) => Err(OutOfMemory),
@@ -148,7 +157,8 @@ pub fn is_authorized(
     snapshot: &[SnapshotObject],
     authorization: &Authorization,
 ) -> Result<bool, OutOfMemory>
-    ensures { IfOk result (λ is. is ≡ is_authorized resources.now snapshot.now authorization.now) }
+    ensures is { IfOk result (λ is. is ≡ is_authorized resources.now snapshot.now authorization.now) }
+    ensures memory { OnErr result (IsTrue authorization.now.authorize) }
 {
     if !authorization.authorize {
         return Ok(true);

@@ -1,4 +1,6 @@
-ghost use Rattle.std.specs.Prelude.{◌≡◌, ◌≤◌, ◌||◌, ◌&&◌, ◌++◌, length, IfOk, option_map, codes, decimal};
+ghost use Rattle.std.specs.Prelude.{◌≡◌, ◌≤◌, ◌||◌, ◌&&◌, ◌++◌, length, IfOk, OnErr, IsSome, codes, decimal};
+ghost use Rattle.std.specs.Prelude.{option_and_then};
+ghost use Rattle.base_types.specs.Parts.{items_of};
 ghost use Rattle.setup_file.specs.Checkpoints.{is_no_text, is_whole_at, checkpoint_of, checkpoints_from};
 ghost use Rattle.setup_file.specs.Checkpoints.{few_checkpoints, checkpoints_of};
 ghost use Rattle.setup_file.specs.Parts.{fit_list_of};
@@ -7,8 +9,9 @@ use crate::form::is_form;
 use crate::lists::{ListRead, read_list};
 use crate::setup::{Checkpoint, Checkpoints, Tracked};
 use crate::tracked_list::TrackedList;
-use base_types::json::Tree;
+use crate::values::values_of;
 use base_types::{OutOfMemory, Revision, Text};
+use packed_tree::PackedRef;
 use std::alloc::Global;
 
 /// The most checkpoints that a setup may have.
@@ -22,7 +25,7 @@ fn is_whole_at(start: Revision, list: &ListRead) -> bool
 }
 
 // Whether a list is one that a checkpoint may have.
-fn is_fit(namespace: &Text, tracked: &Tracked, start: Revision, list: &ListRead) -> bool
+fn is_fit(namespace: &str, tracked: &Tracked, start: Revision, list: &ListRead) -> bool
     ensures { result ≡ ((is_no_text namespace.now || tracked.now.namespaced) && is_whole_at start list.now) }
 {
     (namespace.is_empty() || tracked.namespaced) && is_whole_at(start, list)
@@ -73,9 +76,9 @@ fn name_of(alloc: Global, number: usize) -> Result<Text, OutOfMemory>
 fn label_of(
     alloc: Global,
     number: usize,
-    group: &Text,
-    resource: &Text,
-    namespace: &Text,
+    group: &str,
+    resource: &str,
+    namespace: &str,
 ) -> Result<Label, OutOfMemory>
     ensures { IfOk result (λ label. label ≡ record {
       name = codes "checkpoint:" ++ decimal number;
@@ -86,9 +89,9 @@ fn label_of(
 {
     Ok(Label {
         name: name_of(alloc, number)?,
-        group: group.clone()?,
-        resource: resource.clone()?,
-        namespace: namespace.clone()?,
+        group: Text::from_str(alloc, group)?,
+        resource: Text::from_str(alloc, resource)?,
+        namespace: Text::from_str(alloc, namespace)?,
     })
 }
 
@@ -97,12 +100,13 @@ fn read_fit_list(
     alloc: Global,
     start: Revision,
     tracked: &Tracked,
-    namespace: &Text,
-    tree: &Tree,
+    namespace: &str,
+    value: &PackedRef<'_>,
 ) -> Result<Option<ListRead>, OutOfMemory>
-    ensures { IfOk result (λ found. found ≡ fit_list_of start tracked.now namespace.now tree.now) }
+    ensures { IfOk result (λ found. found ≡ fit_list_of start tracked.now namespace.now value.now) }
 {
-    let Some(list) = read_list(alloc, tracked, &Text::new(alloc), namespace, tree)? else {
+    let under = Text::from_str(alloc, namespace)?;
+    let Some(list) = read_list(alloc, tracked, &Text::new(alloc), &under, value)? else {
         return Ok(None);
     };
     if !is_fit(namespace, tracked, start, &list) {
@@ -116,29 +120,29 @@ fn read_checkpoint(
     start: Revision,
     resources: &TrackedList,
     number: usize,
-    tree: &Tree,
+    value: &PackedRef<'_>,
 ) -> Result<Option<Checkpoint>, OutOfMemory>
-    ensures { IfOk result (λ found. found ≡ checkpoint_of start resources.now number tree.now) }
+    ensures { IfOk result (λ found. found ≡ checkpoint_of start resources.now number value.now) }
 {
-    if !is_form(&["group", "resource", "namespace", "list"], tree) {
+    if !is_form(&["group", "resource", "namespace", "list"], value) {
         return Ok(None);
     }
-    let Some(group) = tree.text_at("group") else {
+    let Some(group) = value.text_at("group") else {
         return Ok(None);
     };
-    let Some(resource) = tree.text_at("resource") else {
+    let Some(resource) = value.text_at("resource") else {
         return Ok(None);
     };
-    let Some(namespace) = tree.text_at("namespace") else {
+    let Some(namespace) = value.text_at("namespace") else {
         return Ok(None);
     };
-    let Some(tracked) = resources.find(group, resource) else {
+    let Some(tracked) = resources.find_named(alloc, group, resource)? else {
         return Ok(None);
     };
-    let Some(value) = tree.member("list") else {
+    let Some(member) = value.member("list") else {
         return Ok(None);
     };
-    let Some(list) = read_fit_list(alloc, start, tracked, namespace, value)? else {
+    let Some(list) = read_fit_list(alloc, start, tracked, namespace, &member)? else {
         return Ok(None);
     };
     let label = label_of(alloc, number, group, resource, namespace)?;
@@ -149,14 +153,14 @@ fn read_entries(
     alloc: Global,
     start: Revision,
     resources: &TrackedList,
-    trees: &[Tree],
+    values: &[PackedRef<'_>],
 ) -> Result<Option<Checkpoints>, OutOfMemory>
-    requires { length trees.now ≤ 10_000 }
-    ensures { IfOk result (λ found. found ≡ checkpoints_from start resources.now 1 trees.now) }
+    requires { length values.now ≤ 10_000 }
+    ensures { IfOk result (λ found. found ≡ checkpoints_from start resources.now 1 values.now) }
 {
     let mut checkpoints = Checkpoints::new(alloc);
-    for (i, tree) in trees.iter().enumerate() {
-        let Some(checkpoint) = read_checkpoint(alloc, start, resources, i + 1, tree)? else {
+    for (i, value) in values.iter().enumerate() {
+        let Some(checkpoint) = read_checkpoint(alloc, start, resources, i + 1, value)? else {
             return Ok(None);
         };
         checkpoints.push(checkpoint)?;
@@ -170,19 +174,20 @@ pub fn read_checkpoints(
     alloc: Global,
     start: Revision,
     resources: &TrackedList,
-    member: Option<&Tree>,
+    member: Option<PackedRef<'_>>,
 ) -> Result<Option<Checkpoints>, OutOfMemory>
-    ensures { IfOk result (λ found. found ≡ checkpoints_of start resources.now
-        (option_map (λ tree. tree.now) member.entry)) }
+    ensures checkpoints { IfOk result (λ found. found ≡ checkpoints_of start resources.now member.entry) }
+    ensures memory { OnErr result (IsSome (option_and_then items_of member.entry)) }
 {
-    let Some(list) = member else {
+    let Some(member) = member else {
         return Ok(Some(Checkpoints::new(alloc)));
     };
-    let Some(trees) = list.as_items() else {
+    let Some(list) = member.as_items() else {
         return Ok(None);
     };
-    if trees.all.len() > MOST_CHECKPOINTS {
+    let values = values_of(alloc, list)?;
+    if values.len() > MOST_CHECKPOINTS {
         return Ok(None);
     }
-    read_entries(alloc, start, resources, trees.all.as_slice())
+    read_entries(alloc, start, resources, &values)
 }

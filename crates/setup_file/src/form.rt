@@ -2,7 +2,7 @@ ghost use Rattle.std.specs.Prelude.{◌≡◌, map, bytes_eq};
 ghost use Rattle.std.specs.List.{list_any};
 ghost use Rattle.setup_file.specs.Forms.{has_only, is_form};
 
-use base_types::json::{MemberList, Tree};
+use packed_tree::{PackedMembers, PackedRef};
 
 // Whether a text is one of these.
 fn is_one_of(known: &[&str], name: &str) -> bool
@@ -22,22 +22,23 @@ fn is_known(known: &[&str], name: &str) -> bool
     is_one_of(&*known, name)
 }
 
-fn has_only(known: &[&str], members: &MemberList) -> bool
-    ensures { result ≡ has_only (map (λ name. name.now) known.now) members.now }
+fn has_only(known: &[&str], members: PackedMembers<'_>) -> bool
+    ensures { result ≡ has_only (map (λ name. name.now) known.now) members.entry }
 {
-    for member in &members.all {
-        if !is_known(known, member.name.as_str()) {
+    let mut rest = members;
+    'members: while let Some((name, _value)) = rest.next() {
+        if !is_known(known, name) {
             return false;
         }
     }
     true
 }
 
-/// Whether a tree is an object with no member but those of these names.
-pub fn is_form(known: &[&str], tree: &Tree) -> bool
-    ensures { result ≡ is_form (map (λ name. name.now) known.now) tree.now }
+/// Whether a value is an object with no member but those of these names.
+pub fn is_form(known: &[&str], value: &PackedRef<'_>) -> bool
+    ensures { result ≡ is_form (map (λ name. name.now) known.now) value.now }
 {
-    match tree.as_members() {
+    match value.as_members() {
         Some(members) => has_only(known, members),
         None => false,
     }

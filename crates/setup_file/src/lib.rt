@@ -16,6 +16,7 @@ mod setup;
 mod snapshot;
 mod subresources;
 mod tracked_list;
+mod values;
 
 pub use fault::{SetupFault, SetupRule};
 pub use lists::{ListRead, read_list};

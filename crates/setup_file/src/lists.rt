@@ -4,8 +4,9 @@ ghost use Rattle.setup_file.specs.Lists.{objects_in, is_blank, goes_on, list_wit
 
 use crate::objects::{has_text_at, read_object};
 use crate::setup::{Snapshot, Tracked};
-use base_types::json::Tree;
+use crate::values::values_or_none;
 use base_types::{OutOfMemory, Revision, Text};
+use packed_tree::PackedRef;
 use std::alloc::Global;
 
 /// A list of objects as it was answered, whole or a page of it.
@@ -23,13 +24,13 @@ fn read_objects(
     tracked: &Tracked,
     name: &Text,
     namespace: &Text,
-    trees: &[Tree],
+    values: &[PackedRef<'_>],
 ) -> Result<Option<Snapshot>, OutOfMemory>
-    ensures { IfOk result (λ found. found ≡ objects_in tracked.now name.now namespace.now trees.now) }
+    ensures { IfOk result (λ found. found ≡ objects_in tracked.now name.now namespace.now values.now) }
 {
     let mut objects = Snapshot::new(alloc);
-    for tree in trees {
-        let Some(object) = read_object(alloc, tracked, name, namespace, tree)? else {
+    for value in values {
+        let Some(object) = read_object(alloc, tracked, name, namespace, value)? else {
             return Ok(None);
         };
         objects.push(object)?;
@@ -37,7 +38,7 @@ fn read_objects(
     Ok(Some(objects))
 }
 
-fn is_blank(text: Option<&Text>) -> bool
+fn is_blank(text: Option<&str>) -> bool
     ensures { result ≡ is_blank (option_map (λ text. text.now) text.entry) }
 {
     match text {
@@ -46,12 +47,12 @@ fn is_blank(text: Option<&Text>) -> bool
     }
 }
 
-fn goes_on(member: Option<&Tree>) -> bool
-    ensures { result ≡ goes_on (option_map (λ tree. tree.now) member.entry) }
+fn goes_on(member: Option<PackedRef<'_>>) -> bool
+    ensures { result ≡ goes_on member.entry }
 {
     match member {
         None => false,
-        Some(tree) => !tree.is_null() && !is_blank(tree.as_text()),
+        Some(value) => !value.is_null() && !is_blank(value.as_text()),
     }
 }
 
@@ -60,18 +61,18 @@ fn list_with(
     tracked: &Tracked,
     name: &Text,
     namespace: &Text,
-    metadata: &Tree,
-    tree: &Tree,
+    metadata: &PackedRef<'_>,
+    value: &PackedRef<'_>,
 ) -> Result<Option<ListRead>, OutOfMemory>
-    ensures { IfOk result (λ found. found ≡ list_with tracked.now name.now namespace.now metadata.now tree.now) }
+    ensures { IfOk result (λ found. found ≡ list_with tracked.now name.now namespace.now metadata.now value.now) }
 {
     let Some(revision) = metadata.revision_at("resourceVersion") else {
         return Ok(None);
     };
-    let Some(trees) = tree.items_at("items") else {
+    let Some(values) = values_or_none(alloc, value.member("items"))? else {
         return Ok(None);
     };
-    let Some(items) = read_objects(alloc, tracked, name, namespace, trees)? else {
+    let Some(items) = read_objects(alloc, tracked, name, namespace, &values)? else {
         return Ok(None);
     };
     let rest = goes_on(metadata.member("continue"));
@@ -82,7 +83,7 @@ fn list_with(
     }))
 }
 
-/// Reads the answer to a list request (Kubernetes API concepts, "Collections") that a tree is, under a
+/// Reads the answer to a list request (Kubernetes API concepts, "Collections") that a value is, under a
 /// path with this name and namespace, of which an empty text is none. Each item is an object of the
 /// resource.
 pub fn read_list(
@@ -90,15 +91,15 @@ pub fn read_list(
     tracked: &Tracked,
     name: &Text,
     namespace: &Text,
-    tree: &Tree,
+    value: &PackedRef<'_>,
 ) -> Result<Option<ListRead>, OutOfMemory>
-    ensures { IfOk result (λ found. found ≡ list_of tracked.now name.now namespace.now tree.now) }
+    ensures { IfOk result (λ found. found ≡ list_of tracked.now name.now namespace.now value.now) }
 {
-    let Some(metadata) = tree.member("metadata") else {
+    let Some(metadata) = value.member("metadata") else {
         return Ok(None);
     };
-    if !has_text_at(tree, "kind", tracked.list_kind.as_str()) {
+    if !has_text_at(value, "kind", tracked.list_kind.as_str()) {
         return Ok(None);
     }
-    list_with(alloc, tracked, name, namespace, metadata, tree)
+    list_with(alloc, tracked, name, namespace, &metadata, value)
 }

@@ -1,4 +1,4 @@
-ghost use Rattle.std.specs.Prelude.{◌≡◌, ◌≤◌, ◌^◌, Ok, Err, IfOk, IfErr, length, map, is_some};
+ghost use Rattle.std.specs.Prelude.{◌≡◌, ◌≤◌, ◌^◌, ℕ, Ok, Err, IfOk, IfErr, IsSome, length, map, is_some, codes};
 ghost use Rattle.std.specs.List.{list_all};
 ghost use Rattle.base_types.specs.Parts.{member_of};
 ghost use Rattle.setup_file.specs.declared.fault.SetupRule.{SetupRule};
@@ -7,7 +7,7 @@ ghost use Rattle.base_types.specs.Meaning.{Meaning};
 ghost use Rattle.base_types.specs.Values.{InRange};
 ghost use Rattle.setup_file.specs.declared.fault.SetupRule.TheVariants.{S1};
 ghost use Rattle.setup_file.specs.Forms.{is_form};
-ghost use Rattle.setup_file.specs.Reading.{is_version, known, known_2, has_known, has_all, is_setup_form};
+ghost use Rattle.setup_file.specs.Reading.{whole_at, is_version, known, known_2, has_known, has_all, is_setup_form};
 ghost use Rattle.setup_file.specs.Parts.{rest_at};
 ghost use Rattle.setup_file.specs.Reading.{is_known_version, policy_at, setup_with, setup_of, IsTreeOf, ReadsAs};
 ghost use Rattle.setup_file.specs.Sound.{IsSound};
@@ -25,27 +25,28 @@ use crate::snapshot::read_snapshot;
 use crate::tracked_list::TrackedList;
 use audit_policy::{Policy, PolicyFault, read_policy};
 use base_types::Revision;
-use base_types::json::{Tree, TreeFault, from_value};
+use base_types::json::TreeFault;
 use hash_seed::Seed;
+use packed_tree::{Packed, PackedRef, pack};
 use serde_json::Value;
 use std::alloc::Global;
 
 // Whether the object has a member of each of these names.
-fn has_each(names: &[&str], tree: &Tree) -> bool
-    ensures { result ≡ list_all (λ name. is_some (member_of name.now tree.now)) names.now }
+fn has_each(names: &[&str], value: &PackedRef<'_>) -> bool
+    ensures { result ≡ list_all (λ name. is_some (member_of name.now value.now)) names.now }
 {
     for name in names {
-        if tree.member(*name).is_none() {
+        if value.member(*name).is_none() {
             return false;
         }
     }
     true
 }
 
-fn has_all(names: &[&str], tree: &Tree) -> bool
-    ensures { result ≡ has_all (map (λ name. name.now) names.now) tree.now }
+fn has_all(names: &[&str], value: &PackedRef<'_>) -> bool
+    ensures { result ≡ has_all (map (λ name. name.now) names.now) value.now }
 {
-    has_each(&*names, tree)
+    has_each(&*names, value)
 }
 
 const REQUIRED: [&str; 5] = ["kind", "start", "policy", "resources", "snapshot"];
@@ -82,55 +83,73 @@ const KNOWN_2: [&str; 13] = [
     "checkpoints",
 ];
 
-fn is_version(number: u64, tree: &Tree) -> bool
-    ensures { result ≡ is_version number tree.now }
+fn whole_at(value: &PackedRef<'_>, name: &str) -> Option<i128>
+    ensures { result ≡ whole_at name.now value.now }
 {
-    match tree.member("version").and_then(Tree::as_whole) {
+    value.member(name)?.as_whole()
+}
+
+fn is_version(number: u64, value: &PackedRef<'_>) -> bool
+    ensures { result ≡ is_version number value.now }
+{
+    match whole_at(value, "version") {
         Some(found) => found == number as i128,
         None => false,
     }
 }
 
-fn is_form_1(tree: &Tree) -> bool
-    ensures { result ≡ is_form known tree.now }
+fn is_form_1(value: &PackedRef<'_>) -> bool
+    ensures { result ≡ is_form known value.now }
 {
-    is_form(&KNOWN, tree)
+    is_form(&KNOWN, value)
 }
 
-fn is_form_2(tree: &Tree) -> bool
-    ensures { result ≡ is_form known_2 tree.now }
+fn is_form_2(value: &PackedRef<'_>) -> bool
+    ensures { result ≡ is_form known_2 value.now }
 {
-    is_form(&KNOWN_2, tree)
+    is_form(&KNOWN_2, value)
 }
 
-fn has_known(tree: &Tree) -> bool
-    ensures { result ≡ has_known tree.now }
+fn has_known(value: &PackedRef<'_>) -> bool
+    ensures { result ≡ has_known value.now }
 {
-    if is_version(2, tree) {
-        is_form_2(tree)
+    if is_version(2, value) {
+        is_form_2(value)
     } else {
-        is_form_1(tree)
+        is_form_1(value)
     }
 }
 
-fn is_setup_form(tree: &Tree) -> bool
-    ensures { result ≡ is_setup_form tree.now }
+fn is_setup_form(value: &PackedRef<'_>) -> bool
+    ensures { result ≡ is_setup_form value.now }
 {
-    has_text_at(tree, "kind", "PastSetup") && has_all(&REQUIRED, tree) && has_known(tree)
+    has_text_at(value, "kind", "PastSetup") && has_all(&REQUIRED, value) && has_known(value)
 }
 
-fn policy_at(alloc: Global, tree: &Tree) -> Result<Policy, SetupFault>
-    ensures policy { IfOk result (λ policy. policy_at tree.now ≡ Ok policy) }
-    ensures cause { IfErr result (IsCause (policy_at tree.now)) }
+// The policy that was read, or the rule that is broken where its tree isn't in its form.
+fn policy_or_rule(read: Result<Policy, PolicyFault>) -> Result<Policy, SetupFault>
+    ensures policy { IfOk result (λ policy. read ≡ Ok policy) }
+    ensures form { (rule : SetupRule) → result ≡ Err (Rule rule) → (rule ≡ SetupRule.S7)
+        × ((number : ℕ) × (read ≡ Err (PolicyFault.Form number))) }
+    ensures memory { result ≡ Err SetupFault.OutOfMemory → read ≡ Err PolicyFault.OutOfMemory }
 {
-    let Some(value) = tree.member("policy") else {
-        return Err(SetupFault::Rule(SetupRule::S7));
-    };
-    match read_policy(alloc, value) {
+    match read {
         Ok(policy) => Ok(policy),
         Err(PolicyFault::Form { .. }) => Err(SetupFault::Rule(SetupRule::S7)),
         Err(PolicyFault::OutOfMemory) => Err(SetupFault::OutOfMemory),
     }
+}
+
+fn policy_at(alloc: Global, value: &PackedRef<'_>) -> Result<Policy, SetupFault>
+    ensures policy { IfOk result (λ policy. policy_at value.now ≡ Ok policy) }
+    ensures cause { IfErr result (IsCause (policy_at value.now)) }
+    ensures memory { result ≡ Err SetupFault.OutOfMemory → IsSome (member_of (codes "policy") value.now) }
+{
+    let Some(member) = value.member("policy") else {
+        return Err(SetupFault::Rule(SetupRule::S7));
+    };
+    let tree = member.tree(alloc)?;
+    policy_or_rule(read_policy(alloc, &tree))
 }
 
 // What stands on the resources and the snapshot of a setup: what it says of authorization, and its checkpoints.
@@ -139,38 +158,38 @@ fn rest_at(
     start: Revision,
     resources: &TrackedList,
     snapshot: &[SnapshotObject],
-    tree: &Tree,
+    value: &PackedRef<'_>,
 ) -> Result<(Authorization, Checkpoints), SetupFault>
-    ensures rest { IfOk result (λ rest. rest_at start resources.now snapshot.now tree.now ≡ Ok rest) }
-    ensures cause { IfErr result (IsCause (rest_at start resources.now snapshot.now tree.now)) }
+    ensures rest { IfOk result (λ rest. rest_at start resources.now snapshot.now value.now ≡ Ok rest) }
+    ensures cause { IfErr result (IsCause (rest_at start resources.now snapshot.now value.now)) }
 {
-    let Some(authorization) = read_authorization(alloc, tree)? else {
+    let Some(authorization) = read_authorization(alloc, value)? else {
         return Err(SetupFault::Rule(SetupRule::S14));
     };
     if !is_authorized(alloc, resources, snapshot, &authorization)? {
         return Err(SetupFault::Rule(SetupRule::S14));
     }
-    match read_checkpoints(alloc, start, resources, tree.member("checkpoints"))? {
+    match read_checkpoints(alloc, start, resources, value.member("checkpoints"))? {
         Some(checkpoints) => Ok((authorization, checkpoints)),
         None => Err(SetupFault::Rule(SetupRule::S15)),
     }
 }
 
 // Reads a setup of a version that is known.
-fn setup_with(alloc: Global, tree: &Tree, seed: Seed) -> Result<Setup, SetupFault>
-    ensures setup { IfOk result (λ setup. setup_with tree.now ≡ Ok setup) }
-    ensures cause { IfErr result (IsCause (setup_with tree.now)) }
+fn setup_with(alloc: Global, value: &PackedRef<'_>, seed: Seed) -> Result<Setup, SetupFault>
+    ensures setup { IfOk result (λ setup. setup_with value.now ≡ Ok setup) }
+    ensures cause { IfErr result (IsCause (setup_with value.now)) }
 {
-    let clocks = read_clocks(tree)?;
-    let policy = policy_at(alloc, tree)?;
-    let resources = read_resources(alloc, tree, seed)?;
-    let snapshot = read_snapshot(alloc, clocks.start, &resources, tree, seed)?;
+    let clocks = read_clocks(value)?;
+    let policy = policy_at(alloc, value)?;
+    let resources = read_resources(alloc, value, seed)?;
+    let snapshot = read_snapshot(alloc, clocks.start, &resources, value, seed)?;
     let (authorization, checkpoints) = rest_at(
         alloc,
         clocks.start,
         &resources,
         snapshot.as_slice(),
-        tree,
+        value,
     )?;
     Ok(Setup {
         start: clocks.start,
@@ -188,21 +207,21 @@ fn setup_with(alloc: Global, tree: &Tree, seed: Seed) -> Result<Setup, SetupFaul
     })
 }
 
-fn setup_of(alloc: Global, tree: &Tree, seed: Seed) -> Result<Setup, SetupFault>
-    ensures setup { IfOk result (λ setup. setup_of tree.now ≡ Ok setup) }
-    ensures cause { IfErr result (IsCause (setup_of tree.now)) }
+fn setup_of(alloc: Global, value: &PackedRef<'_>, seed: Seed) -> Result<Setup, SetupFault>
+    ensures setup { IfOk result (λ setup. setup_of value.now ≡ Ok setup) }
+    ensures cause { IfErr result (IsCause (setup_of value.now)) }
 {
-    if !is_setup_form(tree) {
+    if !is_setup_form(value) {
         return Err(SetupFault::Rule(SetupRule::S2));
     }
-    if !is_version(1, tree) && !is_version(2, tree) {
+    if !is_version(1, value) && !is_version(2, value) {
         return Err(SetupFault::Rule(SetupRule::S3));
     }
-    setup_with(alloc, tree, seed)
+    setup_with(alloc, value, seed)
 }
 
-// The tree of a text, or the first rule.
-fn tree_of(alloc: Global, bytes: &[u8]) -> Result<Tree, SetupFault>
+// The tree of a text in packed form, or the first rule.
+fn packed_of(alloc: Global, bytes: &[u8]) -> Result<Packed, SetupFault>
     ensures tree { IfOk result (IsTreeOf bytes.now) }
     ensures range { IfOk result InRange }
     ensures none { (rule : SetupRule) → result ≡ Err (Rule rule) → (rule ≡ S1) × ((tree : Meaning)
@@ -213,8 +232,8 @@ fn tree_of(alloc: Global, bytes: &[u8]) -> Result<Tree, SetupFault>
         Err(fault) if fault.is_memory() => return Err(SetupFault::OutOfMemory),
         Err(_) => return Err(SetupFault::Rule(SetupRule::S1)),
     };
-    match from_value(alloc, &value) {
-        Ok(tree) => Ok(tree),
+    match pack(alloc, &value) {
+        Ok(packed) => Ok(packed),
         Err(TreeFault::Fraction) => Err(SetupFault::Rule(SetupRule::S1)),
         Err(TreeFault::OutOfMemory) => Err(SetupFault::OutOfMemory),
     }
@@ -227,6 +246,6 @@ pub fn read_setup(alloc: Global, bytes: &[u8], seed: Seed) -> Result<Setup, Setu
     ensures sound { length bytes.now ≤ 2 ^ 28 → IfOk result IsSound }
     ensures cause { (rule : SetupRule) → result ≡ Err (Rule rule) → ReadsAs bytes.now (Err rule) }
 {
-    let tree = tree_of(alloc, bytes)?;
-    setup_of(alloc, &tree, seed)
+    let packed = packed_of(alloc, bytes)?;
+    setup_of(alloc, &packed.root(), seed)
 }

@@ -1,13 +1,13 @@
-ghost use Rattle.std.specs.Prelude.{◌≡◌, ◌≢◌, IfOk, IfErr, OnErr, IsSome, codes};
+ghost use Rattle.std.specs.Prelude.{◌≡◌, ◌≢◌, IfOk, IfErr, OnErr, IsSome, IsTrue, is_some, codes};
 ghost use Rattle.std.specs.Prelude.{map, option_map, option_and_then};
-ghost use Rattle.std.specs.List.{list_all};
+ghost use Rattle.std.specs.List.{list_all, list_any};
 ghost use Rattle.std.specs.Result.{result_ok};
 ghost use Rattle.base_types.specs.Parts.{member_of, flag_of, items_of};
 ghost use Rattle.setup_file.specs.Distinct.{are_distinct, pair_eq};
 ghost use Rattle.setup_file.specs.Resources.{merges_as, merges_of, entry_of, entries_in, are_apart, shape_or_root};
 ghost use Rattle.setup_file.specs.Resources.{shape_at, has_shape, tracked_of, tracked_in};
 ghost use Rattle.setup_file.specs.Reading.{resources_at};
-ghost use Rattle.setup_file.specs.Steps.{IsCause};
+ghost use Rattle.setup_file.specs.Steps.{unless_breaks, IsCause};
 
 use crate::distinct::are_pairs_distinct;
 use crate::fault::{SetupFault, SetupRule};
@@ -15,9 +15,10 @@ use crate::form::is_form;
 use crate::setup::{Subresources, Tracked};
 use crate::subresources::subresources_or_none;
 use crate::tracked_list::TrackedList;
-use base_types::json::Tree;
+use crate::values::{flag_of, values_of};
 use base_types::{Listed, OutOfMemory, Text};
 use hash_seed::Seed;
+use packed_tree::PackedRef;
 use path_shape::{FieldClass, Shape, ShapeEntries, ShapeFault};
 use std::alloc::Global;
 
@@ -106,27 +107,29 @@ fn merges_as(name: &str) -> Option<bool>
     }
 }
 
-fn merges_of(member: Option<&Tree>) -> Option<bool>
-    ensures { result ≡ merges_of (option_map (λ tree. tree.now) member.entry) }
+fn merges_of(member: Option<PackedRef<'_>>) -> Option<bool>
+    ensures { result ≡ merges_of member.entry }
 {
     match member {
-        Some(tree) => merges_as(tree.as_text()?.as_str()),
+        Some(value) => merges_as(value.as_text()?),
         None => Some(false),
     }
 }
 
-fn namespaced_of(tree: &Tree) -> Option<bool>
-    ensures { result ≡ option_and_then flag_of (member_of (codes "namespaced") tree.now) }
+fn namespaced_of(value: &PackedRef<'_>) -> Option<bool>
+    ensures { result ≡ option_and_then flag_of (member_of (codes "namespaced") value.now) }
 {
-    tree.member("namespaced")?.as_flag()
+    let member = value.member("namespaced")?;
+    flag_of(&member)
 }
 
 fn entry_with(
-    group: &Text,
-    version: &Text,
-    resource: &Text,
-    kind: &Text,
-    list_kind: &Text,
+    alloc: Global,
+    group: &str,
+    version: &str,
+    resource: &str,
+    kind: &str,
+    list_kind: &str,
     namespaced: bool,
     merges: bool,
 ) -> Result<Entry, OutOfMemory>
@@ -141,56 +144,56 @@ fn entry_with(
     }) }
 {
     Ok(Entry {
-        group: group.clone()?,
-        version: version.clone()?,
-        resource: resource.clone()?,
-        kind: kind.clone()?,
-        list_kind: list_kind.clone()?,
+        group: Text::from_str(alloc, group)?,
+        version: Text::from_str(alloc, version)?,
+        resource: Text::from_str(alloc, resource)?,
+        kind: Text::from_str(alloc, kind)?,
+        list_kind: Text::from_str(alloc, list_kind)?,
         namespaced,
         merges,
     })
 }
 
-fn read_entry(tree: &Tree) -> Result<Option<Entry>, OutOfMemory>
-    ensures entry { IfOk result (λ found. found ≡ entry_of tree.now) }
-    ensures memory { OnErr result (IsSome (entry_of tree.now)) }
+fn read_entry(alloc: Global, value: &PackedRef<'_>) -> Result<Option<Entry>, OutOfMemory>
+    ensures entry { IfOk result (λ found. found ≡ entry_of value.now) }
+    ensures memory { OnErr result (IsSome (entry_of value.now)) }
 {
-    if !is_form(&ENTRY_MEMBERS, tree) {
+    if !is_form(&ENTRY_MEMBERS, value) {
         return Ok(None);
     }
-    let Some(group) = tree.text_at("group") else {
+    let Some(group) = value.text_at("group") else {
         return Ok(None);
     };
-    let Some(version) = tree.filled_at("version") else {
+    let Some(version) = value.filled_at("version") else {
         return Ok(None);
     };
-    let Some(resource) = tree.filled_at("resource") else {
+    let Some(resource) = value.filled_at("resource") else {
         return Ok(None);
     };
-    let Some(kind) = tree.filled_at("kind") else {
+    let Some(kind) = value.filled_at("kind") else {
         return Ok(None);
     };
-    let Some(list_kind) = tree.filled_at("listKind") else {
+    let Some(list_kind) = value.filled_at("listKind") else {
         return Ok(None);
     };
-    let Some(namespaced) = namespaced_of(tree) else {
+    let Some(namespaced) = namespaced_of(value) else {
         return Ok(None);
     };
-    let Some(merges) = merges_of(tree.member("objectPatch")) else {
+    let Some(merges) = merges_of(value.member("objectPatch")) else {
         return Ok(None);
     };
     let entry = entry_with(
-        group, version, resource, kind, list_kind, namespaced, merges,
+        alloc, group, version, resource, kind, list_kind, namespaced, merges,
     )?;
     Ok(Some(entry))
 }
 
-fn read_entries(alloc: Global, trees: &[Tree]) -> Result<Option<Vec<Entry>>, OutOfMemory>
-    ensures { IfOk result (λ found. option_map (λ entries. entries.items) found ≡ entries_in trees.now) }
+fn read_entries(alloc: Global, values: &[PackedRef<'_>]) -> Result<Option<Vec<Entry>>, OutOfMemory>
+    ensures { IfOk result (λ found. option_map (λ entries. entries.items) found ≡ entries_in values.now) }
 {
     let mut entries = Vec::new(alloc);
-    for tree in trees {
-        let Some(entry) = read_entry(tree)? else {
+    for value in values {
+        let Some(entry) = read_entry(alloc, value)? else {
             return Ok(None);
         };
         entries.push(entry)?;
@@ -232,10 +235,14 @@ fn are_apart(alloc: Global, entries: &[Entry], seed: Seed) -> Result<bool, OutOf
 }
 
 // Whether the entries are apart, where each is in its form.
-fn are_entries_apart(alloc: Global, trees: &[Tree], seed: Seed) -> Result<Option<bool>, OutOfMemory>
-    ensures { IfOk result (λ apart. apart ≡ option_map are_apart (entries_in trees.now)) }
+fn are_entries_apart(
+    alloc: Global,
+    values: &[PackedRef<'_>],
+    seed: Seed,
+) -> Result<Option<bool>, OutOfMemory>
+    ensures { IfOk result (λ apart. apart ≡ option_map are_apart (entries_in values.now)) }
 {
-    let Some(entries) = read_entries(alloc, trees)? else {
+    let Some(entries) = read_entries(alloc, values)? else {
         return Ok(None);
     };
     Ok(Some(are_apart(alloc, &entries, seed)?))
@@ -257,47 +264,59 @@ fn formed(read: Result<Shape, ShapeFault>) -> Result<Option<Shape>, OutOfMemory>
 fn shape_or_root(
     alloc: Global,
     root: FieldClass,
-    member: Option<&Tree>,
+    member: Option<PackedRef<'_>>,
 ) -> Result<Option<Shape>, OutOfMemory>
-    ensures shape { IfOk result (λ found. found ≡ shape_or_root root (option_map (λ tree. tree.now) member.entry)) }
-    ensures memory { OnErr result (IsSome (option_map (λ tree. tree.now) member.entry)) }
+    ensures shape { IfOk result (λ found. found ≡ shape_or_root root member.entry) }
+    ensures memory { OnErr result (IsSome member.entry) }
 {
-    let Some(list) = member else {
+    let Some(member) = member else {
         let entries = ShapeEntries::new(alloc);
         return Ok(Some(Shape { root, entries }));
     };
-    formed(Shape::read(alloc, list, root))
+    let list = member.tree(alloc)?;
+    formed(Shape::read(alloc, &list, root))
 }
 
-pub fn shape_at(alloc: Global, root: FieldClass, tree: &Tree) -> Result<Option<Shape>, OutOfMemory>
-    ensures shape { IfOk result (λ found. found ≡ shape_at root tree.now) }
-    ensures memory { OnErr result (IsSome (member_of (codes "shapes") tree.now)) }
+pub fn shape_at(
+    alloc: Global,
+    root: FieldClass,
+    value: &PackedRef<'_>,
+) -> Result<Option<Shape>, OutOfMemory>
+    ensures shape { IfOk result (λ found. found ≡ shape_at root value.now) }
+    ensures memory { OnErr result (IsSome (member_of (codes "shapes") value.now)) }
 {
-    shape_or_root(alloc, root, tree.member("shapes"))
+    shape_or_root(alloc, root, value.member("shapes"))
 }
 
 // Whether the shape of each entry is in its form.
-fn have_shapes(alloc: Global, trees: &[Tree]) -> Result<bool, OutOfMemory>
-    ensures { IfOk result (λ have. have ≡ list_all has_shape trees.now) }
+fn have_shapes(alloc: Global, values: &[PackedRef<'_>]) -> Result<bool, OutOfMemory>
+    ensures have { IfOk result (λ have. have ≡ list_all has_shape values.now) }
+    ensures memory { OnErr result (IsTrue (list_any
+        (λ value. is_some (member_of (codes "shapes") value)) values.now)) }
 {
-    for tree in trees {
-        if shape_at(alloc, FieldClass::Asked, tree)?.is_none() {
+    for value in values {
+        if shape_at(alloc, FieldClass::Asked, value)?.is_none() {
             return Ok(false);
         }
     }
     Ok(true)
 }
 
-fn read_tracked(alloc: Global, tree: &Tree, seed: Seed) -> Result<Option<Tracked>, OutOfMemory>
-    ensures { IfOk result (λ found. found ≡ tracked_of tree.now) }
+fn read_tracked(
+    alloc: Global,
+    value: &PackedRef<'_>,
+    seed: Seed,
+) -> Result<Option<Tracked>, OutOfMemory>
+    ensures tracked { IfOk result (λ found. found ≡ tracked_of value.now) }
+    ensures memory { OnErr result (IsSome (entry_of value.now)) }
 {
-    let Some(entry) = read_entry(tree)? else {
+    let Some(entry) = read_entry(alloc, value)? else {
         return Ok(None);
     };
-    let Some(shape) = shape_at(alloc, FieldClass::Asked, tree)? else {
+    let Some(shape) = shape_at(alloc, FieldClass::Asked, value)? else {
         return Ok(None);
     };
-    let Some(subresources) = subresources_or_none(alloc, tree.member("subresources"), seed)? else {
+    let Some(subresources) = subresources_or_none(alloc, value.member("subresources"), seed)? else {
         return Ok(None);
     };
     Ok(Some(entry.into_tracked(shape, subresources)))
@@ -305,14 +324,14 @@ fn read_tracked(alloc: Global, tree: &Tree, seed: Seed) -> Result<Option<Tracked
 
 fn read_all_tracked(
     alloc: Global,
-    trees: &[Tree],
+    values: &[PackedRef<'_>],
     seed: Seed,
 ) -> Result<Option<Listed<Tracked>>, OutOfMemory>
-    ensures { IfOk result (λ found. found ≡ tracked_in trees.now) }
+    ensures { IfOk result (λ found. found ≡ tracked_in values.now) }
 {
     let mut resources = Listed::new(alloc);
-    for tree in trees {
-        let Some(tracked) = read_tracked(alloc, tree, seed)? else {
+    for value in values {
+        let Some(tracked) = read_tracked(alloc, value, seed)? else {
             return Ok(None);
         };
         resources.push(tracked)?;
@@ -320,28 +339,34 @@ fn read_all_tracked(
     Ok(Some(resources))
 }
 
-/// The resources of a setup. All entries are in their form before any two are compared, and so on.
-pub fn read_resources(alloc: Global, tree: &Tree, seed: Seed) -> Result<TrackedList, SetupFault>
-    ensures resources { IfOk result (λ resources. resources_at tree.now ≡ Ok resources) }
-    ensures cause { IfErr result (IsCause (resources_at tree.now)) }
-    ensures memory { result ≡ Err SetupFault.OutOfMemory → IsSome (option_and_then items_of (member_of
-        (codes "resources") tree.now)) }
+// The rule is broken where its test fails. Its type has no want of memory.
+fn unless_breaks(rule: SetupRule, holds: bool) -> Result<(), SetupRule>
+    ensures { result ≡ unless_breaks rule holds (Ok tt) }
 {
-    let Some(list) = tree.member("resources").and_then(Tree::as_items) else {
+    if holds { Ok(()) } else { Err(rule) }
+}
+
+/// The resources of a setup. All entries are in their form before any two are compared, and so on.
+pub fn read_resources(
+    alloc: Global,
+    value: &PackedRef<'_>,
+    seed: Seed,
+) -> Result<TrackedList, SetupFault>
+    ensures resources { IfOk result (λ resources. resources_at value.now ≡ Ok resources) }
+    ensures cause { IfErr result (IsCause (resources_at value.now)) }
+    ensures memory { result ≡ Err SetupFault.OutOfMemory → IsSome (option_and_then items_of (member_of
+        (codes "resources") value.now)) }
+{
+    let Some(member) = value.member("resources") else {
         return Err(SetupFault::Rule(SetupRule::S8));
     };
-    let trees = list.all.as_slice();
-    let Some(apart) = are_entries_apart(alloc, trees, seed)? else {
+    let Some(list) = member.as_items() else {
         return Err(SetupFault::Rule(SetupRule::S8));
     };
-    if !apart {
-        return Err(SetupFault::Rule(SetupRule::S9));
-    }
-    if !have_shapes(alloc, trees)? {
-        return Err(SetupFault::Rule(SetupRule::S10));
-    }
-    match read_all_tracked(alloc, trees, seed)? {
-        Some(resources) => Ok(TrackedList::of(alloc, resources.into_vec())?),
-        None => Err(SetupFault::Rule(SetupRule::S11)),
-    }
+    let values = values_of(alloc, list)?;
+    let apart = are_entries_apart(alloc, &values, seed)?.ok_or(SetupRule::S8)?;
+    unless_breaks(SetupRule::S9, apart)?;
+    unless_breaks(SetupRule::S10, have_shapes(alloc, &values)?)?;
+    let resources = read_all_tracked(alloc, &values, seed)?.ok_or(SetupRule::S11)?;
+    Ok(TrackedList::of(alloc, resources.into_vec())?)
 }

@@ -1,7 +1,7 @@
 use crate::tracked_list::TrackedList;
 use audit_policy::Policy;
-use base_types::json::Tree;
 use base_types::{Listed, Moment, ObjectKey, Revision, Text, Texts};
+use packed_tree::Packed;
 use path_shape::Shape;
 
 /// What is known of a cluster apart from its log: where and when the log begins, how its clocks may be
@@ -62,14 +62,14 @@ pub struct Subresource {
 
 pub type Snapshot = Listed<SnapshotObject>;
 
-/// An object as it was read at some moment, its tree in stored form.
+/// An object as it was read at some moment, its tree in stored form and packed.
 #[derive(Drop)]
 pub struct SnapshotObject {
     pub key: ObjectKey,
     pub revision: Revision,
     /// `metadata.uid`
     pub uid: Text,
-    pub tree: Tree,
+    pub tree: Packed,
 }
 
 pub type Checkpoints = Listed<Checkpoint>;

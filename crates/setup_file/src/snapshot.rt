@@ -1,5 +1,7 @@
-ghost use Rattle.std.specs.Prelude.{◌≡◌, ◌==◌, IfOk, IfErr, map, option_map, bytes_eq, nat_le};
+ghost use Rattle.std.specs.Prelude.{◌≡◌, ◌==◌, IfOk, IfErr, IsSome, map, option_map, option_and_then, bytes_eq};
+ghost use Rattle.std.specs.Prelude.{nat_le, codes};
 ghost use Rattle.std.specs.List.{list_all};
+ghost use Rattle.base_types.specs.Parts.{member_of, items_of};
 ghost use Rattle.setup_file.specs.Distinct.{are_distinct, key_eq};
 ghost use Rattle.setup_file.specs.Snapshots.{own_namespace, may_be_kind, snapshot_object_of, snapshot_entry_of};
 ghost use Rattle.setup_file.specs.Snapshots.{snapshot_in, are_at_start};
@@ -12,17 +14,18 @@ use crate::form::is_form;
 use crate::objects::{has_no, has_text_at, object_with};
 use crate::setup::{Snapshot, SnapshotObject, Tracked};
 use crate::tracked_list::TrackedList;
-use base_types::json::Tree;
+use crate::values::values_of;
 use base_types::{OutOfMemory, Revision};
 use hash_seed::Seed;
+use packed_tree::PackedRef;
 use std::alloc::Global;
 
 // The namespace of an object: one of a namespaced resource has one, and one of a cluster-wide resource none.
-fn own_namespace<'a>(tracked: &Tracked, metadata: &'a Tree) -> Option<&'a str>
+fn own_namespace<'a>(tracked: &Tracked, metadata: &PackedRef<'a>) -> Option<&'a str>
     ensures { option_map (λ text. text.now) result ≡ own_namespace tracked.now metadata.now }
 {
     if tracked.namespaced {
-        return Some(metadata.filled_at("namespace")?.as_str());
+        return metadata.filled_at("namespace");
     }
     match metadata.filled_at("namespace") {
         Some(_) => None,
@@ -31,20 +34,20 @@ fn own_namespace<'a>(tracked: &Tracked, metadata: &'a Tree) -> Option<&'a str>
 }
 
 // `kind` may be absent.
-fn may_be_kind(tracked: &Tracked, tree: &Tree) -> bool
-    ensures { result ≡ may_be_kind tracked.now tree.now }
+fn may_be_kind(tracked: &Tracked, value: &PackedRef<'_>) -> bool
+    ensures { result ≡ may_be_kind tracked.now value.now }
 {
-    has_no(tree, "kind") || has_text_at(tree, "kind", tracked.kind.as_str())
+    has_no(value, "kind") || has_text_at(value, "kind", tracked.kind.as_str())
 }
 
 fn read_object(
     alloc: Global,
     tracked: &Tracked,
-    tree: &Tree,
+    value: &PackedRef<'_>,
 ) -> Result<Option<SnapshotObject>, OutOfMemory>
-    ensures { IfOk result (λ found. found ≡ snapshot_object_of tracked.now tree.now) }
+    ensures { IfOk result (λ found. found ≡ snapshot_object_of tracked.now value.now) }
 {
-    let Some(metadata) = tree.member("metadata") else {
+    let Some(metadata) = value.member("metadata") else {
         return Ok(None);
     };
     let Some(name) = metadata.filled_at("name") else {
@@ -56,51 +59,51 @@ fn read_object(
     let Some(revision) = metadata.revision_at("resourceVersion") else {
         return Ok(None);
     };
-    let Some(namespace) = own_namespace(tracked, metadata) else {
+    let Some(namespace) = own_namespace(tracked, &metadata) else {
         return Ok(None);
     };
-    if !may_be_kind(tracked, tree) {
+    if !may_be_kind(tracked, value) {
         return Ok(None);
     }
-    let object = object_with(alloc, tracked, namespace, name, uid, revision, tree)?;
+    let object = object_with(alloc, tracked, namespace, name, uid, revision, value)?;
     Ok(Some(object))
 }
 
 fn read_entry(
     alloc: Global,
     resources: &TrackedList,
-    tree: &Tree,
+    value: &PackedRef<'_>,
 ) -> Result<Option<SnapshotObject>, OutOfMemory>
-    ensures { IfOk result (λ found. found ≡ snapshot_entry_of resources.now tree.now) }
+    ensures { IfOk result (λ found. found ≡ snapshot_entry_of resources.now value.now) }
 {
-    if !is_form(&["group", "resource", "object"], tree) {
+    if !is_form(&["group", "resource", "object"], value) {
         return Ok(None);
     }
-    let Some(group) = tree.text_at("group") else {
+    let Some(group) = value.text_at("group") else {
         return Ok(None);
     };
-    let Some(resource) = tree.text_at("resource") else {
+    let Some(resource) = value.text_at("resource") else {
         return Ok(None);
     };
-    let Some(tracked) = resources.find(group, resource) else {
+    let Some(tracked) = resources.find_named(alloc, group, resource)? else {
         return Ok(None);
     };
-    let Some(object) = tree.member("object") else {
+    let Some(object) = value.member("object") else {
         return Ok(None);
     };
-    read_object(alloc, tracked, object)
+    read_object(alloc, tracked, &object)
 }
 
 fn read_entries(
     alloc: Global,
     resources: &TrackedList,
-    trees: &[Tree],
+    values: &[PackedRef<'_>],
 ) -> Result<Option<Snapshot>, OutOfMemory>
-    ensures { IfOk result (λ found. found ≡ snapshot_in resources.now trees.now) }
+    ensures { IfOk result (λ found. found ≡ snapshot_in resources.now values.now) }
 {
     let mut objects = Snapshot::new(alloc);
-    for tree in trees {
-        let Some(object) = read_entry(alloc, resources, tree)? else {
+    for value in values {
+        let Some(object) = read_entry(alloc, resources, value)? else {
             return Ok(None);
         };
         objects.push(object)?;
@@ -178,16 +181,22 @@ pub fn read_snapshot(
     alloc: Global,
     start: Revision,
     resources: &TrackedList,
-    tree: &Tree,
+    value: &PackedRef<'_>,
     seed: Seed,
 ) -> Result<Snapshot, SetupFault>
-    ensures snapshot { IfOk result (λ snapshot. snapshot_at start resources.now tree.now ≡ Ok snapshot) }
-    ensures cause { IfErr result (IsCause (snapshot_at start resources.now tree.now)) }
+    ensures snapshot { IfOk result (λ snapshot. snapshot_at start resources.now value.now ≡ Ok snapshot) }
+    ensures cause { IfErr result (IsCause (snapshot_at start resources.now value.now)) }
+    ensures memory { result ≡ Err SetupFault.OutOfMemory → IsSome (option_and_then items_of (member_of
+        (codes "snapshot") value.now)) }
 {
-    let Some(list) = tree.member("snapshot").and_then(Tree::as_items) else {
+    let Some(member) = value.member("snapshot") else {
         return Err(SetupFault::Rule(SetupRule::S12));
     };
-    let Some(objects) = read_entries(alloc, resources, list.all.as_slice())? else {
+    let Some(list) = member.as_items() else {
+        return Err(SetupFault::Rule(SetupRule::S12));
+    };
+    let values = values_of(alloc, list)?;
+    let Some(objects) = read_entries(alloc, resources, &values)? else {
         return Err(SetupFault::Rule(SetupRule::S12));
     };
     if !are_at_start(alloc, start, objects.as_slice(), seed)? {

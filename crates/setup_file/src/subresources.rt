@@ -1,5 +1,5 @@
 ghost use Rattle.std.specs.Prelude.{◌≡◌, [], ◌∷◌, IfOk, OnErr, IsSome, IsTrue, codes};
-ghost use Rattle.std.specs.Prelude.{option_map, option_and_then};
+ghost use Rattle.std.specs.Prelude.{option_and_then};
 ghost use Rattle.base_types.specs.Parts.{items_of};
 ghost use Rattle.base_types.specs.Texts.{text_at};
 ghost use Rattle.setup_file.specs.Forms.{is_form};
@@ -10,9 +10,10 @@ use crate::distinct::are_texts_distinct;
 use crate::form::is_form;
 use crate::resources::shape_at;
 use crate::setup::{Subresource, Subresources};
-use base_types::OutOfMemory;
-use base_types::json::Tree;
+use crate::values::values_of;
+use base_types::{OutOfMemory, Text};
 use hash_seed::Seed;
+use packed_tree::PackedRef;
 use path_shape::FieldClass;
 use std::alloc::Global;
 
@@ -26,37 +27,43 @@ fn effect_as(name: &str) -> Option<bool>
     }
 }
 
-fn read_subresource(alloc: Global, tree: &Tree) -> Result<Option<Subresource>, OutOfMemory>
-    ensures subresource { IfOk result (λ found. found ≡ subresource_of tree.now) }
-    ensures form { OnErr result (IsTrue (is_form (codes "name" ∷ codes "effect" ∷ codes "shapes" ∷ []) tree.now)) }
-    ensures name { OnErr result (IsSome (text_at (codes "name") tree.now)) }
-    ensures effect { OnErr result (IsSome (option_and_then effect_as (text_at (codes "effect") tree.now))) }
+fn read_subresource(
+    alloc: Global,
+    value: &PackedRef<'_>,
+) -> Result<Option<Subresource>, OutOfMemory>
+    ensures subresource { IfOk result (λ found. found ≡ subresource_of value.now) }
+    ensures form { OnErr result (IsTrue (is_form (codes "name" ∷ codes "effect" ∷ codes "shapes" ∷ []) value.now)) }
+    ensures name { OnErr result (IsSome (text_at (codes "name") value.now)) }
+    ensures effect { OnErr result (IsSome (option_and_then effect_as (text_at (codes "effect") value.now))) }
 {
-    if !is_form(&["name", "effect", "shapes"], tree) {
+    if !is_form(&["name", "effect", "shapes"], value) {
         return Ok(None);
     }
-    let Some(name) = tree.text_at("name") else {
+    let Some(name) = value.text_at("name") else {
         return Ok(None);
     };
-    let Some(effect) = tree.text_at("effect") else {
+    let Some(effect) = value.text_at("effect") else {
         return Ok(None);
     };
-    let Some(same) = effect_as(effect.as_str()) else {
+    let Some(same) = effect_as(effect) else {
         return Ok(None);
     };
-    let Some(shape) = shape_at(alloc, FieldClass::Kept, tree)? else {
+    let Some(shape) = shape_at(alloc, FieldClass::Kept, value)? else {
         return Ok(None);
     };
-    let name = name.clone()?;
+    let name = Text::from_str(alloc, name)?;
     Ok(Some(Subresource { name, same, shape }))
 }
 
-fn read_subresources(alloc: Global, trees: &[Tree]) -> Result<Option<Subresources>, OutOfMemory>
-    ensures { IfOk result (λ found. found ≡ subresources_in trees.now) }
+fn read_subresources(
+    alloc: Global,
+    values: &[PackedRef<'_>],
+) -> Result<Option<Subresources>, OutOfMemory>
+    ensures { IfOk result (λ found. found ≡ subresources_in values.now) }
 {
     let mut subresources = Subresources::new(alloc);
-    for tree in trees {
-        let Some(subresource) = read_subresource(alloc, tree)? else {
+    for value in values {
+        let Some(subresource) = read_subresource(alloc, value)? else {
             return Ok(None);
         };
         subresources.push(subresource)?;
@@ -81,19 +88,20 @@ fn are_named_apart(
 /// The subresources of an entry of `resources`, none where it lists none.
 pub fn subresources_or_none(
     alloc: Global,
-    member: Option<&Tree>,
+    member: Option<PackedRef<'_>>,
     seed: Seed,
 ) -> Result<Option<Subresources>, OutOfMemory>
-    ensures list { IfOk result (λ found. found ≡ subresources_or_none (option_map (λ tree. tree.now) member.entry)) }
-    ensures memory { OnErr result (IsSome (option_and_then items_of (option_map (λ tree. tree.now) member.entry))) }
+    ensures list { IfOk result (λ found. found ≡ subresources_or_none member.entry) }
+    ensures memory { OnErr result (IsSome (option_and_then items_of member.entry)) }
 {
-    let Some(list) = member else {
+    let Some(member) = member else {
         return Ok(Some(Subresources::new(alloc)));
     };
-    let Some(trees) = list.as_items() else {
+    let Some(list) = member.as_items() else {
         return Ok(None);
     };
-    let Some(subresources) = read_subresources(alloc, trees.all.as_slice())? else {
+    let values = values_of(alloc, list)?;
+    let Some(subresources) = read_subresources(alloc, &values)? else {
         return Ok(None);
     };
     if !are_named_apart(alloc, subresources.as_slice(), seed)? {

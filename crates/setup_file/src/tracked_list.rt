@@ -105,4 +105,19 @@ impl TrackedList {
         let place = places.get(resource)?;
         self.all.get(*place)
     }
+
+    /// The resource of a group and a type that are read in place.
+    pub(crate) fn find_named(
+        &self,
+        alloc: Global,
+        group: &str,
+        resource: &str,
+    ) -> Result<Option<&Tracked>, OutOfMemory>
+        ensures { IfOk result (λ found. option_map (λ tracked. tracked.now) found
+            ≡ tracked_as self.now group.now resource.now) }
+    {
+        let group = Text::from_str(alloc, group)?;
+        let resource = Text::from_str(alloc, resource)?;
+        Ok(self.find(&group, &resource))
+    }
 }

@@ -21,7 +21,7 @@ use Rattle.history_model.specs.Making.{IsEntryAfter, IsEntryBefore, IsLeastFault
 use Rattle.history_model.specs.Readable.{IsReadable}
 use Rattle.history_model.specs.States.{latest}
 use Rattle.history_model.specs.Words.{answer_word, is_by, word, write_word, At, Makes, Strays}
-use Rattle.node_pool.proofs.Fronts.{slice_get-last}
+use Rattle.node_number.proofs.Growing.{slice_get-last}
 use Rattle.object_past.specs.Faulted.{AreFaults, IsFaultBy, IsFaultOf, IsLeastFoundFault}
 use Rattle.object_past.specs.Modelled.{maker_of, version_of}
 use Rattle.object_past.specs.Past.{Recorded, HasPast}

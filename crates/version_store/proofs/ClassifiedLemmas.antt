@@ -60,30 +60,36 @@ none_of setup [] each = refl
 none_of setup (event ∷ events) each = absurd each
 
 pub adds_no_events : (trees : List Meaning) (logged : List LogEvent) → AddsLogged trees trees [] logged logged
-adds_no_events trees logged = λ setup events more each are.
-    subst (λ l. AreLoggedEvents setup trees l logged) (sym (ap (λ m. events ++ m) (none_of setup more each) ∙ append-nil events)) are
+adds_no_events trees logged = record {
+  adds = λ setup events more each are. subst (λ l. AreLoggedEvents setup trees l logged) (sym (ap (λ m. events ++ m) (none_of setup more each) ∙ append-nil events)) are;
+}
 
 pub adds_no_selectors : (before : List LogEvent) (selectors : Selectors) → AddsSelectors before [] selectors selectors
-adds_no_selectors before selectors = λ setup events more each long are.
-    subst (λ l. AreSelectorsOf setup l selectors) (sym (ap (λ m. events ++ m) (none_of setup more each) ∙ append-nil events)) are
+adds_no_selectors before selectors = record {
+  adds = λ setup events more each long are. subst (λ l. AreSelectorsOf setup l selectors) (sym (ap (λ m. events ++ m) (none_of setup more each) ∙ append-nil events)) are;
+}
 
 pub adds_event : (old now new : List Meaning) (front : List Classified) (one : Classified) (before logged more : List LogEvent) (found : LogEvent) → Begins now new
     → AddsLogged old now front before logged → IsLoggedAs new one found → more ≡ logged ++ found ∷ [] → AddsLogged old new (front ++ one ∷ []) before more
-adds_event old now new front one before logged more found begins adds told pushed = λ setup events others each are.
-    let parts = parted setup others front one each in
-    let first = adds setup events parts.before parts.fronts are in
-    let all = logged_more setup now new begins (events ++ parts.before) logged parts.last found first (logged_from setup new parts.last one found parts.is told) in
-    let whole : (events ++ parts.before) ++ parts.last ∷ [] ≡ events ++ others = append_assoc events parts.before (parts.last ∷ []) ∙ ap (λ l. events ++ l) (sym parts.joined) in
-    subst (AreLoggedEvents setup new (events ++ others)) (sym pushed) (subst (λ l. AreLoggedEvents setup new l (logged ++ found ∷ [])) whole all)
+adds_event old now new front one before logged more found begins front_adds told pushed = record {
+  adds = λ setup events others each are.
+      let parts = parted setup others front one each in
+      let first = front_adds.adds setup events parts.before parts.fronts are in
+      let all = logged_more setup now new begins (events ++ parts.before) logged parts.last found first (logged_from setup new parts.last one found parts.is told) in
+      let whole : (events ++ parts.before) ++ parts.last ∷ [] ≡ events ++ others = append_assoc events parts.before (parts.last ∷ []) ∙ ap (λ l. events ++ l) (sym parts.joined) in
+      subst (AreLoggedEvents setup new (events ++ others)) (sym pushed) (subst (λ l. AreLoggedEvents setup new l (logged ++ found ∷ [])) whole all);
+}
 
 pub adds_selector : (before : List LogEvent) (front : List Classified) (one : Classified) (number : ℕ) (selector : Option (List Requirement)) (old now new : Selectors) → number ≡ length before + length front
     → AddsSelectors before front old now → selector ≡ selector_in one.answer → AddsSelector number selector now new → AddsSelectors before (front ++ one ∷ []) old new
-adds_selector before front one number selector old now new here adds is added = λ setup events others each long are.
-    let parts = parted setup others front one each in
-    let first = adds setup events parts.before parts.fronts long are in
-    let fronts_long : length front ≡ length parts.before = AllZip-long (IsClassified setup) parts.before front parts.fronts in
-    let at : number ≡ length (events ++ parts.before) = omega (arith, here, long, fronts_long, length-append events parts.before) in
-    let of_last : selector ≡ selector_in (class_of setup parts.last) = is ∙ ap selector_in parts.is.answer in
-    let next = subst (λ n. AddsSelector n (selector_in (class_of setup parts.last)) now new) at (subst (λ s. AddsSelector number s now new) of_last added) in
-    let whole : (events ++ parts.before) ++ parts.last ∷ [] ≡ events ++ others = append_assoc events parts.before (parts.last ∷ []) ∙ ap (λ l. events ++ l) (sym parts.joined) in
-    subst (λ l. AreSelectorsOf setup l new) whole (selectors_more setup (events ++ parts.before) parts.last now new first next)
+adds_selector before front one number selector old now new here front_adds is added = record {
+  adds = λ setup events others each long are.
+      let parts = parted setup others front one each in
+      let first = front_adds.adds setup events parts.before parts.fronts long are in
+      let fronts_long : length front ≡ length parts.before = AllZip-long (IsClassified setup) parts.before front parts.fronts in
+      let at : number ≡ length (events ++ parts.before) = omega (arith, here, long, fronts_long, length-append events parts.before) in
+      let of_last : selector ≡ selector_in (class_of setup parts.last) = is ∙ ap selector_in parts.is.answer in
+      let next = subst (λ n. AddsSelector n (selector_in (class_of setup parts.last)) now new) at (subst (λ s. AddsSelector number s now new) of_last added) in
+      let whole : (events ++ parts.before) ++ parts.last ∷ [] ≡ events ++ others = append_assoc events parts.before (parts.last ∷ []) ∙ ap (λ l. events ++ l) (sym parts.joined) in
+      subst (λ l. AreSelectorsOf setup l new) whole (selectors_more setup (events ++ parts.before) parts.last now new first next);
+}

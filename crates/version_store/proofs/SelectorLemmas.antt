@@ -9,7 +9,7 @@ use Rattle.std.specs.Ordering.{nat_cmp}
 use Rattle.label_select.specs.declared.selector.Requirement.{Requirement}
 use Rattle.audit_event.specs.declared.event.Event.{Event}
 use Rattle.setup_file.specs.declared.setup.Setup.{Setup}
-use Rattle.node_pool.proofs.Fronts.{slice_get-last}
+use Rattle.node_number.proofs.Growing.{slice_get-last}
 use Rattle.answer_class.specs.Classes.{class_of}
 use Rattle.version_store.proofs.PoolLemmas.{more_taken, length_taken}
 use Rattle.version_store.specs.LogSelectors.{Selectors, selector_in, selector_at, or_else, AddsSelector, AreSelectorsOf}

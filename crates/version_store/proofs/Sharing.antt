@@ -4,10 +4,9 @@ use Rattle.std.proofs.MapsCrossing as mapped
 use Rattle.answer_class.specs.contracts.answer.Answer as answer
 use Rattle.audit_event.specs.contracts.event.Event as event
 use Rattle.base_types.specs.contracts.text.Text as text
-use Rattle.base_types.proofs.json.tree.Member.TheLaws.TheKnot as knot
-use Rattle.base_types.specs.contracts.json.tree.Tree as tree
 use Rattle.label_select.specs.contracts.selector.Requirement as requirement
 use Rattle.node_pool.specs.contracts.pool.Pool as pool
+use Rattle.packed_tree.proofs.packed.Packed.TheSendSync as packed
 use Rattle.setup_file.proofs.tracked_list.TrackedList.TheSendSync as resources
 use Rattle.setup_file.specs.contracts.setup.Setup as setup
 use Rattle.setup_file.specs.contracts.setup.SnapshotObject as object
@@ -17,11 +16,8 @@ use Rattle.write_groups.specs.contracts.event.LogEvent as logged
 use denote.Param.Send.{IsSend, IsSync, sendable}
 use denote.Param.SendFields.{declared_send, declared_sync}
 
-pub tree_shared : IsSync tree.the_row
-tree_shared = search (knot.sync-Tree, sendable, owned.crosses) depth 60 fits 20000
-
 pub event_shared : IsSync event.the_row
-event_shared = search (tree_shared, sendable, owned.crosses) depth 60 fits 20000
+event_shared = search (packed.the_sync, sendable, owned.crosses) depth 60 fits 20000
 
 -- field by field
 pub setup_shared : IsSync setup.the_row
@@ -42,13 +38,13 @@ setup_shared = declared_sync setup.the_type (
               (
                 resources.the_sync,
                 (
-                  search (tree_shared, sendable, owned.crosses) depth 60 fits 20000,
+                  search (packed.the_sync, sendable, owned.crosses) depth 60 fits 20000,
                   (
                     search (sendable, owned.crosses) depth 60 fits 20000,
                     (
                       search (sendable, owned.crosses) depth 60 fits 20000,
                       (
-                        search (tree_shared, sendable, owned.crosses) depth 60 fits 20000,
+                        search (packed.the_sync, sendable, owned.crosses) depth 60 fits 20000,
                         tt,
                       ),
                     ),
@@ -73,13 +69,13 @@ text_sent : IsSend text.the_row
 text_sent = search (sendable, owned.crosses) depth 60 fits 20000
 
 object_sent : IsSend object.the_row
-object_sent = search (knot.send-Tree, text_sent, sendable, owned.crosses) depth 60 fits 20000
+object_sent = search (packed.the_send, text_sent, sendable, owned.crosses) depth 60 fits 20000
 
 requirement_sent : IsSend requirement.the_row
 requirement_sent = search (text_sent, sendable, owned.crosses) depth 60 fits 20000
 
 answer_sent : IsSend answer.the_row
-answer_sent = search (knot.send-Tree, text_sent, object_sent, requirement_sent, sendable, owned.crosses) depth 60 fits 20000
+answer_sent = search (packed.the_send, text_sent, object_sent, requirement_sent, sendable, owned.crosses) depth 60 fits 20000
 
 -- field by field
 pub classified_sent : IsSend classified.the_row

@@ -47,10 +47,8 @@ abbrev pub classified_trees : List Classified → List Meaning
 classified_trees classified = flat_map (λ one. answer_trees one.answer) classified
 
 -- whichever events come before, these come next
-abbrev pub AddsLogged : List Meaning → List Meaning → List Classified → List LogEvent → List LogEvent → Type 0
-AddsLogged old new classified before after =
-    (setup : Setup) (events more : List Event) → AreClassified setup more classified → AreLoggedEvents setup old events before → AreLoggedEvents setup new (events ++ more) after
+pub record AddsLogged (old new : List Meaning) (classified : List Classified) (before after : List LogEvent) : Type 0 where
+  pub adds : (setup : Setup) (events more : List Event) → AreClassified setup more classified → AreLoggedEvents setup old events before → AreLoggedEvents setup new (events ++ more) after
 
-abbrev pub AddsSelectors : List LogEvent → List Classified → Selectors → Selectors → Type 0
-AddsSelectors before classified old new =
-    (setup : Setup) (events more : List Event) → AreClassified setup more classified → length before ≡ length events → AreSelectorsOf setup events old → AreSelectorsOf setup (events ++ more) new
+pub record AddsSelectors (before : List LogEvent) (classified : List Classified) (old new : Selectors) : Type 0 where
+  pub adds : (setup : Setup) (events more : List Event) → AreClassified setup more classified → length before ≡ length events → AreSelectorsOf setup events old → AreSelectorsOf setup (events ++ more) new

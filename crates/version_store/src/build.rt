@@ -149,6 +149,7 @@ fn found_of<R: Threads + Sync>(
     events: &Events,
     pool: &Pool,
     log: &Log,
+    seed: Seed,
 ) -> Result<Found, OutOfMemory>
     requires setup { IsSound setup.now }
     requires events { All IsSoundEvent events.now }
@@ -169,7 +170,7 @@ fn found_of<R: Threads + Sync>(
         log: logged,
         pool,
     };
-    let found = past_foreseen(rt, alloc, &bodies, setup.start, snapshot, logged)?;
+    let found = past_foreseen(rt, alloc, &bodies, setup.start, snapshot, logged, seed)?;
     let parts = parts_of(alloc, found)?;
     let Ok(told) = told_of(alloc, &bodies, &parts) else {
         drop(parts);
@@ -206,7 +207,7 @@ fn gather<R: Threads + Sync>(
         }
     };
     let pool = interner.into_pool()?;
-    let Ok(found) = found_of(rt, alloc, setup, events, &pool, &log) else {
+    let Ok(found) = found_of(rt, alloc, setup, events, &pool, &log, seed) else {
         drop(pool);
         return Err(BuildFault::OutOfMemory);
     };
@@ -254,7 +255,7 @@ fn joined(setup: Setup, events: Events, gathered: Gathered) -> Context
 impl Context {
     /// What a setup and the events of a log say together. The objects may have 50,000,000 distinct values, lists and
     /// members among them. Several threads classify the events and judge the bodies of writes. The hashes of what the
-    /// pool holds begin with the seed.
+    /// pool holds, and of keys and uids, begin with the seed.
     pub fn build<R: Threads + Sync>(
         rt: &R,
         alloc: Global,

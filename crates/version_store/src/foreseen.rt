@@ -6,7 +6,8 @@ ghost use Rattle.version_store.specs.Verdicts.{IsVerdict};
 
 use crate::verdicts::{Verdict, cases_of, right_among, verdicts_of};
 use base_types::{OutOfMemory, Revision};
-use node_pool::NodeId;
+use hash_seed::Seed;
+use node_number::NodeId;
 use object_versions::{Bodies, LogPast, past_of};
 use std::alloc::Global;
 use std::marker::Sync;
@@ -39,6 +40,7 @@ impl<'a, B: Bodies> Bodies for Foreseen<'a, B> {
 
 /// The past that a log shows, its lines rising, behind a snapshot of the start. Several threads judge the bodies of
 /// writes by what seems to have been there before each; those few where something else was there are judged once more.
+/// The hashes of what is looked up begin with the seed.
 pub fn past_foreseen<R: Threads + Sync, B: Bodies + Sync>(
     rt: &R,
     alloc: Global,
@@ -46,6 +48,7 @@ pub fn past_foreseen<R: Threads + Sync, B: Bodies + Sync>(
     start: Revision,
     snapshot: &[Item],
     events: &[LogEvent],
+    seed: Seed,
 ) -> Result<LogPast, OutOfMemory>
     requires few { length events.now < 2 ^ 32 }
     requires lines { AllPairs (λ a b. a.line < b.line) events.now }
@@ -64,5 +67,5 @@ pub fn past_foreseen<R: Threads + Sync, B: Bodies + Sync>(
         bodies,
         verdicts: &verdicts,
     };
-    past_of(alloc, &foreseen, start, snapshot, events)
+    past_of(alloc, &foreseen, start, snapshot, events, seed)
 }

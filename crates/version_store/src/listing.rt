@@ -6,7 +6,7 @@ use crate::context::Context;
 use base_types::OutOfMemory;
 use base_types::json::Tree;
 use label_select::matches;
-use node_pool::NodeId;
+use node_number::NodeId;
 
 impl Context {
     /// Whether the list that an event was answered with has an object of the tree of this number: each object where the

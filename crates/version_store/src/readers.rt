@@ -13,7 +13,7 @@ ghost use Rattle.version_store.specs.Membered.{AreMembersAt};
 
 use crate::context::Context;
 use base_types::{ObjectKey, Revision, Text};
-use node_pool::NodeId;
+use node_number::NodeId;
 use object_past::{Incarnation, Maker, Version};
 use write_groups::{Group, Shown};
 

@@ -2,7 +2,7 @@ ghost use Rattle.std.specs.Prelude.{◌≡◌, ℕ, Bool, Option, All, IfOk, IfS
 ghost use Rattle.version_store.specs.Verdicts.{IsVerdict};
 
 use base_types::{ObjectKey, OutOfMemory};
-use node_pool::NodeId;
+use node_number::NodeId;
 use object_versions::Bodies;
 use rayon::prelude::*;
 use std::alloc::Global;

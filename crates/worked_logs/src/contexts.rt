@@ -2,7 +2,7 @@ use crate::context_rows::{ROWS, Row, SEEN_EARLY};
 use crate::reading::{assert_text, check, context};
 use crate::setups::CHECKED;
 use base_types::{ObjectKey, Revision};
-use node_pool::NodeId;
+use node_number::NodeId;
 use std::marker::Sync;
 use std::process::Abort;
 use std::string::String;

@@ -1,10 +1,11 @@
 ghost use Rattle.std.specs.Prelude.{◌<◌, IfSome, length};
 
-use crate::reading::{check, is_tree, read};
+use crate::reading::{check, is_tree, packed, read};
 use base_types::Text;
 use base_types::json::read_pointer;
 use hash_seed::Seed;
-use node_pool::{Interner, NodeId, Pool, PoolFault};
+use node_number::NodeId;
+use node_pool::{Interner, Pool, PoolFault};
 use std::marker::{Send, Sync};
 use std::process::Abort;
 
@@ -25,9 +26,9 @@ fn intern(
     interner: &mut Interner,
     text: &str,
 ) -> Result<NodeId, PoolFault> {
-    let tree = read(rt, text);
-    let interned = interner.intern(&tree);
-    drop(tree);
+    let value = packed(rt, text);
+    let interned = interner.intern(&value.root());
+    drop(value);
     interned
 }
 
@@ -51,11 +52,11 @@ fn intern_like(
     like: &str,
     text: &str,
 ) -> Result<NodeId, PoolFault> {
-    let tree = read(rt, text);
+    let value = packed(rt, text);
     let like = Text::from_str(rt.alloc(), like).expect(rt, "memory");
-    let interned = interner.intern_like(&like, &tree);
+    let interned = interner.intern_like(&like, &value.root());
     drop(like);
-    drop(tree);
+    drop(value);
     interned
 }
 

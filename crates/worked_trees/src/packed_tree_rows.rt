@@ -1,4 +1,4 @@
-use crate::reading::{check, is_tree, push};
+use crate::reading::{check, is_tree, packed, push};
 use base_types::json::TreeFault;
 use packed_tree::{Packed, PackedRef, pack};
 use serde_json::Value;
@@ -7,13 +7,6 @@ use std::process::Abort;
 
 // A value that may be sent to threads and shared by them.
 fn shared<T: Send + Sync>(_value: &T) {}
-
-fn packed(rt: &(impl Abort + AllocGlobal), text: &str) -> Packed {
-    let value = Value::from_str(rt.alloc(), text).expect(rt, "JSON");
-    let packed = pack(rt.alloc(), &value).expect(rt, "a packed value");
-    drop(value);
-    packed
-}
 
 // Distinct values, among them the numbers at the ends of their range.
 static DISTINCT: [&str; 12] = [

@@ -1,4 +1,5 @@
 use base_types::json::{MemberList, Node, Tree, equal, from_value};
+use packed_tree::{Packed, pack};
 use serde_json::Value;
 use std::process::Abort;
 
@@ -8,6 +9,14 @@ pub(crate) fn read(rt: &(impl Abort + AllocGlobal), text: &str) -> Tree {
     let tree = from_value(rt.alloc(), &value).expect(rt, "a tree");
     drop(value);
     tree
+}
+
+/// The packed value of a JSON text.
+pub(crate) fn packed(rt: &(impl Abort + AllocGlobal), text: &str) -> Packed {
+    let value = Value::from_str(rt.alloc(), text).expect(rt, "JSON");
+    let packed = pack(rt.alloc(), &value).expect(rt, "a packed value");
+    drop(value);
+    packed
 }
 
 /// Whether a tree is that of a JSON text.

@@ -3,7 +3,7 @@ ghost use Rattle.write_groups.specs.Lines.{line_at};
 ghost use Rattle.write_groups.specs.Met.{are_met};
 
 use base_types::{Cover, Decision, Listed, Moment, ObjectKey, Revision, Text};
-use node_pool::NodeId;
+use node_number::NodeId;
 
 /// One object as an answer shows it.
 #[derive(Drop)]

@@ -1,6 +1,6 @@
 ghost use Rattle.std.specs.Prelude.{◌≡◌, ◌<◌, ◌≤◌, ◌+◌, ◌^◌, ◌++◌, [], ◌∷◌, Err, length, All, IfOk, OnOk};
 ghost use Rattle.audit_event.specs.Events.{IsSound};
-ghost use Rattle.version_store.specs.Classified.{AddsLogged, AddsSelectors, IsLoggedAs, classified_trees};
+ghost use Rattle.version_store.specs.Classified.{AddsLogged, AddsSelectors, AreClassified, IsLoggedAs, classified_trees};
 ghost use Rattle.version_store.specs.LogSelectors.{selector_in, AddsSelector, AreSelectorsOf};
 ghost use Rattle.version_store.specs.LogTrees.{answer_trees, event_trees, with_trees};
 ghost use Rattle.version_store.specs.Logged.{AreLoggedEvents};
@@ -16,10 +16,11 @@ use node_pool::Interner;
 use setup_file::Setup;
 use std::alloc::Global;
 use std::marker::Sync;
-use std::thread::Threads;
+use std::mem;
+use std::thread::{Threads, join_mut};
 use write_groups::{LogEvent, LogEvents};
 
-/// So many events are classified at a time, so that no more of their trees stand beside the pool.
+/// So many events are classified at a time, so that the trees of two batches at most stand beside the pool.
 const EVENTS_IN_A_BATCH: usize = 2_048;
 
 // An event of a log, and the label selector where its answer is a whole list with one.
@@ -116,8 +117,45 @@ fn add_all(
     Ok(())
 }
 
+// Adds events that are classified, while other threads classify the events behind them. A fault of those that are added
+// comes before want of memory for those behind.
+fn add_and_classify<R: Threads + Sync>(
+    rt: &R,
+    alloc: Global,
+    pool: &mut Interner,
+    all: &mut LoggedEvents,
+    mut ahead: Vec<Classified>,
+    setup: &Setup,
+    next: &[Event],
+) -> Result<Vec<Classified>, BuildFault>
+    requires slack { setup.now.slack ≤ 10 ^ 18 }
+    requires sound { All IsSound next.now }
+    requires few { length all.old.events + length ahead.items < 2 ^ 32 }
+    ensures next { IfOk result (λ classified. AreClassified setup.now next.now classified.items) }
+    ensures logged { OnOk result (AddsLogged pool.old.trees pool.new.trees ahead.items
+        all.old.events all.new.events) }
+    ensures selectors { OnOk result (AddsSelectors all.old.events ahead.items all.old.selectors
+        all.new.selectors) }
+    ensures added { OnOk result
+        (pool.new.trees ≡ with_trees pool.old.trees (classified_trees ahead.items)) }
+    ensures full { result ≡ Err BuildFault.PoolFull
+        → pool.old.limit < length (with_trees pool.old.trees (classified_trees ahead.items)) }
+    ensures limit { pool.new.limit ≡ pool.old.limit }
+{
+    let mut classify = move || -> Result<Vec<Classified>, OutOfMemory>
+        requires slack { setup.now.slack ≤ 10 ^ 18 }
+        requires sound { All IsSound next.now }
+    { classify_all(rt, alloc, setup, next) };
+    let mut add = || -> Result<(), BuildFault>
+        requires { length all.now.events + length ahead.items < 2 ^ 32 }
+    { add_all(alloc, pool, all, mem::replace(&mut ahead, Vec::new(alloc))) };
+    let (classified, added) = join_mut(rt, &mut classify, &mut add);
+    added?;
+    Ok(classified?)
+}
+
 /// The events of a log in the terms of the model of history, once the trees that their answers show are in the pool.
-/// Several threads classify the events of a batch.
+/// Several threads classify the events of a batch, while those of the batch before are added.
 pub fn events_of<R: Threads + Sync>(
     rt: &R,
     alloc: Global,
@@ -141,9 +179,10 @@ pub fn events_of<R: Threads + Sync>(
         events: LogEvents::new(alloc),
         selectors: Selectors::new(alloc),
     };
+    let mut ahead = Vec::new(alloc);
     for batch in events.chunks(EVENTS_IN_A_BATCH) {
-        let classified = classify_all(rt, alloc, setup, batch)?;
-        add_all(alloc, pool, &mut all, classified)?;
+        ahead = add_and_classify(rt, alloc, pool, &mut all, ahead, setup, batch)?;
     }
+    add_all(alloc, pool, &mut all, ahead)?;
     Ok(all)
 }

@@ -6,10 +6,10 @@ ghost use Rattle.version_store.specs.Shown.{object_of, IsItemOf, AreItemsOf, IsS
 
 use crate::log::fault::BuildFault;
 use answer_class::Answer;
-use base_types::json::Tree;
 use base_types::{ObjectKey, Revision, Text};
 use label_select::Selector;
 use node_pool::Interner;
+use packed_tree::{Packed, PackedRef};
 use setup_file::{Snapshot, SnapshotObject};
 use std::alloc::Global;
 use write_groups::{Item, Items, Listing, Shown};
@@ -19,7 +19,7 @@ fn item_of(
     key: ObjectKey,
     revision: Revision,
     uid: Text,
-    tree: &Tree,
+    tree: &PackedRef<'_>,
 ) -> Result<Item, BuildFault>
     ensures item { IfOk result (IsItemOf pool.new.trees (object_of key revision uid tree.now)) }
     ensures added { OnOk result (pool.new.trees ≡ interned pool.old.trees tree.now) }
@@ -42,7 +42,7 @@ fn item_with(
     key: ObjectKey,
     revision: Revision,
     uid: Text,
-    tree: Tree,
+    tree: Packed,
 ) -> Result<Item, BuildFault>
     ensures item { IfOk result (IsItemOf pool.new.trees (object_of key revision uid tree)) }
     ensures added { OnOk result (pool.new.trees ≡ interned pool.old.trees tree) }
@@ -50,7 +50,7 @@ fn item_with(
         → pool.old.limit < length (interned pool.old.trees tree) }
     ensures limit { pool.new.limit ≡ pool.old.limit }
 {
-    let item = item_of(pool, key, revision, uid, &tree);
+    let item = item_of(pool, key, revision, uid, &tree.root());
     drop(tree);
     item
 }
@@ -65,7 +65,7 @@ fn copied_item(pool: &mut Interner, object: &SnapshotObject) -> Result<Item, Bui
 {
     let key = object.key.clone()?;
     let uid = object.uid.clone()?;
-    item_of(pool, key, object.revision, uid, &object.tree)
+    item_of(pool, key, object.revision, uid, &object.tree.root())
 }
 
 /// The items of objects, whose trees are put into the pool one after another.

@@ -1,7 +1,10 @@
-use Rattle.std.proofs.Common.{◌≡◌, drop}
+use Rattle.std.proofs.Common.{◌≡◌, length}
 use Rattle.std.specs.Prelude.{map}
 use Rattle.setup_file.specs.Forms.{has_only}
 use Rattle.setup_file.proofs.form.has_only.Given as goal
 
-abbrev pub invariant-loop-member : goal.invariant-loop-member
-invariant-loop-member l = has_only (map (λ known. known.now) l.known) l.members ≡ has_only (map (λ known. known.now) l.known) (drop l.member-index l.members)
+abbrev pub invariant-members : goal.invariant-members
+invariant-members l = has_only (map (λ known. known.now) l.known) l.initial.rest ≡ has_only (map (λ known. known.now) l.known) l.rest
+
+abbrev pub decreases-members : goal.decreases-members
+decreases-members l = length l.rest

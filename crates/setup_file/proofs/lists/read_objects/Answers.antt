@@ -4,8 +4,8 @@ use Rattle.setup_file.specs.Objects.{object_of}
 use Rattle.setup_file.proofs.Gathered.{gathered}
 use Rattle.setup_file.proofs.lists.read_objects.Goals as goal
 
-pub loop-tree-preserved : goal.loop-tree-preserved
-loop-tree-preserved c =
+pub loop-value-preserved : goal.loop-value-preserved
+loop-value-preserved c =
     rw c.in_ok-push.ensures.ok
-    (gathered (object_of c.args.tracked.now c.args.name.now c.args.namespace.now) (objects_in c.args.tracked.now c.args.name.now c.args.namespace.now) (λ x xs. refl) _ c.args.trees.now c.loop-tree.tree-index c.tree-item.result c.loop-tree.objects c.in-Some.object c.loop-tree-test.true c.tree-item.is
-    (sym c.in_ok-object.ensures ∙ c.in-Some.is) c.loop-tree.invariant)
+    (gathered (object_of c.args.tracked.now c.args.name.now c.args.namespace.now) (objects_in c.args.tracked.now c.args.name.now c.args.namespace.now) (λ x xs. refl) _ c.args.values.now c.loop-value.value-index c.value-item.result c.loop-value.objects c.in-Some.object c.loop-value-test.true c.value-item.is
+    (sym c.in_ok-object.ensures ∙ c.in-Some.is) c.loop-value.invariant)

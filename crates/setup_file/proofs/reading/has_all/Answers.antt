@@ -5,4 +5,4 @@ use Rattle.base_types.specs.Parts.{member_of}
 use Rattle.setup_file.proofs.reading.has_all.Goals as goal
 
 pub returns : goal.returns
-returns c = c.has_each.ensures ∙ sym (list_all-map (λ name. is_some (member_of name c.args.tree.now)) (λ name. name.now) c.args.names.now)
+returns c = c.has_each.ensures ∙ sym (list_all-map (λ name. is_some (member_of name c.args.value.now)) (λ name. name.now) c.args.names.now)

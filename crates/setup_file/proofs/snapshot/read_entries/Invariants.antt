@@ -3,5 +3,5 @@ use Rattle.std.specs.Prelude.{option_map}
 use Rattle.setup_file.specs.Snapshots.{snapshot_in}
 use Rattle.setup_file.proofs.snapshot.read_entries.Given as goal
 
-abbrev pub invariant-loop-tree : goal.invariant-loop-tree
-invariant-loop-tree l = snapshot_in l.resources l.trees ≡ option_map (λ rest. l.objects ++ rest) (snapshot_in l.resources (drop l.tree-index l.trees))
+abbrev pub invariant-loop-value : goal.invariant-loop-value
+invariant-loop-value l = snapshot_in l.resources l.values ≡ option_map (λ rest. l.objects ++ rest) (snapshot_in l.resources (drop l.value-index l.values))

@@ -3,5 +3,5 @@ use Rattle.std.specs.Prelude.{option_map}
 use Rattle.setup_file.specs.Resources.{subresources_in}
 use Rattle.setup_file.proofs.subresources.read_subresources.Given as goal
 
-abbrev pub invariant-loop-tree : goal.invariant-loop-tree
-invariant-loop-tree l = subresources_in l.trees ≡ option_map (λ rest. l.subresources ++ rest) (subresources_in (drop l.tree-index l.trees))
+abbrev pub invariant-loop-value : goal.invariant-loop-value
+invariant-loop-value l = subresources_in l.values ≡ option_map (λ rest. l.subresources ++ rest) (subresources_in (drop l.value-index l.values))

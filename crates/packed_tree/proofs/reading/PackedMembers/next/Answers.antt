@@ -1,10 +1,9 @@
 use Rattle.std.proofs.Common.{◌≡◌, ◌<◌, length, ◌∷◌, ap, sym, subst, ◌∙◌, arith}
 use Rattle.base_types.specs.Meaning.{fields_list}
-use Rattle.base_types.specs.Names.{AreSorted}
 use Rattle.packed_tree.specs.Frames.{part_in, rest_in}
 use Rattle.packed_tree.specs.Decoding.{decode, fields_in}
-use Rattle.packed_tree.specs.Sound.{IsSound, AreFieldsSound}
-use Rattle.packed_tree.proofs.Steps.{fields_step, fields_sound, sorted_rest}
+use Rattle.packed_tree.specs.Sound.{IsPacked, AreFieldsPacked}
+use Rattle.packed_tree.proofs.Steps.{fields_step, fields_packed}
 use Rattle.packed_tree.proofs.reading.PackedMembers.next.Goals as goal
 
 pub invariant_of-result : goal.invariant_of-result
@@ -12,14 +11,14 @@ invariant_of-result c =
     let bs = c.self.inside.bytes.now in
     let some : 0 < length bs = grind arith in
     let value : c.cut-2.result.0.now ≡ part_in (rest_in bs) = c.cut-2.ensures.part ∙ ap part_in c.cut.ensures.rest in
-    subst (λ xs. IsSound (decode xs)) (sym value) (fields_sound bs some c.self.invariant.0).1
+    subst IsPacked (sym value) (fields_packed bs some c.self.invariant).1
 
 pub invariant_of-self : goal.invariant_of-self
 invariant_of-self c =
     let bs = c.self.inside.bytes.now in
     let some : 0 < length bs = grind arith in
     let more : c.cut-2.result.1.now ≡ rest_in (rest_in bs) = c.cut-2.ensures.rest ∙ ap rest_in c.cut.ensures.rest in
-    (subst (λ xs. AreFieldsSound (fields_in xs)) (sym more) (fields_sound bs some c.self.invariant.0).2, subst (λ xs. AreSorted (fields_list (fields_in xs))) (sym more) (sorted_rest bs some c.self.invariant.1))
+    subst AreFieldsPacked (sym more) (fields_packed bs some c.self.invariant).2
 
 pub returns-clause-member : goal.returns-clause-member
 returns-clause-member c =

@@ -1,6 +1,6 @@
 use Rattle.std.proofs.Common.{◌≡◌, ◌<◌, ℕ, Some, None, Option, IfSome, option_map, slice_get, length, refl, sym, ap, ◌∙◌}
 use Rattle.std.proofs.lemmas.Option.{slice_get_read}
-use Rattle.node_pool.specs.declared.pool.NodeId.{NodeId}
+use Rattle.node_number.specs.declared.node.NodeId.{NodeId}
 use Rattle.write_groups.specs.Modelled.{answer_of}
 use Rattle.write_groups.specs.declared.event.LogEvent.{LogEvent}
 use Rattle.version_store.proofs.ShownTrees.{logged_within}
