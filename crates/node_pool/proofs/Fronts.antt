@@ -4,7 +4,7 @@ use Rattle.std.specs.Bool.{Decides}
 use Rattle.std.specs.List.{list_any}
 use Rattle.std.proofs.lemmas.Bool.{false≢true}
 use Rattle.std.proofs.lemmas.List.{append-nil, take-append-drop}
-use Rattle.node_number.proofs.Growing.{slice_get-front, slice_get-last}
+use Rattle.node_number.proofs.Growing.{slice_get-front}
 use Rattle.node_pool.specs.Pooled.{AreDistinct}
 use Rattle.node_pool.specs.Subtrees.{Begins}
 

@@ -122,11 +122,6 @@ impl GrowingStore {
         near::item(&self.levels, near, index)
     }
 
-    /// A guess: how many children the array or object that is guessed has.
-    pub fn width_near(&self, near: Option<u32>) -> usize {
-        near::width(&self.levels, near).unwrap_or(0)
-    }
-
     /// The guessed number, where it has this value, and nothing is within the value. So the value adds nothing.
     pub fn leaf_near(&self, near: Option<u32>, shown: &Shown<'_>) -> Option<u32>
         ensures number { IfSome result (λ n. slice_get self.now.trees n ≡ Some (meaning_of shown.now)) }

@@ -90,7 +90,7 @@ fn add_items(
     ensures full { result ≡ Err PoolFault.Full → store.old.limit < length (fold with_tree store.old.trees
         (inside_kids (kids_of list.entry))) }
 {
-    let mut numbers = Vec::with_capacity(alloc, store.width_near(near))?;
+    let mut numbers = Vec::new(alloc);
     let mut rest = list;
     'items: while let Some(item) = rest.next() {
         let guess = store.item_near(near, numbers.len());
@@ -118,7 +118,7 @@ fn add_members(
     ensures full { result ≡ Err PoolFault.Full → store.old.limit < length (fold with_tree store.old.trees
         (inside_fields (fields_of list.entry))) }
 {
-    let mut numbers = Vec::with_capacity(alloc, store.width_near(near))?;
+    let mut numbers = Vec::new(alloc);
     let mut from = 0;
     list.sorted();
     let mut rest = list;

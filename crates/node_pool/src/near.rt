@@ -58,16 +58,6 @@ fn is_leaf(level: &Level, shown: &Shown<'_>) -> bool
     }
 }
 
-/// A guess: how many children the guessed array or object has.
-pub fn width(levels: &IndexSet<Level, Seeded>, near: Option<u32>) -> Option<usize> {
-    let there = levels.get_index(near? as usize)?;
-    match &there.form {
-        Form::Items(numbers) => Some(numbers.len()),
-        Form::Members(numbers) => Some(numbers.len()),
-        _ => None,
-    }
-}
-
 /// A guess: the number of the guessed array's item at an index.
 pub fn item(levels: &IndexSet<Level, Seeded>, near: Option<u32>, index: usize) -> Option<u32> {
     let there = levels.get_index(near? as usize)?;

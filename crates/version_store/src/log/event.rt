@@ -20,7 +20,7 @@ use std::mem;
 use std::thread::{Threads, join_mut};
 use write_groups::{LogEvent, LogEvents};
 
-/// So many events are classified at a time, so that the trees of two batches at most stand beside the pool.
+/// So many events are classified at a time, so that the objects of two batches at most stand beside the pool.
 const EVENTS_IN_A_BATCH: usize = 2_048;
 
 // An event of a log, and the label selector where its answer is a whole list with one.

@@ -152,14 +152,8 @@ level_of-returns-in_err-add_members-in-Members-clause-full t c = λ refused.
     let whole : meaning_of c.args.shown ≡ members (fields_of c.in-Members.list) = ap meaning_of c.in-Members.is in
     subst (λ m. c.args.store.now.limit < length (fold with_tree c.args.store.now.trees (inside m))) (sym whole) (c.add_members.ensures.full is)
 
-pub add_items-returns-in_err-numbers-clause-grows : goal.add_items-returns-in_err-numbers-clause-grows
-add_items-returns-in_err-numbers-clause-grows t c = Grows-refl c.args.store.now
-
-pub add_items-returns-in_err-numbers-clause-full : goal.add_items-returns-in_err-numbers-clause-full
-add_items-returns-in_err-numbers-clause-full t c = λ refused. not_full c.from_residual.result c.from_residual.ensures.1 refused
-
 pub add_items-items-init : goal.add_items-items-init
-add_items-items-init t c = items_begun c.args.store.now c.args.list c.in_ok-numbers.numbers.items c.in_ok-numbers.ensures.items
+add_items-items-init t c = items_begun c.args.store.now c.args.list c.new-numbers.result.items c.new-numbers.ensures.items
 
 pub add_items-add-requires : goal.add_items-add-requires
 add_items-add-requires t c =
@@ -170,8 +164,8 @@ add_items-returns-in_err-add-clause-grows t c = Grows-trans c.args.store.now c.i
 
 pub add_items-returns-in_err-add-clause-full : goal.add_items-returns-in_err-add-clause-full
 add_items-returns-in_err-add-clause-full t c = λ refused.
-    let p = err_from_is_err_and c.from_residual-in_err-add.result c.from_residual-in_err-add.ensures.1 in
-    let fault : p.0 ≡ Full = one_fault c.from_residual-in_err-add.result p.0 Full p.1 refused in
+    let p = err_from_is_err_and c.from_residual.result c.from_residual.ensures.1 in
+    let fault : p.0 ≡ Full = one_fault c.from_residual.result p.0 Full p.1 refused in
     let is : c.add.result ≡ Err Full = c.in_err-add.was ∙ ap Err (sym p.2 ∙ fault) in
     items_over c.args.store.now c.items.store c.args.list c.items.numbers.items c.items.rest c.next.new.self c.in-Some.item c.items.invariant c.in-Some.ensures.item (c.add.ensures.full is)
 
@@ -202,14 +196,8 @@ pub add_items-returns-clause-held : goal.add_items-returns-clause-held
 add_items-returns-clause-held t c =
     (items_held c.args.store.now c.items.store c.args.list c.items.numbers.items c.shrink_to_fit.new.self.items c.items.rest c.items.invariant c.in_default.ensures.none c.shrink_to_fit.ensures.items).held
 
-pub add_members-returns-in_err-numbers-clause-grows : goal.add_members-returns-in_err-numbers-clause-grows
-add_members-returns-in_err-numbers-clause-grows t c = Grows-refl c.args.store.now
-
-pub add_members-returns-in_err-numbers-clause-full : goal.add_members-returns-in_err-numbers-clause-full
-add_members-returns-in_err-numbers-clause-full t c = λ refused. not_full c.from_residual.result c.from_residual.ensures.1 refused
-
 pub add_members-members-init : goal.add_members-members-init
-add_members-members-init t c = members_begun c.args.store.now c.args.list c.in_ok-numbers.numbers.items c.in_ok-numbers.ensures.items
+add_members-members-init t c = members_begun c.args.store.now c.args.list c.new-numbers.result.items c.new-numbers.ensures.items
 
 pub add_members-add-requires : goal.add_members-add-requires
 add_members-add-requires t c =
@@ -220,7 +208,7 @@ pub add_members-returns-in_err-named-clause-grows : goal.add_members-returns-in_
 add_members-returns-in_err-named-clause-grows t c = Grows-trans c.args.store.now c.members.store c.number_near.new.self c.members.invariant.done.grows c.number_near.ensures.grows
 
 pub add_members-returns-in_err-named-clause-full : goal.add_members-returns-in_err-named-clause-full
-add_members-returns-in_err-named-clause-full t c = λ refused. not_full c.from_residual-in_err-named.result c.from_residual-in_err-named.ensures.1 refused
+add_members-returns-in_err-named-clause-full t c = λ refused. not_full c.from_residual.result c.from_residual.ensures.1 refused
 
 pub add_members-returns-in_err-value-clause-grows : goal.add_members-returns-in_err-value-clause-grows
 add_members-returns-in_err-value-clause-grows t c =
