@@ -90,7 +90,8 @@ fn conflict_class(alloc: Global, tracked: &Tracked, event: &Event) -> Result<Ans
 }
 
 fn taken_class(alloc: Global, tracked: &Tracked, event: &Event) -> Result<Answer, OutOfMemory>
-    ensures { IfOk result (λ answer. answer ≡ taken_class tracked.now event.now (asked_name event.now)) }
+    ensures { IfOk result
+        (λ answer. answer ≡ taken_class tracked.now event.now (asked_name event.now)) }
 {
     let Some(name) = asked_name(event) else {
         return conflict_class(alloc, tracked, event);

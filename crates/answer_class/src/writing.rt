@@ -24,7 +24,8 @@ fn deleted_uid(
     status: &Status,
     object: Option<&SnapshotObject>,
 ) -> Result<Option<Text>, OutOfMemory>
-    ensures { IfOk result (λ found. found ≡ deleted_uid status.now (option_map (λ o. o.now) object.entry)) }
+    ensures { IfOk result
+        (λ found. found ≡ deleted_uid status.now (option_map (λ o. o.now) object.entry)) }
 {
     if status.success && !status.uid.is_empty() {
         return Ok(Some(status.uid.clone()?));
@@ -56,7 +57,8 @@ fn removed_uid(
     event: &Event,
     object: Option<&SnapshotObject>,
 ) -> Result<Option<Text>, OutOfMemory>
-    ensures { IfOk result (λ found. found ≡ removed_uid verb event.now (option_map (λ o. o.now) object.entry)) }
+    ensures { IfOk result
+        (λ found. found ≡ removed_uid verb event.now (option_map (λ o. o.now) object.entry)) }
 {
     match verb {
         Verb::Delete => deleted_uid(&event.status, object),
@@ -159,7 +161,8 @@ fn object_class(
     event: &Event,
     object: SnapshotObject,
 ) -> Result<Answer, OutOfMemory>
-    ensures { IfOk result (λ answer. answer ≡ made_class setup.now tracked.now event.now (Some object)) }
+    ensures { IfOk result
+        (λ answer. answer ≡ made_class setup.now tracked.now event.now (Some object)) }
 {
     let verb = verb_of(event.attrs.verb.as_str());
     if is_done(event.status.code) && is_made_by(verb, &object.tree.root()) {

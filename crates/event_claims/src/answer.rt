@@ -29,7 +29,8 @@ pub fn asking_in<L: Listable, D: Decisions>(
     word: Word,
     window: Window,
 ) -> Result<Asking, OutOfMemory>
-    ensures { IfOk result (λ asking. (h : History) → IsViewOf L.listable D.decides view.now h → IsCaseOf h case.entry
+    ensures { IfOk result
+        (λ asking. (h : History) → IsViewOf L.listable D.decides view.now h → IsCaseOf h case.entry
         → IsSaid h (event_word h case.entry.number (event_of case.entry.event.now)) word
         → IsWindowOf h (event_of case.entry.event.now) window
         → IsAskingOf h case.entry.number (event_of case.entry.event.now) asking) }

@@ -35,10 +35,12 @@ pub fn fixed_fault<L: Listable, D: Decisions>(
 ) -> Option<Reason>
     ensures { (h : History) → IsViewOf L.listable D.decides view.now h → IsCaseOf h case.entry
         → IsSaid h (event_word h case.entry.number (event_of case.entry.event.now)) word
-        → IsVerdict (IsOfPolicy (event_of case.entry.event.now) × IsFixedBy h (event_of case.entry.event.now)
+        → IsVerdict (IsOfPolicy (event_of case.entry.event.now)
+        × IsFixedBy h (event_of case.entry.event.now)
         (event_word h case.entry.number (event_of case.entry.event.now)))
         (λ code. HasPolicyCode (event_of case.entry.event.now) code ⊎ HasWordCode h
-        (event_of case.entry.event.now) (event_word h case.entry.number (event_of case.entry.event.now))
+        (event_of case.entry.event.now)
+        (event_word h case.entry.number (event_of case.entry.event.now))
         code) result }
 {
     let known = Known {
@@ -80,7 +82,8 @@ fn claim_in<L: Listable, D: Decisions>(
     ensures exact { IfOk result (λ claim. (h : History) → IsViewOf L.listable D.decides view.now h
         → IsCaseOf h case.entry
         → IsExactClaim h case.entry.number (event_of case.entry.event.now) claim) }
-    ensures deciding { IfOk result (λ claim. (h : History) → IsViewOf L.listable D.decides view.now h
+    ensures deciding { IfOk result
+        (λ claim. (h : History) → IsViewOf L.listable D.decides view.now h
         → IsCaseOf h case.entry
         → AreDeciding h claim.bounds) }
 {
@@ -105,10 +108,12 @@ pub fn claim_of<L: Listable, D: Decisions>(
     fault: Option<Reason>,
 ) -> Result<Claim, OutOfMemory>
     requires { event < length view.now.log.now }
-    ensures exact { IfOk result (λ claim. (h : History) (e : Event) → IsViewOf L.listable D.decides view.now h
+    ensures exact { IfOk result
+        (λ claim. (h : History) (e : Event) → IsViewOf L.listable D.decides view.now h
         → IsFaultAt h event fault
         → IsEvent h event e → IsExactClaim h event e claim) }
-    ensures deciding { IfOk result (λ claim. (h : History) → IsViewOf L.listable D.decides view.now h
+    ensures deciding { IfOk result
+        (λ claim. (h : History) → IsViewOf L.listable D.decides view.now h
         → IsFaultAt h event fault → AreDeciding h claim.bounds) }
     ensures ranges { IfOk result (λ claim. (h : History) → IsViewOf L.listable D.decides view.now h
         → IsFaultAt h event fault
@@ -124,7 +129,8 @@ pub fn claim_of<L: Listable, D: Decisions>(
 
 /// An event has one claim.
 pub fn one_claim_law()
-    ensures { (h : History) (number : ℕ) (event : Event) (a b : Claim) → IsExactClaim h number event a
+    ensures { (h : History) (number : ℕ) (event : Event) (a b : Claim)
+        → IsExactClaim h number event a
         → IsExactClaim h number event b
         → AreDeciding h a.bounds → AreDeciding h b.bounds → a ≡ b }
 {}
@@ -134,5 +140,6 @@ pub fn one_claim_law()
 pub fn local_bounds_law()
     ensures { (h : History) (number : ℕ) (event : Event) (claim : Claim) (choice : List ℕ)
         → IsExactClaim h number event claim → IsChoice (ranges h) choice
-        → IsRightUnder h choice number event ↔ ((claim.fails ≡ None) × MeetsAll choice claim.bounds) }
+        → IsRightUnder h choice number event
+        ↔ ((claim.fails ≡ None) × MeetsAll choice claim.bounds) }
 {}

@@ -46,7 +46,8 @@ pub fn decision_window_of<L: Listable, D: Decisions>(
     ensures low { (h : History) (number : _) → IsViewOf L.listable D.decides view.now h
         → IsEvent h number (event_of event.now)
         → result.low ≡ decision_low h (event_of event.now) }
-    ensures high { (h : History) → IsViewOf L.listable D.decides view.now h → result.high ≡ decision_high h
+    ensures high { (h : History) → IsViewOf L.listable D.decides view.now h
+        → result.high ≡ decision_high h
         (event_of event.now) }
 {
     Window {
@@ -78,7 +79,8 @@ pub fn decided_of<L: Listable, D: Decisions>(
     number: u32,
     event: &LogEvent,
 ) -> Decided
-    ensures { (h : History) → IsViewOf L.listable D.decides view.now h → IsEvent h number (event_of event.now)
+    ensures { (h : History) → IsViewOf L.listable D.decides view.now h
+        → IsEvent h number (event_of event.now)
         → IsDecided h number (event_of event.now) result }
 {
     let Some(decision) = event.decision else {

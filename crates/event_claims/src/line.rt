@@ -32,7 +32,8 @@ fn is_fixed_right<L: Listable, D: Decisions>(
     ensures { (h : History) → IsViewOf L.listable D.decides view.now h → IsCaseOf h case.entry
         → IsSaid h (event_word h case.entry.number (event_of case.entry.event.now)) word
         → IsTrue result ↔ (IsOfPolicy (event_of case.entry.event.now) × IsFixedBy h
-        (event_of case.entry.event.now) (event_word h case.entry.number (event_of case.entry.event.now))) }
+        (event_of case.entry.event.now)
+        (event_word h case.entry.number (event_of case.entry.event.now))) }
 {
     fixed_fault(view, case, word).is_none()
 }
@@ -52,7 +53,8 @@ fn least_place<L: Listable, D: Decisions>(
     window: Window,
     choice: &[u64],
 ) -> Result<Option<PlacedAnswer>, OutOfMemory>
-    ensures { IfOk result (λ found. (h : History) → IsViewOf L.listable D.decides view.now h → IsCaseOf h case.entry
+    ensures { IfOk result
+        (λ found. (h : History) → IsViewOf L.listable D.decides view.now h → IsCaseOf h case.entry
         → IsWindowOf h (event_of case.entry.event.now) window
         → event_word h case.entry.number (event_of case.entry.event.now) ≡ At
         → IsChoice (ranges h) choice.now → IsAnswered h choice.now case.entry.number
@@ -86,7 +88,8 @@ fn placed_answer<L: Listable, D: Decisions>(
     window: Window,
     choice: &[u64],
 ) -> Result<Option<PlacedAnswer>, OutOfMemory>
-    ensures { IfOk result (λ found. (h : History) → IsViewOf L.listable D.decides view.now h → IsCaseOf h case.entry
+    ensures { IfOk result
+        (λ found. (h : History) → IsViewOf L.listable D.decides view.now h → IsCaseOf h case.entry
         → IsWindowOf h (event_of case.entry.event.now) window
         → IsSaid h (event_word h case.entry.number (event_of case.entry.event.now)) word
         → IsChoice (ranges h) choice.now → IsAnswered h choice.now case.entry.number
@@ -127,7 +130,8 @@ fn line_in<L: Listable, D: Decisions>(
     case: Case<'_>,
     choice: &[u64],
 ) -> Result<Option<PlacedLine>, OutOfMemory>
-    ensures { IfOk result (λ found. (h : History) → IsViewOf L.listable D.decides view.now h → IsCaseOf h case.entry
+    ensures { IfOk result
+        (λ found. (h : History) → IsViewOf L.listable D.decides view.now h → IsCaseOf h case.entry
         → IsChoice (ranges h) choice.now → IsLined h choice.now case.entry.number
         (event_of case.entry.event.now) found) }
 {
@@ -154,7 +158,8 @@ pub fn placed_line<L: Listable, D: Decisions>(
     choice: &[u64],
 ) -> Result<Option<PlacedLine>, OutOfMemory>
     requires { event < length view.now.log.now }
-    ensures { IfOk result (λ found. (h : History) (e : Event) → IsViewOf L.listable D.decides view.now h
+    ensures { IfOk result
+        (λ found. (h : History) (e : Event) → IsViewOf L.listable D.decides view.now h
         → IsFaultAt h event fault
         → IsEvent h event e → IsChoice (ranges h) choice.now → IsLined h choice.now event e found) }
 {

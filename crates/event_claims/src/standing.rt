@@ -22,7 +22,8 @@ use write_groups::{LogEvent, Shown, Window};
 
 /// The code of an event whose level or stage isn't the policy's.
 pub fn policy_fault(event: &LogEvent) -> Option<Reason>
-    ensures { IsVerdict (IsOfPolicy (event_of event.now)) (HasPolicyCode (event_of event.now)) result }
+    ensures { IsVerdict (IsOfPolicy (event_of event.now)) (HasPolicyCode (event_of event.now))
+        result }
 {
     if event.other_level {
         return Some(Reason::U1);
@@ -35,7 +36,8 @@ pub fn policy_fault(event: &LogEvent) -> Option<Reason>
 
 // Whether the key is clouded somewhere from `low` to `high`.
 fn is_clouded_within(clouds: &Clouds, key: &ObjectKey, low: u64, high: u64) -> bool
-    ensures { (h : History) → HasClouds clouds.now h → IsTrue result ↔ IsCloudedWithin h key.now low high }
+    ensures { (h : History) → HasClouds clouds.now h
+        → IsTrue result ↔ IsCloudedWithin h key.now low high }
 {
     clouds.meets(key, low, high).is_some()
 }
@@ -52,7 +54,8 @@ fn asks_uid(wanted: Option<&Text>, uid: &Text) -> bool
 // Whether the removal's conditions are met. What its key was at its range's beginning may be hidden.
 fn meets_preconditions(clouds: &Clouds, event: &LogEvent, removal: &Removal) -> bool
     ensures { (h : History) → HasClouds clouds.now h
-        → IsTrue result ↔ MeetsPreconditions h (event_of event.now) (recorded removal.now) removal.now.last }
+        → IsTrue result
+        ↔ MeetsPreconditions h (event_of event.now) (recorded removal.now) removal.now.last }
 {
     if !asks_uid(event.preconditions.uid.as_ref(), &removal.uid) {
         return false;
@@ -76,7 +79,8 @@ fn meets_preconditions(clouds: &Clouds, event: &LogEvent, removal: &Removal) -> 
 fn removal_fault(known: Known<'_>, event: &LogEvent, position: u32) -> Option<Reason>
     ensures { (h : History) (removal : _) → IsPastOf known.entry.past.now h
         → HasClouds known.entry.clouds.now h → slice_get h.removals position ≡ Some removal
-        → IsVerdict (IsFixedBy h (event_of event.now) (Removes removal)) (HasWordCode h (event_of event.now)
+        → IsVerdict (IsFixedBy h (event_of event.now) (Removes removal))
+        (HasWordCode h (event_of event.now)
         (Removes removal)) result }
 {
     let Some(removal) = removal_at(known.past.removals(), position) else {
@@ -96,7 +100,8 @@ pub fn word_fault(
     word: Word,
     fault: Option<Reason>,
 ) -> Option<Reason>
-    ensures { (h : History) (number : ℕ) → IsPastOf known.entry.past.now h → HasClouds known.entry.clouds.now h
+    ensures { (h : History) (number : ℕ) → IsPastOf known.entry.past.now h
+        → HasClouds known.entry.clouds.now h
         → IsEvent h number (event_of event.now) → IsFaultOf h number (event_of event.now) fault
         → IsSaid h (event_word h number (event_of event.now)) word
         → IsVerdict (IsFixedBy h (event_of event.now) (event_word h number (event_of event.now)))
@@ -138,7 +143,8 @@ pub fn finding_fault(
 ) -> Option<Reason>
     ensures { (h : History) (number : ℕ) → HasClouds clouds.now h
         → IsWindowOf h (event_of event.now) window
-        → IsFaultOf h number (event_of event.now) fault → IsSaid h (event_word h number (event_of event.now)) word
+        → IsFaultOf h number (event_of event.now) fault
+        → IsSaid h (event_word h number (event_of event.now)) word
         → IsVerdict (Unit {0}) (HasFoundCode h number (event_of event.now)) result }
 {
     let Word::At = word else {

@@ -18,7 +18,8 @@ pub trait Decisions {
     /// The least four places from `low` to `high` at which the authorizer could give the judged decision of the event
     /// of this number.
     fn find(&self, event: u32, low: u64, high: u64) -> Option<Places>
-        ensures some { IfSome result (AreLeastPlaces (IsGivenAt (decides self.now event) low high)) }
+        ensures some { IfSome result
+            (AreLeastPlaces (IsGivenAt (decides self.now event) low high)) }
         ensures none { IfNone result (AreNoneWithin (decides self.now event) low high) };
 }
 

@@ -60,7 +60,8 @@ fn write_word(past: &Past, start: Revision, number: u32, item: &Item) -> Word
 // What a removal is: without a range it is an answer.
 fn removal_word(past: &Past, number: u32) -> Word
     ensures { (h : History) → HasPast past.now h
-        → IsSaid h (removal_word (find (λ removal. removal.range.event == number) h.removals)) result }
+        → IsSaid h (removal_word (find (λ removal. removal.range.event == number) h.removals))
+        result }
 {
     match past.removal_by(number) {
         Some(position) => Word::Removes(position),

@@ -42,9 +42,11 @@ pub fn asking_of<L: Listable>(
     event: &LogEvent,
     finding: Option<Reason>,
 ) -> Result<Asking, OutOfMemory>
-    ensures { IfOk result (λ asking. (h : History) → IsKnownBy known.entry.past.now known.entry.clouds.now h
+    ensures { IfOk result
+        (λ asking. (h : History) → IsKnownBy known.entry.past.now known.entry.clouds.now h
         → HasSelectors (L.listable lists.now) h
-        → IsWindowOf h (event_of event.now) window → IsFindingOf h number (event_of event.now) finding
+        → IsWindowOf h (event_of event.now) window
+        → IsFindingOf h number (event_of event.now) finding
         → word h number (event_of event.now) ≡ At
         → IsAskingOf h number (event_of event.now) asking) }
 {

@@ -21,7 +21,8 @@ pub fn shown_asking<L: Listable>(
     place: u64,
     item: &Item,
 ) -> Result<KeyAsking, OutOfMemory>
-    ensures { IfOk result (λ asking. (h : History) → IsKnownBy known.entry.past.now known.entry.clouds.now h
+    ensures { IfOk result
+        (λ asking. (h : History) → IsKnownBy known.entry.past.now known.entry.clouds.now h
         → HasSelectors (L.listable lists.now) h
         → IsDemandAsking h number place (Shows (item_of item.now)) asking) }
 {
@@ -43,7 +44,8 @@ pub fn lacked_asking<L: Listable>(
     place: u64,
     key: &ObjectKey,
 ) -> Result<KeyAsking, OutOfMemory>
-    ensures { IfOk result (λ asking. (h : History) → IsKnownBy known.entry.past.now known.entry.clouds.now h
+    ensures { IfOk result
+        (λ asking. (h : History) → IsKnownBy known.entry.past.now known.entry.clouds.now h
         → HasSelectors (L.listable lists.now) h
         → IsDemandAsking h number place (Lacks key.now) asking) }
 {

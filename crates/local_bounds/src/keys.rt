@@ -19,9 +19,11 @@ fn keys_of(alloc: Global, items: &[Item]) -> Result<Vec<&ObjectKey>, OutOfMemory
 
 /// The keys of the items in order; None where two items have one key.
 pub fn distinct_keys(alloc: Global, items: &[Item]) -> Result<Option<Vec<&ObjectKey>>, OutOfMemory>
-    ensures some { IfOk result (λ found. IfSome found (λ keys. AllPairs (λ a b. a.key ≢ b.key) items.now
+    ensures some { IfOk result
+        (λ found. IfSome found (λ keys. AllPairs (λ a b. a.key ≢ b.key) items.now
         × AreKeysOf items.now keys.items)) }
-    ensures none { IfOk result (λ found. IfNone found (AllPairs (λ a b. a.key ≢ b.key) items.now → ⊥)) }
+    ensures none { IfOk result
+        (λ found. IfNone found (AllPairs (λ a b. a.key ≢ b.key) items.now → ⊥)) }
 {
     let keys = keys_of(alloc, items)?;
     Ok(keys_in_order(keys))

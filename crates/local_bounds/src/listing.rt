@@ -30,7 +30,8 @@ fn shown_askings<L: Listable>(
     place: u64,
     items: &[Item],
 ) -> Result<Vec<KeyAsking>, OutOfMemory>
-    ensures { IfOk result (λ askings. (h : History) → IsKnownBy known.entry.past.now known.entry.clouds.now h
+    ensures { IfOk result
+        (λ askings. (h : History) → IsKnownBy known.entry.past.now known.entry.clouds.now h
         → HasSelectors (L.listable lists.now) h
         → AreAsked h number place (map (λ item. Shows (item_of item)) items.now) askings.items) }
 {
@@ -51,7 +52,8 @@ fn lacked_askings<L: Listable>(
     place: u64,
     keys: &[&ObjectKey],
 ) -> Result<Vec<KeyAsking>, OutOfMemory>
-    ensures { IfOk result (λ askings. (h : History) → IsKnownBy known.entry.past.now known.entry.clouds.now h
+    ensures { IfOk result
+        (λ askings. (h : History) → IsKnownBy known.entry.past.now known.entry.clouds.now h
         → HasSelectors (L.listable lists.now) h
         → AreAsked h number place (map (λ key. Lacks key.now) keys.now) askings.items) }
 {
@@ -71,7 +73,8 @@ fn lacked_keys<'a>(
     shown: &[&ObjectKey],
 ) -> Result<Vec<&'a ObjectKey>, OutOfMemory>
     requires { AreKeysOf listing.now.items shown.now }
-    ensures { IfOk result (λ keys. (h : History) → IsPastOf past.now h → AreLacked h (listing_of listing.now)
+    ensures { IfOk result
+        (λ keys. (h : History) → IsPastOf past.now h → AreLacked h (listing_of listing.now)
         (keys_at keys.items)) }
 {
     if !listing.whole {
@@ -92,8 +95,10 @@ fn key_askings<L: Listable>(
     shown: &[&ObjectKey],
 ) -> Result<Vec<KeyAsking>, OutOfMemory>
     requires { AreKeysOf listing.now.items shown.now }
-    ensures { IfOk result (λ askings. (h : History) → IsKnownBy known.entry.past.now known.entry.clouds.now h
-        → HasSelectors (L.listable lists.now) h → AreAskedOfList h number (listing_of listing.now) askings.items) }
+    ensures { IfOk result
+        (λ askings. (h : History) → IsKnownBy known.entry.past.now known.entry.clouds.now h
+        → HasSelectors (L.listable lists.now) h
+        → AreAskedOfList h number (listing_of listing.now) askings.items) }
 {
     let place = listing.revision.get();
     let lacked = lacked_keys(alloc, known.past, listing, shown)?;
@@ -112,7 +117,8 @@ pub fn list_asking<L: Listable>(
     number: u32,
     listing: &Listing,
 ) -> Result<Asking, OutOfMemory>
-    ensures { IfOk result (λ asking. (h : History) → IsKnownBy known.entry.past.now known.entry.clouds.now h
+    ensures { IfOk result
+        (λ asking. (h : History) → IsKnownBy known.entry.past.now known.entry.clouds.now h
         → HasSelectors (L.listable lists.now) h
         → IsAsking h (λ choice. SomewhereIn window.low window.high (λ x. IsListRight h number
         (listing_of listing.now) x (state h choice x))) asking) }

@@ -75,7 +75,8 @@ fn shown_place(
     choice: &[u64],
 ) -> Option<u64>
     ensures { (h : History) → IsPastOf past.now h → IsChoice (ranges h) choice.now
-        → IsFirstPlace (λ x. IsShown (item_of item.now) (state h choice.now x key.now)) window.low window.high result }
+        → IsFirstPlace (λ x. IsShown (item_of item.now) (state h choice.now x key.now)) window.low
+        window.high result }
 {
     let place = window.low.max(item.revision.get());
     if window.high < place {
@@ -97,7 +98,8 @@ fn first_by_halves(
     choice: &[u64],
 ) -> Option<u64>
     ensures { (h : History) → IsPastOf past.now h → IsChoice (ranges h) choice.now
-        → IsFirstPlace (λ x. IsSeen sight.entry (state h choice.now x key.now)) window.low window.high result }
+        → IsFirstPlace (λ x. IsSeen sight.entry (state h choice.now x key.now)) window.low
+        window.high result }
 {
     if !is_seen_upto(past, key, sight, window.low, window.high, choice) {
         return None;
@@ -118,7 +120,8 @@ fn first_seen(
     choice: &[u64],
 ) -> Option<u64>
     ensures { (h : History) → IsPastOf past.now h → IsChoice (ranges h) choice.now
-        → IsFirstPlace (λ x. IsSeen sight.entry (state h choice.now x key.now)) window.low window.high result }
+        → IsFirstPlace (λ x. IsSeen sight.entry (state h choice.now x key.now)) window.low
+        window.high result }
 {
     match sight {
         Sight::Gone => first_by_halves(past, key, sight, window, choice),
@@ -137,8 +140,10 @@ fn object_place(
     window: Window,
     choice: &[u64],
 ) -> Option<u64>
-    ensures { (h : History) → IsKnownBy known.entry.past.now known.entry.clouds.now h → IsChoice (ranges h) choice.now
-        → IsFirstPlace (λ x. IsClouded h key.now x ⊎ IsSeen sight.entry (state h choice.now x key.now))
+    ensures { (h : History) → IsKnownBy known.entry.past.now known.entry.clouds.now h
+        → IsChoice (ranges h) choice.now
+        → IsFirstPlace
+        (λ x. IsClouded h key.now x ⊎ IsSeen sight.entry (state h choice.now x key.now))
         window.low window.high result }
 {
     let Some(clouded) = known.clouds.meets(key, window.low, window.high) else {
@@ -165,7 +170,8 @@ fn list_place<L: Listable>(
     listing: &Listing,
     choice: &[u64],
 ) -> Result<Option<u64>, OutOfMemory>
-    ensures { IfOk result (λ place. (h : History) → IsKnownBy known.entry.past.now known.entry.clouds.now h
+    ensures { IfOk result
+        (λ place. (h : History) → IsKnownBy known.entry.past.now known.entry.clouds.now h
         → HasSelectors (L.listable lists.now) h
         → IsChoice (ranges h) choice.now
         → IsFirstPlace (λ x. IsListRight h number (listing_of listing.now) x (state h choice.now x))
@@ -189,11 +195,14 @@ pub fn place_of<L: Listable>(
     finding: Option<Reason>,
     choice: &[u64],
 ) -> Result<Option<u64>, OutOfMemory>
-    ensures { IfOk result (λ place. (h : History) → IsKnownBy known.entry.past.now known.entry.clouds.now h
+    ensures { IfOk result
+        (λ place. (h : History) → IsKnownBy known.entry.past.now known.entry.clouds.now h
         → HasSelectors (L.listable lists.now) h
-        → IsWindowOf h (event_of event.now) window → IsFindingOf h number (event_of event.now) finding
+        → IsWindowOf h (event_of event.now) window
+        → IsFindingOf h number (event_of event.now) finding
         → word h number (event_of event.now) ≡ At
-        → IsChoice (ranges h) choice.now → IsLeastRight h choice.now number (event_of event.now) place) }
+        → IsChoice (ranges h) choice.now
+        → IsLeastRight h choice.now number (event_of event.now) place) }
 {
     match subject_of(event, finding) {
         Subject::Object { key, sight } => Ok(object_place(known, key, sight, window, choice)),

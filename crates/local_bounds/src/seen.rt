@@ -19,7 +19,8 @@ use write_groups::{Item, Preconditions, Window};
 /// What is asked, so that the object is so at the place.
 pub fn seen_at(past: &Past, key: &ObjectKey, sight: Sight<'_>, place: u64) -> KeyAsking
     ensures { (h : History) → IsPastOf past.now h
-        → IsKeyAsking h key.now (λ choice. IsSeen sight.entry (state h choice place key.now)) result }
+        → IsKeyAsking h key.now (λ choice. IsSeen sight.entry (state h choice place key.now))
+        result }
 {
     let standing = standing_at(past, key, place);
     match standing.version() {
@@ -51,8 +52,10 @@ fn there_within(
 ) -> KeyAsking
     requires { window.low ≤ window.high }
     ensures { (h : History) → IsPastOf past.now h → (IsSeen sight.entry None → ⊥)
-        → (IsTrue comes ↔ ComesIn h key.now window.low window.high (λ v. IsSeen sight.entry (Some v)))
-        → IsKeyAsking h key.now (λ choice. IsSeenWithin h choice key.now sight.entry window.low window.high) result }
+        → (IsTrue comes
+        ↔ ComesIn h key.now window.low window.high (λ v. IsSeen sight.entry (Some v)))
+        → IsKeyAsking h key.now
+        (λ choice. IsSeenWithin h choice key.now sight.entry window.low window.high) result }
 {
     if comes {
         return KeyAsking::Free;
@@ -63,7 +66,8 @@ fn there_within(
 // Whether the item's version comes in the window.
 fn item_comes(past: &Past, key: &ObjectKey, item: &Item, window: Window) -> bool
     ensures { (h : History) → IsPastOf past.now h
-        → IsTrue result ↔ ComesIn h key.now window.low window.high (λ v. IsShown (item_of item.now) (Some v)) }
+        → IsTrue result
+        ↔ ComesIn h key.now window.low window.high (λ v. IsShown (item_of item.now) (Some v)) }
 {
     let revision = item.revision.get();
     match last_comer(
@@ -95,7 +99,8 @@ fn other_comes(past: &Past, key: &ObjectKey, revision: Revision, window: Window)
 fn refused_comes(past: &Past, key: &ObjectKey, asked: &Preconditions, window: Window) -> bool
     requires { asked.now.uid ≡ None }
     ensures { (h : History) → IsPastOf past.now h
-        → IsTrue result ↔ ComesIn h key.now window.low window.high (λ v. IsRefused (conditions_of asked.now) (Some v)) }
+        → IsTrue result ↔ ComesIn h key.now window.low window.high
+        (λ v. IsRefused (conditions_of asked.now) (Some v)) }
 {
     match asked.revision {
         Some(revision) => other_comes(past, key, revision, window),
@@ -107,7 +112,8 @@ fn refused_comes(past: &Past, key: &ObjectKey, asked: &Preconditions, window: Wi
 fn has_other_revision(past: &Past, key: &ObjectKey, revision: Revision, window: Window) -> bool
     requires { window.low ≤ window.high }
     ensures { (h : History) → IsPastOf past.now h → IsTrue result
-        ↔ SomewhereIn window.low window.high (λ x. IsSomeAnd (latest h.versions key.now x) (λ v. v.revision ≢ revision)) }
+        ↔ SomewhereIn window.low window.high
+        (λ x. IsSomeAnd (latest h.versions key.now x) (λ v. v.revision ≢ revision)) }
 {
     let Some(version) = past.latest(key, window.low) else {
         return other_comes(past, key, revision, window);
@@ -129,7 +135,8 @@ fn is_refused_within(
     requires bounds { window.low ≤ window.high }
     requires uid { asked.now.uid ≡ Some uid.now }
     ensures { (h : History) → IsPastOf past.now h → IsTrue result
-        ↔ SomewhereIn window.low window.high (λ x. IsSomeAnd (latest h.versions key.now x) (λ v. IsRefused (conditions_of asked.now) (Some v))) }
+        ↔ SomewhereIn window.low window.high (λ x. IsSomeAnd (latest h.versions key.now x)
+        (λ v. IsRefused (conditions_of asked.now) (Some v))) }
 {
     if past.has_other_uid(key, window.low, window.high, uid) {
         return true;
@@ -160,7 +167,8 @@ fn refused_within(past: &Past, key: &ObjectKey, asked: &Preconditions, window: W
 /// What is asked, so that the object is so somewhere in the window.
 pub fn seen_within(past: &Past, key: &ObjectKey, sight: Sight<'_>, window: Window) -> KeyAsking
     ensures { (h : History) → IsPastOf past.now h
-        → IsKeyAsking h key.now (λ choice. IsSeenWithin h choice key.now sight.entry window.low window.high) result }
+        → IsKeyAsking h key.now
+        (λ choice. IsSeenWithin h choice key.now sight.entry window.low window.high) result }
 {
     if window.low > window.high {
         return KeyAsking::Never;

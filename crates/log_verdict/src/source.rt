@@ -43,7 +43,8 @@ impl<'a> LineSource for ContextLines<'a> {
 
     ghost events = { λ source. length source.context.now.log };
 
-    ghost is_line = { λ source event found. IsLineFound source.context.now source.choice.now event found };
+    ghost is_line = { λ source event found. IsLineFound source.context.now source.choice.now event
+        found };
 
     fn count(&self) -> u32 {
         self.context.count()

@@ -26,7 +26,8 @@ pub fn equals(store: &Store, number: u32, tree: &Tree) -> bool
 
 #[cycle(equals)]
 fn equal_items(store: &Store, numbers: &Vec<u32>, list: &Trees) -> bool
-    ensures { IsTrue result ↔ (map (slice_get store.now.trees) numbers.now.items ≡ map Some list.now) }
+    ensures { IsTrue result
+        ↔ (map (slice_get store.now.trees) numbers.now.items ≡ map Some list.now) }
 {
     if numbers.len() != list.all.len() {
         return false;
@@ -41,7 +42,8 @@ fn equal_items(store: &Store, numbers: &Vec<u32>, list: &Trees) -> bool
 
 #[cycle(equals)]
 fn equal_members(store: &Store, numbers: &Vec<(usize, u32)>, list: &MemberList) -> bool
-    ensures { IsTrue result ↔ (map (looked_up store.now.names store.now.trees) numbers.now.items ≡ map told list.now) }
+    ensures { IsTrue result
+        ↔ (map (looked_up store.now.names store.now.trees) numbers.now.items ≡ map told list.now) }
 {
     if numbers.len() != list.all.len() {
         return false;

@@ -124,8 +124,10 @@ impl GrowingStore {
 
     /// The guessed number, where it has this value, and nothing is within the value. So the value adds nothing.
     pub fn leaf_near(&self, near: Option<u32>, shown: &Shown<'_>) -> Option<u32>
-        ensures number { IfSome result (λ n. slice_get self.now.trees n ≡ Some (meaning_of shown.now)) }
-        ensures added { IfSome result (λ _. interned self.now.trees (meaning_of shown.now) ≡ self.now.trees) }
+        ensures number { IfSome result
+            (λ n. slice_get self.now.trees n ≡ Some (meaning_of shown.now)) }
+        ensures added { IfSome result
+            (λ _. interned self.now.trees (meaning_of shown.now) ≡ self.now.trees) }
         ensures room { length self.now.trees ≤ self.now.limit }
     {
         near::leaf(&self.levels, near, shown)
@@ -140,9 +142,11 @@ impl GrowingStore {
             (tree_of self.old.names self.old.trees level)) }
         ensures number { IfOk result (λ n. slice_get self.new.trees n ≡ Some
             (tree_of self.old.names self.old.trees level)) }
-        ensures fits { OnOk result (length (with_tree self.old.trees (tree_of self.old.names self.old.trees
+        ensures fits { OnOk result
+            (length (with_tree self.old.trees (tree_of self.old.names self.old.trees
             level)) ≤ self.old.limit) }
-        ensures full { result ≡ Err PoolFault.Full → self.old.limit < length (with_tree self.old.trees
+        ensures full { result ≡ Err PoolFault.Full
+            → self.old.limit < length (with_tree self.old.trees
             (tree_of self.old.names self.old.trees level)) }
         ensures above { self.old.limit < length (with_tree self.old.trees
             (tree_of self.old.names self.old.trees level)) → result ≡ Err PoolFault.Full }
@@ -173,9 +177,11 @@ impl GrowingStore {
             (tree_of self.old.names self.old.trees level)) }
         ensures number { IfOk result (λ n. slice_get self.new.trees n ≡ Some
             (tree_of self.old.names self.old.trees level)) }
-        ensures fits { OnOk result (length (with_tree self.old.trees (tree_of self.old.names self.old.trees
+        ensures fits { OnOk result
+            (length (with_tree self.old.trees (tree_of self.old.names self.old.trees
             level)) ≤ self.old.limit) }
-        ensures full { result ≡ Err PoolFault.Full → self.old.limit < length (with_tree self.old.trees
+        ensures full { result ≡ Err PoolFault.Full
+            → self.old.limit < length (with_tree self.old.trees
             (tree_of self.old.names self.old.trees level)) }
         ensures above { self.old.limit < length (with_tree self.old.trees
             (tree_of self.old.names self.old.trees level)) → result ≡ Err PoolFault.Full }
@@ -238,8 +244,10 @@ fn inserted(
     ensures keys { OnOk result (levels.new.keys ≡ insert_key flat_eq levels.old.keys level) }
     ensures number { IfOk result (λ n. slice_get levels.new.keys n ≡ Some level) }
     ensures fits { OnOk result (length (insert_key flat_eq levels.old.keys level) ≤ limit) }
-    ensures full { result ≡ Err PoolFault.Full → limit < length (insert_key flat_eq levels.old.keys level) }
-    ensures above { limit < length (insert_key flat_eq levels.old.keys level) → result ≡ Err PoolFault.Full }
+    ensures full { result ≡ Err PoolFault.Full
+        → limit < length (insert_key flat_eq levels.old.keys level) }
+    ensures above { limit < length (insert_key flat_eq levels.old.keys level)
+        → result ≡ Err PoolFault.Full }
     ensures refused { OnErr result (levels.new.keys ≡ levels.old.keys) }
 {
     if levels.len() < limit as usize {

@@ -61,7 +61,8 @@ impl Interner {
         ensures added { OnOk result (self.new.trees ≡ interned self.old.trees value.now) }
         ensures number { IfOk result (λ node. slice_get self.new.trees node.0 ≡ Some value.now) }
         ensures fits { OnOk result (length (interned self.old.trees value.now) ≤ self.old.limit) }
-        ensures full { result ≡ Err PoolFault.Full → self.old.limit < length (interned self.old.trees value.now) }
+        ensures full { result ≡ Err PoolFault.Full
+            → self.old.limit < length (interned self.old.trees value.now) }
         ensures refused { OnErr result (self.new ≡ self.old) }
         ensures limit { self.new.limit ≡ self.old.limit }
     {
@@ -74,7 +75,8 @@ impl Interner {
         ensures added { OnOk result (self.new.trees ≡ interned self.old.trees value.now) }
         ensures number { IfOk result (λ node. slice_get self.new.trees node.0 ≡ Some value.now) }
         ensures fits { OnOk result (length (interned self.old.trees value.now) ≤ self.old.limit) }
-        ensures full { result ≡ Err PoolFault.Full → self.old.limit < length (interned self.old.trees value.now) }
+        ensures full { result ≡ Err PoolFault.Full
+            → self.old.limit < length (interned self.old.trees value.now) }
         ensures refused { OnErr result (self.new ≡ self.old) }
         ensures limit { self.new.limit ≡ self.old.limit }
     {
@@ -94,7 +96,8 @@ impl Interner {
         ensures added { OnOk result (self.new.trees ≡ interned self.old.trees value.now) }
         ensures number { IfOk result (λ node. slice_get self.new.trees node.0 ≡ Some value.now) }
         ensures fits { OnOk result (length (interned self.old.trees value.now) ≤ self.old.limit) }
-        ensures full { result ≡ Err PoolFault.Full → self.old.limit < length (interned self.old.trees value.now) }
+        ensures full { result ≡ Err PoolFault.Full
+            → self.old.limit < length (interned self.old.trees value.now) }
         ensures refused { OnErr result (self.new ≡ self.old) }
         ensures limit { self.new.limit ≡ self.old.limit }
     {

@@ -28,7 +28,8 @@ pub fn add(
     ensures added { OnOk result (store.new.trees ≡ interned store.old.trees value.now) }
     ensures number { IfOk result (λ n. slice_get store.new.trees n ≡ Some value.now) }
     ensures fits { OnOk result (length (interned store.old.trees value.now) ≤ store.old.limit) }
-    ensures full { result ≡ Err PoolFault.Full → store.old.limit < length (interned store.old.trees value.now) }
+    ensures full { result ≡ Err PoolFault.Full
+        → store.old.limit < length (interned store.old.trees value.now) }
 {
     let shown = value.show();
     if let Some(number) = store.leaf_near(near, &shown) {
@@ -49,9 +50,12 @@ fn level_of(
     ensures grows { Grows store.old store.new }
     ensures added { OnOk result (store.new.trees ≡ fold with_tree store.old.trees (inside
         (meaning_of shown.entry))) }
-    ensures within { IfOk result (λ level. IsWithin store.new.names (length store.new.trees) level) }
-    ensures stands { IfOk result (λ level. tree_of store.new.names store.new.trees level ≡ meaning_of shown.entry) }
-    ensures full { result ≡ Err PoolFault.Full → store.old.limit < length (fold with_tree store.old.trees
+    ensures within { IfOk result
+        (λ level. IsWithin store.new.names (length store.new.trees) level) }
+    ensures stands { IfOk result
+        (λ level. tree_of store.new.names store.new.trees level ≡ meaning_of shown.entry) }
+    ensures full { result ≡ Err PoolFault.Full
+        → store.old.limit < length (fold with_tree store.old.trees
         (inside (meaning_of shown.entry))) }
 {
     match shown {
@@ -87,7 +91,8 @@ fn add_items(
         (kids_of list.entry))) }
     ensures within { IfOk result (λ v. AllByRecursion (λ k. k < length store.new.trees) v.items) }
     ensures held { IfOk result (λ v. map (tree_at store.new.trees) v.items ≡ list.entry) }
-    ensures full { result ≡ Err PoolFault.Full → store.old.limit < length (fold with_tree store.old.trees
+    ensures full { result ≡ Err PoolFault.Full
+        → store.old.limit < length (fold with_tree store.old.trees
         (inside_kids (kids_of list.entry))) }
 {
     let mut numbers = Vec::new(alloc);
@@ -111,11 +116,14 @@ fn add_members(
     ensures grows { Grows store.old store.new }
     ensures added { OnOk result (store.new.trees ≡ fold with_tree store.old.trees (inside_fields
         (fields_of list.entry))) }
-    ensures within { IfOk result (λ v. AllByRecursion (IsFieldWithin store.new.names (length store.new.trees))
+    ensures within { IfOk result
+        (λ v. AllByRecursion (IsFieldWithin store.new.names (length store.new.trees))
         v.items) }
-    ensures held { IfOk result (λ v. map (field_at store.new.names store.new.trees) v.items ≡ list.entry) }
+    ensures held { IfOk result
+        (λ v. map (field_at store.new.names store.new.trees) v.items ≡ list.entry) }
     ensures sorted { AreSorted list.entry }
-    ensures full { result ≡ Err PoolFault.Full → store.old.limit < length (fold with_tree store.old.trees
+    ensures full { result ≡ Err PoolFault.Full
+        → store.old.limit < length (fold with_tree store.old.trees
         (inside_fields (fields_of list.entry))) }
 {
     let mut numbers = Vec::new(alloc);

@@ -31,7 +31,8 @@ pub fn pointed(store: &Store, number: u32, pointer: &Pointer) -> Option<u32>
 /// The number of the value of an object's member.
 pub fn member_of(store: &Store, number: u32, name: &str) -> Option<u32>
     requires { number < length store.now.trees }
-    ensures found { option_and_then (slice_get store.now.trees) result ≡ option_and_then (member_of name.now)
+    ensures found { option_and_then (slice_get store.now.trees) result
+        ≡ option_and_then (member_of name.now)
         (slice_get store.now.trees number) }
     ensures within { IfSome result (λ n. n < length store.now.trees) }
 {
@@ -44,7 +45,8 @@ pub fn member_of(store: &Store, number: u32, name: &str) -> Option<u32>
 // The number of what one token refers to.
 fn child(store: &Store, number: u32, token: &Text) -> Option<u32>
     requires { number < length store.now.trees }
-    ensures found { option_and_then (slice_get store.now.trees) result ≡ option_and_then (child_of token.now)
+    ensures found { option_and_then (slice_get store.now.trees) result
+        ≡ option_and_then (child_of token.now)
         (slice_get store.now.trees number) }
     ensures within { IfSome result (λ n. n < length store.now.trees) }
 {
@@ -67,8 +69,10 @@ fn item(numbers: &Vec<u32>, token: &str) -> Option<u32>
 
 // The number of the value of the member of a name.
 fn member(store: &Store, numbers: &Vec<(usize, u32)>, name: &str) -> Option<u32>
-    requires within { AllByRecursion (IsFieldWithin store.now.names (length store.now.trees)) numbers.now.items }
-    requires sorted { IsStrictlySortedBy (slice_cmp nat_cmp) (map (name_of store.now.names) numbers.now.items) }
+    requires within { AllByRecursion (IsFieldWithin store.now.names (length store.now.trees))
+        numbers.now.items }
+    requires sorted { IsStrictlySortedBy (slice_cmp nat_cmp)
+        (map (name_of store.now.names) numbers.now.items) }
     ensures found { option_and_then (slice_get store.now.trees) result ≡ lookup name.now
         (fields_of (map (field_at store.now.names store.now.trees) numbers.now.items)) }
     ensures within { IfSome result (λ n. n < length store.now.trees) }
@@ -81,13 +85,15 @@ fn member(store: &Store, numbers: &Vec<(usize, u32)>, name: &str) -> Option<u32>
 
 // The position of the member of a name, or else the position at which it would stand.
 fn find(store: &Store, numbers: &Vec<(usize, u32)>, name: &str) -> Result<usize, usize>
-    ensures found { IsBinarySearchResult (λ m. slice_cmp nat_cmp (name_of store.now.names m) name.now)
+    ensures found { IsBinarySearchResult
+        (λ m. slice_cmp nat_cmp (name_of store.now.names m) name.now)
         numbers.now.items result }
     ensures within { IsSearchInRange result (length numbers.now.items) }
 {
     numbers.binary_search_by(
         |member: &(usize, u32)| -> Ordering
-            ensures { result ≡ slice_cmp nat_cmp (name_at store.entry.now.names member.now.0) name.entry.now }
+            ensures { result
+                ≡ slice_cmp nat_cmp (name_at store.entry.now.names member.now.0) name.entry.now }
         { store.name(member.0).cmp(name) },
     )
 }

@@ -63,7 +63,8 @@ impl Pool {
         requires a { a.0 < length self.now.trees }
         requires b { b.0 < length self.now.trees }
         ensures numbers { IsTrue result ↔ (a ≡ b) }
-        ensures trees { IsTrue result ↔ (slice_get self.now.trees a.0 ≡ slice_get self.now.trees b.0) }
+        ensures trees { IsTrue result
+            ↔ (slice_get self.now.trees a.0 ≡ slice_get self.now.trees b.0) }
     {
         let _len = self.len();
         a.0 == b.0
@@ -80,7 +81,8 @@ impl Pool {
     /// The number of what a pointer identifies within the tree of a number (RFC 6901 section 4).
     pub fn at(&self, node: NodeId, pointer: &Pointer) -> Option<NodeId>
         requires { node.0 < length self.now.trees }
-        ensures found { option_and_then (λ at. slice_get self.now.trees at.0) result ≡ option_and_then
+        ensures found { option_and_then (λ at. slice_get self.now.trees at.0) result
+            ≡ option_and_then
             (pointed_tree pointer.now) (slice_get self.now.trees node.0) }
         ensures within { IfSome result (λ at. at.0 < length self.now.trees) }
     {
@@ -90,7 +92,8 @@ impl Pool {
     /// The number of the value of a member of the object of a number.
     pub fn member(&self, node: NodeId, name: &str) -> Option<NodeId>
         requires { node.0 < length self.now.trees }
-        ensures found { option_and_then (λ at. slice_get self.now.trees at.0) result ≡ option_and_then
+        ensures found { option_and_then (λ at. slice_get self.now.trees at.0) result
+            ≡ option_and_then
             (member_of name.now) (slice_get self.now.trees node.0) }
         ensures within { IfSome result (λ at. at.0 < length self.now.trees) }
     {

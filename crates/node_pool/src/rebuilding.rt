@@ -50,7 +50,8 @@ fn rebuild_items(
 ) -> Result<Trees, OutOfMemory>
     requires within { AllByRecursion (λ k. k < bound) numbers.now.items }
     requires bound { bound ≤ length store.now.trees }
-    ensures { IfOk result (λ list. map (slice_get store.now.trees) numbers.now.items ≡ map Some list) }
+    ensures { IfOk result
+        (λ list. map (slice_get store.now.trees) numbers.now.items ≡ map Some list) }
 {
     let mut all = Vec::with_capacity(alloc, numbers.len())?;
     for number in numbers {
@@ -68,9 +69,11 @@ fn rebuild_members(
     bound: u32,
 ) -> Result<MemberList, OutOfMemory>
     requires within { AllByRecursion (IsFieldWithin store.now.names bound) numbers.now.items }
-    requires sorted { IsStrictlySortedBy (slice_cmp nat_cmp) (map (name_of store.now.names) numbers.now.items) }
+    requires sorted { IsStrictlySortedBy (slice_cmp nat_cmp)
+        (map (name_of store.now.names) numbers.now.items) }
     requires bound { bound ≤ length store.now.trees }
-    ensures { IfOk result (λ list. map (looked_up store.now.names store.now.trees) numbers.now.items ≡ map told list) }
+    ensures { IfOk result (λ list. map (looked_up store.now.names store.now.trees) numbers.now.items
+        ≡ map told list) }
 {
     let mut all = Vec::with_capacity(alloc, numbers.len())?;
     for (name, value) in numbers {

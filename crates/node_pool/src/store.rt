@@ -51,7 +51,8 @@ impl Store {
 
     /// The level of the tree of a number.
     pub fn level(&self, number: u32) -> Option<&Level>
-        ensures tree { option_map (λ l. tree_of self.now.names self.now.trees l.now) result ≡ slice_get
+        ensures tree { option_map (λ l. tree_of self.now.names self.now.trees l.now) result
+            ≡ slice_get
             self.now.trees number }
         ensures before { IfSome result (λ l. IsWithin self.now.names number l.now) }
     {

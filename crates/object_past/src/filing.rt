@@ -24,7 +24,8 @@ fn file(
     version: &Version,
     ending: Option<Ending>,
 ) -> Result<(), OutOfMemory>
-    ensures { OnOk result (ChangesAt by_key.old by_key.new version.now.key (IsGrown position version.now ending)) }
+    ensures { OnOk result
+        (ChangesAt by_key.old by_key.new version.now.key (IsGrown position version.now ending)) }
 {
     match by_key.get_mut(&version.key) {
         Some(found) => {

@@ -26,7 +26,8 @@ pub fn has_uid(incarnation: &Incarnation, uid: &Text) -> bool
 
 // Lets the last incarnation go on with the key's next version, if it has the version's uid.
 fn go_on(incarnations: &mut Vec<Incarnation>, version: &Version, range: Option<u32>) -> bool
-    ensures yes { result ≡ true → IsExtended incarnations.old.items incarnations.new.items version.now range }
+    ensures yes { result ≡ true
+        → IsExtended incarnations.old.items incarnations.new.items version.now range }
     ensures no { result ≡ false → incarnations.new.items ≡ incarnations.old.items }
     ensures other { result ≡ false → HasOtherLast incarnations.old.items version.now }
 {
@@ -47,7 +48,8 @@ pub fn extend(
     version: &Version,
     range: Option<u32>,
 ) -> Result<(), OutOfMemory>
-    ensures { OnOk result (IsExtended incarnations.old.items incarnations.new.items version.now range) }
+    ensures { OnOk result
+        (IsExtended incarnations.old.items incarnations.new.items version.now range) }
 {
     if go_on(incarnations, version, range) {
         return Ok(());

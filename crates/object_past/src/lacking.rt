@@ -27,7 +27,8 @@ pub fn keys_in_order(mut keys: Vec<&ObjectKey>) -> Option<Vec<&ObjectKey>>
     ensures order { IfSome result (λ sorted. AreInOrder (keys_at sorted.items)) }
     ensures exact { IfSome result (λ sorted. (key : Key) → Contains (keys_at sorted.items) key
         ↔ Contains (keys_at keys.entry.items) key) }
-    ensures distinct { IfSome result (λ sorted. AllPairs (λ a b. a ≢ b) (keys_at keys.entry.items)) }
+    ensures distinct { IfSome result
+        (λ sorted. AllPairs (λ a b. a ≢ b) (keys_at keys.entry.items)) }
     ensures none { IfNone result (AllPairs (λ a b. a ≢ b) (keys_at keys.entry.items) → ⊥) }
 {
     keys.sort_unstable();

@@ -47,7 +47,8 @@ impl Model for Past {
 
     ghost view = { λ p. record { versions = p.versions; removals = p.removals } };
 
-    ghost invariant = { λ p. IsKept (record { versions = p.versions; removals = p.removals }) p.ranges.items
+    ghost invariant = { λ p. IsKept (record { versions = p.versions; removals = p.removals })
+        p.ranges.items
         p.endings.items p.keys.items p.by_key };
 }
 
@@ -90,7 +91,8 @@ fn version_with(versions: &[Version], revision: u64) -> Option<&Version>
 fn position_by(removals: &[Removal], event: u32) -> Option<u32>
     requires rising { AllPairs (λ a b. a.range.event < b.range.event) removals.now }
     requires count { length removals.now < 2 ^ 32 }
-    ensures removal { option_and_then (slice_get removals.now) result ≡ find (λ r. r.range.event == event)
+    ensures removal { option_and_then (slice_get removals.now) result
+        ≡ find (λ r. r.range.event == event)
         removals.now }
     ensures within { IfSome result (λ position. position < length removals.now) }
 {
@@ -162,7 +164,8 @@ impl Past {
 
     /// The version of this revision.
     pub fn at(&self, revision: u64) -> Option<&Version>
-        ensures { option_map (λ v. v.now) result ≡ find (λ v. v.revision == revision) self.now.versions }
+        ensures { option_map (λ v. v.now) result
+            ≡ find (λ v. v.revision == revision) self.now.versions }
     {
         version_with(self.versions.as_slice(), revision)
     }
@@ -191,7 +194,8 @@ impl Past {
 
     /// The key's latest version at or below a place.
     pub fn latest(&self, key: &ObjectKey, place: u64) -> Option<&Version>
-        ensures latest { option_map (λ v. version_of v.now) result ≡ latest (map version_of self.now.versions)
+        ensures latest { option_map (λ v. version_of v.now) result
+            ≡ latest (map version_of self.now.versions)
             key.now place }
         ensures known { IfSome result (λ v. Contains self.now.versions v.now) }
     {
@@ -202,7 +206,8 @@ impl Past {
 
     /// Who wrote the version of this revision.
     pub fn maker(&self, revision: u64) -> Option<Maker>
-        ensures { result ≡ option_map (λ v. v.maker) (find (λ v. v.revision == revision) self.now.versions) }
+        ensures { result
+            ≡ option_map (λ v. v.maker) (find (λ v. v.revision == revision) self.now.versions) }
     {
         Some(self.at(revision)?.maker)
     }
@@ -250,7 +255,8 @@ impl Past {
     /// Whether the key is absent at some place from `low` to `high` whatever places its removals have: before its first
     /// version, or behind a removal's range.
     pub fn is_absent_within(&self, key: &ObjectKey, low: u64, high: u64) -> bool
-        ensures { (h : History) → HasPast self.now h → IsTrue result ↔ SomewhereIn low high (IsAbsentAnyway h key.now) }
+        ensures { (h : History) → HasPast self.now h
+            → IsTrue result ↔ SomewhereIn low high (IsAbsentAnyway h key.now) }
     {
         // For the proof alone: what a past keeps is known where a field of it is looked at.
         let _ = &self.versions;
@@ -273,7 +279,8 @@ impl Past {
     /// Whether at some place from `low` to `high` the key's latest version has another uid.
     pub fn has_other_uid(&self, key: &ObjectKey, low: u64, high: u64, uid: &Text) -> bool
         ensures { IsTrue result ↔ SomewhereIn low high (λ place.
-            IsSomeAnd (latest (map version_of self.now.versions) key.now place) (λ v. v.uid ≢ uid.now)) }
+            IsSomeAnd (latest (map version_of self.now.versions) key.now place)
+            (λ v. v.uid ≢ uid.now)) }
     {
         if low > high {
             return false;
@@ -293,7 +300,8 @@ impl Past {
     /// The keys that have a version, in order.
     pub fn keys(&self) -> &[ObjectKey]
         ensures order { AreInOrder result.now }
-        ensures exact { (key : ObjectKey) → Contains result.now key ↔ HasVersion self.now.versions key }
+        ensures exact { (key : ObjectKey)
+            → Contains result.now key ↔ HasVersion self.now.versions key }
     {
         self.keys.as_slice()
     }
@@ -303,7 +311,8 @@ impl Past {
     pub fn scope(&self, group: &Text, resource: &Text, namespace: &Text) -> &[ObjectKey]
         ensures order { AreInOrder result.now }
         ensures exact { (key : ObjectKey) → Contains result.now key
-            ↔ (HasVersion self.now.versions key × IsInScope group.now resource.now namespace.now key) }
+            ↔ (HasVersion self.now.versions key
+            × IsInScope group.now resource.now namespace.now key) }
     {
         keys_in(&self.keys, group, resource, namespace)
     }

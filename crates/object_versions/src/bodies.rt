@@ -15,5 +15,6 @@ pub trait Bodies {
         event: u32,
         before: Option<NodeId>,
     ) -> Result<bool, OutOfMemory>
-        ensures { IfOk result (λ right. right ≡ body self.now event (option_map (λ node. node.0) before)) };
+        ensures { IfOk result
+            (λ right. right ≡ body self.now event (option_map (λ node. node.0) before)) };
 }

@@ -53,7 +53,8 @@ fn unrecorded_at(
     event: &LogEvent,
 ) -> Result<Option<OpaqueSpan>, OutOfMemory>
     requires { start ≡ windows.now.start }
-    ensures { IfOk result (λ span. (h : History) → HasTimes windows.now h → span ≡ unrecorded_at h event.now) }
+    ensures { IfOk result
+        (λ span. (h : History) → HasTimes windows.now h → span ≡ unrecorded_at h event.now) }
 {
     match &event.answer {
         Shown::Opaque { cover } => {
@@ -76,7 +77,8 @@ pub fn unrecorded_of(
     events: &[LogEvent],
 ) -> Result<Vec<OpaqueSpan>, OutOfMemory>
     requires { start ≡ windows.now.start }
-    ensures { IfOk result (λ spans. (h : History) → HasTimes windows.now h → spans.items ≡ unrecorded_in h events.now) }
+    ensures { IfOk result (λ spans. (h : History) → HasTimes windows.now h
+        → spans.items ≡ unrecorded_in h events.now) }
 {
     let mut spans = Vec::new(alloc);
     for event in events {

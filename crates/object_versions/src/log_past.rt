@@ -93,10 +93,12 @@ fn timed_of(alloc: Global, start: Revision, events: &[LogEvent]) -> Result<Timed
     ensures start { IfOk result (λ timed. timed.windows.start ≡ start) }
     ensures rising { IfOk result (λ timed. AllPairs (λ a b. a.revision < b.revision) timed.groups) }
     ensures above { IfOk result (λ timed. All (λ group. start < group.revision) timed.groups) }
-    ensures members { IfOk result (λ timed. All (λ group. AreWrites events.now group.members) timed.groups) }
+    ensures members { IfOk result
+        (λ timed. All (λ group. AreWrites events.now group.members) timed.groups) }
     ensures timed { IfOk result (λ timed. (h : History) → HasEvents events.now h → h.start ≡ start
         → h.order ≡ timed.order.items
-        → h.spans ≡ map span_of timed.windows.spans → IsOrder h × AreGroupsOf h timed.groups × AreSpans h) }
+        → h.spans ≡ map span_of timed.windows.spans
+        → IsOrder h × AreGroupsOf h timed.groups × AreSpans h) }
 {
     let order = order_of(alloc, events)?;
     let groups = groups_of(alloc, start, events, &order)?;
@@ -117,7 +119,8 @@ fn hidden_of(
     timed: &Timed,
 ) -> Result<Clouds, OutOfMemory>
     requires { start ≡ timed.now.windows.start }
-    ensures { IfOk result (λ clouds. (h : History) → HasTimes timed.now.windows h → HasEvents events.now h
+    ensures { IfOk result
+        (λ clouds. (h : History) → HasTimes timed.now.windows h → HasEvents events.now h
         → HasSlots (slots_of snapshot.now timed.now.groups) h → AreCloudsOf clouds h) }
 {
     let slots = slots_of(alloc, snapshot, timed.groups.as_slice())?;
@@ -138,13 +141,17 @@ fn ended_of<B: Bodies>(
     requires rising { AllPairs (λ a b. a.revision < b.revision) timed.now.groups }
     requires above { All (λ group. start < group.revision) timed.now.groups }
     requires members { All (λ group. AreWrites events.now group.members) timed.now.groups }
-    ensures slots { IfOk result (λ ended. AreSlots (slots_of snapshot.now timed.now.groups) ended.written.versions) }
+    ensures slots { IfOk result
+        (λ ended. AreSlots (slots_of snapshot.now timed.now.groups) ended.written.versions) }
     ensures ended { IfOk result (λ ended. (h : History) → HasTimes timed.now.windows h
         → HasEvents events.now h → h.order ≡ timed.now.order.items → IsOrder h
-        → IsJudgedBy clouds.now (B.body bodies.now) h → AreGroupsOf h timed.now.groups → h.start ≡ start
+        → IsJudgedBy clouds.now (B.body bodies.now) h → AreGroupsOf h timed.now.groups
+        → h.start ≡ start
         → h.snapshot ≡ map item_of snapshot.now
-        → h.versions ≡ map version_of ended.written.versions → h.removals ≡ map recorded ended.removals
-        → AreVersions h × AreAllJudged h events.now timed.now.groups ended.written.judged.items × AreRemovals h) }
+        → h.versions ≡ map version_of ended.written.versions
+        → h.removals ≡ map recorded ended.removals
+        → AreVersions h × AreAllJudged h events.now timed.now.groups ended.written.judged.items
+        × AreRemovals h) }
 {
     let removed = first_removals(alloc, events, &timed.order, seed)?;
     let log = Log {
@@ -217,7 +224,8 @@ pub fn past_of<B: Bodies>(
     ensures start { IfOk result (λ past. past.windows.start ≡ start) }
     ensures past { IfOk result (λ past. (h : History) → HasFound start snapshot.now events.now
         (B.body bodies.now) past h → IsPastOf events.now past h) }
-    ensures few_versions { IfOk result (λ past. length past.versions ≤ length snapshot.now + length events.now) }
+    ensures few_versions { IfOk result
+        (λ past. length past.versions ≤ length snapshot.now + length events.now) }
     ensures few_removals { IfOk result (λ past. length past.removals ≤ length events.now) }
 {
     let timed = timed_of(alloc, start, events)?;

@@ -24,7 +24,8 @@ fn must_have_made<B: Bodies>(
     events: &[LogEvent],
     one: &Judged,
 ) -> Result<bool, OutOfMemory>
-    ensures { IfOk result (λ must. must ≡ must_have_made (finding_at (B.body bodies.now) events.now) one.now) }
+    ensures { IfOk result
+        (λ must. must ≡ must_have_made (finding_at (B.body bodies.now) events.now) one.now) }
 {
     match one.making {
         Some(_) => Ok(false),
@@ -39,7 +40,8 @@ fn first_maker<B: Bodies>(
     events: &[LogEvent],
     judged: &[Judged],
 ) -> Result<Option<u32>, OutOfMemory>
-    ensures { IfOk result (λ maker. maker ≡ first_maker (finding_at (B.body bodies.now) events.now) judged.now) }
+    ensures { IfOk result
+        (λ maker. maker ≡ first_maker (finding_at (B.body bodies.now) events.now) judged.now) }
 {
     for one in judged {
         if must_have_made(alloc, bodies, events, one)? {
@@ -72,7 +74,8 @@ fn able_maker<B: Bodies>(
     events: &[LogEvent],
     judged: &[Judged],
 ) -> Result<Option<u32>, OutOfMemory>
-    ensures { IfOk result (λ maker. maker ≡ able_maker (finding_at (B.body bodies.now) events.now) judged.now) }
+    ensures { IfOk result
+        (λ maker. maker ≡ able_maker (finding_at (B.body bodies.now) events.now) judged.now) }
 {
     let able = first_able(judged);
     if able_count(judged) < 2 {
@@ -93,7 +96,8 @@ pub fn maker_among<B: Bodies>(
     first: u32,
     may_be_unrecorded: bool,
 ) -> Result<Maker, OutOfMemory>
-    ensures { IfOk result (λ maker. maker ≡ maker_among (finding_at (B.body bodies.now) events.now) judged.now first
+    ensures { IfOk result
+        (λ maker. maker ≡ maker_among (finding_at (B.body bodies.now) events.now) judged.now first
         may_be_unrecorded) }
 {
     if let Some(number) = able_maker(alloc, bodies, events, judged)? {

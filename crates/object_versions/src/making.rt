@@ -73,7 +73,8 @@ fn node_of(before: Option<&Version>) -> Option<NodeId>
 
 // Whether the write can't have made its revision between its moments.
 fn is_out_of_reach(windows: &Windows, making: Making<'_>) -> bool
-    ensures { (h : History) → HasTimes windows.now h → IsTrue result ↔ IsOutside h (making_of making.entry) }
+    ensures { (h : History) → HasTimes windows.now h
+        → IsTrue result ↔ IsOutside h (making_of making.entry) }
 {
     let revision = making.item.revision.get();
     revision <= lowest(windows, making.event.lo) || highest(windows, making.event.hi) < revision
@@ -122,9 +123,11 @@ pub fn making_fault<B: Bodies>(
     is_used: bool,
     before: Option<&Version>,
 ) -> Result<Option<Reason>, OutOfMemory>
-    ensures { IfOk result (λ found. (h : History) → HasTimes windows.now h → IsJudgedBy clouds.now (B.body bodies.now) h
+    ensures { IfOk result (λ found. (h : History) → HasTimes windows.now h
+        → IsJudgedBy clouds.now (B.body bodies.now) h
         → (IsTrue is_used ↔ IsUsedUid h (making_of making.entry))
-        → IsLeastFault h (making_of making.entry) (option_map (λ v. version_of v.now) before.entry) found) }
+        → IsLeastFault h (making_of making.entry) (option_map (λ v. version_of v.now) before.entry)
+        found) }
 {
     if is_out_of_reach(windows, making) {
         return Ok(Some(Reason::U3));
@@ -144,7 +147,8 @@ fn found_fault<B: Bodies>(
     bodies: &B,
     making: Making<'_>,
 ) -> Result<Option<Reason>, OutOfMemory>
-    ensures { IfOk result (λ found. found ≡ found_code (B.body bodies.now) (making_of making.entry)) }
+    ensures { IfOk result
+        (λ found. found ≡ found_code (B.body bodies.now) (making_of making.entry)) }
 {
     if making.created {
         return Ok(Some(Reason::U4));

@@ -41,10 +41,12 @@ pub fn range_behind(
     is_first: bool,
     next: Option<Revision>,
 ) -> Option<Range>
-    ensures some { IfSome result (λ range. (h : History) → HasLog windows.now events.now removed.now h
+    ensures some { IfSome result
+        (λ range. (h : History) → HasLog windows.now events.now removed.now h
         → (IsTrue is_first ↔ IsFirstWithUid h.versions (version_of version.now))
         → IsRemovalBehind h (version_of version.now) next (removal_of version.now range)) }
-    ensures none { IfNone result ((h : History) (removal : Removal) → HasLog windows.now events.now removed.now h
+    ensures none { IfNone result
+        ((h : History) (removal : Removal) → HasLog windows.now events.now removed.now h
         → (IsTrue is_first ↔ IsFirstWithUid h.versions (version_of version.now))
         → IsRemovalBehind h (version_of version.now) next removal → ⊥) }
 {

@@ -23,7 +23,8 @@ fn removal_after(
     is_first: bool,
     after: Option<&Version>,
 ) -> Result<Option<Removal>, OutOfMemory>
-    ensures { IfOk result (IsFoundAfter log.entry.windows.now log.entry.events.now log.entry.removed.now
+    ensures { IfOk result
+        (IsFoundAfter log.entry.windows.now log.entry.events.now log.entry.removed.now
         version.now is_first (option_map (λ v. v.now) after.entry)) }
 {
     let next = match after {
@@ -87,7 +88,8 @@ fn find_removals(
     requires rising { AllPairs (λ a b. a.revision < b.revision) versions.now }
     requires firsts { AreFlagged versions.now firsts.now }
     requires earlier { AreLinked versions.now earlier.now }
-    ensures { IfOk result (λ removals. (h : History) → HasLog log.entry.windows.now log.entry.events.now
+    ensures { IfOk result
+        (λ removals. (h : History) → HasLog log.entry.windows.now log.entry.events.now
         log.entry.removed.now h
         → h.versions ≡ map version_of versions.now → AreFound h removals.items) }
 {
@@ -115,9 +117,11 @@ pub fn removals_of(
     requires rising { AllPairs (λ a b. a.revision < b.revision) versions.now }
     requires firsts { AreFlagged versions.now firsts.now }
     requires earlier { AreLinked versions.now earlier.now }
-    ensures { IfOk result (λ removals. (h : History) → HasLog log.entry.windows.now log.entry.events.now
+    ensures { IfOk result
+        (λ removals. (h : History) → HasLog log.entry.windows.now log.entry.events.now
         log.entry.removed.now h
-        → h.versions ≡ map version_of versions.now → h.removals ≡ map recorded removals → AreRemovals h) }
+        → h.versions ≡ map version_of versions.now → h.removals ≡ map recorded removals
+        → AreRemovals h) }
 {
     let mut removals = find_removals(alloc, log, versions, firsts, earlier)?;
     removals.sort_by_key(|removal| removal.range.event)?;

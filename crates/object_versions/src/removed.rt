@@ -36,7 +36,8 @@ fn add(
     number: u32,
 ) -> Result<(), OutOfMemory>
     ensures { OnOk result ((k : ObjectKey) (u : List ℕ)
-        → found_at removed.new k u ≡ or_first (found_at removed.old k u) (number_if key.now uid.now number k u)) }
+        → found_at removed.new k u
+        ≡ or_first (found_at removed.old k u) (number_if key.now uid.now number k u)) }
 {
     match removed.get_mut(key) {
         Some(uids) => {

@@ -61,9 +61,11 @@ fn entry_before<'a>(
     latest: Option<Latest<'a>>,
     making: Making<'_>,
 ) -> Option<&'a Version>
-    ensures { (h : History) (done : List Version) → HasLog log.entry.windows.now log.entry.events.now
+    ensures { (h : History) (done : List Version)
+        → HasLog log.entry.windows.now log.entry.events.now
         log.entry.removed.now h → Extends h done making.entry.item.now.revision
-        → IsLatestIn done making.entry.item.now.key latest.entry → IsEntryBefore h (making_of making.entry)
+        → IsLatestIn done making.entry.item.now.key latest.entry
+        → IsEntryBefore h (making_of making.entry)
         (option_map (λ v. version_of v.now) result) }
 {
     let latest = latest?;
@@ -156,7 +158,8 @@ fn version_in<B: Bodies>(
     ensures key { IfOk result (λ version. version.key ≡ group.now.key) }
     ensures revision { IfOk result (λ version. version.revision ≡ group.now.revision) }
     ensures made { IfOk result (λ version. (h : History)
-        → IsOfGroup log.entry (B.body bodies.now) group.now judged.now h → IsMadeVersion h (version_of version)) }
+        → IsOfGroup log.entry (B.body bodies.now) group.now judged.now h
+        → IsMadeVersion h (version_of version)) }
 {
     let first = first_number(judged);
     let may_be_unrecorded = log.clouds.may_make(&group.key, group.revision);
@@ -189,8 +192,10 @@ fn snapshot_version(item: &Item) -> Result<Version, OutOfMemory>
 
 fn by_revision(alloc: Global, snapshot: &[Item]) -> Result<Vec<&Item>, OutOfMemory>
     requires { AllPairs (λ a b. a.revision ≢ b.revision) snapshot.now }
-    ensures same { IfOk result (λ order. IsPermutation snapshot.now (map (λ item. item.now) order.items)) }
-    ensures rising { IfOk result (λ order. AllPairs (λ a b. a.now.revision < b.now.revision) order.items) }
+    ensures same { IfOk result
+        (λ order. IsPermutation snapshot.now (map (λ item. item.now) order.items)) }
+    ensures rising { IfOk result
+        (λ order. AllPairs (λ a b. a.now.revision < b.now.revision) order.items) }
 {
     let mut order: Vec<&Item> = snapshot.iter().collect(alloc)?;
     order.sort_by_key(|item| item.revision.get())?;
@@ -232,11 +237,14 @@ fn add_group<B: Bodies>(
     requires above { All (λ v. v.revision < group.now.revision) grown }
     ensures { IfOk result (λ after. (version : Version) × (more : List Writing)
         × (after ≡ grown ++ version ∷ []) × (judged.new.items ≡ judged.old.items ++ more)
-        × (version.key ≡ group.now.key) × (version.revision ≡ group.now.revision) × (map (λ one. one.number) more ≡ group.now.members)
-        × ((h : History) → IsOfLog log.entry (B.body bodies.now) h → Extends h grown group.now.revision
+        × (version.key ≡ group.now.key) × (version.revision ≡ group.now.revision)
+        × (map (λ one. one.number) more ≡ group.now.members)
+        × ((h : History) → IsOfLog log.entry (B.body bodies.now) h
+        → Extends h grown group.now.revision
         → All (IsAnsweredAt log.entry.events.now group.now.revision) group.now.members
         → AreJudged h log.entry.events.now group.now.members more)
-        × ((h : History) → IsOfGroup log.entry (B.body bodies.now) group.now more h → IsMadeVersion h (version_of version))) }
+        × ((h : History) → IsOfGroup log.entry (B.body bodies.now) group.now more h
+        → IsMadeVersion h (version_of version))) }
 {
     let mut members = judge_each(alloc, log, bodies, &grown, group.members.as_slice())?;
     let version = version_in(alloc, log, bodies, group, &members)?;
@@ -259,16 +267,21 @@ pub fn write_versions<B: Bodies>(
     requires rising { AllPairs (λ a b. a.revision < b.revision) groups.now }
     requires above { All (λ group. start < group.revision) groups.now }
     requires members { All (λ group. AreWrites log.events.now group.members) groups.now }
-    ensures rising { IfOk result (λ written. AllPairs (λ a b. a.revision < b.revision) written.versions) }
-    ensures slots { IfOk result (λ written. AreSlots (slots_of snapshot.now groups.now) written.versions) }
-    ensures versions { IfOk result (λ written. (h : History) → IsOfLog log.entry (B.body bodies.now) h
+    ensures rising { IfOk result
+        (λ written. AllPairs (λ a b. a.revision < b.revision) written.versions) }
+    ensures slots { IfOk result
+        (λ written. AreSlots (slots_of snapshot.now groups.now) written.versions) }
+    ensures versions { IfOk result
+        (λ written. (h : History) → IsOfLog log.entry (B.body bodies.now) h
         → AreGroupsOf h groups.now → h.start ≡ start
-        → h.snapshot ≡ map item_of snapshot.now → h.versions ≡ map version_of written.versions → AreVersions h) }
+        → h.snapshot ≡ map item_of snapshot.now → h.versions ≡ map version_of written.versions
+        → AreVersions h) }
     ensures firsts { IfOk result (λ written. AreFlagged written.versions written.firsts.items) }
     ensures earlier { IfOk result (λ written. AreLinked written.versions written.earlier.items) }
     ensures judged { IfOk result (λ written. (h : History) → IsOfLog log.entry (B.body bodies.now) h
         → AreGroupsOf h groups.now → h.start ≡ start
-        → h.versions ≡ map version_of written.versions → AreAllJudged h log.entry.events.now groups.now
+        → h.versions ≡ map version_of written.versions
+        → AreAllJudged h log.entry.events.now groups.now
         written.judged.items) }
 {
     let order = by_revision(alloc, snapshot)?;

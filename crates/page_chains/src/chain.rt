@@ -59,7 +59,8 @@ fn name_of(alloc: Global, line: u64) -> Result<Text, OutOfMemory>
 }
 
 fn checkpoint_of(alloc: Global, first: &Page, chain: &[&Page]) -> Result<Checkpoint, OutOfMemory>
-    ensures { IfOk result (λ made. made ≡ checkpoint_of first.now (map (λ page. page.now) chain.now)) }
+    ensures { IfOk result
+        (λ made. made ≡ checkpoint_of first.now (map (λ page. page.now) chain.now)) }
 {
     Ok(Checkpoint {
         name: name_of(alloc, first.line)?,
@@ -118,7 +119,8 @@ fn chain_at(
     requires last_within { last < length pages.now }
     requires links { AreLinks pages.now links.now }
     requires last { last ≡ stepped links.now (length pages.now - 1) first }
-    ensures { IfOk result (λ found. found ≡ option_and_then (chain_of pages.now) (slice_get pages.now first)) }
+    ensures { IfOk result
+        (λ found. found ≡ option_and_then (chain_of pages.now) (slice_get pages.now first)) }
 {
     let page = &pages[first];
     if !begins(page) {
@@ -170,9 +172,11 @@ pub fn chains(
     ensures chains { IfOk result (λ found. found ≡ chains_of setup.now events.now) }
     ensures each { IfOk result (AreChains (pages_of setup.now events.now)) }
     ensures few { IfOk result (λ found. length found ≤ length events.now) }
-    ensures tracked { IfOk result (All (λ chain. IsSome (tracked_as setup.now.resources chain.group chain.resource))) }
+    ensures tracked { IfOk result
+        (All (λ chain. IsSome (tracked_as setup.now.resources chain.group chain.resource))) }
     ensures not_below { IfOk result (All (λ chain. setup.now.start ≤ chain.revision)) }
-    ensures sound { All IsSound events.now → IfOk result (All (IsLaterList setup.now.start setup.now.resources)) }
+    ensures sound { All IsSound events.now
+        → IfOk result (All (IsLaterList setup.now.start setup.now.resources)) }
 {
     let parts = parts_of(alloc, setup, events.as_slice())?;
     let found = chains_in(alloc, parts.as_slice(), seed)?;

@@ -48,7 +48,8 @@ fn comes_before(a: &Page, b: &Page) -> bool
 
 // The page at the place that is known for a key.
 fn known<'a>(pages: &'a [Page], places: &Places, key: &PageKey) -> Option<&'a Page>
-    ensures { option_map (λ page. page.now) result ≡ known (⟦<PageKey as PartialEq>⟧.eq) pages.now places.now key.now }
+    ensures { option_map (λ page. page.now) result
+        ≡ known (⟦<PageKey as PartialEq>⟧.eq) pages.now places.now key.now }
 {
     match places.get(key) {
         Some(place) => pages.get(*place),
@@ -58,7 +59,8 @@ fn known<'a>(pages: &'a [Page], places: &Places, key: &PageKey) -> Option<&'a Pa
 
 // Whether a page takes the place that is known for its key.
 fn is_sooner(pages: &[Page], places: &Places, key: &PageKey, page: &Page) -> bool
-    ensures { result ≡ option_map_or (comes_before page.now) (known (⟦<PageKey as PartialEq>⟧.eq) pages.now
+    ensures { result
+        ≡ option_map_or (comes_before page.now) (known (⟦<PageKey as PartialEq>⟧.eq) pages.now
         places.now key.now) true }
 {
     match known(pages, places, key) {
@@ -70,7 +72,8 @@ fn is_sooner(pages: &[Page], places: &Places, key: &PageKey, page: &Page) -> boo
 // Keeps the place of a page that comes before the one that is known for its key.
 fn keep_sooner(pages: &[Page], places: &mut Places, place: usize) -> Result<(), OutOfMemory>
     requires within { place < length pages.now }
-    requires first { FindsFirst (⟦<PageKey as PartialEq>⟧.eq) pages.now (take place pages.now) places.old }
+    requires first { FindsFirst (⟦<PageKey as PartialEq>⟧.eq) pages.now (take place pages.now)
+        places.old }
     ensures first { OnOk result (FindsFirst (⟦<PageKey as PartialEq>⟧.eq) pages.now
         (take (place + 1) pages.now) places.new) }
     ensures memory { OnErr result ((page : Page) → slice_get pages.now place ≡ Some page
@@ -88,7 +91,8 @@ fn keep_sooner(pages: &[Page], places: &mut Places, place: usize) -> Result<(), 
 
 // Finds the first page, in the order of judgement, that each token leads to.
 fn first_places(alloc: Global, pages: &[Page], seed: Seed) -> Result<Places, OutOfMemory>
-    ensures { IfOk result (λ places. FindsFirst (⟦<PageKey as PartialEq>⟧.eq) pages.now pages.now places) }
+    ensures { IfOk result
+        (λ places. FindsFirst (⟦<PageKey as PartialEq>⟧.eq) pages.now pages.now places) }
 {
     let mut places = HashMap::with_hasher(alloc, Seeded::new(seed));
     for place in 0..pages.len() {

@@ -7,7 +7,8 @@ use std::alloc::Global;
 // Where the second steps lead to from where the first led to.
 fn after(alloc: Global, first: &[usize], second: &[usize]) -> Result<Vec<usize>, OutOfMemory>
     requires { All (λ to. to < length second.now) first.now }
-    ensures { IfOk result (λ reached. reached.items ≡ map (λ to. slice_index second.now to) first.now) }
+    ensures { IfOk result
+        (λ reached. reached.items ≡ map (λ to. slice_index second.now to) first.now) }
 {
     let mut reached = Vec::with_capacity(alloc, first.len())?;
     for to in first {
@@ -19,7 +20,8 @@ fn after(alloc: Global, first: &[usize], second: &[usize]) -> Result<Vec<usize>,
 // Each place, where no step was made.
 fn places_below(alloc: Global, count: usize) -> Result<Vec<usize>, OutOfMemory>
     ensures each { IfOk result (λ places. length places.items ≡ count) }
-    ensures same { IfOk result (λ places. (from : ℕ) → from < count → slice_index places.items from ≡ from) }
+    ensures same { IfOk result
+        (λ places. (from : ℕ) → from < count → slice_index places.items from ≡ from) }
 {
     let mut places = Vec::with_capacity(alloc, count)?;
     for place in 0..count {

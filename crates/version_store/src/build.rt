@@ -126,7 +126,8 @@ fn told_of(alloc: Global, bodies: &RequestBodies<'_>, parts: &Parts) -> Result<T
     ensures faults { IfOk result (λ told. AreFaultsFor bodies.now.setup.now bodies.now.events.now
         bodies.now.log.now bodies.now.pool.now.trees parts.now told.faults.items) }
     ensures timeline { IfOk result (λ told. IsTimelineOf bodies.now.setup.now
-        bodies.now.pool.now.trees parts.now.past parts.now.windows bodies.now.log.now told.timeline) }
+        bodies.now.pool.now.trees parts.now.past parts.now.windows bodies.now.log.now
+        told.timeline) }
     ensures uses { IfOk result (λ told. AreUses parts.now.past.versions told.uses) }
 {
     let log = bodies.log;
