@@ -1,0 +1,4 @@
+mod Texts
+pub mod Views
+mod Conversions
+mod Depths
