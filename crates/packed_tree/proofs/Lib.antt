@@ -2,6 +2,7 @@ pub mod FrameLemmas
 pub mod DecodeLemmas
 pub mod Steps
 pub mod Packings
+pub mod BorrowedPackings
 pub mod StoredForms
 pub mod Sameness
 pub mod LexSizes

@@ -1,13 +1,16 @@
 ghost use Rattle.std.specs.Prelude.{◌≡◌, Some, None, Err, IfOk};
 ghost use Rattle.serde_json.specs.View.{view};
 ghost use Rattle.base_types.specs.Values.{of_data, InRange};
+ghost use Rattle.borrowed_json.specs.View.{view as borrowed_view};
 ghost use Rattle.packed_tree.specs.Decoding.{decode};
 ghost use Rattle.packed_tree.specs.Sound.{IsPacked};
 
+use crate::borrowed::push_borrowed;
 use crate::packing::push_value;
 use crate::reading::{PackedRef, reader};
 use base_types::OutOfMemory;
 use base_types::json::{Tree, TreeFault};
+use borrowed_json::JsonValue;
 use serde_json::Value;
 use std::alloc::Global;
 use std::marker::Model;
@@ -43,6 +46,18 @@ pub fn pack(alloc: Global, value: &Value) -> Result<Packed, TreeFault>
 {
     let mut bytes = Vec::new(alloc);
     push_value(&mut bytes, value)?;
+    bytes.shrink_to_fit();
+    Ok(Packed { bytes })
+}
+
+/// The packed form of a JSON value that borrows its texts.
+pub fn pack_borrowed(alloc: Global, value: &JsonValue<'_>) -> Result<Packed, TreeFault>
+    ensures ok { IfOk result (λ packed. of_data (borrowed_view value.now) ≡ Some packed) }
+    ensures range { IfOk result InRange }
+    ensures fraction { result ≡ Err TreeFault.Fraction → of_data (borrowed_view value.now) ≡ None }
+{
+    let mut bytes = Vec::new(alloc);
+    push_borrowed(&mut bytes, value)?;
     bytes.shrink_to_fit();
     Ok(Packed { bytes })
 }
