@@ -1,12 +1,12 @@
 ghost use Rattle.std.specs.Prelude.{◌≡◌, IfOk, option_map};
-ghost use Rattle.serde_json.specs.View.{view};
+ghost use Rattle.borrowed_json.specs.View.{view};
 ghost use Rattle.audit_event.specs.Bodies.{body_of, kept, is_kept, IsSoundBody};
 
 use crate::event::Body;
 use base_types::OutOfMemory;
 use base_types::json::TreeFault;
-use packed_tree::{Packed, pack};
-use serde_json::Value;
+use borrowed_json::JsonValue;
+use packed_tree::{Packed, pack_borrowed};
 use std::alloc::Global;
 
 impl Body {
@@ -28,14 +28,14 @@ impl Body {
 }
 
 /// The body that a member records, which is there and not null.
-pub(crate) fn read_body(alloc: Global, member: Option<&Value>) -> Result<Body, OutOfMemory>
+pub(crate) fn read_body(alloc: Global, member: Option<&JsonValue<'_>>) -> Result<Body, OutOfMemory>
     ensures body { IfOk result (λ body. body ≡ body_of (option_map (λ value. view value.now) member.entry)) }
     ensures sound { IfOk result IsSoundBody }
 {
     let Some(value) = member else {
         return Ok(Body::Absent);
     };
-    match pack(alloc, value) {
+    match pack_borrowed(alloc, value) {
         Ok(packed) => Ok(Body::Kept(packed)),
         Err(TreeFault::Fraction) => Ok(Body::Unread),
         Err(TreeFault::OutOfMemory) => Err(OutOfMemory),

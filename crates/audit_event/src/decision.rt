@@ -1,10 +1,10 @@
 ghost use Rattle.std.specs.Prelude.{◌≡◌};
-ghost use Rattle.serde_json.specs.View.{view};
+ghost use Rattle.borrowed_json.specs.View.{view};
 ghost use Rattle.audit_event.specs.Decisions.{decision_named, decision_in};
 
 use crate::members::text_at;
 use base_types::Decision;
-use serde_json::Value;
+use borrowed_json::JsonValue;
 
 fn decision_named(name: &str) -> Option<Decision>
     ensures { result ≡ decision_named name.now }
@@ -17,7 +17,7 @@ fn decision_named(name: &str) -> Option<Decision>
 }
 
 /// What an authorizer decided, where the event records it.
-pub(crate) fn decision_of(value: &Value) -> Option<Decision>
+pub(crate) fn decision_of(value: &JsonValue<'_>) -> Option<Decision>
     ensures { result ≡ decision_in (view value.now) }
 {
     let annotations = value.get("annotations")?;

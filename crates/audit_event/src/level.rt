@@ -1,10 +1,10 @@
 ghost use Rattle.std.specs.Prelude.{◌≡◌};
-ghost use Rattle.serde_json.specs.View.{view};
+ghost use Rattle.borrowed_json.specs.View.{view};
 ghost use Rattle.audit_event.specs.Levels.{level_named, level_in, stage_named, stage_in};
 
 use crate::members::text_at;
 use base_types::{Level, Stage};
-use serde_json::Value;
+use borrowed_json::JsonValue;
 
 fn level_named(name: &str) -> Option<Level>
     ensures { result ≡ level_named name.now }
@@ -17,7 +17,7 @@ fn level_named(name: &str) -> Option<Level>
     }
 }
 
-pub(crate) fn level_of(value: &Value) -> Option<Level>
+pub(crate) fn level_of(value: &JsonValue<'_>) -> Option<Level>
     ensures { result ≡ level_in (view value.now) }
 {
     level_named(text_at(value, "level")?)
@@ -35,7 +35,7 @@ fn stage_named(name: &str) -> Option<Stage>
     }
 }
 
-pub(crate) fn stage_of(value: &Value) -> Option<Stage>
+pub(crate) fn stage_of(value: &JsonValue<'_>) -> Option<Stage>
     ensures { result ≡ stage_in (view value.now) }
 {
     stage_named(text_at(value, "stage")?)

@@ -1,20 +1,20 @@
 ghost use Rattle.std.specs.Prelude.{◌≡◌, IfOk, option_map};
-ghost use Rattle.serde_json.specs.View.{view};
+ghost use Rattle.borrowed_json.specs.View.{view};
 ghost use Rattle.audit_event.specs.Members.{text_at, filled_at, says, present, text_or_empty};
 
 use base_types::{OutOfMemory, Text};
-use serde_json::Value;
+use borrowed_json::JsonValue;
 use std::alloc::Global;
 
 /// A member that is a text.
-pub(crate) fn text_at<'a>(value: &'a Value, name: &str) -> Option<&'a str>
+pub(crate) fn text_at<'a>(value: &JsonValue<'a>, name: &str) -> Option<&'a str>
     ensures { option_map (λ text. text.now) result ≡ text_at name.now (view value.now) }
 {
-    value.get(name).and_then(Value::as_str)
+    value.get(name).and_then(JsonValue::as_str)
 }
 
 /// A member that is a text with at least one byte.
-pub(crate) fn filled_at<'a>(value: &'a Value, name: &str) -> Option<&'a str>
+pub(crate) fn filled_at<'a>(value: &JsonValue<'a>, name: &str) -> Option<&'a str>
     ensures { option_map (λ text. text.now) result ≡ filled_at name.now (view value.now) }
 {
     let text = text_at(value, name)?;
@@ -22,7 +22,7 @@ pub(crate) fn filled_at<'a>(value: &'a Value, name: &str) -> Option<&'a str>
 }
 
 /// Whether a member is this text.
-pub(crate) fn says(value: &Value, name: &str, text: &str) -> bool
+pub(crate) fn says(value: &JsonValue<'_>, name: &str, text: &str) -> bool
     ensures { result ≡ says name.now text.now (view value.now) }
 {
     match text_at(value, name) {
@@ -32,7 +32,7 @@ pub(crate) fn says(value: &Value, name: &str, text: &str) -> bool
 }
 
 /// A member that is there and not null.
-pub(crate) fn present<'a>(value: &'a Value, name: &str) -> Option<&'a Value>
+pub(crate) fn present<'v, 'a>(value: &'v JsonValue<'a>, name: &str) -> Option<&'v JsonValue<'a>>
     ensures { option_map (λ found. view found.now) result ≡ present name.now (view value.now) }
 {
     let found = value.get(name)?;
@@ -42,7 +42,7 @@ pub(crate) fn present<'a>(value: &'a Value, name: &str) -> Option<&'a Value>
 /// A text member of what may be missing, empty where it isn't there or no text.
 pub(crate) fn text_or_empty(
     alloc: Global,
-    value: Option<&Value>,
+    value: Option<&JsonValue<'_>>,
     name: &str,
 ) -> Result<Text, OutOfMemory>
     ensures { IfOk result (λ text. text ≡ text_or_empty name.now (option_map (λ found. view found.now) value.entry)) }

@@ -1,5 +1,5 @@
 ghost use Rattle.std.specs.Prelude.{◌≡◌, ℕ, Some, IfOk, IfErr, OnOk, true};
-ghost use Rattle.serde_json.specs.View.{view};
+ghost use Rattle.borrowed_json.specs.View.{view};
 ghost use Rattle.request_attrs.specs.Attributes.{attributes};
 ghost use Rattle.request_attrs.specs.Refusals.{IsReadable};
 ghost use Rattle.audit_event.specs.Bodies.{request_in, response_in, IsSoundBody};
@@ -25,9 +25,9 @@ use crate::status::{read_status, status_code};
 use crate::times::{Times, times_of};
 use crate::user::read_users;
 use base_types::{Level, OutOfMemory, RequestAttrs, Stage, Text, User};
+use borrowed_json::{JsonValue, ReadFault, Scratch};
 use line_reader::Line;
 use request_attrs::{UriFault, attrs_of};
-use serde_json::Value;
 use std::alloc::Global;
 
 // What is recorded of when and how much.
@@ -39,7 +39,7 @@ struct Recording {
 }
 
 // Reads what the rules from `M3` to `M6` are about.
-fn read_recording(value: &Value) -> Result<Recording, EventFault>
+fn read_recording(value: &JsonValue<'_>) -> Result<Recording, EventFault>
     ensures level { IfOk result (λ found. level_in (view value.now) ≡ Some found.level) }
     ensures stage { IfOk result (λ found. stage_in (view value.now) ≡ Some found.stage) }
     ensures times { IfOk result (λ found. times_in (view value.now) ≡ Some found.times) }
@@ -116,7 +116,7 @@ impl Request {
 }
 
 // Reads what the rules from `M7` to `M9` are about.
-fn read_request(alloc: Global, value: &Value) -> Result<Request, EventFault>
+fn read_request(alloc: Global, value: &JsonValue<'_>) -> Result<Request, EventFault>
     ensures audit_id { IfOk result (λ found. audit_id_in (view value.now) ≡ Some found.audit_id) }
     ensures attrs { IfOk result (λ found. IsRequestOf (view value.now) found.attrs) }
     ensures cause { IfErr result (IsCauseFrom 7 (view value.now)) }
@@ -144,7 +144,7 @@ struct Parties {
 }
 
 // Reads what the rules `M10` and `M11` are about.
-fn read_parties(alloc: Global, value: &Value) -> Result<Parties, EventFault>
+fn read_parties(alloc: Global, value: &JsonValue<'_>) -> Result<Parties, EventFault>
     ensures users { IfOk result (λ found. users_in (view value.now) ≡ Some (found.user, found.impersonated)) }
     ensures code { IfOk result (λ found. code_in (view value.now) ≡ Some found.code) }
     ensures cause { IfErr result (IsCauseFrom 10 (view value.now)) }
@@ -173,7 +173,7 @@ struct Exchange {
 // Reads what no rule is about.
 fn read_exchange(
     alloc: Global,
-    value: &Value,
+    value: &JsonValue<'_>,
     stage: Stage,
     code: Option<u16>,
 ) -> Result<Exchange, OutOfMemory>
@@ -201,7 +201,7 @@ struct Told {
 }
 
 // Reads what the rules from `M10` on are about, and what none is about.
-fn read_told(alloc: Global, value: &Value, stage: Stage) -> Result<Told, EventFault>
+fn read_told(alloc: Global, value: &JsonValue<'_>, stage: Stage) -> Result<Told, EventFault>
     ensures users { IfOk result (λ told. users_in (view value.now) ≡ Some (
       told.parties.user,
       told.parties.impersonated,
@@ -220,7 +220,13 @@ fn read_told(alloc: Global, value: &Value, stage: Stage) -> Result<Told, EventFa
 }
 
 // The event of its parts.
-fn assemble(value: &Value, line: u64, recording: Recording, request: Request, told: Told) -> Event
+fn assemble(
+    value: &JsonValue<'_>,
+    line: u64,
+    recording: Recording,
+    request: Request,
+    told: Told,
+) -> Event
     requires level { level_in (view value.now) ≡ Some recording.level }
     requires stage { stage_in (view value.now) ≡ Some recording.stage }
     requires times { times_in (view value.now) ≡ Some recording.times }
@@ -258,7 +264,7 @@ fn assemble(value: &Value, line: u64, recording: Recording, request: Request, to
 }
 
 // The event of a value whose heading is right.
-fn read_fields(alloc: Global, value: &Value, line: u64) -> Result<Event, EventFault>
+fn read_fields(alloc: Global, value: &JsonValue<'_>, line: u64) -> Result<Event, EventFault>
     ensures fields { IfOk result (HasFieldsOf (view value.now) line) }
     ensures sound { IfOk result IsSound }
     ensures cause { IfErr result (IsCauseFrom 3 (view value.now)) }
@@ -270,7 +276,7 @@ fn read_fields(alloc: Global, value: &Value, line: u64) -> Result<Event, EventFa
 }
 
 /// The event of a JSON value, or the first rule from `M2` on that it breaks. Unknown members are ignored.
-pub fn read_value(alloc: Global, value: &Value, line: u64) -> Result<Event, EventFault>
+pub fn read_value(alloc: Global, value: &JsonValue<'_>, line: u64) -> Result<Event, EventFault>
     ensures event { IfOk result (IsEventOf is_event (view value.now) line) }
     ensures sound { IfOk result IsSound }
     ensures cause { IfErr result (IsCause is_event (view value.now)) }
@@ -283,7 +289,7 @@ pub fn read_value(alloc: Global, value: &Value, line: u64) -> Result<Event, Even
 
 /// The event of an item of an EventList, or the first rule from `M2` on that it breaks. An item without
 /// `kind` and `apiVersion` is taken for an event.
-pub fn read_item(alloc: Global, value: &Value, line: u64) -> Result<Event, EventFault>
+pub fn read_item(alloc: Global, value: &JsonValue<'_>, line: u64) -> Result<Event, EventFault>
     ensures event { IfOk result (IsEventOf is_item (view value.now) line) }
     ensures sound { IfOk result IsSound }
     ensures cause { IfErr result (IsCause is_item (view value.now)) }
@@ -300,10 +306,11 @@ pub fn read_event(alloc: Global, line: &Line) -> Result<Event, EventFault>
     ensures sound { IfOk result IsSound }
     ensures cause { IfErr result (IsLineCause line.now.bytes) }
 {
-    let value = match Value::from_slice(alloc, line.bytes.as_slice()) {
+    let mut scratch = Scratch::new(alloc);
+    let value = match JsonValue::read(alloc, line.bytes.as_slice(), &mut scratch) {
         Ok(value) => value,
-        Err(fault) if fault.is_memory() => return Err(EventFault::OutOfMemory),
-        Err(_) => return Err(EventFault::Malformed(Malformed::M1)),
+        Err(ReadFault::OutOfMemory) => return Err(EventFault::OutOfMemory),
+        Err(ReadFault::NotJson) => return Err(EventFault::Malformed(Malformed::M1)),
     };
     read_value(alloc, &value, line.number)
 }

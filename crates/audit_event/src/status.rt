@@ -1,5 +1,5 @@
 ghost use Rattle.std.specs.Prelude.{◌≡◌, IfOk, option_map, codes};
-ghost use Rattle.serde_json.specs.View.{view};
+ghost use Rattle.borrowed_json.specs.View.{view};
 ghost use Rattle.audit_event.specs.Members.{present, text_or_empty};
 ghost use Rattle.audit_event.specs.Statuses.{code_number, code_of, code_in, answered_code, source_of, details_of};
 ghost use Rattle.audit_event.specs.Statuses.{succeeds, status_with};
@@ -7,10 +7,10 @@ ghost use Rattle.audit_event.specs.Statuses.{succeeds, status_with};
 use crate::event::Status;
 use crate::members::{present, says, text_or_empty};
 use base_types::{OutOfMemory, Stage};
-use serde_json::Value;
+use borrowed_json::JsonValue;
 use std::alloc::Global;
 
-fn code_number(member: Option<&Value>) -> Option<Option<u16>>
+fn code_number(member: Option<&JsonValue<'_>>) -> Option<Option<u16>>
     ensures { result ≡ code_number (option_map (λ value. view value.now) member.entry) }
 {
     let Some(value) = member else {
@@ -23,7 +23,7 @@ fn code_number(member: Option<&Value>) -> Option<Option<u16>>
     Some(Some(number as u16))
 }
 
-fn code_of(member: Option<&Value>) -> Option<Option<u16>>
+fn code_of(member: Option<&JsonValue<'_>>) -> Option<Option<u16>>
     ensures { result ≡ code_of (option_map (λ value. view value.now) member.entry) }
 {
     let Some(status) = member else {
@@ -36,7 +36,7 @@ fn code_of(member: Option<&Value>) -> Option<Option<u16>>
 }
 
 /// The code of `responseStatus`, if it has one.
-pub(crate) fn status_code(value: &Value) -> Option<Option<u16>>
+pub(crate) fn status_code(value: &JsonValue<'_>) -> Option<Option<u16>>
     ensures { result ≡ code_in (view value.now) }
 {
     code_of(present(value, "responseStatus"))
@@ -52,11 +52,11 @@ fn answered_code(stage: Stage, code: Option<u16>) -> Option<u16>
 }
 
 // The object that tells how the request was answered.
-fn source_of<'a>(
+fn source_of<'v, 'a>(
     is_kept: bool,
-    response: Option<&'a Value>,
-    status: Option<&'a Value>,
-) -> Option<&'a Value>
+    response: Option<&'v JsonValue<'a>>,
+    status: Option<&'v JsonValue<'a>>,
+) -> Option<&'v JsonValue<'a>>
     ensures { option_map (λ value. view value.now) result
         ≡ source_of is_kept (option_map (λ value. view value.now) response.entry) (option_map (λ value. view value.now) status.entry) }
 {
@@ -66,7 +66,7 @@ fn source_of<'a>(
     }
 }
 
-fn succeeds(source: Option<&Value>) -> bool
+fn succeeds(source: Option<&JsonValue<'_>>) -> bool
     ensures { result ≡ succeeds (option_map (λ value. view value.now) source.entry) }
 {
     match source {
@@ -75,7 +75,7 @@ fn succeeds(source: Option<&Value>) -> bool
     }
 }
 
-fn details_of<'a>(source: Option<&'a Value>) -> Option<&'a Value>
+fn details_of<'v, 'a>(source: Option<&'v JsonValue<'a>>) -> Option<&'v JsonValue<'a>>
     ensures { option_map (λ value. view value.now) result ≡ details_of (option_map (λ value. view value.now)
         source.entry) }
 {
@@ -85,7 +85,7 @@ fn details_of<'a>(source: Option<&'a Value>) -> Option<&'a Value>
 fn read_with(
     alloc: Global,
     code: Option<u16>,
-    source: Option<&Value>,
+    source: Option<&JsonValue<'_>>,
 ) -> Result<Status, OutOfMemory>
     ensures { IfOk result (λ status. status ≡ status_with code (option_map (λ value. view value.now) source.entry)) }
 {
@@ -103,7 +103,7 @@ fn read_with(
 /// How the request was answered, with the code of `responseStatus`.
 pub(crate) fn read_status(
     alloc: Global,
-    value: &Value,
+    value: &JsonValue<'_>,
     stage: Stage,
     code: Option<u16>,
     is_kept: bool,

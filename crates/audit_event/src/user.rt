@@ -1,14 +1,14 @@
 ghost use Rattle.std.specs.Prelude.{◌≡◌, IfOk, option_map};
-ghost use Rattle.serde_json.specs.View.{view, items_view};
+ghost use Rattle.borrowed_json.specs.View.{view, items_view};
 ghost use Rattle.audit_event.specs.Users.{texts_in, name_of, groups_of, user_of, impersonated_of, users_in};
 
 use crate::members::present;
 use base_types::{OutOfMemory, Text, Texts, User};
-use serde_json::Value;
+use borrowed_json::JsonValue;
 use std::alloc::Global;
 
 // The texts of a list of which each item is a text.
-fn read_texts(alloc: Global, list: &Vec<Value>) -> Result<Option<Texts>, OutOfMemory>
+fn read_texts(alloc: Global, list: &Vec<JsonValue<'_>>) -> Result<Option<Texts>, OutOfMemory>
     ensures { IfOk result (λ found. found ≡ texts_in (items_view list.now.items)) }
 {
     let mut texts = Texts::new(alloc);
@@ -21,7 +21,7 @@ fn read_texts(alloc: Global, list: &Vec<Value>) -> Result<Option<Texts>, OutOfMe
     Ok(Some(texts))
 }
 
-fn read_groups(alloc: Global, member: Option<&Value>) -> Result<Option<Texts>, OutOfMemory>
+fn read_groups(alloc: Global, member: Option<&JsonValue<'_>>) -> Result<Option<Texts>, OutOfMemory>
     ensures { IfOk result (λ found. found ≡ groups_of (option_map (λ value. view value.now) member.entry)) }
 {
     let Some(value) = member else {
@@ -33,7 +33,7 @@ fn read_groups(alloc: Global, member: Option<&Value>) -> Result<Option<Texts>, O
     }
 }
 
-fn read_name(alloc: Global, member: Option<&Value>) -> Result<Option<Text>, OutOfMemory>
+fn read_name(alloc: Global, member: Option<&JsonValue<'_>>) -> Result<Option<Text>, OutOfMemory>
     ensures { IfOk result (λ found. found ≡ name_of (option_map (λ value. view value.now) member.entry)) }
 {
     let Some(value) = member else {
@@ -46,7 +46,7 @@ fn read_name(alloc: Global, member: Option<&Value>) -> Result<Option<Text>, OutO
 }
 
 // A UserInfo (Kubernetes API, `authentication.k8s.io/v1`).
-fn read_user(alloc: Global, value: &Value) -> Result<Option<User>, OutOfMemory>
+fn read_user(alloc: Global, value: &JsonValue<'_>) -> Result<Option<User>, OutOfMemory>
     ensures { IfOk result (λ found. found ≡ user_of (view value.now)) }
 {
     if !value.is_object() {
@@ -63,7 +63,7 @@ fn read_user(alloc: Global, value: &Value) -> Result<Option<User>, OutOfMemory>
 
 fn read_impersonated(
     alloc: Global,
-    member: Option<&Value>,
+    member: Option<&JsonValue<'_>>,
 ) -> Result<Option<Option<User>>, OutOfMemory>
     ensures { IfOk result (λ found. found ≡ impersonated_of (option_map (λ value. view value.now) member.entry)) }
 {
@@ -76,7 +76,7 @@ fn read_impersonated(
 /// Who made the request, and as whom.
 pub(crate) fn read_users(
     alloc: Global,
-    value: &Value,
+    value: &JsonValue<'_>,
 ) -> Result<Option<(User, Option<User>)>, OutOfMemory>
     ensures { IfOk result (λ found. found ≡ users_in (view value.now)) }
 {

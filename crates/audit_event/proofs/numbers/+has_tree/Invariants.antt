@@ -1,5 +1,5 @@
 use Rattle.std.proofs.Common.{◌≡◌, is_some, drop}
-use Rattle.serde_json.specs.View.{items_view, members_view}
+use Rattle.borrowed_json.specs.View.{items_view, members_view}
 use Rattle.base_types.specs.Values.{of_items, of_members}
 use Rattle.audit_event.proofs.numbers.+has_tree.Given as goal
 

@@ -1,5 +1,5 @@
 use Rattle.std.proofs.Common.{◌≡◌}
-use Rattle.serde_json.specs.View.{members_view}
+use Rattle.borrowed_json.specs.View.{members_view}
 use Rattle.audit_event.specs.Numbers.{members_have_trees}
 use Rattle.audit_event.proofs.numbers.members_have_trees.Given as goal
 

@@ -1,6 +1,6 @@
 use Rattle.std.proofs.Common.{Bool, rules}
 use Rattle.serde_json.specs.Data.{Data}
-use Rattle.serde_json.specs.View.{view}
+use Rattle.borrowed_json.specs.View.{view}
 use Rattle.audit_event.specs.Events.{IsCauseFrom}
 use Rattle.audit_event.proofs.RuleLemmas.{later_cause, recording_kept, request_kept}
 use Rattle.audit_event.proofs.reading.read_fields.Goals as goal

@@ -1,6 +1,6 @@
 use Rattle.std.proofs.Common.{◌≡◌, ◌++◌, drop}
 use Rattle.std.specs.Prelude.{option_map}
-use Rattle.serde_json.specs.View.{items_view}
+use Rattle.borrowed_json.specs.View.{items_view}
 use Rattle.audit_event.specs.Users.{texts_in}
 use Rattle.audit_event.proofs.user.read_texts.Given as goal
 
