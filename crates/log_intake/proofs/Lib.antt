@@ -1,3 +1,4 @@
+pub mod AheadFacts
 pub mod BatchFacts
 pub mod CheckpointFacts
 pub mod EventFacts

@@ -16,7 +16,6 @@ use Rattle.log_intake.specs.declared.admitting.Place.{Place}
 use Rattle.log_intake.specs.declared.stop.LogStop.{LogStop}
 use Rattle.log_intake.specs.declared.stop.LogStop.TheVariants as stop
 use Rattle.log_intake.specs.Batches.{AreShort, line_values}
-use Rattle.log_intake.specs.Kept.{AreBefore}
 use Rattle.log_intake.specs.Log.{TakesLine, TakesLines, log_state}
 use Rattle.log_intake.specs.Numbering.{AreOrdered, last_number, most_extra}
 use Rattle.log_intake.specs.Parts.{AdmitsLines, AllAdmitted, AreNext}
@@ -150,21 +149,3 @@ rest_within lines part rest decoded place place' kept kept' h =
     let sum = length-append h.front (part ++ rest) in
     let sum' = length-append part rest in
     omega (arith, long, sum, sum')
-
--- what is told of all lines, clause by clause
-pub all_take : (lines : List Line) (place : Place) (kept kept' : List Event) (answer : Result Place LogStop) → AdmitsLines lines place kept kept' answer
-    → IfOk answer (λ after. TakesLines (log_state place.extra kept) (line_values lines) (Ok (log_state after.extra kept')))
-all_take lines place kept kept' (Ok after) a = a.all.takes
-all_take lines place kept kept' (Err why) a = tt
-
-pub all_numbered : (lines : List Line) (place : Place) (kept kept' : List Event) (answer : Result Place LogStop) → AdmitsLines lines place kept kept' answer → IfOk answer (λ after. after.line ≡ last_number place.line (line_values lines))
-all_numbered lines place kept kept' (Ok after) a = a.all.line
-all_numbered lines place kept kept' (Err why) a = tt
-
-pub all_extra : (lines : List Line) (place : Place) (kept kept' : List Event) (answer : Result Place LogStop) → AdmitsLines lines place kept kept' answer → IfOk answer (λ after. after.extra ≤ most_extra place.extra (line_values lines))
-all_extra lines place kept kept' (Ok after) a = a.all.extra
-all_extra lines place kept kept' (Err why) a = tt
-
-pub all_before : (lines : List Line) (place : Place) (kept kept' : List Event) (answer : Result Place LogStop) → AdmitsLines lines place kept kept' answer → IfOk answer (λ after. AreBefore (after.line + after.extra + 1) kept')
-all_before lines place kept kept' (Ok after) a = a.all.before
-all_before lines place kept kept' (Err why) a = tt

@@ -1,11 +1,16 @@
 -- The batches in which a log is read.
-use Rattle.std.specs.Prelude.{◌≡◌, ℕ, ◌+◌, ◌<◌, ◌≤◌, List, [], ◌++◌, length, Option, All, Bool, true, false, map}
+use Rattle.std.specs.Prelude.{◌≡◌, ◌≢◌, ℕ, ◌+◌, ◌<◌, ◌≤◌, List, [], ◌++◌, length, Option, Result, IfOk, OnErr, All, Bool, true, false, map}
 use Rattle.std.specs.Io.KnownBytes.{IsAtEnd}
 use Rattle.line_reader.specs.declared.line.Line.{Line}
 use Rattle.line_reader.specs.Lines.{NumberedLine, longest_line, lines_from}
 use Rattle.line_reader.specs.Reading.{Reading, Continues, HoldsRest, IsTooLong, line_value}
+use Rattle.base_types.specs.declared.memory.OutOfMemory.{OutOfMemory}
+use Rattle.log_intake.specs.declared.batch.Batch.{Batch}
 use Rattle.log_intake.specs.declared.batch.BatchEnd.{BatchEnd}
 use Rattle.log_intake.specs.declared.batch.BatchEnd.TheVariants.{GoesOn, Ended, Failed, LineTooLong, InputTooLong}
+use Rattle.log_intake.specs.declared.stop.LogStop.{LogStop}
+use Rattle.log_intake.specs.declared.stop.LogStop.TheVariants as stop
+use Rattle.edge_io.specs.Faults.{Rose}
 use Rattle.edge_io.specs.Whole.{HasTaken}
 
 abbrev pub line_values : List Line → List NumberedLine
@@ -52,6 +57,27 @@ pub record TakesSome (old now : Option (List ℕ)) (before most : ℕ) : Type 0 
   pub told : HasTaken old now taken
   pub few : length taken ≤ most
   pub within : before + length taken ≤ 1099511693312
+
+-- a batch takes at most so many bytes
+abbrev pub most_gathered : ℕ
+most_gathered = 2097152
+
+-- a batch was gathered, or memory was wanted
+pub record GathersBatch (left left' : List ℕ → Option (List ℕ)) (name : List ℕ) (faults faults' : ℕ) (reader reader' : Reading) (before : ℕ) (answer : Result Batch OutOfMemory) : Type 0 where
+  pub gathers : IfOk answer (λ batch. Gathers batch.end (left name) (left' name) reader reader' (line_values batch.lines.items) before batch.taken most_gathered)
+  pub more : IfOk answer (λ batch. batch.end ≡ GoesOn → before < batch.taken)
+  pub fault : IfOk answer (λ batch. batch.end ≡ Failed → Rose faults faults')
+  pub memory : OnErr answer (TakesSome (left name) (left' name) before most_gathered)
+  pub counted : faults ≤ faults'
+  pub others : (other : List ℕ) → other ≢ name → left' other ≡ left other
+
+-- why a log that ends so is no list of events
+abbrev pub IsStopAt : BatchEnd → LogStop → Type 0
+IsStopAt GoesOn why = ⊥
+IsStopAt Ended why = ⊥
+IsStopAt Failed why = why ≡ stop.ReadFault
+IsStopAt LineTooLong why = why ≡ stop.LineTooLong
+IsStopAt InputTooLong why = why ≡ stop.TooLong
 
 -- the lines that were given stand behind the others
 pub record GivesLines (reader reader' : Reading) (lines lines' : List NumberedLine) : Type 0 where

@@ -5,10 +5,9 @@ ghost use Rattle.line_reader.specs.Lines.{longest_line};
 ghost use Rattle.line_reader.specs.Reading.{line_value};
 ghost use Rattle.audit_event.specs.Events.{IsSound};
 ghost use Rattle.batch_decode.specs.Batches.{IsDecodedLine};
-ghost use Rattle.log_intake.specs.Batches.{AreShort, line_values};
 ghost use Rattle.log_intake.specs.Kept.{AreBefore};
-ghost use Rattle.log_intake.specs.Log.{TakesEvent, TakesLine, TakesLines, log_state, numbered_events};
-ghost use Rattle.log_intake.specs.Numbering.{AreOrdered, last_number, most_extra, most_items};
+ghost use Rattle.log_intake.specs.Log.{TakesEvent, TakesLine, log_state, numbered_events};
+ghost use Rattle.log_intake.specs.Numbering.{most_items};
 ghost use Rattle.log_intake.specs.Parts.{AdmitsLines, AreNext};
 ghost use Rattle.log_intake.specs.Steps.{InOrder};
 ghost use Rattle.log_intake.specs.Taking.{IsRefusal};
@@ -42,11 +41,12 @@ pub struct Place {
     pub extra: u64,
 }
 
-// What the next part is admitted with.
+/// What goes on behind lines that were admitted.
 #[derive(Drop)]
-struct Step {
-    place: Place,
-    decoded: DecodedList,
+pub struct Step<T> {
+    pub place: Place,
+    /// What was made meanwhile of the lines behind them.
+    pub ahead: T,
 }
 
 // Tells the gate of a batch of the lines of a part, in front of which so many lines stand.
@@ -66,23 +66,14 @@ impl<'a, G: Gate> Gate for PartGate<'a, G> {
 pub fn admit_batch<R: Threads + Sync, G: Gate>(
     rt: &R,
     alloc: Global,
-    seen: &mut Seen,
     place: Place,
     lines: &[Line],
     gate: &G,
+    seen: &mut Seen,
 ) -> Result<Place, LogStop>
     requires few { length lines.now < 2 ^ 32 }
-    requires short { AreShort (line_values lines.now) }
-    requires ordered { AreOrdered place.line place.extra (line_values lines.now) }
-    requires before { AreBefore (place.line + place.extra + 1) seen.old }
-    ensures takes { IfOk result (λ after. TakesLines (log_state place.extra seen.old) (line_values lines.now)
-        (Ok (log_state after.extra seen.new))) }
-    ensures line { IfOk result (λ after. after.line ≡ last_number place.line (line_values lines.now)) }
-    ensures extra { IfOk result (λ after. after.extra ≤ most_extra place.extra (line_values lines.now)) }
-    ensures before { IfOk result (λ after. AreBefore (after.line + after.extra + 1) seen.new) }
-    ensures refused { IfErr result (λ stop. IsRefusal stop → TakesLines (log_state place.extra seen.old)
-        (line_values lines.now) (Err stop)) }
-    ensures no_fault { IsErrOf result LogStop.ReadFault → ⊥ }
+    requires next { AreNext lines.now place seen.old }
+    ensures { AdmitsLines lines.now place seen.old seen.new result }
 {
     let size = part_size(lines.len());
     match decode_part(rt, alloc, &lines[..size], 0, gate) {
@@ -136,10 +127,16 @@ fn admit_parts<R: Threads + Sync, G: Gate>(
     requires next { AreNext lines.now place seen.old }
     ensures { AdmitsLines lines.now place seen.old seen.new result }
 {
-    let mut step = Step { place, decoded };
+    let mut step = Step {
+        place,
+        ahead: decoded,
+    };
     let (mut part, mut rest) = lines.split_at(size);
     'parts: loop {
-        let Step { place, decoded } = step;
+        let Step {
+            place,
+            ahead: decoded,
+        } = step;
         if rest.is_empty() {
             return admit_lines(place, part, decoded, seen);
         }
@@ -203,12 +200,12 @@ fn admit_held(
     admit_lines(place, lines, decoded, seen)
 }
 
-// What the next part is admitted with. A refusal of this part comes before want of memory for the next one.
-fn both(
+/// What goes on behind lines that were admitted. A refusal of theirs comes before want of memory for what is ahead.
+pub fn both<T: Drop>(
     admitted: Result<Place, LogStop>,
-    ahead: Result<DecodedList, OutOfMemory>,
-) -> Result<Step, LogStop>
-    ensures ok { IfOk result (λ step. (admitted ≡ Ok step.place) × (ahead ≡ Ok step.decoded)) }
+    ahead: Result<T, OutOfMemory>,
+) -> Result<Step<T>, LogStop>
+    ensures ok { IfOk result (λ step. (admitted ≡ Ok step.place) × (ahead ≡ Ok step.ahead)) }
     ensures err { IfErr result (λ stop. (admitted ≡ Err stop)
         ⊎ (IsOk admitted × IsErr ahead × (stop ≡ LogStop.OutOfMemory))) }
 {
@@ -220,7 +217,7 @@ fn both(
         }
     };
     match ahead {
-        Ok(decoded) => Ok(Step { place, decoded }),
+        Ok(ahead) => Ok(Step { place, ahead }),
         Err(OutOfMemory) => Err(LogStop::OutOfMemory),
     }
 }

@@ -1,9 +1,11 @@
-ghost use Rattle.std.specs.Prelude.{◌≡◌, ◌≢◌, ℕ, ◌+◌, ◌<◌, ◌≤◌, List, ◌↔◌, length, IfOk, IsTrue, OnErr, OnOk, false};
+ghost use Rattle.std.specs.Prelude.{◌≡◌, ◌≢◌, ℕ, ◌+◌, ◌<◌, ◌≤◌, List, ◌↔◌, length, IfOk, IfErr, IsTrue, OnErr, OnOk};
+ghost use Rattle.std.specs.Prelude.{false};
 ghost use Rattle.edge_io.specs.Faults.{Rose};
 ghost use Rattle.log_intake.specs.declared.batch.BatchEnd.TheVariants as ended;
-ghost use Rattle.log_intake.specs.Batches.{line_values, Gathers, GivesLast, GivesRest, HoldsOpen, TakesPiece};
-ghost use Rattle.log_intake.specs.Batches.{TakesSome, fed_with};
+ghost use Rattle.log_intake.specs.Batches.{line_values, GathersBatch, GivesLast, GivesRest, HoldsOpen, IsStopAt};
+ghost use Rattle.log_intake.specs.Batches.{TakesPiece, TakesSome, fed_with};
 
+use crate::stop::LogStop;
 use base_types::OutOfMemory;
 use edge_io::{Desk, DeskFailed};
 use line_reader::{Line, LineFault, LineReader};
@@ -12,8 +14,9 @@ use std::alloc::Global;
 /// So many bytes of a log are read.
 const MOST_INPUT: usize = 1_099_511_627_776;
 
-/// A batch ends where so many bytes were taken.
-const BATCH: usize = 4_194_304;
+/// A batch ends where so many bytes were taken: 31 pieces. So it has less than 32, and two batches, of which one is
+/// admitted and the other one gathered, less than 64.
+const BATCH: usize = 2_031_616;
 
 /// How the bytes of a batch end.
 #[derive(Clone, Copy)]
@@ -31,10 +34,25 @@ pub enum BatchEnd {
 }
 
 impl BatchEnd {
-    fn goes_on(self) -> bool
+    pub fn goes_on(self) -> bool
         ensures { IsTrue result ↔ (self ≡ ended.GoesOn) }
     {
         matches!(self, BatchEnd::GoesOn)
+    }
+
+    /// What is answered to a log whose lines up to here refuse nothing.
+    pub fn answer(self) -> Result<(), LogStop>
+        requires { self ≢ ended.GoesOn }
+        ensures whole { OnOk result (self ≡ ended.Ended) }
+        ensures stopped { IfErr result (IsStopAt self) }
+    {
+        match self {
+            BatchEnd::GoesOn => unreachable!(),
+            BatchEnd::Ended => Ok(()),
+            BatchEnd::Failed => Err(LogStop::ReadFault),
+            BatchEnd::LineTooLong => Err(LogStop::LineTooLong),
+            BatchEnd::InputTooLong => Err(LogStop::TooLong),
+        }
     }
 }
 
@@ -59,22 +77,16 @@ pub fn gather<D: Desk>(
     alloc: Global,
     desk: &mut D,
     name: &str,
-    buffer: &mut [u8],
     reader: &mut LineReader,
     taken: usize,
+    buffer: &mut [u8],
 ) -> Result<Batch, OutOfMemory>
     requires some { 0 < length buffer.old }
     requires piece { length buffer.old ≤ 65536 }
     requires within { taken ≤ MOST_INPUT }
     requires going { HoldsOpen reader.old }
-    ensures gathers { IfOk result (λ batch. Gathers batch.end (D.left desk.old name.now)
-        (D.left desk.new name.now) reader.old reader.new (line_values batch.lines.items) taken batch.taken 4259840) }
-    ensures more { IfOk result (λ batch. batch.end ≡ ended.GoesOn → taken < batch.taken) }
-    ensures fault { IfOk result (λ batch. batch.end ≡ ended.Failed → Rose (D.faults desk.old) (D.faults desk.new)) }
-    ensures memory { OnErr result (TakesSome (D.left desk.old name.now) (D.left desk.new name.now) taken 4259840) }
-    ensures counted { D.faults desk.old ≤ D.faults desk.new }
-    ensures others { (other : List ℕ) → other ≢ name.now → D.left desk.new other ≡ D.left desk.old other }
-    ensures buffer { length buffer.new ≡ length buffer.old }
+    ensures { GathersBatch (D.left desk.old) (D.left desk.new) name.now (D.faults desk.old) (D.faults desk.new)
+        reader.old reader.new taken result }
 {
     let mut lines = Vec::new(alloc);
     let mut at = taken;

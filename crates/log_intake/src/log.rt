@@ -1,9 +1,11 @@
-ghost use Rattle.std.specs.Prelude.{◌≡◌, ◌≢◌, ℕ, ◌<◌, ◌≤◌, List, [], Ok, Err, IfErr, OnOk, length};
+ghost use Rattle.std.specs.Prelude.{◌≡◌, ◌≢◌, ℕ, ◌<◌, ◌≤◌, ◌^◌, List, [], Ok, Err, IfErr, OnOk, length};
 ghost use Rattle.audit_event.specs.Keeping.{AreKept};
+ghost use Rattle.log_intake.specs.Batches.{GathersBatch, HoldsOpen};
+ghost use Rattle.log_intake.specs.Parts.{AdmitsLines, AreNext};
 ghost use Rattle.log_intake.specs.Taking.{ReadsLog};
 
-use crate::admitting::{Place, admit_batch};
-use crate::batch::{BatchEnd, gather};
+use crate::admitting::{Place, admit_batch, both};
+use crate::batch::{Batch, gather};
 use crate::stop::LogStop;
 use audit_event::{Events, Seen};
 use base_types::OutOfMemory;
@@ -13,12 +15,12 @@ use judge_pool::Gate;
 use line_reader::LineReader;
 use std::alloc::Global;
 use std::marker::Sync;
-use std::thread::Threads;
+use std::thread::{Threads, join_mut};
 
 /// Reads the events of a log from a desk, by name, in batches of lines. Several threads decode a batch; each
-/// line's index in it enters the gate before the line is decoded. A batch is decoded and its events are admitted
-/// before more is asked of the desk, so that a refusal in it comes before a read fault behind it. The hashes of audit
-/// IDs begin with the seed.
+/// line's index in it enters the gate before the line is decoded. While a batch is decoded and its events are admitted,
+/// the next one is taken from the desk; a refusal in it comes before whatever was met behind it, as a read fault. The
+/// hashes of audit IDs begin with the seed.
 pub fn read_log<R: Threads + Sync, D: Desk, G: Gate>(
     rt: &R,
     alloc: Global,
@@ -69,25 +71,74 @@ fn read_batches<R: Threads + Sync, D: Desk, G: Gate>(
         Err(OutOfMemory) => return Err(LogStop::OutOfMemory),
     };
     let mut place = Place { line: 0, extra: 0 };
-    let mut taken = 0;
-    'batches: loop {
-        let batch = match gather(alloc, desk, name, buffer, &mut reader, taken) {
-            Ok(batch) => batch,
-            Err(OutOfMemory) => return Err(LogStop::OutOfMemory),
-        };
-        match admit_batch(rt, alloc, seen, place, batch.lines.as_slice(), gate) {
-            Ok(after) => place = after,
+    let mut batch = match gather(alloc, desk, name, &mut reader, 0, buffer) {
+        Ok(batch) => batch,
+        Err(OutOfMemory) => return Err(LogStop::OutOfMemory),
+    };
+    'batches: while batch.end.goes_on() {
+        let (admitted, ahead) = admit_and_gather(
+            rt,
+            alloc,
+            place,
+            &batch,
+            gate,
+            seen,
+            desk,
+            name,
+            &mut reader,
+            buffer,
+        );
+        match both(admitted, ahead) {
+            Ok(step) => {
+                place = step.place;
+                batch = step.ahead;
+            }
             Err(stop) => return Err(stop),
         }
-        taken = batch.taken;
-        let end = batch.end;
-        drop(batch);
-        match end {
-            BatchEnd::GoesOn => {}
-            BatchEnd::Ended => return Ok(()),
-            BatchEnd::Failed => return Err(LogStop::ReadFault),
-            BatchEnd::LineTooLong => return Err(LogStop::LineTooLong),
-            BatchEnd::InputTooLong => return Err(LogStop::TooLong),
-        }
     }
+    match admit_batch(rt, alloc, place, batch.lines.as_slice(), gate, seen) {
+        Ok(_) => batch.end.answer(),
+        Err(stop) => Err(stop),
+    }
+}
+
+// Admits the events of a batch, while this thread takes the next one from the desk.
+fn admit_and_gather<R: Threads + Sync, D: Desk, G: Gate>(
+    rt: &R,
+    alloc: Global,
+    place: Place,
+    batch: &Batch,
+    gate: &G,
+    seen: &mut Seen,
+    desk: &mut D,
+    name: &str,
+    reader: &mut LineReader,
+    buffer: &mut [u8],
+) -> (Result<Place, LogStop>, Result<Batch, OutOfMemory>)
+    requires few { length batch.now.lines.items < 2 ^ 32 }
+    requires next { AreNext batch.now.lines.items place seen.old }
+    requires some { 0 < length buffer.old }
+    requires piece { length buffer.old ≤ 65536 }
+    requires within { batch.now.taken ≤ 1099511627776 }
+    requires going { HoldsOpen reader.old }
+    ensures admits { AdmitsLines batch.now.lines.items place seen.old seen.new result.0 }
+    ensures gathers { GathersBatch (D.left desk.old) (D.left desk.new) name.now (D.faults desk.old)
+        (D.faults desk.new) reader.old reader.new batch.now.taken result.1 }
+{
+    let lines = batch.lines.as_slice();
+    let taken = batch.taken;
+    let mut admit = || -> Result<Place, LogStop>
+        requires few { length lines.now < 2 ^ 32 }
+        requires next { AreNext lines.now place seen.now }
+        ensures { AdmitsLines lines.entry.now place seen.entry.now seen.exit.now result }
+    { admit_batch(rt, alloc, place, lines, gate, seen) };
+    let mut gather_next = || -> Result<Batch, OutOfMemory>
+        requires some { 0 < length buffer.now }
+        requires piece { length buffer.now ≤ 65536 }
+        requires within { taken ≤ 1099511627776 }
+        requires going { HoldsOpen reader.now }
+        ensures { GathersBatch (D.left desk.entry.now) (D.left desk.exit.now) name.entry.now
+            (D.faults desk.entry.now) (D.faults desk.exit.now) reader.entry.now reader.exit.now taken result }
+    { gather(alloc, desk, name, reader, taken, buffer) };
+    join_mut(rt, &mut admit, &mut gather_next)
 }

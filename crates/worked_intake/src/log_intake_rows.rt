@@ -184,6 +184,87 @@ fn batches_in_parts(rt: HostRuntime) {
     );
 }
 
+// So much of a line of spaces, which is no event.
+const SPACES: &str = "                                                                ";
+
+// So many of them are 31 reads of 65,536 bytes, and with any byte in front of them a batch is full.
+const SPACES_OF_A_BATCH: u32 = 31_744;
+
+// Rows as in `ROWS`. `FILL` stands for the spaces of a batch: what is in front of it comes with one batch, and what is
+// behind it with the next.
+const BATCHES: &str = r#"2 4
+HEAD"auditID":"a",REST
+FILL
+HEAD"auditID":"a",REST
+HEAD"auditID":"b",REST
+
+3 5
+HEAD"auditID":"a",REST
+FILL
+HEAD"auditID":"b",REST
+FILL
+HEAD"auditID":"c",REST
+
+Malformed { line: 3, code: M12 }
+HEAD"auditID":"a",REST
+FILL
+HEAD"auditID":"a","responseStatus":{"code":404},REST
+
+Malformed { line: 1, code: M1 }
+x
+FILL
+x"#;
+
+fn put_spaces(rt: &impl Abort, log: &mut String) {
+    for _ in 0..SPACES_OF_A_BATCH {
+        push(rt, log, SPACES);
+    }
+}
+
+// A log of several batches.
+fn filled(rt: &(impl Abort + AllocGlobal), text: &str) -> String {
+    let text = spelled(rt, text);
+    let mut log = String::new(rt.alloc());
+    for (number, part) in text.as_str().split("FILL").enumerate() {
+        if number > 0 {
+            put_spaces(rt, &mut log);
+        }
+        push(rt, &mut log, part);
+    }
+    log
+}
+
+fn check_filled(
+    rt: &(impl Abort + AllocGlobal + Threads + Sync),
+    text: &str,
+    failing: &[u64],
+    wanted: &str,
+) {
+    let log = filled(rt, text);
+    check_log(rt, log.as_str(), 65_536, failing, wanted);
+}
+
+#[test]
+fn batches_in_order(rt: HostRuntime) {
+    for row in BATCHES.split("\n\n") {
+        let (wanted, log) = row.split_once('\n').unwrap_or((row, ""));
+        check_filled(&rt, log, &[], wanted);
+    }
+}
+
+#[test]
+fn failing_reads_of_batches(rt: HostRuntime) {
+    let refused = "Malformed { line: 1, code: M1 }";
+    let refused_behind = "Malformed { line: 3, code: M1 }";
+    // The first read of the second batch fails.
+    check_filled(&rt, "x\nFILL\n", &[32], refused);
+    check_filled(&rt, "LIST]}\nFILL\nx", &[32], "ReadFault");
+    // One behind lines of the second batch fails, and the first one of the third batch.
+    check_filled(&rt, "LIST]}\nFILL\nx\n", &[33], refused_behind);
+    check_filled(&rt, "LIST]}\nFILL\nLIST]}\n", &[33], "ReadFault");
+    check_filled(&rt, "LIST]}\nFILL\nx\nFILL\n", &[63], refused_behind);
+}
+
 #[test]
 fn each_line_of_a_batch_enters_once(rt: HostRuntime) {
     let mut log = String::new(rt.alloc());

@@ -1,6 +1,8 @@
-use Rattle.std.proofs.Common.{◌∙◌, ap, Err, refl, arith}
-use Rattle.log_intake.specs.Parts.{AllAdmitted}
-use Rattle.log_intake.proofs.LogFacts.{batch_asks, reads_ended, reads_failed, reads_long, reads_nothing, reads_on, reads_past, reads_refused, reads_some}
+use Rattle.std.proofs.Common.{◌∙◌, refl}
+use Rattle.std.proofs.lemmas.Result.{IfErr-weaker}
+use Rattle.log_intake.proofs.AheadFacts.{fewer_left, gathered_asks, gathered_ended, gathered_first, gathered_on, gathered_open, gathered_refused, gathered_stopped, gathered_stops, gathered_within}
+use Rattle.log_intake.proofs.EventFacts.{on_ok}
+use Rattle.log_intake.proofs.LogFacts.{nothing_read_from, reads_nothing, reads_some}
 use Rattle.log_intake.proofs.log.read_batches.Goals as goal
 
 pub returns-in-Err-clause-stopped : goal.returns-in-Err-clause-stopped
@@ -8,79 +10,57 @@ returns-in-Err-clause-stopped g c = reads_nothing _ _
 
 pub returns-in-Err-gather-clause-stopped : goal.returns-in-Err-gather-clause-stopped
 returns-in-Err-gather-clause-stopped g c =
-    let s = c.batches.invariant.read in
-    let before = c.batches.invariant.counted in
-    let more = c.gather.ensures.counted in
-    reads_some _ _ _ _ _ c.batches.reader c.batches.seen c.batches.place c.batches.taken s c.in-Err-gather.ensures.memory (omega (arith, before, more))
+    reads_some _ _ _ _ _ c.in-Ok.reader c.args.seen.now record { line = 0; extra = 0 } 0 (nothing_read_from _ c.in-Ok.reader c.args.seen.now record { line = 0; extra = 0 } c.in-Ok.ensures c.requires.none refl refl) c.in-Err-gather.ensures.memory c.in-Err-gather.ensures.counted
 
-pub admit_batch-requires-clause-few : goal.admit_batch-requires-clause-few
-admit_batch-requires-clause-few g c κs _ = (batch_asks c.in-Ok-gather.batch.end _ _ _ c.batches.reader c.gather.new.reader c.batches.seen c.batches.place c.in-Ok-gather.batch.lines.items c.as_slice.result.now c.batches.taken c.in-Ok-gather.batch.taken c.batches.invariant.read c.in-Ok-gather.ensures.gathers c.as_slice.ensures.value).few
+pub batches-init : goal.batches-init
+batches-init g c = record {
+  read = gathered_first (g.D.Desk.left c.args.desk.now) (g.D.Desk.left c.gather.new.desk) c.args.name.now _ _ c.in-Ok.reader c.gather.new.reader c.args.seen.now record { line = 0; extra = 0 } c.in-Ok-gather.batch
+      (nothing_read_from _ c.in-Ok.reader c.args.seen.now record { line = 0; extra = 0 } c.in-Ok.ensures c.requires.none refl refl) c.in-Ok-gather.ensures;
+  others = c.in-Ok-gather.ensures.others;
+}
 
-pub admit_batch-requires-clause-short : goal.admit_batch-requires-clause-short
-admit_batch-requires-clause-short g c κs _ = (batch_asks c.in-Ok-gather.batch.end _ _ _ c.batches.reader c.gather.new.reader c.batches.seen c.batches.place c.in-Ok-gather.batch.lines.items c.as_slice.result.now c.batches.taken c.in-Ok-gather.batch.taken c.batches.invariant.read c.in-Ok-gather.ensures.gathers c.as_slice.ensures.value).short
+pub admit_and_gather-admitted-requires-clause-few : goal.admit_and_gather-admitted-requires-clause-few
+admit_and_gather-admitted-requires-clause-few g c κs _ = (gathered_asks _ _ _ _ c.batches.reader c.batches.seen c.batches.place c.batches.batch c.batches.batch.lines.items c.batches.invariant.read refl).few
 
-pub admit_batch-requires-clause-ordered : goal.admit_batch-requires-clause-ordered
-admit_batch-requires-clause-ordered g c κs _ = (batch_asks c.in-Ok-gather.batch.end _ _ _ c.batches.reader c.gather.new.reader c.batches.seen c.batches.place c.in-Ok-gather.batch.lines.items c.as_slice.result.now c.batches.taken c.in-Ok-gather.batch.taken c.batches.invariant.read c.in-Ok-gather.ensures.gathers c.as_slice.ensures.value).ordered
+pub admit_and_gather-admitted-requires-clause-next : goal.admit_and_gather-admitted-requires-clause-next
+admit_and_gather-admitted-requires-clause-next g c κs _ = (gathered_asks _ _ _ _ c.batches.reader c.batches.seen c.batches.place c.batches.batch c.batches.batch.lines.items c.batches.invariant.read refl).next
 
-pub returns-in-Err-admit_batch-clause-stopped : goal.returns-in-Err-admit_batch-clause-stopped
-returns-in-Err-admit_batch-clause-stopped g c =
-    let s = c.batches.invariant.read in
-    let before = c.batches.invariant.counted in
-    let more = c.gather.ensures.counted in
-    reads_refused c.in-Ok-gather.batch.end _ _ _ _ _ c.batches.reader c.gather.new.reader c.batches.seen c.batches.place c.in-Ok-gather.batch.lines.items c.as_slice.result.now c.batches.taken c.in-Ok-gather.batch.taken c.in-Err-admit_batch.stop s c.in-Ok-gather.ensures.gathers
-    c.as_slice.ensures.value c.in-Err-admit_batch.ensures.refused (λ same. c.in-Err-admit_batch.ensures.no_fault (ap Err same)) (omega (arith, before, more))
+pub admit_and_gather-admitted-requires-clause-within : goal.admit_and_gather-admitted-requires-clause-within
+admit_and_gather-admitted-requires-clause-within g c κs _ = gathered_within _ _ _ _ c.batches.reader c.batches.seen c.batches.place c.batches.batch c.batches.invariant.read
 
-pub returns-in-Ended-clause-whole : goal.returns-in-Ended-clause-whole
-returns-in-Ended-clause-whole g c = λ are.
-    let s = c.batches.invariant.read in
-    let before = c.batches.invariant.counted in
-    let more = c.gather.ensures.counted in
-    let admitted : AllAdmitted c.as_slice.result.now c.batches.place c.in-Ok-admit_batch.after c.batches.seen c.admit_batch.new.seen = record { takes = c.in-Ok-admit_batch.ensures.takes; line = c.in-Ok-admit_batch.ensures.line; extra = c.in-Ok-admit_batch.ensures.extra; before = c.in-Ok-admit_batch.ensures.before } in
-    reads_ended c.in-Ok-gather.batch.end _ _ _ _ _ c.batches.reader c.gather.new.reader c.batches.seen c.admit_batch.new.seen c.admit_batch.new.seen c.batches.place c.in-Ok-admit_batch.after c.in-Ok-gather.batch.lines.items c.as_slice.result.now c.batches.taken c.in-Ok-gather.batch.taken c.in-Ended.is s c.in-Ok-gather.ensures.gathers
-    c.as_slice.ensures.value admitted refl are (omega (arith, before, more))
+pub admit_and_gather-admitted-requires-clause-going : goal.admit_and_gather-admitted-requires-clause-going
+admit_and_gather-admitted-requires-clause-going g c κs _ = gathered_open _ _ _ _ c.batches.reader c.batches.seen c.batches.place c.batches.batch c.batches.invariant.read (c.goes_on.ensures.0 c.batches-test.true)
 
-pub returns-in-Failed-clause-stopped : goal.returns-in-Failed-clause-stopped
-returns-in-Failed-clause-stopped g c =
-    let s = c.batches.invariant.read in
-    let before = c.batches.invariant.counted in
-    let more = c.gather.ensures.counted in
-    let admitted : AllAdmitted c.as_slice.result.now c.batches.place c.in-Ok-admit_batch.after c.batches.seen c.admit_batch.new.seen = record { takes = c.in-Ok-admit_batch.ensures.takes; line = c.in-Ok-admit_batch.ensures.line; extra = c.in-Ok-admit_batch.ensures.extra; before = c.in-Ok-admit_batch.ensures.before } in
-    reads_failed c.in-Ok-gather.batch.end _ _ _ _ _ c.batches.reader c.gather.new.reader c.batches.seen c.admit_batch.new.seen c.batches.place c.in-Ok-admit_batch.after c.in-Ok-gather.batch.lines.items c.as_slice.result.now c.batches.taken c.in-Ok-gather.batch.taken c.in-Failed.is s c.in-Ok-gather.ensures.gathers
-    c.as_slice.ensures.value admitted (omega (arith, before, more)) (let rose = c.in-Ok-gather.ensures.fault c.in-Failed.is in omega (arith, before, rose))
-
-pub returns-in-LineTooLong-clause-stopped : goal.returns-in-LineTooLong-clause-stopped
-returns-in-LineTooLong-clause-stopped g c =
-    let s = c.batches.invariant.read in
-    let before = c.batches.invariant.counted in
-    let more = c.gather.ensures.counted in
-    let admitted : AllAdmitted c.as_slice.result.now c.batches.place c.in-Ok-admit_batch.after c.batches.seen c.admit_batch.new.seen = record { takes = c.in-Ok-admit_batch.ensures.takes; line = c.in-Ok-admit_batch.ensures.line; extra = c.in-Ok-admit_batch.ensures.extra; before = c.in-Ok-admit_batch.ensures.before } in
-    reads_long c.in-Ok-gather.batch.end _ _ _ _ _ c.batches.reader c.gather.new.reader c.batches.seen c.admit_batch.new.seen c.batches.place c.in-Ok-admit_batch.after c.in-Ok-gather.batch.lines.items c.as_slice.result.now c.batches.taken c.in-Ok-gather.batch.taken c.in-LineTooLong.is s c.in-Ok-gather.ensures.gathers
-    c.as_slice.ensures.value admitted (omega (arith, before, more))
-
-pub returns-in-InputTooLong-clause-stopped : goal.returns-in-InputTooLong-clause-stopped
-returns-in-InputTooLong-clause-stopped g c =
-    let s = c.batches.invariant.read in
-    let before = c.batches.invariant.counted in
-    let more = c.gather.ensures.counted in
-    let admitted : AllAdmitted c.as_slice.result.now c.batches.place c.in-Ok-admit_batch.after c.batches.seen c.admit_batch.new.seen = record { takes = c.in-Ok-admit_batch.ensures.takes; line = c.in-Ok-admit_batch.ensures.line; extra = c.in-Ok-admit_batch.ensures.extra; before = c.in-Ok-admit_batch.ensures.before } in
-    reads_past c.in-Ok-gather.batch.end _ _ _ _ _ c.batches.reader c.gather.new.reader c.batches.seen c.admit_batch.new.seen c.batches.place c.in-Ok-admit_batch.after c.in-Ok-gather.batch.lines.items c.as_slice.result.now c.batches.taken c.in-Ok-gather.batch.taken c.in-InputTooLong.is s c.in-Ok-gather.ensures.gathers
-    c.as_slice.ensures.value admitted (omega (arith, before, more))
+pub returns-in-Err-both-clause-stopped : goal.returns-in-Err-both-clause-stopped
+returns-in-Err-both-clause-stopped g c =
+    gathered_stops _ (g.D.Desk.left c.batches.desk) (g.D.Desk.left c.admit_and_gather-admitted.new.desk) c.args.name.now _ _ _ c.batches.reader c.admit_and_gather-admitted.new.reader c.batches.seen c.admit_and_gather-admitted.new.seen c.batches.place c.batches.batch _ _ c.in-Err-both.stop
+    (c.goes_on.ensures.0 c.batches-test.true) c.batches.invariant.read c.admit_and_gather-admitted.ensures.admits c.admit_and_gather-admitted.ensures.gathers c.in-Err-both.ensures.err
 
 pub batches-smaller : goal.batches-smaller
 batches-smaller g c =
-    let more = c.in-Ok-gather.ensures.more c.in-GoesOn.is in
-    let within = c.in-Ok-gather.ensures.gathers.within in
-    omega (arith, more, within)
+    fewer_left (g.D.Desk.left c.batches.desk) (g.D.Desk.left c.admit_and_gather-admitted.new.desk) c.args.name.now _ _ c.batches.reader c.admit_and_gather-admitted.new.reader c.batches.batch c.in-Ok-both.step.ahead _ (c.goes_on.ensures.0 c.batches-test.true) c.admit_and_gather-admitted.ensures.gathers c.in-Ok-both.ensures.ok.1
 
 pub batches-preserved : goal.batches-preserved
-batches-preserved g c =
-    let s = c.batches.invariant.read in
-    let before = c.batches.invariant.counted in
-    let more = c.gather.ensures.counted in
-    let admitted : AllAdmitted c.as_slice.result.now c.batches.place c.in-Ok-admit_batch.after c.batches.seen c.admit_batch.new.seen = record { takes = c.in-Ok-admit_batch.ensures.takes; line = c.in-Ok-admit_batch.ensures.line; extra = c.in-Ok-admit_batch.ensures.extra; before = c.in-Ok-admit_batch.ensures.before } in
-    record {
-      read = reads_on c.in-Ok-gather.batch.end _ _ _ c.batches.reader c.gather.new.reader c.batches.seen c.admit_batch.new.seen c.batches.place c.in-Ok-admit_batch.after c.in-Ok-gather.batch.lines.items c.as_slice.result.now c.batches.taken c.in-Ok-gather.batch.taken c.in-GoesOn.is s c.in-Ok-gather.ensures.gathers c.as_slice.ensures.value admitted;
-      counted = omega (arith, before, more);
-      others = λ other differs. c.gather.ensures.others other differs ∙ c.batches.invariant.others other differs;
-      buffer = c.gather.ensures.buffer ∙ c.batches.invariant.buffer;
-    }
+batches-preserved g c = record {
+  read = gathered_on _ (g.D.Desk.left c.batches.desk) (g.D.Desk.left c.admit_and_gather-admitted.new.desk) c.args.name.now _ _ _ c.batches.reader c.admit_and_gather-admitted.new.reader c.batches.seen c.admit_and_gather-admitted.new.seen c.batches.place c.in-Ok-both.step.place c.batches.batch c.in-Ok-both.step.ahead _ _
+      (c.goes_on.ensures.0 c.batches-test.true) c.batches.invariant.read c.admit_and_gather-admitted.ensures.admits c.admit_and_gather-admitted.ensures.gathers c.in-Ok-both.ensures.ok;
+  others = λ other differs. c.admit_and_gather-admitted.ensures.gathers.others other differs ∙ c.batches.invariant.others other differs;
+}
+
+pub admit_batch-requires-clause-few : goal.admit_batch-requires-clause-few
+admit_batch-requires-clause-few g c κs _ = (gathered_asks _ _ _ _ c.batches.reader c.batches.seen c.batches.place c.batches.batch c.as_slice.result.now c.batches.invariant.read c.as_slice.ensures.value).few
+
+pub admit_batch-requires-clause-next : goal.admit_batch-requires-clause-next
+admit_batch-requires-clause-next g c κs _ = (gathered_asks _ _ _ _ c.batches.reader c.batches.seen c.batches.place c.batches.batch c.as_slice.result.now c.batches.invariant.read c.as_slice.ensures.value).next
+
+pub returns-in-Ok-admit_batch-clause-whole : goal.returns-in-Ok-admit_batch-clause-whole
+returns-in-Ok-admit_batch-clause-whole g c =
+    on_ok c.answer.result _ _ (λ ended are. gathered_ended _ _ _ _ c.batches.reader c.batches.seen c.admit_batch.new.seen c.batches.place c.in-Ok-admit_batch.field-0 c.batches.batch c.as_slice.result.now c.batches.invariant.read c.as_slice.ensures.value c.in-Ok-admit_batch.ensures ended are) c.answer.ensures.whole
+
+pub returns-in-Ok-admit_batch-clause-stopped : goal.returns-in-Ok-admit_batch-clause-stopped
+returns-in-Ok-admit_batch-clause-stopped g c =
+    IfErr-weaker c.answer.result _ _ (λ why at. gathered_stopped _ _ _ _ c.batches.reader c.batches.seen c.admit_batch.new.seen c.batches.place c.in-Ok-admit_batch.field-0 c.batches.batch c.as_slice.result.now why c.batches.invariant.read c.as_slice.ensures.value c.in-Ok-admit_batch.ensures at) c.answer.ensures.stopped
+
+pub returns-clause-stopped : goal.returns-clause-stopped
+returns-clause-stopped g c =
+    gathered_refused _ _ _ _ c.batches.reader c.batches.seen c.admit_batch.new.seen c.batches.place c.batches.batch c.as_slice.result.now c.in-Err-admit_batch.stop c.batches.invariant.read c.as_slice.ensures.value c.in-Err-admit_batch.ensures

@@ -1,14 +1,12 @@
-use Rattle.std.proofs.Common.{◌≡◌, ◌≢◌, ◌≤◌, ℕ, List, ◌-◌, length}
-use Rattle.log_intake.proofs.LogFacts.{HasReadLog}
+use Rattle.std.proofs.Common.{◌≡◌, ◌≢◌, ℕ, List, ◌+◌, ◌-◌, ◌*◌}
+use Rattle.log_intake.proofs.AheadFacts.{HasGathered, goes}
 use Rattle.log_intake.proofs.log.read_batches.Given as goal
 
 abbrev pub invariant-batches : goal.invariant-batches
 invariant-batches g l = record {
-  read : HasReadLog (g.D.Desk.left l.initial.desk l.name) (g.D.Desk.left l.desk l.name) l.reader l.seen l.place l.taken;
-  counted : g.D.Desk.faults l.initial.desk ≤ g.D.Desk.faults l.desk;
-  others : (other : List ℕ) → other ≢ l.name → g.D.Desk.left l.desk other ≡ g.D.Desk.left l.initial.desk other;
-  buffer : length l.buffer ≡ length l.initial.buffer;
+  read : HasGathered (g.D.Desk.left l.fn.desk l.name) (g.D.Desk.left l.desk l.name) (g.D.Desk.faults l.fn.desk) (g.D.Desk.faults l.desk) l.reader l.seen l.place l.batch;
+  others : (other : List ℕ) → other ≢ l.name → g.D.Desk.left l.desk other ≡ g.D.Desk.left l.fn.desk other;
 }
 
 abbrev pub decreases-batches : goal.decreases-batches
-decreases-batches g l = 1099511627776 - l.taken
+decreases-batches g l = 2 * (1099511627776 - l.batch.taken) + goes l.batch.end
