@@ -1,9 +1,14 @@
+pub mod AcceptedFewer
 pub mod Added
 pub mod AnsweringFacts
+pub mod BlamingFacts
 pub mod Causes
 pub mod DocumentFacts
+pub mod FewerObjects
 pub mod Gathered
 pub mod GatheringFacts
+pub mod KeptMembers
+pub mod LineReading
 pub mod ListKinds
 pub mod ListedFacts
 pub mod Named
@@ -14,4 +19,5 @@ pub mod Ruled
 pub mod Same
 pub mod SourceFacts
 pub mod ToldFacts
+pub mod TreeLines
 pub mod Zips

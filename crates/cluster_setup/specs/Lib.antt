@@ -1,5 +1,6 @@
 pub mod Answering
 pub mod Answers
+pub mod Blaming
 pub mod Documents
 pub mod Files
 pub mod Found
