@@ -8,6 +8,13 @@ use Rattle.std.specs.declared.result.Result.{Result}
 abbrev pub AnswersPlace : {X Y E : Type 0} → (X → Y → Type 0) → List X → ℕ → Result Y E → Type 0
 AnswersPlace {X} P xs place answer = IfOk answer (λ y. (x : X) × (slice_get xs place ≡ Some x) × P x y)
 
+-- what holds of each pair of items, for another reason
+pub each_pair : {X Y : Type 0} {P Q : X → Y → Type 0} (xs : List X) (ys : List Y) → AllZip P xs ys → ((x : X) (y : Y) → P x y → Q x y) → AllZip Q xs ys
+each_pair [] [] all so = tt
+each_pair [] (y ∷ ys) all so = absurd all
+each_pair (x ∷ xs) [] all so = absurd all
+each_pair (x ∷ xs) (y ∷ ys) all so = (so x y all.0, each_pair xs ys all.1 so)
+
 module _ {X Y : Type 0} (E : Type 0) (P : X → Y → Type 0) where
   -- from a place on
   gathered_from : (xs : List X) (a : ℕ) (rest : List X) (ys : List Y) → ((k : ℕ) (d : X) → k < length rest → slice_get xs (a + k) ≡ Some (get_or rest k d))

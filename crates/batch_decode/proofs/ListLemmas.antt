@@ -8,8 +8,8 @@ use Rattle.line_reader.specs.declared.line.Line.{Line}
 use Rattle.serde_json.specs.Data.{Data, Items, array}
 use Rattle.serde_json.specs.Find.{get, as_array}
 use Rattle.serde_json.specs.Read as reading
-use Rattle.serde_json.specs.View.{view, items_view}
-use Rattle.serde_json.specs.declared.value.Value.{Value}
+use Rattle.borrowed_json.specs.View.{view, items_view}
+use Rattle.borrowed_json.specs.declared.value.JsonValue.{JsonValue}
 use Rattle.audit_event.specs.declared.event.Event.{Event}
 use Rattle.audit_event.specs.Events.{IsEventOf, IsValueOf, IsSound}
 use Rattle.audit_event.specs.Headings.{is_item, is_of_kind}
@@ -20,7 +20,7 @@ use Rattle.batch_decode.specs.declared.decoded.ItemFault.{ItemFault}
 use Rattle.batch_decode.specs.Batches.{AreEventsOf, IsFaultBehind, DecodesValues, DecodesValue, IsNumbered, IsDecodedLine}
 use Rattle.batch_decode.specs.Lists.{list_items, heading_of, values_of}
 
-pub item_list-items_view : (vs : List Value) → item_list (items_view vs) ≡ map view vs
+pub item_list-items_view : (vs : List JsonValue) → item_list (items_view vs) ≡ map view vs
 item_list-items_view [] = refl
 item_list-items_view (v ∷ vs) = ap (λ l. view v ∷ l) (item_list-items_view vs)
 
@@ -29,7 +29,7 @@ is_within [] k x is = absurd (cc)
 is_within (y ∷ ys) zero x is = omega arith
 is_within (y ∷ ys) (suc k) x is = let rest = is_within ys k x is in omega arith
 
-pub value_at : (vs : List Value) (k : ℕ) (d : Value) → k < length vs → slice_get (map view vs) k ≡ Some (view (get_or vs k d))
+pub value_at : (vs : List JsonValue) (k : ℕ) (d : JsonValue) → k < length vs → slice_get (map view vs) k ≡ Some (view (get_or vs k d))
 value_at [] k d within = absurd (omega arith)
 value_at (v ∷ vs) zero d within = refl
 value_at (v ∷ vs) (suc k) d within = value_at vs k d (omega arith)
@@ -48,7 +48,7 @@ events_more heading values events event value each at is =
     at_or_last (λ k event. (value : Data) × (slice_get values k ≡ Some value) × IsEventOf heading value k event) events event each (value, at, is)
 
 -- one item more is read
-pub item_read : (vs : List Value) (i : ℕ) (item : Value) (events after : List Event) (event : Event) → i < length vs → item ≡ get_or vs i item → length events ≡ i
+pub item_read : (vs : List JsonValue) (i : ℕ) (item : JsonValue) (events after : List Event) (event : Event) → i < length vs → item ≡ get_or vs i item → length events ≡ i
     → AreEventsOf is_item (map view vs) events → All IsSound events → IsEventOf is_item (view item) i event → IsSound event → after ≡ events ++ event ∷ []
     → (length after ≡ i + 1) × AreEventsOf is_item (map view vs) after × All IsSound after
 item_read vs i item events after event within at count each sounds is sound more =
@@ -96,7 +96,7 @@ numbered bytes value decoded is decodes =
     by None stops = tt
     by (Some fault) stops = let below = is_within (values_of (list_items value) value) fault.index stops.value stops.found in omega (arith, decodes.taken, below)
 
-pub listed_value : (vs : List Value) (value : Data) (answer : Result Decoded OutOfMemory) → Some (items_view vs) ≡ list_items value → IfOk answer (DecodesValues is_item (map view vs)) → IfOk answer (DecodesValue value)
+pub listed_value : (vs : List JsonValue) (value : Data) (answer : Result Decoded OutOfMemory) → Some (items_view vs) ≡ list_items value → IfOk answer (DecodesValues is_item (map view vs)) → IfOk answer (DecodesValue value)
 listed_value vs value answer lists decodes =
     subst (λ items. IfOk answer (DecodesValues (heading_of items) (values_of items value))) lists
     (subst (λ values. IfOk answer (DecodesValues is_item values)) (sym (item_list-items_view vs)) decodes)

@@ -4,8 +4,9 @@ ghost use Rattle.line_reader.specs.declared.line.Line.{Line};
 ghost use Rattle.batch_decode.specs.Batches.{IsDecodedLine};
 
 use crate::decoded::{Decoded, DecodedList};
-use crate::line::decode_line;
+use crate::line::decode_with;
 use base_types::OutOfMemory;
+use borrowed_json::Scratch;
 use judge_pool::Gate;
 use line_reader::Line;
 use rayon::prelude::*;
@@ -16,8 +17,8 @@ use std::thread::Threads;
 /// How many lines are worth a thread of their own.
 const LINES_FOR_A_THREAD: usize = 16;
 
-/// What each line holds, in their order. Several threads decode them; each line's index enters the gate
-/// before the line is decoded.
+/// What each line holds, in their order. Several threads decode them, each with one scratch; each line's
+/// index enters the gate before the line is decoded.
 pub fn decode_all<R: Threads + Sync, G: Gate>(
     rt: &R,
     alloc: Global,
@@ -30,14 +31,15 @@ pub fn decode_all<R: Threads + Sync, G: Gate>(
     let gathered: Result<Vec<Decoded>, OutOfMemory> = (0..lines.len() as u32)
         .into_par_iter()
         .with_min_len(LINES_FOR_A_THREAD)
-        .map(
-            |index: u32| -> Result<Decoded, OutOfMemory>
+        .map_init(
+            move || Scratch::new(alloc),
+            |scratch: &mut Scratch, index: u32| -> Result<Decoded, OutOfMemory>
                 requires { index < length lines.now }
                 ensures { IfOk result (λ decoded. (line : Line)
                     × (slice_get lines.entry.now index ≡ Some line) × IsDecodedLine line decoded) }
             {
                 gate.enter(index);
-                decode_line(alloc, &lines[index as usize])
+                decode_with(alloc, scratch, &lines[index as usize])
             },
         )
         .collect(rt, alloc)?;

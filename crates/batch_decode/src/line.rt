@@ -1,5 +1,5 @@
 ghost use Rattle.std.specs.Prelude.{◌≡◌, ◌∷◌, [], IfOk, All, map, option_map};
-ghost use Rattle.serde_json.specs.View.{view, items_view};
+ghost use Rattle.borrowed_json.specs.View.{view, items_view};
 ghost use Rattle.audit_event.specs.Events.{IsSound};
 ghost use Rattle.audit_event.specs.Headings.{is_event, is_item};
 ghost use Rattle.batch_decode.specs.Lists.{list_items};
@@ -8,22 +8,22 @@ ghost use Rattle.batch_decode.specs.Batches.{DecodesValues, DecodesValue, IsDeco
 use crate::decoded::{Decoded, ItemFault};
 use audit_event::{EventFault, Events, Malformed, is_of_kind, read_item, read_value};
 use base_types::OutOfMemory;
+use borrowed_json::{JsonValue, ReadFault, Scratch};
 use line_reader::Line;
-use serde_json::Value;
 use std::alloc::Global;
 
 // The items of an EventList.
-fn list_items(value: &Value) -> Option<&Vec<Value>>
+fn list_items<'v, 'a>(value: &'v JsonValue<'a>) -> Option<&'v Vec<JsonValue<'a>>>
     ensures { option_map (λ list. items_view list.now.items) result ≡ list_items (view value.now) }
 {
     if !is_of_kind(value, "EventList") {
         return None;
     }
-    value.get("items").and_then(Value::as_array)
+    value.get("items").and_then(JsonValue::as_array)
 }
 
 // The events of a list's items, up to the first broken one.
-fn decode_items(alloc: Global, list: &Vec<Value>) -> Result<Decoded, OutOfMemory>
+fn decode_items(alloc: Global, list: &Vec<JsonValue<'_>>) -> Result<Decoded, OutOfMemory>
     ensures decodes { IfOk result (DecodesValues is_item (map view list.now.items)) }
     ensures sound { IfOk result (λ decoded. All IsSound decoded.events) }
 {
@@ -51,7 +51,7 @@ fn decode_items(alloc: Global, list: &Vec<Value>) -> Result<Decoded, OutOfMemory
 }
 
 // The one event of a line that is no list.
-fn decode_one(alloc: Global, value: &Value) -> Result<Decoded, OutOfMemory>
+fn decode_one(alloc: Global, value: &JsonValue<'_>) -> Result<Decoded, OutOfMemory>
     ensures decodes { IfOk result (DecodesValues is_event (view value.now ∷ [])) }
     ensures sound { IfOk result (λ decoded. All IsSound decoded.events) }
 {
@@ -75,7 +75,7 @@ fn decode_one(alloc: Global, value: &Value) -> Result<Decoded, OutOfMemory>
 }
 
 // The events of a line's value.
-fn decode_value(alloc: Global, value: &Value) -> Result<Decoded, OutOfMemory>
+fn decode_value(alloc: Global, value: &JsonValue<'_>) -> Result<Decoded, OutOfMemory>
     ensures decodes { IfOk result (DecodesValue (view value.now)) }
     ensures sound { IfOk result (λ decoded. All IsSound decoded.events) }
 {
@@ -104,9 +104,21 @@ fn not_json(alloc: Global) -> Decoded
 pub fn decode_line(alloc: Global, line: &Line) -> Result<Decoded, OutOfMemory>
     ensures { IfOk result (IsDecodedLine line.now) }
 {
-    match Value::from_slice(alloc, line.bytes.as_slice()) {
+    let mut scratch = Scratch::new(alloc);
+    decode_with(alloc, &mut scratch, line)
+}
+
+/// The same, with the memory for reading that other lines were read with.
+pub(crate) fn decode_with(
+    alloc: Global,
+    scratch: &mut Scratch,
+    line: &Line,
+) -> Result<Decoded, OutOfMemory>
+    ensures { IfOk result (IsDecodedLine line.now) }
+{
+    match JsonValue::read(alloc, line.bytes.as_slice(), scratch) {
         Ok(value) => decode_value(alloc, &value),
-        Err(fault) if fault.is_memory() => Err(OutOfMemory),
-        Err(_) => Ok(not_json(alloc)),
+        Err(ReadFault::OutOfMemory) => Err(OutOfMemory),
+        Err(ReadFault::NotJson) => Ok(not_json(alloc)),
     }
 }

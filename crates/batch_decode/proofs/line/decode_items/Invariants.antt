@@ -1,6 +1,6 @@
 use Rattle.std.proofs.Common.{◌≡◌, length, map}
 use Rattle.std.specs.Prelude.{All}
-use Rattle.serde_json.specs.View.{view}
+use Rattle.borrowed_json.specs.View.{view}
 use Rattle.audit_event.specs.Events.{IsSound}
 use Rattle.audit_event.specs.Headings.{is_item}
 use Rattle.batch_decode.specs.Batches.{AreEventsOf}

@@ -1,4 +1,4 @@
-use Rattle.serde_json.specs.View.{view}
+use Rattle.borrowed_json.specs.View.{view}
 use Rattle.batch_decode.proofs.ListLemmas.{listed_value}
 use Rattle.batch_decode.proofs.line.decode_value.Goals as goal
 

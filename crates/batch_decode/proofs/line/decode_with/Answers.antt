@@ -1,7 +1,7 @@
-use Rattle.serde_json.specs.View.{view}
+use Rattle.borrowed_json.specs.View.{view}
 use Rattle.audit_event.specs.Events.{IsValueOf}
 use Rattle.batch_decode.proofs.ListLemmas.{decoded_line}
-use Rattle.batch_decode.proofs.line.decode_line.Goals as goal
+use Rattle.batch_decode.proofs.line.decode_with.Goals as goal
 
 pub returns-in-Ok : goal.returns-in-Ok
 returns-in-Ok c =
