@@ -1,6 +1,7 @@
 // What the tests are given: trees, events and setups of JSON texts.
 use audit_event::{Event, read_item};
 use base_types::json::{Tree, from_value};
+use borrowed_json::{JsonValue, Scratch};
 use hash_seed::Seed;
 use serde_json::Value;
 use setup_file::{Setup, read_setup};
@@ -14,7 +15,8 @@ pub(crate) fn tree(rt: &(impl Abort + AllocGlobal), text: &str) -> Tree {
 }
 
 fn event_of(rt: &(impl Abort + AllocGlobal), text: &str, line: u64) -> Event {
-    let value = Value::from_str(rt.alloc(), text).expect(rt, "JSON");
+    let mut scratch = Scratch::new(rt.alloc());
+    let value = JsonValue::read(rt.alloc(), text.as_bytes(), &mut scratch).expect(rt, "JSON");
     let event = read_item(rt.alloc(), &value, line);
     drop(value);
     event.expect(rt, "an event")

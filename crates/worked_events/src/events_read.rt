@@ -1,7 +1,7 @@
 use crate::given::{assert_so, assert_text, line_of, push};
 use audit_event::{Body, Event, EventFault, Malformed, Status, read_event, read_item, read_value};
 use base_types::Decision;
-use serde_json::Value;
+use borrowed_json::{JsonValue, Scratch};
 use std::process::Abort;
 
 // The members of an event that breaks no rule, with their names.
@@ -478,7 +478,8 @@ static ITEMS: [(&str, bool, bool); 4] = [
 
 // Whether a value is taken for an event in a list, and by itself.
 fn taken(rt: &(impl Abort + AllocGlobal), text: &str) -> (bool, bool) {
-    let value = Value::from_str(rt.alloc(), text).expect(rt, "JSON");
+    let mut scratch = Scratch::new(rt.alloc());
+    let value = JsonValue::read(rt.alloc(), text.as_bytes(), &mut scratch).expect(rt, "JSON");
     let in_list = rule_of(rt, read_item(rt.alloc(), &value, 0)).is_none();
     let by_itself = rule_of(rt, read_value(rt.alloc(), &value, 0)).is_none();
     drop(value);

@@ -6,8 +6,8 @@ ghost use Rattle.setup_file.specs.Sound.{IsSound as IsSoundSetup};
 ghost use Rattle.version_store.specs.Log.{AreLines};
 
 use audit_event::{Event, Events, read_item};
+use borrowed_json::{JsonValue, Scratch};
 use hash_seed::Seed;
-use serde_json::Value;
 use setup_file::{Setup, read_setup};
 use std::marker::Sync;
 use std::mem::ManuallyDrop;
@@ -51,7 +51,8 @@ pub(crate) fn event_of(rt: &(impl Abort + AllocGlobal), text: &str, line: u64) -
     ensures sound { IsSound result }
     ensures line { result.line ≡ line }
 {
-    let value = Value::from_str(rt.alloc(), text).expect(rt, "JSON");
+    let mut scratch = Scratch::new(rt.alloc());
+    let value = JsonValue::read(rt.alloc(), text.as_bytes(), &mut scratch).expect(rt, "JSON");
     let value = ManuallyDrop::new(value);
     read_item(rt.alloc(), &value, line).expect(rt, "an event")
 }

@@ -2,6 +2,8 @@
 #![tactic(auto)]
 
 #[cfg(test)]
+mod borrowed_values;
+#[cfg(test)]
 mod json_patch_limits;
 #[cfg(test)]
 mod json_patch_lists;
