@@ -255,14 +255,18 @@ fn admit_line(
     requires decoded { IsDecodedLine line.now decoded }
     requires short { length line.now.bytes ≤ longest_line }
     requires later { place.line < line.now.number }
-    requires room { line.now.number + (place.extra + (most_items line.now.bytes - 1)) ≤ 1099511627776 }
+    requires room { line.now.number + (place.extra + (most_items line.now.bytes - 1))
+        ≤ 1099511627776 }
     requires before { AreBefore (place.line + place.extra + 1) seen.old }
-    ensures takes { IfOk result (λ after. TakesLine (log_state place.extra seen.old) (line_value line.now)
+    ensures takes { IfOk result
+        (λ after. TakesLine (log_state place.extra seen.old) (line_value line.now)
         (Ok (log_state after.extra seen.new))) }
     ensures line { IfOk result (λ after. after.line ≡ line.now.number) }
-    ensures extra { IfOk result (λ after. after.extra ≤ place.extra + (most_items line.now.bytes - 1)) }
+    ensures extra { IfOk result
+        (λ after. after.extra ≤ place.extra + (most_items line.now.bytes - 1)) }
     ensures before { IfOk result (λ after. AreBefore (after.line + after.extra + 1) seen.new) }
-    ensures refused { IfErr result (λ stop. IsRefusal stop → TakesLine (log_state place.extra seen.old)
+    ensures refused { IfErr result
+        (λ stop. IsRefusal stop → TakesLine (log_state place.extra seen.old)
         (line_value line.now) (Err stop)) }
     ensures no_fault { IsErrOf result LogStop.ReadFault → ⊥ }
 {
@@ -293,7 +297,8 @@ fn admit_events(seen: &mut Seen, first: u64, events: Events) -> Result<(), LogSt
     requires from { 1 ≤ first }
     requires room { first + length events < 2 ^ 64 }
     requires before { AreBefore first seen.old }
-    ensures takes { OnOk result (InOrder TakesEvent seen.old (numbered_events first events) (Ok seen.new)) }
+    ensures takes { OnOk result
+        (InOrder TakesEvent seen.old (numbered_events first events) (Ok seen.new)) }
     ensures before { OnOk result (AreBefore (first + length events) seen.new) }
     ensures refused { IfErr result (λ stop. IsRefusal stop → InOrder TakesEvent seen.old
         (numbered_events first events) (Err stop)) }

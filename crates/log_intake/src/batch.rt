@@ -85,7 +85,8 @@ pub fn gather<D: Desk>(
     requires piece { length buffer.old ≤ 65536 }
     requires within { taken ≤ MOST_INPUT }
     requires going { HoldsOpen reader.old }
-    ensures { GathersBatch (D.left desk.old) (D.left desk.new) name.now (D.faults desk.old) (D.faults desk.new)
+    ensures { GathersBatch (D.left desk.old) (D.left desk.new) name.now (D.faults desk.old)
+        (D.faults desk.new)
         reader.old reader.new taken result }
 {
     let mut lines = Vec::new(alloc);
@@ -134,10 +135,13 @@ fn take_piece<D: Desk>(
         (D.left desk.new name.now) reader.old reader.new (line_values lines.old.items)
         (line_values lines.new.items) taken piece.taken) }
     ensures more { IfOk result (λ piece. piece.end ≡ ended.GoesOn → taken < piece.taken) }
-    ensures fault { IfOk result (λ piece. piece.end ≡ ended.Failed → Rose (D.faults desk.old) (D.faults desk.new)) }
-    ensures memory { OnErr result (TakesSome (D.left desk.old name.now) (D.left desk.new name.now) taken 65536) }
+    ensures fault { IfOk result
+        (λ piece. piece.end ≡ ended.Failed → Rose (D.faults desk.old) (D.faults desk.new)) }
+    ensures memory { OnErr result
+        (TakesSome (D.left desk.old name.now) (D.left desk.new name.now) taken 65536) }
     ensures counted { D.faults desk.old ≤ D.faults desk.new }
-    ensures others { (other : List ℕ) → other ≢ name.now → D.left desk.new other ≡ D.left desk.old other }
+    ensures others { (other : List ℕ) → other ≢ name.now
+        → D.left desk.new other ≡ D.left desk.old other }
     ensures buffer { length buffer.new ≡ length buffer.old }
 {
     let count = match desk.read(name, buffer) {
@@ -194,7 +198,8 @@ fn give_fed(
 // Gives the last line, where no newline ends it.
 fn give_last(reader: &mut LineReader, lines: &mut Vec<Line>) -> Result<(), OutOfMemory>
     requires { HoldsOpen reader.old }
-    ensures { OnOk result (GivesLast reader.old (line_values lines.old.items) (line_values lines.new.items)) }
+    ensures { OnOk result
+        (GivesLast reader.old (line_values lines.old.items) (line_values lines.new.items)) }
 {
     reader.end();
     // The line that had begun isn't too long.
@@ -204,7 +209,8 @@ fn give_last(reader: &mut LineReader, lines: &mut Vec<Line>) -> Result<(), OutOf
 
 // Gives the lines that wait; false says that the line behind them is too long.
 fn give_lines(reader: &mut LineReader, lines: &mut Vec<Line>) -> Result<bool, OutOfMemory>
-    ensures gives { IfOk result (λ fits. GivesRest fits reader.old reader.new (line_values lines.old.items)
+    ensures gives { IfOk result
+        (λ fits. GivesRest fits reader.old reader.new (line_values lines.old.items)
         (line_values lines.new.items)) }
     ensures ended { reader.new.ended ≡ reader.old.ended }
 {

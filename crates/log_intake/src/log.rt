@@ -32,9 +32,11 @@ pub fn read_log<R: Threads + Sync, D: Desk, G: Gate>(
 ) -> Result<Events, LogStop>
     requires some { 0 < length buffer.old }
     requires piece { length buffer.old ≤ 65536 }
-    ensures reads { ReadsLog (D.left desk.old name.now) (D.left desk.new name.now) (D.faults desk.old)
+    ensures reads { ReadsLog (D.left desk.old name.now) (D.left desk.new name.now)
+        (D.faults desk.old)
         (D.faults desk.new) result }
-    ensures others { (other : List ℕ) → other ≢ name.now → D.left desk.new other ≡ D.left desk.old other }
+    ensures others { (other : List ℕ) → other ≢ name.now
+        → D.left desk.new other ≡ D.left desk.old other }
 {
     let mut seen = match Seen::new(alloc, seed) {
         Ok(seen) => seen,
@@ -60,11 +62,14 @@ fn read_batches<R: Threads + Sync, D: Desk, G: Gate>(
     requires some { 0 < length buffer.old }
     requires piece { length buffer.old ≤ 65536 }
     requires none { seen.old ≡ [] }
-    ensures whole { OnOk result (AreKept seen.new → ReadsLog (D.left desk.old name.now) (D.left desk.new name.now)
+    ensures whole { OnOk result
+        (AreKept seen.new → ReadsLog (D.left desk.old name.now) (D.left desk.new name.now)
         (D.faults desk.old) (D.faults desk.new) (Ok seen.new)) }
-    ensures stopped { IfErr result (λ stop. ReadsLog (D.left desk.old name.now) (D.left desk.new name.now)
+    ensures stopped { IfErr result
+        (λ stop. ReadsLog (D.left desk.old name.now) (D.left desk.new name.now)
         (D.faults desk.old) (D.faults desk.new) (Err stop)) }
-    ensures others { (other : List ℕ) → other ≢ name.now → D.left desk.new other ≡ D.left desk.old other }
+    ensures others { (other : List ℕ) → other ≢ name.now
+        → D.left desk.new other ≡ D.left desk.old other }
 {
     let mut reader = match LineReader::new(alloc) {
         Ok(reader) => reader,
@@ -138,7 +143,8 @@ fn admit_and_gather<R: Threads + Sync, D: Desk, G: Gate>(
         requires within { taken ≤ 1099511627776 }
         requires going { HoldsOpen reader.now }
         ensures { GathersBatch (D.left desk.entry.now) (D.left desk.exit.now) name.entry.now
-            (D.faults desk.entry.now) (D.faults desk.exit.now) reader.entry.now reader.exit.now taken result }
+            (D.faults desk.entry.now) (D.faults desk.exit.now) reader.entry.now reader.exit.now
+            taken result }
     { gather(alloc, desk, name, reader, taken, buffer) };
     join_mut(rt, &mut admit, &mut gather_next)
 }

@@ -29,9 +29,11 @@ pub fn read_setup_named<D: Desk>(
 ) -> Result<SetupRead, SetupStop>
     requires some { 0 < length buffer.old }
     requires piece { length buffer.old ≤ 65536 }
-    ensures reads { ReadsSetup (D.left desk.old name.now) (D.left desk.new name.now) (D.faults desk.old)
+    ensures reads { ReadsSetup (D.left desk.old name.now) (D.left desk.new name.now)
+        (D.faults desk.old)
         (D.faults desk.new) (result_map_both (λ read. read.setup) (λ stop. stop) result) }
-    ensures others { (other : List ℕ) → other ≢ name.now → D.left desk.new other ≡ D.left desk.old other }
+    ensures others { (other : List ℕ) → other ≢ name.now
+        → D.left desk.new other ≡ D.left desk.old other }
 {
     match read_whole(alloc, desk, name, MOST_SETUP, buffer) {
         Ok(bytes) => {

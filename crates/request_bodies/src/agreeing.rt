@@ -18,7 +18,8 @@ pub fn agreement_law()
 
 /// Whether an answered object is the old one with what was asked, and with what the server may set or fill in.
 pub fn does_agree(shape: &Shape, old: Option<&Tree>, asked: &Tree, answered: &Tree) -> bool
-    ensures { result ≡ does_agree shape.now (option_map (λ tree. tree.now) old.entry) asked.now answered.now }
+    ensures { result
+        ≡ does_agree shape.now (option_map (λ tree. tree.now) old.entry) asked.now answered.now }
 {
     agrees(shape, old, asked, answered)
 }

@@ -21,7 +21,8 @@ pub fn body_law()
 {}
 
 fn does_keep_all(shape: &Shape, old: Option<&Tree>, answered: &Tree) -> bool
-    ensures { result ≡ does_keep_all shape.now (option_map (λ tree. tree.now) old.entry) answered.now }
+    ensures { result
+        ≡ does_keep_all shape.now (option_map (λ tree. tree.now) old.entry) answered.now }
 {
     match old {
         Some(old) => does_keep(shape, old, answered),
@@ -30,7 +31,8 @@ fn does_keep_all(shape: &Shape, old: Option<&Tree>, answered: &Tree) -> bool
 }
 
 fn is_asked(shape: &Shape, old: Option<&Tree>, answered: &Tree, asking: &Asking) -> bool
-    ensures { result ≡ is_asked shape.now (option_map (λ tree. tree.now) old.entry) answered.now asking.now }
+    ensures { result
+        ≡ is_asked shape.now (option_map (λ tree. tree.now) old.entry) answered.now asking.now }
 {
     match asking {
         Asking::NotJudged => true,
