@@ -14,6 +14,7 @@ how the run ended. n log n grows by 13 at most for ten times the size. A kind st
   together   one `APIResourceList` for all
   twice      as lists, and the last list is once more there: the refusal `twice`
   unknown    as lists, and behind them a list of a resource that no file has: the refusal `unknown`
+  broken     as lists, and the last object has the uid of the first: the refusal of a rule (S13) by the last file
 """
 import argparse
 import os
@@ -23,7 +24,7 @@ import tempfile
 
 from make_log import compact, moment
 
-KINDS = {"lists": 10, "documents": 1, "together": 0, "twice": 10, "unknown": 10}
+KINDS = {"lists": 10, "documents": 1, "together": 0, "twice": 10, "unknown": 10, "broken": 10}
 
 
 def listing(number, group, objects):
@@ -47,6 +48,9 @@ def files(kind, size, objects):
     made.update({"l%d.json" % at: listing(at, groups[at], objects) for at in range(size)})
     if kind == "twice":
         made["again.json"] = listing(size - 1, groups[size - 1], objects)
+    if kind == "broken":
+        last = made["l%d.json" % (size - 1)]
+        last["items"][-1]["metadata"]["uid"] = "u-0-0"
     if kind == "unknown":
         made["more.json"] = listing(size, groups[0], objects)
     return made
