@@ -34,7 +34,7 @@ abbrev pub IsStart : Known → ObjectKey → ℕ → ℕ → Type 0
 IsStart known key low place = (place ≡ low) ⊎ BeginsBehind known key low place
 
 -- a version that may be there at a place may be there where it began, or at `low`
-there_from : (known : Known) (key : ObjectKey) (version : RbacVersion) (start place : ℕ) → version.revision ≤ start → start ≤ place → MayBeThere known key place version → MayBeThere known key start version
+pub there_from : (known : Known) (key : ObjectKey) (version : RbacVersion) (start place : ℕ) → version.revision ≤ start → start ≤ place → MayBeThere known key place version → MayBeThere known key start version
 there_from known key version start place begun upto there = record {
   latest = record {
     known = there.latest.known;
@@ -65,7 +65,7 @@ module _ {X : Type 0} (reads : Reading X) (known : Known) (key : ObjectKey) (gra
   abbrev Starts : ℕ → ℕ → Type 0
   Starts low place = (start : ℕ) × (low ≤ start) × (start ≤ place) × IsStart known key low start × MayGrant reads known key start grants
 
-  read_at : (version : RbacVersion) (x : X) (start : ℕ) → MayBeThere known key start version → reads version.content x → grants x → MayGrant reads known key start grants
+  pub read_at : (version : RbacVersion) (x : X) (start : ℕ) → MayBeThere known key start version → reads version.content x → grants x → MayGrant reads known key start grants
   read_at version x start there read granted = ⊎_elim
       (λ clouded. (Everything, inl clouded, tt))
       (λ clear. (By x, (clear, (version, there, read)), granted))

@@ -7,6 +7,7 @@ pub mod Constancy
 pub mod Contents
 pub mod Cutting
 pub mod Decided
+pub mod Ending
 pub mod Examples
 pub mod Extremes
 pub mod Finding
@@ -21,12 +22,16 @@ pub mod Mentions
 pub mod Naming
 pub mod Ordered
 pub mod Pairing
+pub mod Partly
 pub mod Passing
 pub mod Possible
+pub mod Remembering
 pub mod Requested
 pub mod Rising
+pub mod Ruling
 pub mod Soundness
 pub mod Storing
+pub mod Subjects
 pub mod Telling
 pub mod Tests
 pub mod Throughout

@@ -25,7 +25,7 @@ use Rattle.rbac_timeline.specs.Choices.{IsKnownKey, has_version}
 use Rattle.rbac_timeline.specs.Extents.{IsSubject, IsWayOf, MayGrantByRole, MayGrantInWay, MayGrantNameless, MustGrantByKey, MustGrantByRole, MustGrantInWay, bindings_in, by_create, by_key}
 use Rattle.rbac_timeline.specs.Index.{AreBindingsOf, AreRising, Names}
 use Rattle.rbac_timeline.specs.Indexed.{IsIndexed, Mention, keys_of, mention_of, mentions_in, mentions_of}
-use Rattle.rbac_timeline.specs.Kept.{IsKnownUnsure, MayGrantOf, MustGrantOf, NamesAccount, NamesGroup, NamesUser, NamesWho}
+use Rattle.rbac_timeline.specs.Kept.{IsKnownUnsure, MayGrantOf, MustGrantByListed, MustGrantOf, NamesAccount, NamesGroup, NamesUser, NamesWho}
 use Rattle.rbac_timeline.specs.Kinds.{IsBindingOf, IsKeyOf, can_bind, kind_of_key, role_key, subjects_of}
 use Rattle.rbac_timeline.specs.Known.{Known}
 use Rattle.rbac_timeline.specs.Sound.{AreSound}
@@ -62,7 +62,7 @@ can_from : (key : ObjectKey) (content : RbacContent) (binding : Binding) → IsK
 can_from key content binding (inl plain) read = ap (λ k. can_bind k binding.role_is_cluster) plain
 can_from key content binding (inr cluster) read = ap (λ k. can_bind k binding.role_is_cluster) cluster ∙ read.1 cluster
 
-subjects_from : (key : ObjectKey) (content : RbacContent) (binding : Binding) (subject : Subject) → IsKeyOf RoleBinding key ⊎ IsKeyOf ClusterRoleBinding key → IsBindingOf key content binding
+pub subjects_from : (key : ObjectKey) (content : RbacContent) (binding : Binding) (subject : Subject) → IsKeyOf RoleBinding key ⊎ IsKeyOf ClusterRoleBinding key → IsBindingOf key content binding
     → Contains binding.subjects subject → Contains (subjects_of key content) subject
 subjects_from key content binding subject kind read among =
     subst (λ c. Contains (subjects_of key c) subject) (sym read.0)
@@ -183,7 +183,7 @@ who_from_subject versions who key (User name) matches names = inl (inl (subst (�
 who_from_subject versions who key (Group name) matches names = inr (matches.0, name, matches.1, matches.2, names)
 who_from_subject versions who key (ServiceAccount namespace name) matches names = inl (inr (namespace, name, matches.1, names))
 
-way_kind : (way : Way) (key : ObjectKey) → IsKeyOf (bindings_in way) key → IsKeyOf RoleBinding key ⊎ IsKeyOf ClusterRoleBinding key
+pub way_kind : (way : Way) (key : ObjectKey) → IsKeyOf (bindings_in way) key → IsKeyOf RoleBinding key ⊎ IsKeyOf ClusterRoleBinding key
 way_kind Roles key is = inl is
 way_kind ClusterRoles key is = inl is
 way_kind ClusterBindings key is = inr is
@@ -210,6 +210,9 @@ module _ (known : Known) (way : Way) (role_place binding_place : ℕ) (who : Ask
 
   pub way_from_named : MayGrantOf known (NamesWho known.versions who) way role_place binding_place who attrs → MayGrantInWay known way role_place binding_place who attrs
   way_from_named of = way_from_known (of.0, known_from_who known who of.0 of.1, of.2)
+
+  pub must_from_known : (key : ObjectKey) → IsKnownKey known key → MustGrantByListed known way role_place binding_place who attrs key → MustGrantInWay known way role_place binding_place who attrs
+  must_from_known key is_known must = record { key = key; way_of = record { is_known = is_known; of_kind = must.0; reached = must.1 }; must = must.2 }
 
   abbrev InSomeWay : Type 0
   InSomeWay = MayGrantOf known (NamesWho known.versions who) way role_place binding_place who attrs

@@ -25,10 +25,12 @@ use Rattle.rbac_timeline.specs.Index.{Names}
 use Rattle.rbac_timeline.specs.Kinds.{IsBindingOf, IsKeyOf, IsReached, is_cluster_binding, kind_of_key, role_key}
 use Rattle.rbac_timeline.specs.declared.index.Index.{Index}
 use Rattle.rbac_timeline.specs.declared.nameless.Nameless.{Nameless}
+use Rattle.rbac_timeline.specs.declared.reign_index.ReignIndex.{ReignIndex}
 use Rattle.rbac_timeline.specs.declared.unsure.Unsure.{Unsure}
 use Rattle.rbac_timeline.specs.Indexed.{IsIndexed, mentions_of}
 use Rattle.rbac_timeline.specs.Known.{Known, writes_of}
 use Rattle.rbac_timeline.specs.Nameless.{AreLows}
+use Rattle.rbac_timeline.specs.Reigning.{AreReigning}
 use Rattle.rbac_timeline.specs.Unsure.{AreUnsure}
 use Rattle.rbac_timeline.specs.Sound.{AreSound}
 use Rattle.rbac_timeline.specs.States.{IsEndOf, IsUnsure}
@@ -129,7 +131,7 @@ IsKnownUnsure known place key = IsKnownKey known key × IsUnsure (IsBindingOf ke
 
 -- what a timeline keeps is of what is known
 pub record AreKept (known : Known) (histories : BTreeMap ObjectKey (List Stored)) (gaps : BTreeMap ObjectKey (List Gap)) (clouds : Writes)
-    (index : Index) (nameless : Nameless) (unsure : Unsure) : Type 0 where
+    (index : Index) (nameless : Nameless) (unsure : Unsure) (reigns : ReignIndex) : Type 0 where
   pub sound : AreSound known.versions known.ends
   pub stored : AreStored histories known.versions
   pub removals : AreGaps gaps known.ends
@@ -137,3 +139,4 @@ pub record AreKept (known : Known) (histories : BTreeMap ObjectKey (List Stored)
   pub indexed : IsIndexed index (mentions_of known.versions)
   pub unnamed : AreLows nameless known.spans
   pub unsure_ones : AreUnsure (writes_of known) known.versions known.spans unsure
+  pub reigning : AreReigning reigns known.versions known.ends

@@ -3,6 +3,7 @@ pub mod Deciding
 pub mod Decisions
 pub mod Examples
 pub mod Extents
+pub mod Found
 pub mod Hidden
 pub mod Index
 pub mod Indexed
@@ -12,6 +13,8 @@ pub mod Known
 pub mod Lasting
 pub mod Nameless
 pub mod Pairs
+pub mod Reigning
+pub mod Reigns
 pub mod Requests
 pub mod Searched
 pub mod Sound

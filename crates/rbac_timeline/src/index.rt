@@ -188,8 +188,8 @@ fn account_found<'a>(accounts: &'a Accounts, namespace: &Text, name: &Text) -> &
     }
 }
 
-// The user that a service account is.
-fn account_user(alloc: Global, namespace: &Text, name: &Text) -> Result<Text, OutOfMemory>
+/// The user that a service account is.
+pub fn account_user(alloc: Global, namespace: &Text, name: &Text) -> Result<Text, OutOfMemory>
     ensures { IfOk result (λ user. user ≡ account_user namespace.now name.now) }
 {
     let user = format!(in alloc;

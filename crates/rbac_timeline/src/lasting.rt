@@ -1,10 +1,15 @@
-ghost use Rattle.std.specs.Prelude.{◌≡◌, ◌≤◌, Any, nat_lt};
+ghost use Rattle.std.specs.Prelude.{◌≡◌, ◌≤◌, Any, Contains, nat_lt};
+ghost use Rattle.rbac_timeline.specs.Choices.{IsKnownKey};
 ghost use Rattle.rbac_timeline.specs.Extents.{MustGrantByKey, MustGrantInWay};
-ghost use Rattle.rbac_timeline.specs.Kept.{MustGrantByListed, MustGrantOf, NamesGroup};
+ghost use Rattle.rbac_timeline.specs.Found.{LastsFor, MustGrantNamed, MustGrantReigning};
+ghost use Rattle.rbac_timeline.specs.Kept.{MustGrantByListed};
 ghost use Rattle.rbac_timeline.specs.Lasting.{IsLast, LastsUntil, cluster_role_block, farther};
 ghost use Rattle.rbac_timeline.specs.Lasting.{farther_block, is_farther, lasts_throughout, role_block};
+ghost use Rattle.rbac_timeline.specs.Reigning.{AsGroup, Means, found_reigns};
 ghost use Rattle.rbac_timeline.specs.Searched.{lesser_number};
+ghost use Rattle.rbac_timeline.specs.declared.reigns.Reign.{Reign};
 
+use crate::reigns::Reigns;
 use crate::search::Asked;
 use crate::way::Link;
 use base_types::{ObjectKey, Text};
@@ -136,44 +141,52 @@ impl<'a> Asked<'a> {
         Some(Until { first, second })
     }
 
-    // Until where one of the bindings grants for certain: the one that does so farthest, since the search
-    // goes on behind it.
-    fn keys_until(&self, keys: &[ObjectKey], link: Link) -> Option<Until>
+    // Until where a binding with one of these reigns grants for certain: the one that does so farthest, since
+    // the search goes on behind it.
+    fn reigns_until(&self, reigns: Option<&Reigns>, link: Link) -> Option<Until>
         requires roles { link.role_place ≤ self.now.high }
         requires bindings { link.binding_place ≤ self.now.high }
-        ensures { LastsUntil (λ r b. Any (MustGrantByListed self.now.timeline.now link.way r b
-            self.now.who.now self.now.attrs.now) keys.now) link.role_place link.binding_place self.now.high result }
+        requires known { (reign : Reign) → Contains (found_reigns reigns) reign → IsKnownKey
+            self.now.timeline.now reign.key }
+        ensures { LastsFor (λ r b. MustGrantInWay self.now.timeline.now link.way r b self.now.who.now
+            self.now.attrs.now) (MustGrantReigning self.now.timeline.now link.way link.role_place
+            link.binding_place self.now.who.now self.now.attrs.now (found_reigns reigns.entry)) link.role_place
+            link.binding_place self.now.high result }
     {
+        let Some(reigns) = reigns else {
+            return None;
+        };
         let mut farthest = None;
-        for key in keys {
-            farthest = farther(farthest, self.key_until(key, link));
+        let mut rest = reigns.len();
+        'reigns: while let Some(index) = reigns.last_meeting(
+            rest,
+            link.binding_place,
+            link.binding_place,
+        ) {
+            let reign = reigns.get(index);
+            farthest = farther(farthest, self.key_until(&reign.key, link));
             if lasts_throughout(self.high, farthest) {
                 return farthest;
             }
+            rest = index;
         }
         farthest
     }
 
-    fn group_until(&self, group: &Text, link: Link) -> Option<Until>
-        requires roles { link.role_place ≤ self.now.high }
-        requires bindings { link.binding_place ≤ self.now.high }
-        ensures { LastsUntil (λ r b. MustGrantOf self.now.timeline.now
-            (NamesGroup self.now.timeline.now.versions group.now) link.way r b self.now.who.now
-            self.now.attrs.now) link.role_place link.binding_place self.now.high result }
-    {
-        self.keys_until(self.timeline.named_group(group), link)
-    }
-
+    // Until where a binding grants for certain whose version names one of the groups.
     fn groups_until(&self, groups: &[Text], link: Link) -> Option<Until>
         requires roles { link.role_place ≤ self.now.high }
         requires bindings { link.binding_place ≤ self.now.high }
-        ensures { LastsUntil (λ r b. Any (λ group. MustGrantOf self.now.timeline.now
-            (NamesGroup self.now.timeline.now.versions group) link.way r b self.now.who.now
+        ensures { LastsFor (λ r b. MustGrantInWay self.now.timeline.now link.way r b self.now.who.now
+            self.now.attrs.now) (Any (λ group. MustGrantNamed self.now.timeline.now
+            (λ s. Means AsGroup s group) link.way link.role_place link.binding_place self.now.who.now
             self.now.attrs.now) groups.now) link.role_place link.binding_place self.now.high result }
     {
+        let _place = link.bindings_at();
         let mut farthest = None;
         for group in groups {
-            farthest = farther(farthest, self.group_until(group, link));
+            let reigns = self.timeline.group_reigns(group);
+            farthest = farther(farthest, self.reigns_until(reigns, link));
             if lasts_throughout(self.high, farthest) {
                 return farthest;
             }
@@ -181,8 +194,8 @@ impl<'a> Asked<'a> {
         farthest
     }
 
-    /// Until where a binding grants for certain that names the user, the account that it is, or one of its
-    /// groups; no other does.
+    /// Until where a binding grants for certain whose version names the user, the account that it is, or one
+    /// of its groups; no other does.
     pub fn granted_until(&self, link: Link) -> Option<Until>
         requires roles { link.role_place ≤ self.now.high }
         requires bindings { link.binding_place ≤ self.now.high }
@@ -190,12 +203,12 @@ impl<'a> Asked<'a> {
             self.now.attrs.now) link.role_place link.binding_place self.now.high result }
     {
         self.timeline.tell_sound();
-        let user = self.keys_until(self.timeline.named_user(&self.who.name), link);
-        let account = self.keys_until(self.timeline.named_account(&self.who.name), link);
-        let named = farther(user, account);
-        if lasts_throughout(self.high, named) {
-            return named;
+        let _place = link.bindings_at();
+        let reigns = self.timeline.user_reigns(&self.who.name);
+        let user = self.reigns_until(reigns, link);
+        if lasts_throughout(self.high, user) {
+            return user;
         }
-        farther(named, self.groups_until(self.who.groups.as_slice(), link))
+        farther(user, self.groups_until(self.who.groups.as_slice(), link))
     }
 }

@@ -2,6 +2,7 @@
 //! that its four caches may have held (Kubernetes "Using RBAC Authorization").
 #![tactic(auto)]
 
+mod begun;
 mod deciding;
 mod extent;
 mod first;
@@ -14,6 +15,8 @@ mod named;
 mod nameless;
 mod pairs;
 mod parts;
+mod reign_index;
+mod reigns;
 mod search;
 mod timeline;
 mod unsure;

@@ -1,8 +1,10 @@
-ghost use Rattle.std.specs.Prelude.{◌≡◌, [], IfOk, map};
+ghost use Rattle.std.specs.Prelude.{◌≡◌, [], IfOk, List, map};
+ghost use Rattle.rbac_timeline.specs.declared.version.RbacEnd.{RbacEnd};
 ghost use Rattle.rbac_timeline.specs.Indexed.{IsIndexed, mentions_of};
 ghost use Rattle.rbac_timeline.specs.Kept.{AreGaps, AreStored};
 ghost use Rattle.rbac_timeline.specs.Known.{key_revision, known_of, writes_of};
 ghost use Rattle.rbac_timeline.specs.Nameless.{AreLows};
+ghost use Rattle.rbac_timeline.specs.Reigning.{AreReigning};
 ghost use Rattle.rbac_timeline.specs.Unsure.{AreUnsure};
 
 use crate::history::{Histories, Removals, histories_of, removals_of};
@@ -72,14 +74,17 @@ fn found_parts(
     alloc: Global,
     versions: &[RbacVersion],
     spans: &[OpaqueSpan],
+    removals: &Removals,
 ) -> Result<(Clouds, Lookups), OutOfMemory>
     ensures clouds { IfOk result (λ made. made.0 ≡ writes_of (known_of versions.now [] spans.now)) }
     ensures index { IfOk result (λ made. IsIndexed made.1.index (mentions_of versions.now)) }
     ensures nameless { IfOk result (λ made. AreLows made.1.nameless spans.now) }
     ensures unsure { IfOk result (λ made. AreUnsure made.0 versions.now spans.now made.1.unsure) }
+    ensures reigns { IfOk result (λ made. (ends : List RbacEnd) → AreGaps removals.now ends → AreReigning
+        made.1.reigns versions.now ends) }
 {
     let clouds = clouds_of(alloc, versions, spans)?;
-    let Ok(lookups) = Lookups::of(alloc, versions, spans, &clouds) else {
+    let Ok(lookups) = Lookups::of(alloc, versions, spans, &clouds, removals) else {
         drop(clouds);
         return Err(OutOfMemory);
     };
@@ -101,9 +106,10 @@ fn parts_of(
     ensures index { IfOk result (λ made. IsIndexed made.lookups.index (mentions_of versions.now)) }
     ensures nameless { IfOk result (λ made. AreLows made.lookups.nameless spans.now) }
     ensures unsure { IfOk result (λ made. AreUnsure made.clouds versions.now spans.now made.lookups.unsure) }
+    ensures reigns { IfOk result (λ made. AreReigning made.lookups.reigns versions.now ends.now) }
 {
     let (bypass, removals) = few_parts(alloc, ends, bypass)?;
-    let Ok((clouds, lookups)) = found_parts(alloc, versions, spans) else {
+    let Ok((clouds, lookups)) = found_parts(alloc, versions, spans, &removals) else {
         drop(bypass);
         drop(removals);
         return Err(OutOfMemory);
@@ -147,6 +153,7 @@ pub fn all_parts(
     ensures index { IfOk result (λ made. IsIndexed made.1.lookups.index (mentions_of versions)) }
     ensures nameless { IfOk result (λ made. AreLows made.1.lookups.nameless spans) }
     ensures unsure { IfOk result (λ made. AreUnsure made.1.clouds versions spans made.1.lookups.unsure) }
+    ensures reigns { IfOk result (λ made. AreReigning made.1.lookups.reigns versions ends) }
 {
     let made = parts_of(
         alloc,

@@ -1,5 +1,7 @@
 ghost use Rattle.std.specs.Prelude.{◌≡◌, ◌↔◌, IsTrue, IfOk, IfSome, IfNone, Contains, []};
-ghost use Rattle.std.specs.Prelude.{◌<◌, ◌≤◌};
+ghost use Rattle.std.specs.Prelude.{◌<◌, ◌≤◌, None};
+ghost use Rattle.std.specs.BTreeMap.{get};
+ghost use Rattle.clouds.specs.Kept.{key_order};
 ghost use Rattle.clouds.specs.FirstPlace.{IsFirstPlace};
 ghost use Rattle.rbac_timeline.specs.Known.{writes_of};
 
@@ -11,7 +13,10 @@ use crate::history::{Gap, Histories, Removals, Stored};
 use crate::index::Index;
 use crate::lookups::Lookups;
 use crate::nameless::Nameless;
+use crate::pairs::Firsts;
 use crate::parts::{Parts, all_parts};
+use crate::reign_index::ReignIndex;
+use crate::reigns::Reigns;
 use crate::unsure::Unsure;
 use crate::version::{RbacEnds, RbacVersions};
 use crate::way::Way;
@@ -19,6 +24,7 @@ use base_types::{ObjectKey, OutOfMemory, RequestAttrs, Text, Texts};
 use clouds::{Clouds, OpaqueSpans};
 use rbac_rules::Subject;
 use std::alloc::Global;
+use std::collections::BTreeMap;
 use std::marker::Model;
 use std::snapshot::Snapshot;
 
@@ -31,7 +37,10 @@ pub struct Timeline {
     index: Index,
     nameless: Nameless,
     unsure: Unsure,
+    reigns: ReignIndex,
     bypass: Texts,
+    // For what a search remembers.
+    alloc: Global,
     // For contracts alone: they take no memory.
     versions: Snapshot<RbacVersions>,
     ends: Snapshot<RbacEnds>,
@@ -59,7 +68,7 @@ impl Model for Timeline {
           t.spans.value;
       bypass = t.bypass;
     })
-        t.histories t.removals t.clouds t.index t.nameless t.unsure };
+        t.histories t.removals t.clouds t.index t.nameless t.unsure t.reigns };
 }
 
 // The first place of a range behind another.
@@ -88,8 +97,9 @@ impl Timeline {
     ghost use Rattle.rbac_timeline.specs.Extents.{MayGrantNameless};
     ghost use Rattle.rbac_timeline.specs.Extents.{bindings_in};
     ghost use Rattle.rbac_timeline.specs.Kept.{IsKnownUnsure, IsRemovalOf};
-    ghost use Rattle.rbac_timeline.specs.Kept.{NamesAccount, NamesGroup, NamesUser, stored_of};
+    ghost use Rattle.rbac_timeline.specs.Kept.{stored_of};
     ghost use Rattle.rbac_timeline.specs.Pairs.{AreVersionsBetween};
+    ghost use Rattle.rbac_timeline.specs.Reigning.{AreReignsOf, AsGroup, AsUser, Means, found_reigns};
     ghost use Rattle.rbac_timeline.specs.States.{IsLatestVersion, NoneUpto};
 
     /// Versions rise by key, and those of one key by revision. Each removal ends a version, before the key's
@@ -121,6 +131,7 @@ impl Timeline {
             index,
             nameless,
             unsure,
+            reigns,
         } = lookups;
         Ok(Timeline {
             histories,
@@ -129,7 +140,9 @@ impl Timeline {
             index,
             nameless,
             unsure,
+            reigns,
             bypass,
+            alloc,
             versions: all_versions,
             ends: all_ends,
             spans: all_spans,
@@ -179,23 +192,25 @@ impl Timeline {
         }
     }
 
-    pub(crate) fn named_user(&self, name: &Text) -> &[ObjectKey]
-        ensures { (key : ObjectKey) → Contains result.now key ↔ NamesUser self.now.versions name.now key }
+    // No least places of roles yet.
+    pub(crate) fn no_firsts(&self) -> Firsts
+        ensures { (role : ObjectKey) → get key_order result role ≡ None }
     {
-        self.index.by_user(name)
+        BTreeMap::new(self.alloc)
     }
 
-    // By the account that a user is.
-    pub(crate) fn named_account(&self, name: &Text) -> &[ObjectKey]
-        ensures { (key : ObjectKey) → Contains result.now key ↔ NamesAccount self.now.versions name.now key }
+    // Of the bindings that name the user, or the account that it is.
+    pub(crate) fn user_reigns(&self, name: &Text) -> Option<&Reigns>
+        ensures { AreReignsOf self.now (λ s. Means AsUser s name.now) (found_reigns result) }
     {
-        self.index.by_account_user(name)
+        self.reigns.of_user(name)
     }
 
-    pub(crate) fn named_group(&self, group: &Text) -> &[ObjectKey]
-        ensures { (key : ObjectKey) → Contains result.now key ↔ NamesGroup self.now.versions group.now key }
+    // Of the bindings that name the group.
+    pub(crate) fn group_reigns(&self, name: &Text) -> Option<&Reigns>
+        ensures { AreReignsOf self.now (λ s. Means AsGroup s name.now) (found_reigns result) }
     {
-        self.index.by_group(group)
+        self.reigns.of_group(name)
     }
 
     // The bindings that may be clouded or unreadable somewhere and can reach the request, and maybe others.

@@ -1,7 +1,7 @@
 //! Spans of places in a list, of which those that meet a range are found without a look at the others.
 #![tactic(auto)]
 
-ghost use Rattle.std.specs.Prelude.{◌≡◌, ◌+◌, ◌≤◌, ◌++◌, ◌∷◌, [], length, min, max, IfSome, OnOk};
+ghost use Rattle.std.specs.Prelude.{◌≡◌, ◌+◌, ◌≤◌, ◌++◌, ◌∷◌, [], length, min, max, OnErr, OnOk};
 ghost use Rattle.std.specs.Prelude.{◌↔◌, IsTrue};
 ghost use Rattle.span_index.specs.Blocks.{AreBlocks, BeginsBlock};
 ghost use Rattle.span_index.specs.Meeting.{IsLastMeeting, Meets};
@@ -113,7 +113,8 @@ impl SpanIndex {
 
     /// Puts a span behind the others. The search is quick where their first places rise, or fall.
     pub fn push(&mut self, span: Span) -> Result<(), AllocError>
-        ensures { OnOk result (self.new ≡ self.old ++ span ∷ []) }
+        ensures pushed { OnOk result (self.new ≡ self.old ++ span ∷ []) }
+        ensures unchanged { OnErr result (self.new ≡ self.old) }
     {
         let entry = entry_behind(self.entries.as_slice(), span);
         self.entries.push(entry)?;

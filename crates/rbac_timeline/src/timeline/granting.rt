@@ -1,4 +1,4 @@
-ghost use Rattle.std.specs.Prelude.{◌≡◌, ◌↔◌, IsTrue, IfSome, IfNone, Any, MatchOption};
+ghost use Rattle.std.specs.Prelude.{◌≡◌, ◌↔◌, IsTrue, IfSome, IfNone, Any, Contains, MatchOption};
 ghost use Rattle.std.specs.Prelude.{false, ⊤, ◌<◌};
 ghost use Rattle.rbac_timeline.specs.Kept.{MayGrantByRules, MustGrantByRules};
 ghost use Rattle.rbac_rules.specs.Matching.{Matches};
@@ -7,6 +7,8 @@ ghost use Rattle.rbac_timeline.specs.Known.{writes_of};
 use crate::extent::Extent;
 use crate::history::{Content, Gap, Stored};
 use crate::kind::{is_kind, kind_of_key, reaches};
+use crate::reigns::Reigns;
+use crate::search::Asked;
 use crate::timeline::Timeline;
 use crate::way::Link;
 use base_types::{ObjectKey, RequestAttrs, Text, User};
@@ -62,8 +64,10 @@ impl Timeline {
     ghost use Rattle.rbac_timeline.specs.Extents.{MayGrantInWay, MayGrantNameless, MustGrantByKey, MustGrantByRole};
     ghost use Rattle.rbac_timeline.specs.Extents.{MustGrantInWay};
     ghost use Rattle.rbac_timeline.specs.Kept.{IsKnownUnsure, MayGrantByContent, MayGrantByListed};
-    ghost use Rattle.rbac_timeline.specs.Kept.{MayGrantOf, MustGrantByContent, MustGrantByListed, MustGrantOf};
-    ghost use Rattle.rbac_timeline.specs.Kept.{NamesGroup, NamesWho};
+    ghost use Rattle.rbac_timeline.specs.Kept.{MayGrantOf, MustGrantByContent, MustGrantByListed};
+    ghost use Rattle.rbac_timeline.specs.Found.{MayGrantNamed, MayGrantReigning};
+    ghost use Rattle.rbac_timeline.specs.Reigning.{AsGroup, Means, found_reigns};
+    ghost use Rattle.rbac_timeline.specs.declared.reigns.Reign.{Reign};
 
     fn presence(&self, key: &ObjectKey, stored: &Stored, place: u64) -> Extent
         ensures may { (v : RbacVersion) → v.key ≡ key.now → v.revision ≡ stored.now.revision
@@ -146,62 +150,68 @@ impl Timeline {
         }
     }
 
-    fn keys_extent(
+    // Whether a binding with one of these reigns may grant.
+    fn may_by_reigns(
         &self,
-        keys: &[ObjectKey],
+        reigns: Option<&Reigns>,
         link: Link,
         who: &User,
         attrs: &RequestAttrs,
-    ) -> Extent
-        ensures may { IsTrue result.may ↔ Any (MayGrantByListed self.now link.way link.role_place
-            link.binding_place who.now attrs.now) keys.now }
-        ensures must { IsTrue result.must ↔ Any (MustGrantByListed self.now link.way link.role_place
-            link.binding_place who.now attrs.now) keys.now }
+    ) -> bool
+        requires { (reign : Reign) → Contains (found_reigns reigns) reign → IsKnownKey self.now reign.key }
+        ensures sound { IsTrue result → MayGrantInWay self.now link.way link.role_place link.binding_place
+            who.now attrs.now }
+        ensures full { MayGrantReigning self.now link.way link.role_place link.binding_place who.now attrs.now
+            (found_reigns reigns.entry) → IsTrue result }
     {
-        let mut extent = Extent::NOTHING;
-        for key in keys {
-            extent = extent.or(self.key_extent(key, link, who, attrs));
+        let Some(reigns) = reigns else {
+            return false;
+        };
+        let mut rest = reigns.len();
+        'reigns: while let Some(index) = reigns.last_meeting(
+            rest,
+            link.binding_place,
+            link.binding_place,
+        ) {
+            let reign = reigns.get(index);
+            if self.key_extent(&reign.key, link, who, attrs).may {
+                return true;
+            }
+            rest = index;
         }
-        extent
+        false
     }
 
-    // What the bindings grant that name a group.
-    fn group_extent(&self, group: &Text, link: Link, who: &User, attrs: &RequestAttrs) -> Extent
-        ensures may { IsTrue result.may ↔ MayGrantOf self.now (NamesGroup self.now.versions group.now)
-            link.way link.role_place link.binding_place who.now attrs.now }
-        ensures must { IsTrue result.must ↔ MustGrantOf self.now (NamesGroup self.now.versions group.now)
-            link.way link.role_place link.binding_place who.now attrs.now }
+    // Whether a binding may grant whose version names one of the groups.
+    fn may_by_groups(&self, groups: &[Text], link: Link, who: &User, attrs: &RequestAttrs) -> bool
+        ensures sound { IsTrue result → MayGrantInWay self.now link.way link.role_place link.binding_place
+            who.now attrs.now }
+        ensures full { Any (λ group. MayGrantNamed self.now (λ s. Means AsGroup s group) link.way
+            link.role_place link.binding_place who.now attrs.now) groups.now → IsTrue result }
     {
-        self.keys_extent(self.index.by_group(group), link, who, attrs)
-    }
-
-    // What the bindings grant that name a group of these.
-    fn groups_extent(&self, groups: &[Text], link: Link, who: &User, attrs: &RequestAttrs) -> Extent
-        ensures may { IsTrue result.may ↔ Any (λ group. MayGrantOf self.now
-            (NamesGroup self.now.versions group) link.way link.role_place link.binding_place who.now
-            attrs.now) groups.now }
-        ensures must { IsTrue result.must ↔ Any (λ group. MustGrantOf self.now
-            (NamesGroup self.now.versions group) link.way link.role_place link.binding_place who.now
-            attrs.now) groups.now }
-    {
-        let mut extent = Extent::NOTHING;
+        let _place = link.bindings_at();
         for group in groups {
-            extent = extent.or(self.group_extent(group, link, who, attrs));
+            let reigns = self.group_reigns(group);
+            if self.may_by_reigns(reigns, link, who, attrs) {
+                return true;
+            }
         }
-        extent
+        false
     }
 
-    // What the bindings grant that name the user, the account that it is, or one of its groups.
-    fn named_extent(&self, link: Link, who: &User, attrs: &RequestAttrs) -> Extent
-        ensures may { IsTrue result.may ↔ MayGrantOf self.now (NamesWho self.now.versions who.now) link.way
-            link.role_place link.binding_place who.now attrs.now }
-        ensures must { IsTrue result.must ↔ MustGrantOf self.now (NamesWho self.now.versions who.now) link.way
-            link.role_place link.binding_place who.now attrs.now }
+    // Whether a binding may grant whose version names the user, the account that it is, or one of its groups.
+    fn may_by_names(&self, link: Link, who: &User, attrs: &RequestAttrs) -> bool
+        ensures sound { IsTrue result → MayGrantInWay self.now link.way link.role_place link.binding_place
+            who.now attrs.now }
+        ensures full { MayGrantNamed self.now (λ s. Matches s who.now) link.way link.role_place
+            link.binding_place who.now attrs.now → IsTrue result }
     {
-        let user = self.keys_extent(self.index.by_user(&who.name), link, who, attrs);
-        let account = self.keys_extent(self.index.by_account_user(&who.name), link, who, attrs);
-        let groups = self.groups_extent(who.groups.as_slice(), link, who, attrs);
-        user.or(account).or(groups)
+        let _place = link.bindings_at();
+        let reigns = self.user_reigns(&who.name);
+        if self.may_by_reigns(reigns, link, who, attrs) {
+            return true;
+        }
+        self.may_by_groups(who.groups.as_slice(), link, who, attrs)
     }
 
     // Whether one of these bindings may grant the request.
@@ -242,7 +252,7 @@ impl Timeline {
     pub(crate) fn may(&self, link: Link, who: &User, attrs: &RequestAttrs) -> bool
         ensures { IsTrue result ↔ MayGrantInWay self.now link.way link.role_place link.binding_place who.now attrs.now }
     {
-        if self.named_extent(link, who, attrs).may {
+        if self.may_by_names(link, who, attrs) {
             return true;
         }
         if self.may_by_nameless(link, attrs) {
@@ -251,14 +261,20 @@ impl Timeline {
         self.may_by_unsure(link, who, attrs)
     }
 
-    // Whether some binding grants the request for certain in this way. One that does is sure, so it names
-    // the user.
+    // Whether some binding grants the request for certain in this way.
     pub(crate) fn must(&self, link: Link, who: &User, attrs: &RequestAttrs) -> bool
         ensures { IsTrue result ↔ MustGrantInWay self.now link.way link.role_place link.binding_place who.now
             attrs.now }
     {
-        let _known = &self.clouds;
-        self.named_extent(link, who, attrs).must
+        let place = link.role_place.max(link.binding_place);
+        let asked = Asked {
+            timeline: self,
+            low: place,
+            high: place,
+            who,
+            attrs,
+        };
+        asked.granted_until(link).is_some()
     }
 
     // What the binding holds, where it may be there.

@@ -1,13 +1,19 @@
-use Rattle.std.proofs.Common.{subst}
-use Rattle.rbac_timeline.specs.Known.{Known}
-use Rattle.rbac_timeline.specs.Sound.{AreSound}
-use Rattle.rbac_timeline.proofs.Naming.{must_from_named, named_from_must}
+use Rattle.std.proofs.Common.{◌≡◌, ℕ, ◌≤◌, ◌↔◌, true, refl, Option, Some, None, arith}
+use Rattle.std.specs.Option.{is_some}
+use Rattle.std.proofs.lemmas.Bool.{false≢true}
+use Rattle.rbac_timeline.specs.declared.lasting.Until.{Until}
+use Rattle.rbac_timeline.specs.Extents.{MustGrantInWay}
+use Rattle.rbac_timeline.specs.Lasting.{LastsUntil}
 use Rattle.rbac_timeline.proofs.timeline.Timeline.must.Goals as goal
+
+lasts_here : (P : ℕ → ℕ → Type 0) (first second high : ℕ) (until : Option Until) → LastsUntil P first second high until → (is_some until ≡ true) ↔ P first second
+lasts_here P first second high None none = ((λ yes. absurd (false≢true yes)), (λ holds. absurd (none holds)))
+lasts_here P first second high (Some until) lasts =
+    let a : first ≤ until.first = lasts.first_from in
+    let b : second ≤ until.second = lasts.second_from in
+    ((λ yes. lasts.throughout first second (omega arith) a (omega arith) b), (λ holds. refl))
 
 pub returns : goal.returns
 returns c =
-    let sound = subst (λ (k : Known). AreSound k.versions k.ends) c.self.view_is c.self.invariant.sound in (
-      (λ yes. must_from_named c.args.self.now c.args.link.way c.args.link.role_place c.args.link.binding_place c.args.who.now c.args.attrs.now (c.named_extent.ensures.must.0 yes)),
-      (λ must. c.named_extent.ensures.must.1
-          (named_from_must c.args.self.now c.args.link.way c.args.link.role_place c.args.link.binding_place c.args.who.now c.args.attrs.now sound must)),
-    )
+    let link = c.args.link in
+    rw c.is_some.ensures (lasts_here (λ (r b : ℕ). MustGrantInWay c.args.self.now link.way r b c.args.who.now c.args.attrs.now) link.role_place link.binding_place _ c.granted_until.result c.granted_until.ensures)
