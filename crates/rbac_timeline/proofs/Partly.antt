@@ -1,5 +1,5 @@
 -- Searches of some bindings, put together.
-use Rattle.std.proofs.Common.{◌≡◌, ℕ, ◌+◌, ◌<◌, ◌≤◌, ◌⊎◌, ⊎_elim, inl, inr, Bool, true, Option, Some, None, List, length, get_or, map, max, refl, sym, ◌∙◌, subst, ap, arith}
+use Rattle.std.proofs.Common.{◌≡◌, ℕ, ◌<◌, ◌≤◌, ◌⊎◌, ⊎_elim, inl, inr, true, Option, Some, None, List, length, get_or, max, sym, ◌∙◌, subst, ap, arith}
 use Rattle.std.specs.List.{Any}
 use Rattle.std.proofs.lemmas.Bool.{and_parts, cases_Bool, cases_lt, cond-false, cond-true, false≢true, leb-true}
 use Rattle.std.proofs.lemmas.List.{get_or-map, get_or_default}
@@ -8,7 +8,7 @@ use Rattle.span_index.specs.Meeting.{IsLastOf, Meets, NoneMeets}
 use Rattle.rbac_timeline.specs.declared.lasting.Until.{Until}
 use Rattle.rbac_timeline.specs.declared.reigns.Reign.{Reign}
 use Rattle.rbac_timeline.specs.Found.{FirstFor, IsLeastFor, LastsFor}
-use Rattle.rbac_timeline.specs.Lasting.{HoldsUntil, LastsUntil, farther, is_farther, lasts_throughout}
+use Rattle.rbac_timeline.specs.Lasting.{LastsUntil, farther, is_farther, lasts_throughout}
 use Rattle.rbac_timeline.specs.Pairs.{earlier_pair, is_lowest}
 use Rattle.rbac_timeline.specs.Reigns.{span_of, spans_of}
 use Rattle.rbac_timeline.specs.Searched.{IsFirstPair, IsPairUpTo, lesser_number}

@@ -1,5 +1,5 @@
 -- What grants to a user is of a version that names it, and is found among the reigns under its name.
-use Rattle.std.proofs.Common.{◌≡◌, ℕ, ◌<◌, ◌≤◌, ◌⊎◌, ⊎_elim, inl, inr, List, max, refl, sym, ◌∙◌, subst, ap, arith}
+use Rattle.std.proofs.Common.{◌≡◌, ℕ, ◌≤◌, ◌⊎◌, ⊎_elim, inl, inr, List, max, refl, sym, subst, arith}
 use Rattle.std.specs.List.{Any, Contains}
 use Rattle.base_types.proofs.Quantifiers.{Any-contains}
 use Rattle.base_types.specs.declared.key.ObjectKey.{ObjectKey}
@@ -9,19 +9,16 @@ use Rattle.rbac_rules.specs.declared.binding.Binding.{Binding}
 use Rattle.rbac_rules.specs.declared.binding.Subject.{Subject}
 use Rattle.rbac_rules.specs.declared.binding.Subject.TheVariants.{Group, ServiceAccount, User}
 use Rattle.rbac_rules.specs.Matching.{Matches}
-use Rattle.span_index.specs.Meeting.{Meets}
-use Rattle.rbac_timeline.specs.declared.kind.Kind.TheVariants.{RoleBinding, ClusterRoleBinding}
 use Rattle.rbac_timeline.specs.declared.reigns.Reign.{Reign}
 use Rattle.rbac_timeline.specs.declared.version.RbacVersion.{RbacVersion}
 use Rattle.rbac_timeline.specs.declared.way.Way.{Way}
 use Rattle.rbac_timeline.specs.Choices.{IsKnownKey}
-use Rattle.rbac_timeline.specs.Extents.{IsSubject, MayGrantByKey, MayGrantByRole, MayGrantInWay, MayGrantNameless, MustGrantByRole, MustGrantInWay, bindings_in, by_create, by_key}
-use Rattle.rbac_timeline.specs.Found.{MayGrantNamed, MayGrantReigning, MustGrantNamed, MustGrantReigning, NamesOne, StartsReigning}
+use Rattle.rbac_timeline.specs.Extents.{IsSubject, MayGrantByRole, MayGrantInWay, MayGrantNameless, MustGrantByRole, MustGrantInWay, bindings_in, by_create, by_key}
+use Rattle.rbac_timeline.specs.Found.{MayGrantNamed, MayGrantReigning, MustGrantNamed, MustGrantReigning, StartsReigning}
 use Rattle.rbac_timeline.specs.Kept.{IsKnownUnsure, MayGrantByListed, MayGrantOf, MustGrantByListed}
 use Rattle.rbac_timeline.specs.Kinds.{IsBindingOf, IsKeyOf, IsReached, role_key, subjects_of}
 use Rattle.rbac_timeline.specs.Known.{Known}
 use Rattle.rbac_timeline.specs.Reigning.{AreReignsOf, AsGroup, AsUser, IsReignOf, Means}
-use Rattle.rbac_timeline.specs.Reigns.{span_of}
 use Rattle.rbac_timeline.specs.Sound.{AreSound}
 use Rattle.rbac_timeline.specs.States.{By, Everything, IsBindingState, IsGranted, MayBeThere, Nothing, State}
 use Rattle.rbac_timeline.specs.Unsure.{last_place}

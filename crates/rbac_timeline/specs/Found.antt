@@ -1,5 +1,5 @@
 -- What a search of some bindings finds of what all of them grant.
-use Rattle.std.specs.Prelude.{◌≡◌, ◌≤◌, ℕ, List, Option, Some, None, Any, Contains, max}
+use Rattle.std.specs.Prelude.{◌≡◌, ◌≤◌, ℕ, List, Option, Some, None, Any, max}
 use Rattle.std.specs.BTreeMap.{BTreeMap, get}
 use Rattle.base_types.specs.declared.key.ObjectKey.{ObjectKey}
 use Rattle.base_types.specs.declared.request.RequestAttrs.{RequestAttrs}

@@ -1,7 +1,6 @@
 -- How long a version of a binding may be there, and whom it names.
 use Rattle.std.specs.Prelude.{◌≡◌, ◌<◌, ◌≤◌, ◌⊎◌, ℕ, List, [], Option, Some, None, Any, Contains}
 use denote.Ref.{Bor}
-use Rattle.base_types.specs.declared.key.ObjectKey.{ObjectKey}
 use Rattle.clouds.specs.Items.{items_at}
 use Rattle.clouds.specs.Kept.{text_order}
 use Rattle.rbac_rules.specs.declared.binding.Subject.{Subject}

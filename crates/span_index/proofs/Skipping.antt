@@ -1,7 +1,7 @@
 -- A block whose places don't meet a range has no span that does.
 use Rattle.std.proofs.Common.{◌≡◌, ℕ, ◌-◌, ◌<◌, ◌≤◌, ⊎_elim, List, length, get_or, map, sym, ◌∙◌, subst, ap, arith}
 use Rattle.std.proofs.lemmas.Bool.{cases_lt}
-use Rattle.std.proofs.lemmas.List.{get_or-map, length-map}
+use Rattle.std.proofs.lemmas.List.{get_or-map}
 use Rattle.span_index.specs.Blocks.{AreBlocks, IsBlock, IsWithin}
 use Rattle.span_index.specs.Meeting.{Meets, NoneMeets}
 use Rattle.span_index.specs.declared.Entry.{Entry}

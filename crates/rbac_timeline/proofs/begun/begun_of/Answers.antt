@@ -1,5 +1,4 @@
-use Rattle.std.proofs.Common.{subst, sym}
-use Rattle.rbac_timeline.proofs.Ending.{AreBegun-all, AreBegunTo, AreBegunTo-more, AreBegunTo-none}
+use Rattle.rbac_timeline.proofs.Ending.{AreBegun-all, AreBegunTo-more}
 use Rattle.rbac_timeline.proofs.begun.begun_of.Goals as goal
 
 pub loop-index-preserved : goal.loop-index-preserved

@@ -1,7 +1,7 @@
-use Rattle.std.proofs.Common.{ℕ, ◌≤◌, List, subst, arith}
+use Rattle.std.proofs.Common.{ℕ, ◌≤◌, List, arith}
 use Rattle.std.specs.List.{Any}
 use Rattle.rbac_timeline.specs.Extents.{MustGrantInWay}
-use Rattle.rbac_timeline.specs.Found.{LastsFor, MustGrantNamed, MustGrantReigning}
+use Rattle.rbac_timeline.specs.Found.{MustGrantNamed, MustGrantReigning}
 use Rattle.rbac_timeline.specs.Reigning.{AsGroup, AsUser, Means, found_reigns}
 use Rattle.rbac_timeline.specs.Unsure.{last_place}
 use Rattle.rbac_timeline.proofs.Partly.{LastsFor-farther, LastsFor-weaker, LastsUntil-from}

@@ -1,4 +1,4 @@
-use Rattle.std.proofs.Common.{◌≡◌, ℕ, ◌<◌, ◌≤◌, length, get_or, max, sym, subst, ◌∙◌, arith}
+use Rattle.std.proofs.Common.{◌≡◌, ℕ, ◌<◌, ◌≤◌, length, max, sym, subst, ◌∙◌, arith}
 use Rattle.std.specs.List.{Any, Contains}
 use Rattle.span_index.specs.Meeting.{Meets}
 use Rattle.rbac_timeline.specs.declared.reigns.Reign.{Reign}

@@ -1,12 +1,10 @@
-use Rattle.std.proofs.Common.{◌≡◌, ℕ, ◌<◌, ◌≤◌, length, get_or, sym, subst, ◌∙◌, arith}
+use Rattle.std.proofs.Common.{ℕ, ◌<◌, ◌≤◌, length, sym, subst, ◌∙◌, arith}
 use Rattle.std.specs.List.{Any, Contains}
 use Rattle.span_index.specs.Meeting.{Meets}
 use Rattle.rbac_timeline.specs.declared.reigns.Reign.{Reign}
 use Rattle.rbac_timeline.specs.Choices.{IsKnownKey}
 use Rattle.rbac_timeline.specs.Extents.{MustGrantInWay}
-use Rattle.rbac_timeline.specs.Found.{LastsFor}
 use Rattle.rbac_timeline.specs.Kept.{MustGrantByListed}
-use Rattle.rbac_timeline.specs.Lasting.{farther}
 use Rattle.rbac_timeline.specs.Reigning.{found_reigns}
 use Rattle.rbac_timeline.specs.Reigns.{span_of}
 use Rattle.rbac_timeline.proofs.Naming.{must_from_known}

@@ -1,7 +1,6 @@
-use Rattle.std.proofs.Common.{◌≡◌, ℕ, ◌<◌, ◌≤◌, ⊎_elim, length, sym, subst, arith}
-use Rattle.std.specs.List.{Any, Contains}
+use Rattle.std.proofs.Common.{ℕ, ◌<◌, ◌≤◌, ⊎_elim, length, sym, subst, arith}
+use Rattle.std.specs.List.{Contains}
 use Rattle.std.proofs.lemmas.Bool.{both_ways}
-use Rattle.span_index.specs.Meeting.{Meets}
 use Rattle.rbac_timeline.specs.declared.reigns.Reign.{Reign}
 use Rattle.rbac_timeline.specs.Choices.{IsKnownKey}
 use Rattle.rbac_timeline.specs.Found.{MayGrantReigning}
