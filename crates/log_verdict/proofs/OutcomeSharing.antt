@@ -8,6 +8,7 @@ use Rattle.rbac_timeline.proofs.history.Gaps.TheSendSync as gaps
 use Rattle.rbac_timeline.proofs.history.History.TheSendSync as history
 use Rattle.rbac_timeline.proofs.index.Index.TheSendSync as index
 use Rattle.rbac_timeline.proofs.nameless.Nameless.TheSendSync as nameless
+use Rattle.rbac_timeline.proofs.reign_index.ReignIndex.TheSendSync as reigns
 use Rattle.rbac_timeline.proofs.unsure.Unsure.TheSendSync as unsure
 use Rattle.rbac_timeline.specs.contracts.timeline.Timeline as timeline
 use Rattle.rbac_timeline.specs.contracts.timeline.Timeline.TheInside as timed
@@ -83,14 +84,20 @@ timed_shared = declared_sync timed.the_type (
           (
             search unsure.the_sync depth 20,
             (
-              search (sendable, owned.crosses) depth 60 fits 20000,
+              search reigns.the_sync depth 20,
               (
                 search (sendable, owned.crosses) depth 60 fits 20000,
                 (
                   search (sendable, owned.crosses) depth 60 fits 20000,
                   (
                     search (sendable, owned.crosses) depth 60 fits 20000,
-                    tt,
+                    (
+                      search (sendable, owned.crosses) depth 60 fits 20000,
+                      (
+                        search (sendable, owned.crosses) depth 60 fits 20000,
+                        tt,
+                      ),
+                    ),
                   ),
                 ),
               ),
