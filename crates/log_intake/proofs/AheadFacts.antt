@@ -1,30 +1,24 @@
--- The batch that is admitted, the one that is decoded meanwhile, and the one that is gathered.
-use Rattle.std.proofs.Common.{◌≡◌, ℕ, ◌+◌, ◌-◌, ◌*◌, ◌^◌, ◌<◌, ◌≤◌, ◌⊎◌, inl, inr, List, [], ◌++◌, length, Option, Result, Ok, Err, IfOk, IsOk, IsErr, false, true, refl, sym, ◌∙◌, ap, subst, arith}
-use Rattle.std.specs.List.{AllZip}
-use Rattle.std.proofs.lemmas.List.{append-nil, length-append, length-map}
-use Rattle.std.proofs.lemmas.Result.{IfOk-at_ok}
+-- The batch that is admitted, and the one that is gathered meanwhile.
+use Rattle.std.proofs.Common.{◌≡◌, ℕ, ◌+◌, ◌-◌, ◌*◌, ◌<◌, ◌≤◌, ◌⊎◌, inl, inr, List, ◌++◌, length, Option, Result, Ok, Err, IsOk, IsErr, false, true, refl, sym, ◌∙◌, ap, subst, arith}
+use Rattle.std.proofs.lemmas.List.{append-nil, length-append}
 use Rattle.edge_io.specs.Faults.{Rose}
 use Rattle.edge_io.proofs.TakenFacts.{taken_then}
 use Rattle.base_types.specs.declared.memory.OutOfMemory.{OutOfMemory}
 use Rattle.audit_event.specs.declared.event.Event.{Event}
 use Rattle.audit_event.specs.Keeping.{AreKept}
-use Rattle.batch_decode.specs.declared.decoded.Decoded.{Decoded}
-use Rattle.batch_decode.specs.Batches.{IsDecodedLine}
 use Rattle.line_reader.specs.declared.line.Line.{Line}
 use Rattle.line_reader.specs.Lines.{NumberedLine}
-use Rattle.line_reader.specs.Reading.{Reading, line_value}
-use Rattle.log_intake.specs.declared.admitting.Held.{Held}
+use Rattle.line_reader.specs.Reading.{Reading}
 use Rattle.log_intake.specs.declared.admitting.Place.{Place}
 use Rattle.log_intake.specs.declared.batch.Batch.{Batch}
 use Rattle.log_intake.specs.declared.batch.BatchEnd.{BatchEnd}
 use Rattle.log_intake.specs.declared.batch.BatchEnd.TheVariants.{GoesOn, Ended, Failed, LineTooLong, InputTooLong}
 use Rattle.log_intake.specs.declared.stop.LogStop.{LogStop}
 use Rattle.log_intake.specs.declared.stop.LogStop.TheVariants as stop
-use Rattle.log_intake.specs.Admitting.{AdmitsAndDecodes, AdmitsLines, AllAdmitted, AreNext}
 use Rattle.log_intake.specs.Batches.{Gathers, GathersBatch, HoldsOpen, IsStopAt, TakesSome, line_values}
+use Rattle.log_intake.specs.Parts.{AdmitsLines, AllAdmitted}
 use Rattle.log_intake.specs.Taking.{ReadsLog, TakesLog}
-use Rattle.log_intake.proofs.BatchFacts.{gathers_nothing}
-use Rattle.log_intake.proofs.LogFacts.{HasReadLog, batch_next, batch_refused, few_lines, front_so_far, reads_ended, reads_failed, reads_long, reads_on, reads_past, reads_refused, reads_some, refused_bytes}
+use Rattle.log_intake.proofs.LogFacts.{BatchAsks, HasReadLog, batch_asks, batch_refused, front_so_far, reads_ended, reads_failed, reads_long, reads_on, reads_past, reads_refused, reads_some, refused_bytes}
 use Rattle.log_intake.proofs.ReadFacts.{limit_is}
 
 -- the lines in front of a batch were admitted, and it was gathered
@@ -33,112 +27,57 @@ pub record HasGathered (old now : Option (List ℕ)) (faults faults' : ℕ) (rea
   pub reader : Reading
   pub before : ℕ
   pub read : HasReadLog old middle reader kept place before
-  pub gathers : Gathers batch.end middle now reader reader' (line_values batch.lines.items) before batch.taken 1376256
+  pub gathers : Gathers batch.end middle now reader reader' (line_values batch.lines.items) before batch.taken 2097152
   pub fault : batch.end ≡ Failed → Rose faults faults'
   pub counted : faults ≤ faults'
 
--- the lines in front of two batches were admitted, and the first of them was decoded
-pub record HasDecoded (old now : Option (List ℕ)) (faults faults' : ℕ) (reader' : Reading) (kept : List Event) (place : Place) (held : Held) (batch : Batch) : Type 0 where
-  pub middle : Option (List ℕ)
-  pub reader : Reading
-  pub before : ℕ
-  pub read : HasReadLog old middle reader kept place before
-  pub between : Option (List ℕ)
-  pub behind : Reading
-  pub at : ℕ
-  pub first : Gathers GoesOn middle between reader behind (line_values held.lines.items) before at 1376256
-  pub decodes : AllZip IsDecodedLine held.lines.items held.decoded
-  pub gathers : Gathers batch.end between now behind reader' (line_values batch.lines.items) at batch.taken 1376256
-  pub fault : batch.end ≡ Failed → Rose faults faults'
-  pub counted : faults ≤ faults'
-
-none_decoded : (lines : List Line) (decoded : List Decoded) → lines ≡ [] → decoded ≡ [] → AllZip IsDecodedLine lines decoded
-none_decoded lines decoded none none' = subst (λ l. AllZip IsDecodedLine l decoded) (sym none) (subst (λ d. AllZip IsDecodedLine [] d) (sym none') tt)
-
--- the first batch was gathered, and none was decoded
-pub decoded_first : (left left' : List ℕ → Option (List ℕ)) (name : List ℕ) (faults faults' : ℕ) (r b : Reading) (kept : List Event) (place : Place) (held : Held) (batch : Batch) → HasReadLog (left name) (left name) r kept place 0 → GathersBatch left left' name faults faults' r b 0 (Ok batch)
-    → held.lines.items ≡ [] → held.decoded ≡ [] → HasDecoded (left name) (left' name) faults faults' b kept place held batch
-decoded_first left left' name faults faults' r b kept place held batch s g none none' = record {
+-- the first batch was gathered
+pub gathered_first : (left left' : List ℕ → Option (List ℕ)) (name : List ℕ) (faults faults' : ℕ) (r b : Reading) (kept : List Event) (place : Place) (batch : Batch) → HasReadLog (left name) (left name) r kept place 0 → GathersBatch left left' name faults faults' r b 0 (Ok batch)
+    → HasGathered (left name) (left' name) faults faults' b kept place batch
+gathered_first left left' name faults faults' r b kept place batch s g = record {
   middle = left name;
   reader = r;
   before = 0;
   read = s;
-  between = left name;
-  behind = r;
-  at = 0;
-  first = subst (λ l. Gathers GoesOn (left name) (left name) r r (line_values l) 0 0 1376256) (sym none) (gathers_nothing (left name) r 0 1376256 (omega arith) s.held);
-  decodes = none_decoded held.lines.items held.decoded none none';
   gathers = g.gathers;
   fault = g.fault;
   counted = g.counted;
 }
 
+-- what the admission of a batch may rest on
+pub gathered_asks : (old now : Option (List ℕ)) (faults faults' : ℕ) (b : Reading) (kept : List Event) (place : Place) (batch : Batch) (slice : List Line) → HasGathered old now faults faults' b kept place batch → slice ≡ batch.lines.items → BatchAsks slice place kept
+gathered_asks old now faults faults' b kept place batch slice h is = batch_asks batch.end old h.middle now h.reader b kept place batch.lines.items slice h.before batch.taken h.read h.gathers is
+
 -- where the log goes on only a line that has begun is left
-open_at : (end : BatchEnd) (middle now : Option (List ℕ)) (r b : Reading) (given : List NumberedLine) (before taken : ℕ) → end ≡ GoesOn → Gathers end middle now r b given before taken 1376256 → HoldsOpen b
+open_at : (end : BatchEnd) (middle now : Option (List ℕ)) (r b : Reading) (given : List NumberedLine) (before taken : ℕ) → end ≡ GoesOn → Gathers end middle now r b given before taken 2097152 → HoldsOpen b
 open_at end middle now r b given before taken on g =
-    let here : Gathers GoesOn middle now r b given before taken 1376256 = subst (λ e. Gathers e middle now r b given before taken 1376256) on g in
+    let here : Gathers GoesOn middle now r b given before taken 2097152 = subst (λ e. Gathers e middle now r b given before taken 2097152) on g in
     here.lines.1
 
-pub decoded_open : (old now : Option (List ℕ)) (faults faults' : ℕ) (b : Reading) (kept : List Event) (place : Place) (held : Held) (batch : Batch) → HasDecoded old now faults faults' b kept place held batch → batch.end ≡ GoesOn → HoldsOpen b
-decoded_open old now faults faults' b kept place held batch h on = open_at batch.end h.between now h.behind b (line_values batch.lines.items) h.at batch.taken on h.gathers
+pub gathered_open : (old now : Option (List ℕ)) (faults faults' : ℕ) (b : Reading) (kept : List Event) (place : Place) (batch : Batch) → HasGathered old now faults faults' b kept place batch → batch.end ≡ GoesOn → HoldsOpen b
+gathered_open old now faults faults' b kept place batch h on = open_at batch.end h.middle now h.reader b (line_values batch.lines.items) h.before batch.taken on h.gathers
 
-pub decoded_within : (old now : Option (List ℕ)) (faults faults' : ℕ) (b : Reading) (kept : List Event) (place : Place) (held : Held) (batch : Batch) → HasDecoded old now faults faults' b kept place held batch → batch.taken ≤ 1099511627776
-decoded_within old now faults faults' b kept place held batch h = h.gathers.within
+pub gathered_within : (old now : Option (List ℕ)) (faults faults' : ℕ) (b : Reading) (kept : List Event) (place : Place) (batch : Batch) → HasGathered old now faults faults' b kept place batch → batch.taken ≤ 1099511627776
+gathered_within old now faults faults' b kept place batch h = h.gathers.within
 
--- what the admission of the one batch and the decoding of the other may rest on
-pub decoded_next : (old now : Option (List ℕ)) (faults faults' : ℕ) (b : Reading) (kept : List Event) (place : Place) (held : Held) (batch : Batch) → HasDecoded old now faults faults' b kept place held batch → AreNext held.lines.items place kept
-decoded_next old now faults faults' b kept place held batch h = batch_next GoesOn old h.middle h.between h.reader h.behind kept place held.lines.items held.lines.items h.before h.at h.read h.first refl
-
-pub decoded_few : (old now : Option (List ℕ)) (faults faults' : ℕ) (b : Reading) (kept : List Event) (place : Place) (held : Held) (batch : Batch) (slice : List Line) → HasDecoded old now faults faults' b kept place held batch → slice ≡ batch.lines.items → length slice < 2 ^ 32
-decoded_few old now faults faults' b kept place held batch slice h is =
-    let few = few_lines batch.end h.between now h.behind b (line_values batch.lines.items) h.at batch.taken h.first.lines.1 h.gathers in
-    let long = length-map batch.lines.items line_value in
-    let same : length slice ≡ length batch.lines.items = ap length is in
-    omega (arith, few, long, same)
-
--- what was taken for a batch
-some_gathered : (end : BatchEnd) (middle now : Option (List ℕ)) (r b : Reading) (given : List NumberedLine) (before taken : ℕ) → Gathers end middle now r b given before taken 1376256 → TakesSome middle now before 1376256
-some_gathered end middle now r b given before taken g =
-    let sum = length-append g.fed g.past in
-    let counted = g.counted in
-    let w = g.within in
-    let piece = g.piece in
+-- what was taken for the batch ahead, whether it was gathered or not
+ahead_taken : (left left' : List ℕ → Option (List ℕ)) (name : List ℕ) (faults faults' : ℕ) (r b : Reading) (before : ℕ) (ahead : Result Batch OutOfMemory) → GathersBatch left left' name faults faults' r b before ahead → TakesSome (left name) (left' name) before 2097152
+ahead_taken left left' name faults faults' r b before (Ok batch) g =
+    let a = g.gathers in
+    let sum = length-append a.fed a.past in
+    let counted = a.counted in
+    let w = a.within in
+    let piece = a.piece in
     record {
-      taken = g.fed ++ g.past;
-      told = g.told;
-      few = g.few;
+      taken = a.fed ++ a.past;
+      told = a.told;
+      few = a.few;
       within = omega (arith, sum, counted, w, piece);
     }
+ahead_taken left left' name faults faults' r b before (Err none) g = g.memory
 
--- whether it was gathered or not
-some_ahead : (left left' : List ℕ → Option (List ℕ)) (name : List ℕ) (faults faults' : ℕ) (r b : Reading) (before : ℕ) (ahead : Result Batch OutOfMemory) → GathersBatch left left' name faults faults' r b before ahead → TakesSome (left name) (left' name) before 1376256
-some_ahead left left' name faults faults' r b before (Ok batch) g = some_gathered batch.end (left name) (left' name) r b (line_values batch.lines.items) before batch.taken g.gathers
-some_ahead left left' name faults faults' r b before (Err none) g = g.memory
-
-some_within : (middle now : Option (List ℕ)) (before few many : ℕ) → few ≤ many → TakesSome middle now before few → TakesSome middle now before many
-some_within middle now before few many less g =
-    let short = g.few in
-    record { taken = g.taken; told = g.told; few = omega (arith, less, short); within = g.within }
-
--- what was taken for two batches
-some_both : (middle now next : Option (List ℕ)) (r b : Reading) (given : List NumberedLine) (before taken : ℕ) → Gathers GoesOn middle now r b given before taken 1376256 → TakesSome now next taken 1376256 → TakesSome middle next before 2752512
-some_both middle now next r b given before taken g a =
-    let first = g.fed ++ g.past in
-    let sum = length-append first a.taken in
-    let sum' : length first ≡ length g.fed = ap length (ap (λ l. g.fed ++ l) g.lines.2 ∙ append-nil g.fed) in
-    let counted = g.counted in
-    let few = g.few in
-    let few' = a.few in
-    let w = a.within in
-    record {
-      taken = first ++ a.taken;
-      told = taken_then middle now next first a.taken g.told a.told;
-      few = omega (arith, sum, few, few');
-      within = omega (arith, sum, sum', counted, w);
-    }
-
--- what was taken where a batch is refused, whatever was taken behind it
-takes_ahead : (old middle now next : Option (List ℕ)) (r b : Reading) (kept : List Event) (place : Place) (lines : List Line) (before taken : ℕ) (fine : Type 0) → (s : HasReadLog old middle r kept place before) → Gathers GoesOn middle now r b (line_values lines) before taken 1376256 → TakesSome now next taken 2752512
+-- what was taken where a batch is refused while the next one is gathered
+takes_ahead : (old middle now next : Option (List ℕ)) (r b : Reading) (kept : List Event) (place : Place) (lines : List Line) (before taken : ℕ) (fine : Type 0) → (s : HasReadLog old middle r kept place before) → Gathers GoesOn middle now r b (line_values lines) before taken 2097152 → TakesSome now next taken 2097152
     → (fine → ⊥) → TakesLog old next fine
 takes_ahead old middle now next r b kept place lines before taken fine s g a never =
     let first = g.fed ++ g.past in
@@ -160,99 +99,64 @@ takes_ahead old middle now next r b kept place lines before taken fine s g a nev
       blameless = λ is. absurd (never is);
     }
 
--- the batch that was decoded is refused, whatever came behind it
-refused_ahead : (old now next : Option (List ℕ)) (faults middle faults' : ℕ) (b : Reading) (kept kept' : List Event) (place : Place) (held : Held) (batch : Batch) (why : LogStop) → (h : HasDecoded old now faults middle b kept place held batch) → TakesSome h.between next h.at 2752512
-    → AdmitsLines held.lines.items place kept kept' (Err why) → faults ≤ faults' → ReadsLog old next faults faults' (Err why)
-refused_ahead old now next faults middle faults' b kept kept' place held batch why h a admits counted =
+-- a batch is refused, whatever the gathering of the next one came to
+refused_ahead : (end : BatchEnd) (old middle now next : Option (List ℕ)) (faults faults' : ℕ) (r b : Reading) (kept kept' : List Event) (place : Place) (lines : List Line) (before taken : ℕ) (why : LogStop) → end ≡ GoesOn → HasReadLog old middle r kept place before → Gathers end middle now r b (line_values lines) before taken 2097152
+    → TakesSome now next taken 2097152 → AdmitsLines lines place kept kept' (Err why) → faults ≤ faults' → ReadsLog old next faults faults' (Err why)
+refused_ahead end old middle now next faults faults' r b kept kept' place lines before taken why on s g a admits counted =
     let no_fault : why ≡ stop.ReadFault → ⊥ = λ same. admits.no_fault (ap Err same) in
     record {
-      answers = λ bytes told refusal. batch_refused GoesOn old h.middle h.between h.reader h.behind kept place (line_values held.lines.items) h.before h.at why bytes h.read h.first (admits.refused refusal) told;
+      answers = λ bytes told refusal. batch_refused end old middle now r b kept place (line_values lines) before taken why bytes s g (admits.refused refusal) told;
       sound = tt;
       whole = tt;
       fault = λ same. absurd (no_fault (let here : why ≡ stop.ReadFault = cc in here));
       counted = counted;
-      taken = takes_ahead old h.middle h.between next h.reader h.behind kept place held.lines.items h.before h.at _ h.read h.first a (refused_bytes why no_fault);
+      taken = takes_ahead old middle now next r b kept place lines before taken _ s (subst (λ e. Gathers e middle now r b (line_values lines) before taken 2097152) on g) a (refused_bytes why no_fault);
     }
 
--- the batch that was decoded was admitted
-behind_held : (old now : Option (List ℕ)) (faults faults' : ℕ) (b : Reading) (kept kept' : List Event) (place place' : Place) (held : Held) (batch : Batch) → HasDecoded old now faults faults' b kept place held batch → AllAdmitted held.lines.items place place' kept kept'
-    → HasGathered old now faults faults' b kept' place' batch
-behind_held old now faults faults' b kept kept' place place' held batch h all = record {
-  middle = h.between;
-  reader = h.behind;
-  before = h.at;
-  read = reads_on GoesOn old h.middle h.between h.reader h.behind kept kept' place place' held.lines.items held.lines.items h.before h.at refl h.read h.first refl all;
-  gathers = h.gathers;
-  fault = h.fault;
-  counted = h.counted;
-}
+-- where the batch ahead wants memory, the one before was admitted
+memory_ahead : (end : BatchEnd) (old middle now next : Option (List ℕ)) (faults faults' : ℕ) (r b : Reading) (kept kept' : List Event) (place : Place) (lines : List Line) (before taken : ℕ) (admitted : Result Place LogStop) → end ≡ GoesOn → HasReadLog old middle r kept place before
+    → Gathers end middle now r b (line_values lines) before taken 2097152 → TakesSome now next taken 2097152 → IsOk admitted → AdmitsLines lines place kept kept' admitted → faults ≤ faults' → ReadsLog old next faults faults' (Err stop.OutOfMemory)
+memory_ahead end old middle now next faults faults' r b kept kept' place lines before taken (Ok after) on s g a ok admits counted =
+    reads_some old now next faults faults' b kept' after taken (reads_on end old middle now r b kept kept' place after lines lines before taken on s g refl admits.all) a counted
+memory_ahead end old middle now next faults faults' r b kept kept' place lines before taken (Err why) on s g a ok admits counted = absurd (let no : false ≡ true = ok in cc)
 
-pub behind_ok : (old now : Option (List ℕ)) (faults faults' : ℕ) (b : Reading) (kept kept' : List Event) (place place' : Place) (held : Held) (batch : Batch) (next : List Line) (admitted : Result Place LogStop) (decoded : Result (List Decoded) OutOfMemory) → HasDecoded old now faults faults' b kept place held batch
-    → AdmitsAndDecodes held.lines.items next place kept kept' admitted decoded → admitted ≡ Ok place' → HasGathered old now faults faults' b kept' place' batch
-behind_ok old now faults faults' b kept kept' place place' held batch next admitted decoded h front is =
-    behind_held old now faults faults' b kept kept' place place' held batch h (IfOk-at_ok (λ after. AllAdmitted held.lines.items place after kept kept') is front.admits.all)
-
--- it was admitted, and memory is wanted for what is behind it
-memory_ahead : (old now next : Option (List ℕ)) (faults middle faults' : ℕ) (b : Reading) (kept kept' : List Event) (place : Place) (held : Held) (batch : Batch) (admitted : Result Place LogStop) → (h : HasDecoded old now faults middle b kept place held batch) → TakesSome h.between next h.at 2752512
-    → IsOk admitted → AdmitsLines held.lines.items place kept kept' admitted → faults ≤ faults' → ReadsLog old next faults faults' (Err stop.OutOfMemory)
-memory_ahead old now next faults middle faults' b kept kept' place held batch (Ok after) h a ok admits counted =
-    let read = (behind_held old now faults middle b kept kept' place after held batch h admits.all).read in
-    reads_some old h.between next faults faults' h.behind kept' after h.at read (some_within h.between next h.at 2752512 4259840 (omega arith) a) counted
-memory_ahead old now next faults middle faults' b kept kept' place held batch (Err why) h a ok admits counted = absurd (let no : false ≡ true = ok in cc)
-
-stops : (old now next : Option (List ℕ)) (faults middle faults' : ℕ) (b : Reading) (kept kept' : List Event) (place : Place) (held : Held) (batch : Batch) (admitted : Result Place LogStop) (why : LogStop) (X : Type 0) → (h : HasDecoded old now faults middle b kept place held batch) → TakesSome h.between next h.at 2752512
-    → AdmitsLines held.lines.items place kept kept' admitted → faults ≤ faults' → (admitted ≡ Err why) ⊎ (IsOk admitted × X × (why ≡ stop.OutOfMemory)) → ReadsLog old next faults faults' (Err why)
-stops old now next faults middle faults' b kept kept' place held batch admitted why X h a admits counted (inl is) =
-    refused_ahead old now next faults middle faults' b kept kept' place held batch why h a (subst (AdmitsLines held.lines.items place kept kept') is admits) counted
-stops old now next faults middle faults' b kept kept' place held batch admitted why X h a admits counted (inr (ok, none, is)) =
-    subst (λ w. ReadsLog old next faults faults' (Err w)) (sym is) (memory_ahead old now next faults middle faults' b kept kept' place held batch admitted h a ok admits counted)
-
--- what stops a log while a batch is gathered
-pub decoded_stops : (old : Option (List ℕ)) (left left' : List ℕ → Option (List ℕ)) (name : List ℕ) (faults middle faults' : ℕ) (b c : Reading) (kept kept' : List Event) (place : Place) (held : Held) (batch : Batch) (next : List Line) (admitted : Result Place LogStop) (decoded : Result (List Decoded) OutOfMemory)
-    → (ahead : Result Batch OutOfMemory) (why : LogStop) → batch.end ≡ GoesOn → HasDecoded old (left name) faults middle b kept place held batch → AdmitsAndDecodes held.lines.items next place kept kept' admitted decoded → GathersBatch left left' name middle faults' b c batch.taken ahead
-    → (admitted ≡ Err why) ⊎ (IsOk admitted × (IsErr decoded ⊎ IsErr ahead) × (why ≡ stop.OutOfMemory)) → ReadsLog old (left' name) faults faults' (Err why)
-decoded_stops old left left' name faults middle faults' b c kept kept' place held batch next admitted decoded ahead why on h front g stopped =
+-- what stops a log while the next batch is gathered
+pub gathered_stops : (old : Option (List ℕ)) (left left' : List ℕ → Option (List ℕ)) (name : List ℕ) (faults middle faults' : ℕ) (b c : Reading) (kept kept' : List Event) (place : Place) (batch : Batch) (admitted : Result Place LogStop) (ahead : Result Batch OutOfMemory) (why : LogStop)
+    → batch.end ≡ GoesOn → HasGathered old (left name) faults middle b kept place batch → AdmitsLines batch.lines.items place kept kept' admitted → GathersBatch left left' name middle faults' b c batch.taken ahead
+    → (admitted ≡ Err why) ⊎ (IsOk admitted × IsErr ahead × (why ≡ stop.OutOfMemory)) → ReadsLog old (left' name) faults faults' (Err why)
+gathered_stops old left left' name faults middle faults' b c kept kept' place batch admitted ahead why on h admits g (inl is) =
     let before = h.counted in
     let more = g.counted in
-    let going : Gathers GoesOn h.between (left name) h.behind b (line_values batch.lines.items) h.at batch.taken 1376256 = subst (λ e. Gathers e h.between (left name) h.behind b (line_values batch.lines.items) h.at batch.taken 1376256) on h.gathers in
-    stops old (left name) (left' name) faults middle faults' b kept kept' place held batch admitted why (IsErr decoded ⊎ IsErr ahead) h
-    (some_both h.between (left name) (left' name) h.behind b (line_values batch.lines.items) h.at batch.taken going (some_ahead left left' name middle faults' b c batch.taken ahead g)) front.admits (omega (arith, before, more)) stopped
-
--- what stops it in front of the last batch
-pub last_stops : (old now : Option (List ℕ)) (faults faults' : ℕ) (b : Reading) (kept kept' : List Event) (place : Place) (held : Held) (batch : Batch) (next : List Line) (admitted : Result Place LogStop) (decoded : Result (List Decoded) OutOfMemory) (why : LogStop)
-    → HasDecoded old now faults faults' b kept place held batch → AdmitsAndDecodes held.lines.items next place kept kept' admitted decoded → (admitted ≡ Err why) ⊎ (IsOk admitted × IsErr decoded × (why ≡ stop.OutOfMemory)) → ReadsLog old now faults faults' (Err why)
-last_stops old now faults faults' b kept kept' place held batch next admitted decoded why h front stopped =
-    stops old now now faults faults' faults' b kept kept' place held batch admitted why (IsErr decoded) h
-    (some_within h.between now h.at 1376256 2752512 (omega arith) (some_gathered batch.end h.between now h.behind b (line_values batch.lines.items) h.at batch.taken h.gathers)) front.admits h.counted stopped
-
--- a batch was admitted, the next one decoded, and the one behind it gathered
-pub decoded_on : (old : Option (List ℕ)) (left left' : List ℕ → Option (List ℕ)) (name : List ℕ) (faults middle faults' : ℕ) (b c : Reading) (kept kept' : List Event) (place place' : Place) (held held' : Held) (batch next : Batch) (admitted : Result Place LogStop) (decoded : Result (List Decoded) OutOfMemory)
-    → (ahead : Result Batch OutOfMemory) → batch.end ≡ GoesOn → HasDecoded old (left name) faults middle b kept place held batch → AdmitsAndDecodes held.lines.items batch.lines.items place kept kept' admitted decoded → GathersBatch left left' name middle faults' b c batch.taken ahead
-    → held'.lines.items ≡ batch.lines.items → (admitted ≡ Ok place') × (decoded ≡ Ok held'.decoded) × (ahead ≡ Ok next) → HasDecoded old (left' name) faults faults' c kept' place' held' next
-decoded_on old left left' name faults middle faults' b c kept kept' place place' held held' batch next admitted decoded ahead on h front g lines all =
-    let s = behind_ok old (left name) faults middle b kept kept' place place' held batch batch.lines.items admitted decoded h front all.0 in
-    let a : GathersBatch left left' name middle faults' b c batch.taken (Ok next) = subst (GathersBatch left left' name middle faults' b c batch.taken) all.2 g in
+    refused_ahead batch.end old h.middle (left name) (left' name) faults faults' h.reader b kept kept' place batch.lines.items h.before batch.taken why on h.read h.gathers (ahead_taken left left' name middle faults' b c batch.taken ahead g)
+    (subst (AdmitsLines batch.lines.items place kept kept') is admits) (omega (arith, before, more))
+gathered_stops old left left' name faults middle faults' b c kept kept' place batch admitted ahead why on h admits g (inr (ok, none, is)) =
     let before = h.counted in
-    let more = a.counted in
+    let more = g.counted in
+    subst (λ w. ReadsLog old (left' name) faults faults' (Err w)) (sym is)
+    (memory_ahead batch.end old h.middle (left name) (left' name) faults faults' h.reader b kept kept' place batch.lines.items h.before batch.taken admitted on h.read h.gathers (ahead_taken left left' name middle faults' b c batch.taken ahead g) ok admits (omega (arith, before, more)))
+
+-- a batch was admitted, and the next one gathered
+gathered_more : (old : Option (List ℕ)) (left left' : List ℕ → Option (List ℕ)) (name : List ℕ) (faults middle faults' : ℕ) (b c : Reading) (kept kept' : List Event) (place place' : Place) (batch next : Batch) → batch.end ≡ GoesOn → HasGathered old (left name) faults middle b kept place batch
+    → AllAdmitted batch.lines.items place place' kept kept' → GathersBatch left left' name middle faults' b c batch.taken (Ok next) → HasGathered old (left' name) faults faults' c kept' place' next
+gathered_more old left left' name faults middle faults' b c kept kept' place place' batch next on h all g =
+    let before = h.counted in
+    let more = g.counted in
     record {
-      middle = h.between;
-      reader = h.behind;
-      before = h.at;
-      read = s.read;
-      between = left name;
-      behind = b;
-      at = batch.taken;
-      first = subst (λ l. Gathers GoesOn h.between (left name) h.behind b (line_values l) h.at batch.taken 1376256) (sym lines)
-          (subst (λ e. Gathers e h.between (left name) h.behind b (line_values batch.lines.items) h.at batch.taken 1376256) on h.gathers);
-      decodes = subst (λ l. AllZip IsDecodedLine l held'.decoded) (sym lines) (IfOk-at_ok (AllZip IsDecodedLine batch.lines.items) all.1 front.decodes);
-      gathers = a.gathers;
-      fault = λ failed. (let rose = a.fault failed in omega (arith, before, rose));
+      middle = left name;
+      reader = b;
+      before = batch.taken;
+      read = reads_on batch.end old h.middle (left name) h.reader b kept kept' place place' batch.lines.items batch.lines.items h.before batch.taken on h.read h.gathers refl all;
+      gathers = g.gathers;
+      fault = λ failed. (let rose = g.fault failed in omega (arith, before, rose));
       counted = omega (arith, before, more);
     }
 
--- what the admission of the last batch may rest on
-pub gathered_next : (old now : Option (List ℕ)) (faults faults' : ℕ) (b : Reading) (kept : List Event) (place : Place) (batch : Batch) (slice : List Line) → HasGathered old now faults faults' b kept place batch → slice ≡ batch.lines.items → AreNext slice place kept
-gathered_next old now faults faults' b kept place batch slice h is = batch_next batch.end old h.middle now h.reader b kept place batch.lines.items slice h.before batch.taken h.read h.gathers is
+pub gathered_on : (old : Option (List ℕ)) (left left' : List ℕ → Option (List ℕ)) (name : List ℕ) (faults middle faults' : ℕ) (b c : Reading) (kept kept' : List Event) (place place' : Place) (batch next : Batch) (admitted : Result Place LogStop) (ahead : Result Batch OutOfMemory)
+    → batch.end ≡ GoesOn → HasGathered old (left name) faults middle b kept place batch → AdmitsLines batch.lines.items place kept kept' admitted → GathersBatch left left' name middle faults' b c batch.taken ahead → (admitted ≡ Ok place') × (ahead ≡ Ok next)
+    → HasGathered old (left' name) faults faults' c kept' place' next
+gathered_on old left left' name faults middle faults' b c kept kept' place place' batch next admitted ahead on h admits g both =
+    let a = subst (AdmitsLines batch.lines.items place kept kept') both.0 admits in
+    gathered_more old left left' name faults middle faults' b c kept kept' place place' batch next on h a.all (subst (GathersBatch left left' name middle faults' b c batch.taken) both.1 g)
 
 -- a batch goes on, or is the last
 abbrev pub goes : BatchEnd → ℕ

@@ -7,6 +7,7 @@ pub mod LogFacts
 pub mod NumberFacts
 pub mod OneReadingFacts
 pub mod OneSetupFacts
+pub mod PartFacts
 pub mod ReadFacts
 pub mod SetupFacts
 pub mod StepFacts

@@ -1,11 +1,7 @@
--- Batches of lines, which are admitted one after another.
+-- The parts of a batch, which are admitted one after another.
 use Rattle.std.specs.Prelude.{◌≡◌, ◌+◌, ◌≤◌, List, Result, Ok, Err, IfOk, IfErr, IsErrOf}
-use Rattle.std.specs.List.{AllZip}
-use Rattle.base_types.specs.declared.memory.OutOfMemory.{OutOfMemory}
 use Rattle.line_reader.specs.declared.line.Line.{Line}
 use Rattle.audit_event.specs.declared.event.Event.{Event}
-use Rattle.batch_decode.specs.declared.decoded.Decoded.{Decoded}
-use Rattle.batch_decode.specs.Batches.{IsDecodedLine}
 use Rattle.log_intake.specs.declared.admitting.Place.{Place}
 use Rattle.log_intake.specs.declared.stop.LogStop.{LogStop}
 use Rattle.log_intake.specs.declared.stop.LogStop.TheVariants.{ReadFault}
@@ -33,8 +29,3 @@ pub record AdmitsLines (lines : List Line) (place : Place) (kept kept' : List Ev
   pub all : IfOk answer (λ after. AllAdmitted lines place after kept kept')
   pub refused : IfErr answer (λ stop. IsRefusal stop → TakesLines (log_state place.extra kept) (line_values lines) (Err stop))
   pub no_fault : IsErrOf answer ReadFault → ⊥
-
--- lines were admitted so, and those behind them decoded, or memory was wanted for that
-pub record AdmitsAndDecodes (lines next : List Line) (place : Place) (kept kept' : List Event) (admitted : Result Place LogStop) (decoded : Result (List Decoded) OutOfMemory) : Type 0 where
-  pub admits : AdmitsLines lines place kept kept' admitted
-  pub decodes : IfOk decoded (AllZip IsDecodedLine next)
