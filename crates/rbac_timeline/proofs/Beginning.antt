@@ -1,5 +1,5 @@
 -- What may grant at a place may grant where the object is clouded, or where the version that counts began.
-use Rattle.std.proofs.Common.{◌≡◌, ℕ, ◌<◌, ◌≤◌, ◌↔◌, ◌⊎◌, ⊎_elim, inl, inr, true, Option, None, List, length, take, refl, sym, subst, arith}
+use Rattle.std.proofs.Common.{◌≡◌, ℕ, ◌<◌, ◌≤◌, ◌⊎◌, ⊎_elim, inl, inr, Option, None, List, length, take, refl, sym, subst, arith}
 use Rattle.std.specs.List.{Any, Contains}
 use Rattle.std.proofs.lemmas.Bool.{cases_lt}
 use Rattle.std.proofs.lemmas.List.{take_all}
@@ -13,18 +13,15 @@ use Rattle.rbac_rules.specs.Granting.{Grants}
 use Rattle.rbac_timeline.specs.declared.history.Stored.{Stored}
 use Rattle.rbac_timeline.specs.declared.version.RbacVersion.{RbacVersion}
 use Rattle.rbac_timeline.specs.declared.way.Way.{Way}
-use Rattle.rbac_timeline.specs.Choices.{IsKnownKey}
-use Rattle.rbac_timeline.specs.Extents.{IsSubject, MayGrant, MayGrantByRole, MayGrantInWay, MayGrantNameless, bindings_in, by_create as from_create}
-use Rattle.rbac_timeline.specs.Kept.{IsKnownUnsure, MayGrantByListed, MayGrantOf, NamesAccount, NamesGroup, NamesUser, NamesWho, stored_of}
-use Rattle.rbac_timeline.specs.Kinds.{IsBindingOf, IsKeyOf, IsReached, role_key}
+use Rattle.rbac_timeline.specs.Extents.{IsSubject, MayGrant, MayGrantByRole}
+use Rattle.rbac_timeline.specs.Kept.{MayGrantByListed, stored_of}
+use Rattle.rbac_timeline.specs.Kinds.{IsBindingOf, role_key}
 use Rattle.rbac_timeline.specs.Searched.{IsFirstPair}
-use Rattle.rbac_timeline.specs.Pairs.{AreVersionsBetween, earlier_pair, is_lowest}
+use Rattle.rbac_timeline.specs.Pairs.{AreVersionsBetween}
 use Rattle.rbac_timeline.specs.Known.{Known, writes_of}
 use Rattle.rbac_timeline.specs.States.{By, Everything, MayBeThere, Nothing, Reading, ReadsRules}
-use Rattle.rbac_timeline.specs.Unsure.{last_place}
 use Rattle.rbac_timeline.proofs.Decided.{decide_clouded}
-use Rattle.rbac_timeline.proofs.Naming.{cases_of_way, way_from_known, way_from_named}
-use Rattle.rbac_timeline.proofs.Pairing.{IsFirstPair-cover, IsFirstPair-either, IsFirstPair-same, IsFirstPair-stop, IsFirstPlace-cover}
+use Rattle.rbac_timeline.proofs.Pairing.{IsFirstPair-cover, IsFirstPlace-cover}
 
 -- a version of the key begins at the place, behind `low`
 abbrev pub BeginsBehind : Known → ObjectKey → ℕ → ℕ → Type 0
@@ -157,90 +154,3 @@ clouded_cover known way who attrs key low high place best least found =
 pub no_clouded : (known : Known) (way : Way) (who : User) (attrs : RequestAttrs) (key : ObjectKey) (low high : ℕ) → HoldsNowhere (IsClouded (writes_of known) key) low high
     → IsFirstPair (λ r b. IsClouded (writes_of known) key b × MayGrantByListed known way r b who attrs key) low high None
 no_clouded known way who attrs key low high nowhere = λ r b r_from r_upto b_from b_upto both. nowhere b b_from b_upto both.0
-
-module _ (known : Known) (way : Way) (who : User) (attrs : RequestAttrs) (low high : ℕ) where
-  abbrev ListedAt : ObjectKey → ℕ → ℕ → Type 0
-  ListedAt key r b = MayGrantByListed known way r b who attrs key
-
-  -- some of the keys that are just those
-  pub of_keys : (among : ObjectKey → Type 0) (keys : List ObjectKey) (pair : Option (ℕ × ℕ)) → ((key : ObjectKey) → Contains keys key ↔ among key)
-      → IsFirstPair (λ r b. Any (λ key. ListedAt key r b) keys) low high pair → IsFirstPair (λ r b. MayGrantOf known among way r b who attrs) low high pair
-  of_keys among keys pair exact first =
-      IsFirstPair-same (λ r b. Any (λ key. ListedAt key r b) keys) (λ r b. MayGrantOf known among way r b who attrs) low high pair
-      (λ r b any. (any.1, (exact any.1).0 (any.0, any.2, any.3), any.4))
-      (λ r b upto of. Any-contains (λ key. ListedAt key r b) keys of.0 ((exact of.0).1 of.1) of.2)
-      first
-
-  who_cases : (r b : ℕ) → MayGrantOf known (NamesWho known.versions who) way r b who attrs
-      → (MayGrantOf known (NamesUser known.versions who.name) way r b who attrs ⊎ MayGrantOf known (NamesAccount known.versions who.name) way r b who attrs)
-      ⊎ Any (λ group. MayGrantOf known (NamesGroup known.versions group) way r b who attrs) who.groups
-  who_cases r b (key, inl (inl user), may) = inl (inl (key, user, may))
-  who_cases r b (key, inl (inr account), may) = inl (inr (key, account, may))
-  who_cases r b (key, inr groups, may) = inr (groups.0, groups.1, groups.2, groups.3, (key, groups.4, may))
-
-  cases_who : (r b : ℕ) → (MayGrantOf known (NamesUser known.versions who.name) way r b who attrs ⊎ MayGrantOf known (NamesAccount known.versions who.name) way r b who attrs)
-      ⊎ Any (λ group. MayGrantOf known (NamesGroup known.versions group) way r b who attrs) who.groups → MayGrantOf known (NamesWho known.versions who) way r b who attrs
-  cases_who r b (inl (inl of)) = (of.0, inl (inl of.1), of.2)
-  cases_who r b (inl (inr of)) = (of.0, inl (inr of.1), of.2)
-  cases_who r b (inr any) = (any.4.0, inr (any.0, any.1, any.2, any.3, any.4.1), any.4.2)
-
-  -- those that name the user or the account, where these suffice
-  pub of_names : (user account : Option (ℕ × ℕ)) → is_lowest low (earlier_pair user account) ≡ true → IsFirstPair (λ r b. MayGrantOf known (NamesUser known.versions who.name) way r b who attrs) low high user
-      → IsFirstPair (λ r b. MayGrantOf known (NamesAccount known.versions who.name) way r b who attrs) low high account
-      → IsFirstPair (λ r b. MayGrantOf known (NamesWho known.versions who) way r b who attrs) low high (earlier_pair user account)
-  of_names user account lowest by_user by_account =
-      IsFirstPair-stop
-      (λ r b. MayGrantOf known (NamesUser known.versions who.name) way r b who attrs ⊎ MayGrantOf known (NamesAccount known.versions who.name) way r b who attrs)
-      (λ r b. MayGrantOf known (NamesWho known.versions who) way r b who attrs) low high (earlier_pair user account) lowest (λ r b either. cases_who r b (inl either))
-      (IsFirstPair-either (λ r b. MayGrantOf known (NamesUser known.versions who.name) way r b who attrs) (λ r b. MayGrantOf known (NamesAccount known.versions who.name) way r b who attrs) low high user account
-      by_user by_account)
-
-  -- and where they do, no other way counts
-  pub of_named : (named : Option (ℕ × ℕ)) → is_lowest low named ≡ true → IsFirstPair (λ r b. MayGrantOf known (NamesWho known.versions who) way r b who attrs) low high named
-      → IsFirstPair (λ r b. MayGrantInWay known way r b who attrs) low high named
-  of_named named lowest by_name =
-      IsFirstPair-stop (λ r b. MayGrantOf known (NamesWho known.versions who) way r b who attrs) (λ r b. MayGrantInWay known way r b who attrs) low high named lowest
-      (λ r b of. way_from_named known way r b who attrs of) by_name
-
-  -- those that name the user in some way
-  pub of_who : (user account groups : Option (ℕ × ℕ)) → IsFirstPair (λ r b. MayGrantOf known (NamesUser known.versions who.name) way r b who attrs) low high user
-      → IsFirstPair (λ r b. MayGrantOf known (NamesAccount known.versions who.name) way r b who attrs) low high account
-      → IsFirstPair (λ r b. Any (λ group. MayGrantOf known (NamesGroup known.versions group) way r b who attrs) who.groups) low high groups
-      → IsFirstPair (λ r b. MayGrantOf known (NamesWho known.versions who) way r b who attrs) low high (earlier_pair (earlier_pair user account) groups)
-  of_who user account groups by_user by_account by_groups =
-      IsFirstPair-same
-      (λ r b. (MayGrantOf known (NamesUser known.versions who.name) way r b who attrs ⊎ MayGrantOf known (NamesAccount known.versions who.name) way r b who attrs)
-      ⊎ Any (λ group. MayGrantOf known (NamesGroup known.versions group) way r b who attrs) who.groups)
-      (λ r b. MayGrantOf known (NamesWho known.versions who) way r b who attrs) low high (earlier_pair (earlier_pair user account) groups)
-      cases_who (λ r b upto of. who_cases r b of)
-      (IsFirstPair-either (λ r b. MayGrantOf known (NamesUser known.versions who.name) way r b who attrs ⊎ MayGrantOf known (NamesAccount known.versions who.name) way r b who attrs)
-      (λ r b. Any (λ group. MayGrantOf known (NamesGroup known.versions group) way r b who attrs) who.groups) low high (earlier_pair user account) groups
-      (IsFirstPair-either (λ r b. MayGrantOf known (NamesUser known.versions who.name) way r b who attrs) (λ r b. MayGrantOf known (NamesAccount known.versions who.name) way r b who attrs) low high user account
-      by_user by_account) by_groups)
-
-  -- those of which something is named, those without a name, and those that may be unsure
-  pub of_way : high ≤ last_place → (keys : List ObjectKey) (named nameless unsure : Option (ℕ × ℕ)) → ((key : ObjectKey) → Contains keys key → IsKnownKey known key)
-      → ((place : ℕ) (key : ObjectKey) → place ≤ last_place → IsKeyOf (bindings_in way) key → IsReached key attrs → IsKnownUnsure known place key → Contains keys key)
-      → IsFirstPair (λ r b. MayGrantOf known (NamesWho known.versions who) way r b who attrs) low high named → IsFirstPair (λ r b. MayGrantNameless known way b attrs) low high nameless
-      → IsFirstPair (λ r b. Any (λ key. ListedAt key r b) keys) low high unsure → IsFirstPair (λ r b. MayGrantInWay known way r b who attrs) low high (earlier_pair named (earlier_pair nameless unsure))
-  of_way bound keys named nameless unsure are_known full by_name by_create by_keys =
-      IsFirstPair-same
-      (λ r b. MayGrantOf known (NamesWho known.versions who) way r b who attrs ⊎ (MayGrantNameless known way b attrs ⊎ Any (λ key. ListedAt key r b) keys))
-      (λ r b. MayGrantInWay known way r b who attrs) low high (earlier_pair named (earlier_pair nameless unsure))
-      (λ r b either. ⊎_elim
-      (λ of. way_from_named known way r b who attrs of)
-      (λ other. ⊎_elim
-      (λ create. from_create create)
-      (λ any. way_from_known known way r b who attrs (any.1, are_known any.1 (any.0, any.2, any.3), any.4))
-      other)
-      either)
-      (λ r b upto may. ⊎_elim
-      (λ of. inl of)
-      (λ other. ⊎_elim
-      (λ create. inr (inl create))
-      (λ of. inr (inr (Any-contains (λ key. ListedAt key r b) keys of.0 (full b of.0 (omega arith) of.2.0 of.2.1 of.1) of.2)))
-      other)
-      (cases_of_way known way r b who attrs may))
-      (IsFirstPair-either (λ r b. MayGrantOf known (NamesWho known.versions who) way r b who attrs) (λ r b. MayGrantNameless known way b attrs ⊎ Any (λ key. ListedAt key r b) keys) low high named
-      (earlier_pair nameless unsure) by_name
-      (IsFirstPair-either (λ r b. MayGrantNameless known way b attrs) (λ r b. Any (λ key. ListedAt key r b) keys) low high nameless unsure by_create by_keys))

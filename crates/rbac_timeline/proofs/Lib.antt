@@ -12,6 +12,7 @@ pub mod Examples
 pub mod Extremes
 pub mod Finding
 pub mod Firsts
+pub mod Freeing
 pub mod Gathering
 pub mod Granting
 pub mod Hiding

@@ -16,10 +16,9 @@ use Rattle.clouds.specs.Kept.{text_order}
 use Rattle.clouds.proofs.Keeping.{taken_more}
 use Rattle.rbac_rules.specs.declared.binding.Subject.{Subject}
 use Rattle.rbac_rules.specs.declared.binding.Subject.TheVariants.{Group, ServiceAccount, User}
-use Rattle.rbac_rules.specs.Matching.{IsAccount}
 use Rattle.rbac_timeline.specs.declared.index.Index.{Index}
 use Rattle.rbac_timeline.specs.declared.version.RbacVersion.{RbacVersion}
-use Rattle.rbac_timeline.specs.Indexed.{AddsAccount, ByText, IsIndexed, Mention, account_keys, account_user, keys_in, mention_of, mentions_in, mentions_of}
+use Rattle.rbac_timeline.specs.Indexed.{AddsAccount, ByText, IsIndexed, Mention, account_keys, keys_in, mention_of, mentions_in, mentions_of}
 
 equal_is : (o : Ordering) → is_eq o ≡ true → o ≡ Equal
 equal_is Less other = cc
@@ -108,26 +107,12 @@ which (ServiceAccount namespace name) = 2
 unlike : (a b : Subject) → which a < which b ⊎ which b < which a → a ≡ b → ⊥
 unlike a b either same = let alike : which a ≡ which b = ap which same in ⊎_elim (λ less. omega arith) (λ more. omega arith) either
 
--- an account that wasn't mentioned for a user yet
-account_elsewhere : (users : ByText) (mentions : List Mention) (mention : Mention) → which mention.subject < 2
-    → ((user : List ℕ) (key : ObjectKey) → Contains (items_at text_order users user) key ↔ ((namespace : List ℕ) × (name : List ℕ) × IsAccount user namespace name × Contains mentions (mention_of key (ServiceAccount namespace name))))
-    → (user : List ℕ) (key : ObjectKey) → Contains (items_at text_order users user) key ↔ ((namespace : List ℕ) × (name : List ℕ) × IsAccount user namespace name × Contains (mentions ++ mention ∷ []) (mention_of key (ServiceAccount namespace name)))
-account_elsewhere users mentions mention other are user key = (
-  (λ among. let found = (are user key).0 among in
-      (found.0, found.1, found.2, Contains-append_left mentions (mention ∷ []) (mention_of key (ServiceAccount found.0 found.1)) found.3)),
-  (λ found. ⊎_elim
-      (λ before. (are user key).1 (found.0, found.1, found.2, before))
-      (λ is. absurd (unlike mention.subject (ServiceAccount found.0 found.1) (inl other) (ap (λ (m : Mention). m.subject) is)))
-      (Contains-push_cases mentions mention (mention_of key (ServiceAccount found.0 found.1)) found.3)),
-)
-
 pub IsIndexed-user : (index : Index) (users : ByText) (name : List ℕ) (key : ObjectKey) (mentions : List Mention) → AddsAt text_order index.users users name key → IsIndexed index mentions
     → IsIndexed (record index { users = users }) (mentions ++ mention_of key (User name) ∷ [])
 IsIndexed-user index users name key mentions adds are = record {
   by_user = more_here (λ n. User n) user_name (λ n. refl) index.users users name key mentions adds are.by_user;
   by_group = λ n k. more_elsewhere _ mentions (mention_of key (User name)) (mention_of k (Group n)) (unlike (User name) (Group n) (inl (omega arith))) (are.by_group n k);
   by_account = λ ns n k. more_elsewhere _ mentions (mention_of key (User name)) (mention_of k (ServiceAccount ns n)) (unlike (User name) (ServiceAccount ns n) (inl (omega arith))) (are.by_account ns n k);
-  by_account_user = account_elsewhere index.account_users mentions (mention_of key (User name)) (omega arith) are.by_account_user;
 }
 
 pub IsIndexed-group : (index : Index) (groups : ByText) (name : List ℕ) (key : ObjectKey) (mentions : List Mention) → AddsAt text_order index.groups groups name key → IsIndexed index mentions
@@ -136,11 +121,10 @@ IsIndexed-group index groups name key mentions adds are = record {
   by_user = λ n k. more_elsewhere _ mentions (mention_of key (Group name)) (mention_of k (User n)) (unlike (Group name) (User n) (inr (omega arith))) (are.by_user n k);
   by_group = more_here (λ n. Group n) group_name (λ n. refl) index.groups groups name key mentions adds are.by_group;
   by_account = λ ns n k. more_elsewhere _ mentions (mention_of key (Group name)) (mention_of k (ServiceAccount ns n)) (unlike (Group name) (ServiceAccount ns n) (inl (omega arith))) (are.by_account ns n k);
-  by_account_user = account_elsewhere index.account_users mentions (mention_of key (Group name)) (omega arith) are.by_account_user;
 }
 
-module _ (index : Index) (accounts : BTreeMap (List ℕ) ByText) (account_users : ByText) (namespace name : List ℕ) (key : ObjectKey) (mentions : List Mention)
-    (adds : AddsAccount index.accounts accounts namespace name key) (user_adds : AddsAt text_order index.account_users account_users (account_user namespace name) key) (are : IsIndexed index mentions) where
+module _ (index : Index) (accounts : BTreeMap (List ℕ) ByText) (namespace name : List ℕ) (key : ObjectKey) (mentions : List Mention)
+    (adds : AddsAccount index.accounts accounts namespace name key) (are : IsIndexed index mentions) where
   abbrev mention : Mention
   mention = mention_of key (ServiceAccount namespace name)
 
@@ -164,36 +148,11 @@ module _ (index : Index) (accounts : BTreeMap (List ℕ) ByText) (account_users 
         (Contains-push_cases mentions mention (mention_of k (ServiceAccount ns n)) among)),
   )
 
-  user_here : (user : List ℕ) (k : ObjectKey) → Contains (items_at text_order account_users user) k
-      ↔ ((ns : List ℕ) × (n : List ℕ) × IsAccount user ns n × Contains longer (mention_of k (ServiceAccount ns n)))
-  user_here user k = (
-    (λ among. ⊎_elim
-        (λ before. let found = (are.by_account_user user k).0 before in
-        (found.0, found.1, found.2, Contains-append_left mentions (mention ∷ []) (mention_of k (ServiceAccount found.0 found.1)) found.3))
-        (λ is. (
-          namespace,
-          name,
-          sym (same_text (account_user namespace name) user is.0),
-          subst (λ x. Contains longer (mention_of x (ServiceAccount namespace name))) (sym is.1) (Contains-push mentions mention),
-        ))
-        (user_adds.only user k among)),
-    (λ found. ⊎_elim
-        (λ before. user_adds.kept user k ((are.by_account_user user k).1 (found.0, found.1, found.2, before)))
-        (λ (is : mention ≡ mention_of k (ServiceAccount found.0 found.1)).
-        let of_namespace : namespace ≡ found.0 = ap (λ (m : Mention). account_namespace m.subject) is in
-        let of_name : name ≡ found.1 = ap (λ (m : Mention). account_name m.subject) is in
-        let user_is : account_user namespace name ≡ user = ap (λ t. account_user t name) of_namespace ∙ ap (λ t. account_user found.0 t) of_name ∙ sym found.2 in
-        subst (λ t. Contains (items_at text_order account_users t) k) user_is
-        (subst (λ x. Contains (items_at text_order account_users (account_user namespace name)) x) (ap (λ (m : Mention). m.key) is) user_adds.added))
-        (Contains-push_cases mentions mention (mention_of k (ServiceAccount found.0 found.1)) found.3)),
-  )
-
-  pub IsIndexed-account : IsIndexed (record index { accounts = accounts; account_users = account_users }) longer
+  pub IsIndexed-account : IsIndexed (record index { accounts = accounts }) longer
   IsIndexed-account = record {
     by_user = λ n k. more_elsewhere _ mentions mention (mention_of k (User n)) (unlike (ServiceAccount namespace name) (User n) (inr (omega arith))) (are.by_user n k);
     by_group = λ n k. more_elsewhere _ mentions mention (mention_of k (Group n)) (unlike (ServiceAccount namespace name) (Group n) (inr (omega arith))) (are.by_group n k);
     by_account = account_here;
-    by_account_user = user_here;
   }
 
 -- the mentions of one version more

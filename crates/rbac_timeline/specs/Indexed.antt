@@ -1,4 +1,4 @@
--- Which bindings are found by a subject, and by the user that it is.
+-- Which bindings are found by a subject, and which user a service account is.
 use Rattle.std.specs.Prelude.{◌≡◌, ◌↔◌, ◌⊎◌, ℕ, List, [], ◌++◌, Option, Some, None, Contains, codes, map}
 use Rattle.std.specs.BTreeMap.{BTreeMap, get}
 use Rattle.std.specs.List.{flat_map}
@@ -7,7 +7,6 @@ use Rattle.clouds.specs.Items.{items_at}
 use Rattle.clouds.specs.Kept.{text_order}
 use Rattle.rbac_rules.specs.declared.binding.Subject.{Subject}
 use Rattle.rbac_rules.specs.declared.binding.Subject.TheVariants.{User, Group, ServiceAccount}
-use Rattle.rbac_rules.specs.Matching.{IsAccount}
 use Rattle.rbac_timeline.specs.declared.index.Index.{Index}
 use Rattle.rbac_timeline.specs.declared.version.RbacVersion.{RbacVersion}
 use Rattle.rbac_timeline.specs.Kinds.{subjects_of}
@@ -59,10 +58,8 @@ mentions_in version = map (mention_of version.key) (subjects_of version.key vers
 abbrev pub mentions_of : List RbacVersion → List Mention
 mentions_of versions = flat_map mentions_in versions
 
--- each subject has the keys of the bindings that name it, and each user those of the accounts that it is
+-- each subject has the keys of the bindings that name it
 pub record IsIndexed (index : Index) (mentions : List Mention) : Type 0 where
   pub by_user : (name : List ℕ) (key : ObjectKey) → Contains (items_at text_order index.users name) key ↔ Contains mentions (mention_of key (User name))
   pub by_group : (name : List ℕ) (key : ObjectKey) → Contains (items_at text_order index.groups name) key ↔ Contains mentions (mention_of key (Group name))
   pub by_account : (namespace name : List ℕ) (key : ObjectKey) → Contains (account_keys index.accounts namespace name) key ↔ Contains mentions (mention_of key (ServiceAccount namespace name))
-  pub by_account_user : (user : List ℕ) (key : ObjectKey) → Contains (items_at text_order index.account_users user) key
-      ↔ ((namespace : List ℕ) × (name : List ℕ) × IsAccount user namespace name × Contains mentions (mention_of key (ServiceAccount namespace name)))

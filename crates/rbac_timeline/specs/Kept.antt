@@ -1,5 +1,5 @@
 -- How versions and removals are kept by key.
-use Rattle.std.specs.Prelude.{◌≡◌, ◌≤◌, ◌⊎◌, ℕ, List, Option, Some, None, Any, Contains, if◌then◌else◌}
+use Rattle.std.specs.Prelude.{◌≡◌, ◌≤◌, ℕ, List, Option, Some, None, Any, Contains, if◌then◌else◌}
 use Rattle.std.specs.BTreeMap.{BTreeMap}
 use Rattle.base_types.specs.declared.key.ObjectKey.{ObjectKey}
 use Rattle.base_types.specs.declared.request.RequestAttrs.{RequestAttrs}
@@ -8,8 +8,7 @@ use Rattle.clouds.specs.Items.{items_at}
 use Rattle.clouds.specs.Kept.{key_order}
 use Rattle.clouds.specs.Writes.{Writes}
 use Rattle.rbac_rules.specs.Granting.{Grants}
-use Rattle.rbac_rules.specs.Matching.{IsAccount, Matches}
-use Rattle.rbac_rules.specs.declared.binding.Subject.TheVariants.{Group, ServiceAccount, User as UserNamed}
+use Rattle.rbac_rules.specs.Matching.{Matches}
 use Rattle.rbac_timeline.specs.declared.history.Content.{Content}
 use Rattle.rbac_timeline.specs.declared.history.Content.TheVariants.{Rules, Bound as BoundTo, Unreadable as Unread}
 use Rattle.rbac_timeline.specs.declared.history.Gap.{Gap}
@@ -21,7 +20,6 @@ use Rattle.rbac_timeline.specs.declared.version.RbacVersion.{RbacVersion}
 use Rattle.rbac_timeline.specs.declared.way.Way.{Way}
 use Rattle.rbac_timeline.specs.Extents.{MayGrantByKey, MayGrantByRole, MustGrantByKey, MustGrantByRole, bindings_in, roles_in}
 use Rattle.rbac_timeline.specs.Choices.{IsKnownKey}
-use Rattle.rbac_timeline.specs.Index.{Names}
 use Rattle.rbac_timeline.specs.Kinds.{IsBindingOf, IsKeyOf, IsReached, is_cluster_binding, kind_of_key, role_key}
 use Rattle.rbac_timeline.specs.declared.index.Index.{Index}
 use Rattle.rbac_timeline.specs.declared.nameless.Nameless.{Nameless}
@@ -105,25 +103,9 @@ abbrev pub MustGrantByListed : Known → Way → ℕ → ℕ → User → Reques
 MustGrantByListed known way role_place binding_place who attrs key =
     IsKeyOf (bindings_in way) key × IsReached key attrs × MustGrantByKey known way role_place binding_place who attrs key
 
--- the binding names the user, a group, or the account that a user is
-abbrev pub NamesUser : List RbacVersion → List ℕ → ObjectKey → Type 0
-NamesUser versions name key = Names versions (UserNamed name) key
-
-abbrev pub NamesGroup : List RbacVersion → List ℕ → ObjectKey → Type 0
-NamesGroup versions group key = Names versions (Group group) key
-
-abbrev pub NamesAccount : List RbacVersion → List ℕ → ObjectKey → Type 0
-NamesAccount versions user key = (namespace : List ℕ) × (name : List ℕ) × IsAccount user namespace name × Names versions (ServiceAccount namespace name) key
-
-abbrev pub NamesWho : List RbacVersion → User → ObjectKey → Type 0
-NamesWho versions who key = (NamesUser versions who.name key ⊎ NamesAccount versions who.name key) ⊎ Any (λ group. NamesGroup versions group key) who.groups
-
--- some of these bindings may grant, or grants for certain
+-- some of these bindings may grant
 abbrev pub MayGrantOf : Known → (ObjectKey → Type 0) → Way → ℕ → ℕ → User → RequestAttrs → Type 0
 MayGrantOf known among way role_place binding_place who attrs = (key : ObjectKey) × among key × MayGrantByListed known way role_place binding_place who attrs key
-
-abbrev pub MustGrantOf : Known → (ObjectKey → Type 0) → Way → ℕ → ℕ → User → RequestAttrs → Type 0
-MustGrantOf known among way role_place binding_place who attrs = (key : ObjectKey) × among key × MustGrantByListed known way role_place binding_place who attrs key
 
 -- a binding of which nothing is known at the place
 abbrev pub IsKnownUnsure : Known → ℕ → ObjectKey → Type 0

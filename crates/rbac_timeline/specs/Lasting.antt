@@ -1,15 +1,12 @@
 -- Up to which places objects may only be in states that they may be in before, and what grants for certain still does.
 use Rattle.std.specs.Prelude.{◌<◌, ◌≡◌, ◌≤◌, ℕ, Bool, false, ◌&&◌, nat_le, nat_lt, List, Option, Some, None, Contains, if◌then◌else◌}
 use Rattle.base_types.specs.declared.key.ObjectKey.{ObjectKey}
-use Rattle.base_types.specs.declared.request.RequestAttrs.{RequestAttrs}
-use Rattle.base_types.specs.declared.request.User.{User}
 use Rattle.clouds.specs.Clouds.{IsClouded}
-use Rattle.rbac_timeline.specs.declared.lasting.Block.{Block}
 use Rattle.rbac_timeline.specs.declared.lasting.Until.{Until}
 use Rattle.rbac_timeline.specs.declared.version.RbacEnd.{RbacEnd}
 use Rattle.rbac_timeline.specs.declared.version.RbacVersion.{RbacVersion}
 use Rattle.rbac_timeline.specs.Known.{Known, writes_of}
-use Rattle.rbac_timeline.specs.Searched.{IsFreePlain, lesser_number}
+use Rattle.rbac_timeline.specs.Searched.{lesser_number}
 use Rattle.rbac_timeline.specs.States.{IsEndOf, IsLatestVersion}
 
 -- it holds at each place from one up to the last
@@ -62,25 +59,3 @@ farther (Some a) (Some b) = if is_farther b a then Some b else Some a
 abbrev pub lasts_throughout : ℕ → Option Until → Bool
 lasts_throughout high None = false
 lasts_throughout high (Some until) = nat_le high until.first && nat_le high until.second
-
--- role bindings grant for certain, with the roles, the cluster roles and themselves at all places from these up to those of
--- the block
-pub record IsBlock (known : Known) (who : User) (attrs : RequestAttrs) (roles cluster_roles bindings high : ℕ) (block : Block) : Type 0 where
-  pub from : bindings ≤ block.bindings
-  pub upto : block.bindings ≤ high
-  pub until : HoldsUntil (λ r c. (b : ℕ) → bindings ≤ b → b ≤ block.bindings → IsFreePlain known who attrs r c b → ⊥) roles cluster_roles high block.until
-
--- by roles, with the cluster roles at any place, and the other way round
-abbrev pub role_block : ℕ → Option Until → Option Block
-role_block high None = None
-role_block high (Some until) = Some (record { until = record { first = until.first; second = high }; bindings = until.second })
-
-abbrev pub cluster_role_block : ℕ → Option Until → Option Block
-cluster_role_block high None = None
-cluster_role_block high (Some until) = Some (record { until = record { first = high; second = until.first }; bindings = until.second })
-
--- of one by roles and one by cluster roles, the one that lasts farther
-abbrev pub farther_block : Option Block → Option Block → Option Block
-farther_block None b = b
-farther_block (Some a) None = Some a
-farther_block (Some a) (Some b) = if lesser_number a.bindings b.bindings (nat_lt a.until.first b.until.second) then Some b else Some a

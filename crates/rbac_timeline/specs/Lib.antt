@@ -4,6 +4,7 @@ pub mod Decisions
 pub mod Examples
 pub mod Extents
 pub mod Found
+pub mod Freed
 pub mod Hidden
 pub mod Index
 pub mod Indexed

@@ -1,5 +1,5 @@
 -- The least places of two caches at which something holds.
-use Rattle.std.specs.Prelude.{◌≡◌, ◌≤◌, ◌⊎◌, ℕ, Bool, ◌&&◌, ◌||◌, ◌==◌, nat_lt, nat_le, Option, Some, None, if◌then◌else◌}
+use Rattle.std.specs.Prelude.{◌≤◌, ◌⊎◌, ℕ, Bool, ◌&&◌, ◌||◌, ◌==◌, nat_lt, nat_le, Option, Some, None, if◌then◌else◌}
 use Rattle.base_types.specs.PlaceOrder.{ComesFirst, IsUpTo}
 use Rattle.base_types.specs.declared.placed.Places.{Places}
 use Rattle.base_types.specs.declared.request.RequestAttrs.{RequestAttrs}
@@ -65,20 +65,6 @@ IsFreePlain known who attrs roles cluster_roles bindings = (MustGrantInWay known
 -- nothing grants for certain
 abbrev pub IsFreeAt : Known → User → RequestAttrs → Places → Type 0
 IsFreeAt known who attrs places = IsFreePlain known who attrs places.roles places.cluster_roles places.bindings × IsFreeCluster known who attrs places.cluster_roles places.cluster_bindings
-
--- the same with this place of roles, and with these of roles and cluster roles
-abbrev pub FreeFrom : Known → User → RequestAttrs → ℕ → Places → Type 0
-FreeFrom known who attrs roles places = (places.roles ≡ roles) × IsFreeAt known who attrs places
-
-abbrev pub FreeWith : Known → User → RequestAttrs → ℕ → ℕ → Places → Type 0
-FreeWith known who attrs roles cluster_roles places = (places.cluster_roles ≡ cluster_roles) × FreeFrom known who attrs roles places
-
--- no places are free with this place of roles, and with these of roles and cluster roles
-abbrev pub NoneFreeFrom : Known → User → RequestAttrs → ℕ → ℕ → ℕ → Type 0
-NoneFreeFrom known who attrs low high roles = AreFirstOf (FreeFrom known who attrs roles) low high None
-
-abbrev pub NoneFreeWith : Known → User → RequestAttrs → ℕ → ℕ → ℕ → ℕ → Type 0
-NoneFreeWith known who attrs low high roles cluster_roles = AreFirstOf (FreeWith known who attrs roles cluster_roles) low high None
 
 -- all caches at one place
 abbrev pub all_at : ℕ → Places

@@ -1,4 +1,5 @@
-ghost use Rattle.std.specs.Prelude.{◌≡◌, ◌<◌, ◌≤◌, ℕ, ⊤, Contains, List, length, IfOk, IfSome, MatchOption, slice_index_or};
+ghost use Rattle.std.specs.Prelude.{◌≡◌, ◌<◌, ◌≤◌, ℕ, ⊤, Contains, List, length, IfOk, IfSome, MatchOption};
+ghost use Rattle.std.specs.Prelude.{slice_index_or};
 ghost use Rattle.rbac_timeline.specs.declared.version.RbacEnd.{RbacEnd};
 ghost use Rattle.rbac_timeline.specs.Kept.{AreGaps, IsRemovalOf};
 ghost use Rattle.rbac_timeline.specs.Reigning.{AreBegun, LastsUpto, reign_of};

@@ -1,4 +1,4 @@
-ghost use Rattle.std.specs.Prelude.{◌≡◌, ◌&&◌, ◌||◌};
+ghost use Rattle.std.specs.Prelude.{◌≡◌, ◌&&◌};
 
 /// Whether something may grant a request, and whether it grants it for certain.
 #[derive(Clone, Copy)]
@@ -26,17 +26,6 @@ impl Extent {
         Extent {
             may: grants,
             must: grants,
-        }
-    }
-
-    /// What one of the two grants.
-    pub fn or(self, other: Extent) -> Extent
-        ensures may { result.may ≡ (self.may || other.may) }
-        ensures must { result.must ≡ (self.must || other.must) }
-    {
-        Extent {
-            may: self.may || other.may,
-            must: self.must || other.must,
         }
     }
 

@@ -200,27 +200,11 @@ pub fn account_user(alloc: Global, namespace: &Text, name: &Text) -> Result<Text
     Ok(Text::from_string(user))
 }
 
-// Puts a key under the user that a service account is.
-fn add_account_user(
-    alloc: Global,
-    index: &mut ByText,
-    namespace: &Text,
-    name: &Text,
-    key: &ObjectKey,
-) -> Result<(), OutOfMemory>
-    ensures { OnOk result (AddsAt text_order index.old index.new (account_user namespace.now name.now) key.now) }
-{
-    let user = account_user(alloc, namespace, name)?;
-    add_under(alloc, index, &user, key)
-}
-
 /// The bindings by the subjects that their versions name.
 pub struct Index {
     users: ByText,
     groups: ByText,
     accounts: Accounts,
-    // By the users that service accounts are.
-    account_users: ByText,
 }
 
 // Written out, so that a function that lets an index go makes one call for it.
@@ -230,7 +214,6 @@ impl Drop for Index {
             users: _,
             groups: _,
             accounts: _,
-            account_users: _,
         } = self;
     }
 }
@@ -243,7 +226,6 @@ impl Index {
             users: BTreeMap::new(alloc),
             groups: BTreeMap::new(alloc),
             accounts: BTreeMap::new(alloc),
-            account_users: BTreeMap::new(alloc),
         }
     }
 
@@ -262,7 +244,6 @@ impl Index {
             }
             Subject::ServiceAccount { namespace, name } => {
                 add_account(alloc, &mut self.accounts, namespace, name, key)?;
-                add_account_user(alloc, &mut self.account_users, namespace, name, key)?;
             }
         }
         Ok(())
@@ -293,27 +274,6 @@ impl Index {
             index.add_each(alloc, subjects, &version.key)?;
         }
         Ok(index)
-    }
-
-    /// By the name of a user.
-    pub fn by_user(&self, name: &Text) -> &[ObjectKey]
-        ensures { result.now ≡ items_at text_order self.now.users name.now }
-    {
-        found(&self.users, name)
-    }
-
-    /// By the name of a group.
-    pub fn by_group(&self, name: &Text) -> &[ObjectKey]
-        ensures { result.now ≡ items_at text_order self.now.groups name.now }
-    {
-        found(&self.groups, name)
-    }
-
-    /// By a user that may be a service account.
-    pub fn by_account_user(&self, name: &Text) -> &[ObjectKey]
-        ensures { result.now ≡ items_at text_order self.now.account_users name.now }
-    {
-        found(&self.account_users, name)
     }
 
     /// By a subject.

@@ -1,12 +1,10 @@
-ghost use Rattle.std.specs.Prelude.{◌≡◌, ◌≤◌, Any, Contains, nat_lt};
+ghost use Rattle.std.specs.Prelude.{◌≡◌, ◌≤◌, Any, Contains};
 ghost use Rattle.rbac_timeline.specs.Choices.{IsKnownKey};
 ghost use Rattle.rbac_timeline.specs.Extents.{MustGrantByKey, MustGrantInWay};
 ghost use Rattle.rbac_timeline.specs.Found.{LastsFor, MustGrantNamed, MustGrantReigning};
 ghost use Rattle.rbac_timeline.specs.Kept.{MustGrantByListed};
-ghost use Rattle.rbac_timeline.specs.Lasting.{IsLast, LastsUntil, cluster_role_block, farther};
-ghost use Rattle.rbac_timeline.specs.Lasting.{farther_block, is_farther, lasts_throughout, role_block};
+ghost use Rattle.rbac_timeline.specs.Lasting.{IsLast, LastsUntil, farther, is_farther, lasts_throughout};
 ghost use Rattle.rbac_timeline.specs.Reigning.{AsGroup, Means, found_reigns};
-ghost use Rattle.rbac_timeline.specs.Searched.{lesser_number};
 ghost use Rattle.rbac_timeline.specs.declared.reigns.Reign.{Reign};
 
 use crate::reigns::Reigns;
@@ -19,13 +17,6 @@ use base_types::{ObjectKey, Text};
 pub struct Until {
     pub first: u64,
     pub second: u64,
-}
-
-/// Up to which places of roles and cluster roles, and of role bindings, these grant for certain.
-#[derive(Clone, Copy)]
-pub struct Block {
-    pub until: Until,
-    pub bindings: u64,
 }
 
 // Whether one lasts farther than another in the second cache, or as far there and farther in the first.
@@ -53,55 +44,6 @@ fn lasts_throughout(high: u64, until: Option<Until>) -> bool
     match until {
         Some(until) => high <= until.first && high <= until.second,
         None => false,
-    }
-}
-
-/// Where roles grant, the cluster roles may be at any place.
-pub fn role_block(high: u64, until: Option<Until>) -> Option<Block>
-    ensures { result ≡ role_block high until }
-{
-    let Until { first, second } = until?;
-    Some(Block {
-        until: Until {
-            first,
-            second: high,
-        },
-        bindings: second,
-    })
-}
-
-/// Where cluster roles grant, the roles may be at any place.
-pub fn cluster_role_block(high: u64, until: Option<Until>) -> Option<Block>
-    ensures { result ≡ cluster_role_block high until }
-{
-    let Until { first, second } = until?;
-    Some(Block {
-        until: Until {
-            first: high,
-            second: first,
-        },
-        bindings: second,
-    })
-}
-
-// Whether a block by cluster roles lasts farther than one by roles.
-fn is_past(by_roles: Block, by_cluster_roles: Block) -> bool
-    ensures { result ≡ lesser_number by_roles.bindings by_cluster_roles.bindings
-        (nat_lt by_roles.until.first by_cluster_roles.until.second) }
-{
-    by_roles.bindings < by_cluster_roles.bindings
-        || (by_roles.bindings == by_cluster_roles.bindings
-            && by_roles.until.first < by_cluster_roles.until.second)
-}
-
-/// The one that lasts farther, where there are any.
-pub fn farther_block(by_roles: Option<Block>, by_cluster_roles: Option<Block>) -> Option<Block>
-    ensures { result ≡ farther_block by_roles by_cluster_roles }
-{
-    match (by_roles, by_cluster_roles) {
-        (Some(a), Some(b)) => Some(if is_past(a, b) { b } else { a }),
-        (Some(a), None) => Some(a),
-        (None, b) => b,
     }
 }
 

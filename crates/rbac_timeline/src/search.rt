@@ -2,13 +2,14 @@ ghost use Rattle.std.specs.Prelude.{◌≡◌, ◌≤◌, IfErr, IfNone, IfOk, I
 ghost use Rattle.clouds.specs.FirstPlace.{HoldsNowhere, IsLeastPlace};
 ghost use Rattle.rbac_timeline.specs.declared.way.Way.TheVariants.{ClusterBindings, ClusterRoles, Roles};
 ghost use Rattle.rbac_timeline.specs.Extents.{MustGrantInWay};
-ghost use Rattle.rbac_timeline.specs.Lasting.{HoldsUntil, IsBlock, IsLast, LastsUntil};
-ghost use Rattle.rbac_timeline.specs.Searched.{AreFirstOf, AreLeastOf, FreeFrom, FreeWith, IsFreeAt, IsFreeCluster};
-ghost use Rattle.rbac_timeline.specs.Searched.{IsFreePlain, MayGrantAt, MayGrantBy, NoneFreeFrom, NoneFreeWith};
+ghost use Rattle.rbac_timeline.specs.Freed.{AreFirstFrom, IsBarredClusterRole, IsBarredRole, IsFreed};
+ghost use Rattle.rbac_timeline.specs.Freed.{has_first_roles, turned};
+ghost use Rattle.rbac_timeline.specs.Lasting.{IsLast, LastsUntil};
+ghost use Rattle.rbac_timeline.specs.Searched.{AreFirstOf, IsFreeAt, IsFreeCluster, MayGrantAt, MayGrantBy};
 ghost use Rattle.rbac_timeline.specs.Searched.{all_at, lesser_places, with_cluster_bindings, with_cluster_roles};
 ghost use Rattle.rbac_timeline.specs.Searched.{with_roles};
 
-use crate::lasting::{Block, Until, cluster_role_block, farther_block, role_block};
+use crate::lasting::Until;
 use crate::timeline::Timeline;
 use crate::way::{Link, Way};
 use base_types::{Places, RequestAttrs, User};
@@ -70,6 +71,42 @@ fn with_cluster_bindings(pair: Option<(u64, u64)>, lowest: Places) -> Option<Pla
     })
 }
 
+/// A least place of roles, if there is one, and the last place of role bindings up to which no lesser one is
+/// free.
+#[derive(Clone, Copy)]
+struct Freed {
+    place: Option<u64>,
+    last: u64,
+}
+
+/// The same of all four caches.
+#[derive(Clone, Copy)]
+struct FreeFrom {
+    places: Option<Places>,
+    last: u64,
+}
+
+// The two caches the other way round.
+fn turned(until: Option<Until>) -> Option<Until>
+    ensures { result ≡ turned until }
+{
+    let Until { first, second } = until?;
+    Some(Until {
+        first: second,
+        second: first,
+    })
+}
+
+// Whether both caches of roles are at the first place.
+fn has_first_roles(low: u64, places: Option<Places>) -> bool
+    ensures { result ≡ has_first_roles low places }
+{
+    match places {
+        Some(places) => places.roles <= low && places.cluster_roles <= low,
+        None => false,
+    }
+}
+
 impl<'a> Asked<'a> {
     /// All caches at the range's first place.
     pub fn lowest(&self) -> Places
@@ -129,134 +166,142 @@ impl<'a> Asked<'a> {
         Ok(place)
     }
 
-    // Until where the role bindings grant for certain, by the kind of roles that does so farther: the others may
-    // be at any place.
-    fn block(&self, roles: u64, cluster_roles: u64, bindings: u64) -> Option<Block>
-        requires roles { roles ≤ self.now.high }
-        requires cluster_roles { cluster_roles ≤ self.now.high }
+    // Until where role bindings grant for certain by roles, first by their own places.
+    fn role_bar(&self, bindings: u64, roles: u64) -> Option<Until>
         requires bindings { bindings ≤ self.now.high }
-        ensures some { IfSome result (IsBlock self.now.timeline.now self.now.who.now self.now.attrs.now roles
-            cluster_roles bindings self.now.high) }
-        ensures none { IfNone result (IsFreePlain self.now.timeline.now self.now.who.now self.now.attrs.now
-            roles cluster_roles bindings) }
+        requires roles { roles ≤ self.now.high }
+        ensures { LastsUntil (IsBarredRole self.now.timeline.now self.now.who.now self.now.attrs.now) bindings
+            roles self.now.high result }
     {
-        let by_roles = Link {
+        turned(self.granted_until(Link {
             way: Way::Roles,
             role_place: roles,
             binding_place: bindings,
-        };
-        let by_cluster_roles = Link {
+        }))
+    }
+
+    // Until where role bindings grant for certain by cluster roles, or cluster role bindings wherever they are.
+    fn cluster_role_bar(&self, bindings: u64, cluster_roles: u64) -> Option<Until>
+        requires range { self.now.low ≤ self.now.high }
+        requires bindings { bindings ≤ self.now.high }
+        requires cluster_roles { cluster_roles ≤ self.now.high }
+        ensures { LastsUntil (IsBarredClusterRole self.now.timeline.now self.now.who.now self.now.attrs.now
+            self.now.low self.now.high) bindings cluster_roles self.now.high result }
+    {
+        let granted = turned(self.granted_until(Link {
             way: Way::ClusterRoles,
             role_place: cluster_roles,
             binding_place: bindings,
-        };
-        farther_block(
-            role_block(self.high, self.granted_until(by_roles)),
-            cluster_role_block(self.high, self.granted_until(by_cluster_roles)),
-        )
-    }
-
-    // The least place of the role bindings at which they don't grant for certain, or up to which places of
-    // roles and cluster roles there is none.
-    fn first_free_binding(&self, roles: u64, cluster_roles: u64) -> Result<u64, Until>
-        requires range { self.now.low ≤ self.now.high }
-        requires roles { roles ≤ self.now.high }
-        requires cluster_roles { cluster_roles ≤ self.now.high }
-        ensures found { IfOk result (IsLeastPlace (IsFreePlain self.now.timeline.now self.now.who.now
-            self.now.attrs.now roles cluster_roles) self.now.low self.now.high) }
-        ensures none { IfErr result (HoldsUntil (λ r c. HoldsNowhere
-            (IsFreePlain self.now.timeline.now self.now.who.now self.now.attrs.now r c) self.now.low
-            self.now.high) roles cluster_roles self.now.high) }
-    {
-        let mut place = self.low;
-        let mut first = self.high;
-        let mut second = self.high;
-        'places: while let Some(block) = self.block(roles, cluster_roles, place) {
-            first = first.min(block.until.first);
-            second = second.min(block.until.second);
-            if block.bindings >= self.high {
-                return Err(Until { first, second });
-            }
-            place = block.bindings + 1;
+        }));
+        if granted.is_some() {
+            return granted;
         }
-        Ok(place)
-    }
-
-    // The least places with these of roles and cluster roles at which nothing grants for certain, or up to
-    // which of these there are none.
-    fn free_with(&self, roles: u64, cluster_roles: u64) -> Result<Places, Until>
-        requires range { self.now.low ≤ self.now.high }
-        requires roles_from { self.now.low ≤ roles }
-        requires roles_upto { roles ≤ self.now.high }
-        requires cluster_roles_from { self.now.low ≤ cluster_roles }
-        requires cluster_roles_upto { cluster_roles ≤ self.now.high }
-        ensures found { IfOk result (AreLeastOf (FreeWith self.now.timeline.now self.now.who.now
-            self.now.attrs.now roles cluster_roles) self.now.low self.now.high) }
-        ensures none { IfErr result (HoldsUntil (λ r c. NoneFreeWith self.now.timeline.now self.now.who.now
-            self.now.attrs.now self.now.low self.now.high r c) roles cluster_roles self.now.high) }
-    {
         match self.first_free_cluster_binding(cluster_roles) {
-            Ok(cluster_bindings) => match self.first_free_binding(roles, cluster_roles) {
-                Ok(bindings) => Ok(Places {
-                    roles,
-                    cluster_roles,
-                    bindings,
-                    cluster_bindings,
-                }),
-                Err(until) => Err(until),
-            },
-            Err(last) => Err(Until {
+            Ok(_) => None,
+            Err(last) => Some(Until {
                 first: self.high,
                 second: last,
             }),
         }
     }
 
-    // The least places with this one of roles at which nothing grants for certain, or up to which there are
-    // none.
-    fn first_free(&self, roles: u64) -> Result<Places, u64>
+    // The least place of roles with the role bindings at this one.
+    fn first_free_role(&self, bindings: u64) -> Freed
         requires range { self.now.low ≤ self.now.high }
-        requires from { self.now.low ≤ roles }
-        requires upto { roles ≤ self.now.high }
-        ensures found { IfOk result (AreLeastOf (FreeFrom self.now.timeline.now self.now.who.now
-            self.now.attrs.now roles) self.now.low self.now.high) }
-        ensures none { IfErr result (IsLast (NoneFreeFrom self.now.timeline.now self.now.who.now
-            self.now.attrs.now self.now.low self.now.high) roles self.now.high) }
+        requires upto { bindings ≤ self.now.high }
+        ensures { IsFreed (IsBarredRole self.now.timeline.now self.now.who.now self.now.attrs.now) bindings
+            self.now.low self.now.high result.place result.last }
     {
-        let mut cluster_roles = self.low;
+        let mut place = self.low;
         let mut last = self.high;
-        'places: loop {
-            match self.free_with(roles, cluster_roles) {
-                Ok(places) => return Ok(places),
-                Err(until) => {
-                    last = last.min(until.first);
-                    if until.second >= self.high {
-                        return Err(last);
-                    }
-                    cluster_roles = until.second + 1;
-                }
+        'places: while let Some(until) = self.role_bar(bindings, place) {
+            last = last.min(until.first);
+            if until.second >= self.high {
+                return Freed { place: None, last };
             }
+            place = until.second + 1;
+        }
+        Freed {
+            place: Some(place),
+            last,
         }
     }
 
-    /// The least places at which the request may be forbidden. Where something grants for certain, the search
-    /// goes on behind the places up to which it does.
+    // The same of cluster roles.
+    fn first_free_cluster_role(&self, bindings: u64) -> Freed
+        requires range { self.now.low ≤ self.now.high }
+        requires upto { bindings ≤ self.now.high }
+        ensures { IsFreed (IsBarredClusterRole self.now.timeline.now self.now.who.now self.now.attrs.now
+            self.now.low self.now.high) bindings self.now.low self.now.high result.place result.last }
+    {
+        let mut place = self.low;
+        let mut last = self.high;
+        'places: while let Some(until) = self.cluster_role_bar(bindings, place) {
+            last = last.min(until.first);
+            if until.second >= self.high {
+                return Freed { place: None, last };
+            }
+            place = until.second + 1;
+        }
+        Freed {
+            place: Some(place),
+            last,
+        }
+    }
+
+    // The least free places with the role bindings at this place, which no others are before with the role
+    // bindings up to the last one: roles and cluster roles don't ask for each other there.
+    fn free_from(&self, bindings: u64) -> FreeFrom
+        requires range { self.now.low ≤ self.now.high }
+        requires from { self.now.low ≤ bindings }
+        requires upto { bindings ≤ self.now.high }
+        ensures places { AreFirstFrom self.now.timeline.now self.now.who.now self.now.attrs.now self.now.low
+            self.now.high bindings result.last result.places }
+        ensures from { bindings ≤ result.last }
+        ensures upto { result.last ≤ self.now.high }
+    {
+        let role = self.first_free_role(bindings);
+        let cluster_role = self.first_free_cluster_role(bindings);
+        let last = role.last.min(cluster_role.last);
+        let Some(roles) = role.place else {
+            return FreeFrom { places: None, last };
+        };
+        let Some(cluster_roles) = cluster_role.place else {
+            return FreeFrom { places: None, last };
+        };
+        match self.first_free_cluster_binding(cluster_roles) {
+            Ok(cluster_bindings) => FreeFrom {
+                places: Some(Places {
+                    roles,
+                    cluster_roles,
+                    bindings,
+                    cluster_bindings,
+                }),
+                last,
+            },
+            Err(_) => FreeFrom { places: None, last },
+        }
+    }
+
+    /// The least places at which the request may be forbidden. Where role bindings stand, roles and cluster
+    /// roles have least places of their own, so that those of the bindings alone are gone through.
     pub fn first_forbidden(&self) -> Option<Places>
         requires { self.now.low ≤ self.now.high }
         ensures { AreFirstOf (IsFreeAt self.now.timeline.now self.now.who.now self.now.attrs.now) self.now.low
             self.now.high result }
     {
-        let mut roles = self.low;
+        let mut best = None;
+        let mut bindings = self.low;
         'places: loop {
-            match self.first_free(roles) {
-                Ok(places) => return Some(places),
-                Err(last) => {
-                    if last >= self.high {
-                        return None;
-                    }
-                    roles = last + 1;
-                }
+            let found = self.free_from(bindings);
+            best = lesser_places(best, found.places);
+            if has_first_roles(self.low, best) {
+                return best;
             }
+            if found.last >= self.high {
+                return best;
+            }
+            bindings = found.last + 1;
         }
     }
 }

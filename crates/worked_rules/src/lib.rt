@@ -14,6 +14,8 @@ mod policy_levels;
 #[cfg(test)]
 mod roles_read;
 #[cfg(test)]
+mod several_ends;
+#[cfg(test)]
 mod subjects;
 #[cfg(test)]
 mod timelines;

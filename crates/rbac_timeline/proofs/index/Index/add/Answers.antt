@@ -9,5 +9,4 @@ returns-in-Group c = λ mentions are. rw c.in-Group.is (IsIndexed-group c.args.s
 
 pub returns : goal.returns
 returns c = λ mentions are.
-    rw c.in-ServiceAccount.is (IsIndexed-account c.args.self.now c.add_account.new.accounts c.add_account_user.new.index _ _ c.args.key.now mentions
-    c.in_ok-add_account-in-ServiceAccount.ensures c.in_ok-add_account_user-in-ServiceAccount.ensures are)
+    rw c.in-ServiceAccount.is (IsIndexed-account c.args.self.now c.add_account.new.accounts _ _ c.args.key.now mentions c.in_ok-add_account-in-ServiceAccount.ensures are)

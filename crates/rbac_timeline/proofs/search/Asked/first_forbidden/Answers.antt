@@ -1,27 +1,30 @@
-use Rattle.std.proofs.Common.{◌≤◌, arith}
-use Rattle.rbac_timeline.proofs.Firsts.{AreBehind-more, AreBehind-start, least_of_all, none_at_all}
+use Rattle.std.proofs.Common.{◌≤◌, ◌∙◌, sym, arith}
+use Rattle.rbac_timeline.proofs.Freeing.{AreBefore-more, AreBefore-none, all_before, enough_before}
 use Rattle.rbac_timeline.proofs.search.Asked.first_forbidden.Goals as goal
 
 pub places-init : goal.places-init
-places-init c = let s = c.args.self.now in AreBehind-start s.timeline.now s.who.now s.attrs.now s.low s.high c.requires
+places-init c = let s = c.args.self.now in AreBefore-none s.timeline.now s.who.now s.attrs.now s.low s.high c.requires
 
-pub first_free-requires : goal.first_free-requires
-first_free-requires c = record { range = c.requires; from = c.places.invariant.from; upto = c.places.invariant.upto }
+pub free_from-found-requires : goal.free_from-found-requires
+free_from-found-requires c = record { range = c.requires; from = c.places.invariant.from; upto = c.places.invariant.upto }
 
-pub returns-in-Ok : goal.returns-in-Ok
-returns-in-Ok c =
+pub returns-then-has_first_roles : goal.returns-then-has_first_roles
+returns-then-has_first_roles c =
     let s = c.args.self.now in
-    least_of_all s.timeline.now s.who.now s.attrs.now s.low s.high c.places.roles c.in-Ok.places c.places.invariant c.in-Ok.ensures.found
+    rw c.lesser_places-best.ensures (enough_before s.timeline.now s.who.now s.attrs.now s.low s.high c.places.bindings c.free_from-found.result.last c.places.best c.free_from-found.result.places c.free_from-found.ensures.from
+    (rw c.lesser_places-best.ensures at (sym c.has_first_roles.ensures ∙ c.if-has_first_roles.true)) c.places.invariant c.free_from-found.ensures.places)
 
-pub returns-then-last-self : goal.returns-then-last-self
-returns-then-last-self c =
+pub returns-then-found-self : goal.returns-then-found-self
+returns-then-found-self c =
     let s = c.args.self.now in
-    none_at_all s.timeline.now s.who.now s.attrs.now s.low s.high c.places.roles c.in-Err.last (omega arith) c.places.invariant c.in-Err.ensures.none
+    rw c.lesser_places-best.ensures (all_before s.timeline.now s.who.now s.attrs.now s.low s.high c.places.bindings c.free_from-found.result.last c.places.best c.free_from-found.result.places c.free_from-found.ensures.from
+    (omega arith) c.places.invariant c.free_from-found.ensures.places)
 
 pub places-preserved : goal.places-preserved
 places-preserved c =
     let s = c.args.self.now in
-    AreBehind-more s.timeline.now s.who.now s.attrs.now s.low s.high c.places.roles c.in-Err.last (omega arith) c.places.invariant c.in-Err.ensures.none
+    rw c.lesser_places-best.ensures (AreBefore-more s.timeline.now s.who.now s.attrs.now s.low s.high c.places.bindings c.free_from-found.result.last c.places.best c.free_from-found.result.places c.free_from-found.ensures.from
+    (omega arith) c.places.invariant c.free_from-found.ensures.places)
 
 pub places-smaller : goal.places-smaller
-places-smaller c = let behind : c.places.roles ≤ c.in-Err.last = c.in-Err.ensures.none.from in omega arith
+places-smaller c = let behind : c.places.bindings ≤ c.free_from-found.result.last = c.free_from-found.ensures.from in omega arith
