@@ -29,7 +29,8 @@ impl Body {
 
 /// The body that a member records, which is there and not null.
 pub(crate) fn read_body(alloc: Global, member: Option<&JsonValue<'_>>) -> Result<Body, OutOfMemory>
-    ensures body { IfOk result (λ body. body ≡ body_of (option_map (λ value. view value.now) member.entry)) }
+    ensures body { IfOk result (λ body. body ≡ body_of
+        (option_map (λ value. view value.now) member.entry)) }
     ensures sound { IfOk result IsSoundBody }
 {
     let Some(value) = member else {

@@ -45,7 +45,8 @@ pub(crate) fn text_or_empty(
     value: Option<&JsonValue<'_>>,
     name: &str,
 ) -> Result<Text, OutOfMemory>
-    ensures { IfOk result (λ text. text ≡ text_or_empty name.now (option_map (λ found. view found.now) value.entry)) }
+    ensures { IfOk result (λ text. text ≡ text_or_empty name.now
+        (option_map (λ found. view found.now) value.entry)) }
 {
     match value {
         Some(value) => match text_at(value, name) {

@@ -145,7 +145,8 @@ struct Parties {
 
 // Reads what the rules `M10` and `M11` are about.
 fn read_parties(alloc: Global, value: &JsonValue<'_>) -> Result<Parties, EventFault>
-    ensures users { IfOk result (λ found. users_in (view value.now) ≡ Some (found.user, found.impersonated)) }
+    ensures users { IfOk result (λ found. users_in (view value.now)
+        ≡ Some (found.user, found.impersonated)) }
     ensures code { IfOk result (λ found. code_in (view value.now) ≡ Some found.code) }
     ensures cause { IfErr result (IsCauseFrom 10 (view value.now)) }
 {
@@ -207,7 +208,8 @@ fn read_told(alloc: Global, value: &JsonValue<'_>, stage: Stage) -> Result<Told,
       told.parties.impersonated,
     )) }
     ensures code { IfOk result (λ told. code_in (view value.now) ≡ Some told.parties.code) }
-    ensures status { IfOk result (λ told. told.exchange.status ≡ status_in stage told.parties.code (view value.now)) }
+    ensures status { IfOk result (λ told. told.exchange.status
+        ≡ status_in stage told.parties.code (view value.now)) }
     ensures request { IfOk result (λ told. told.exchange.request ≡ request_in (view value.now)) }
     ensures sound_request { IfOk result (λ told. IsSoundBody told.exchange.request) }
     ensures response { IfOk result (λ told. told.exchange.response ≡ response_in (view value.now)) }
@@ -234,9 +236,11 @@ fn assemble(
     requires numbers { has_whole_numbers (view value.now) ≡ true }
     requires audit_id { audit_id_in (view value.now) ≡ Some request.audit_id }
     requires attrs { IsRequestOf (view value.now) request.attrs }
-    requires users { users_in (view value.now) ≡ Some (told.parties.user, told.parties.impersonated) }
+    requires users { users_in (view value.now) ≡ Some
+        (told.parties.user, told.parties.impersonated) }
     requires code { code_in (view value.now) ≡ Some told.parties.code }
-    requires status { told.exchange.status ≡ status_in recording.stage told.parties.code (view value.now) }
+    requires status { told.exchange.status ≡ status_in recording.stage told.parties.code
+        (view value.now) }
     requires sent { told.exchange.request ≡ request_in (view value.now) }
     requires sound_sent { IsSoundBody told.exchange.request }
     requires answered { told.exchange.response ≡ response_in (view value.now) }

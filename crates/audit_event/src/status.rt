@@ -57,8 +57,9 @@ fn source_of<'v, 'a>(
     response: Option<&'v JsonValue<'a>>,
     status: Option<&'v JsonValue<'a>>,
 ) -> Option<&'v JsonValue<'a>>
-    ensures { option_map (λ value. view value.now) result
-        ≡ source_of is_kept (option_map (λ value. view value.now) response.entry) (option_map (λ value. view value.now) status.entry) }
+    ensures { option_map (λ value. view value.now) result ≡ source_of is_kept
+        (option_map (λ value. view value.now) response.entry)
+        (option_map (λ value. view value.now) status.entry) }
 {
     match response {
         Some(response) if is_kept && says(response, "kind", "Status") => Some(response),
@@ -76,8 +77,8 @@ fn succeeds(source: Option<&JsonValue<'_>>) -> bool
 }
 
 fn details_of<'v, 'a>(source: Option<&'v JsonValue<'a>>) -> Option<&'v JsonValue<'a>>
-    ensures { option_map (λ value. view value.now) result ≡ details_of (option_map (λ value. view value.now)
-        source.entry) }
+    ensures { option_map (λ value. view value.now) result ≡ details_of
+        (option_map (λ value. view value.now) source.entry) }
 {
     source?.get("details")
 }
@@ -87,7 +88,8 @@ fn read_with(
     code: Option<u16>,
     source: Option<&JsonValue<'_>>,
 ) -> Result<Status, OutOfMemory>
-    ensures { IfOk result (λ status. status ≡ status_with code (option_map (λ value. view value.now) source.entry)) }
+    ensures { IfOk result (λ status. status ≡ status_with code
+        (option_map (λ value. view value.now) source.entry)) }
 {
     let details = details_of(source);
     Ok(Status {
@@ -108,7 +110,9 @@ pub(crate) fn read_status(
     code: Option<u16>,
     is_kept: bool,
 ) -> Result<Status, OutOfMemory>
-    ensures { IfOk result (λ status. status ≡ status_with (answered_code stage code) (source_of is_kept (present (codes "responseObject") (view value.now)) (present (codes "responseStatus") (view value.now)))) }
+    ensures { IfOk result (λ status. status ≡ status_with (answered_code stage code)
+        (source_of is_kept (present (codes "responseObject") (view value.now))
+        (present (codes "responseStatus") (view value.now)))) }
 {
     let response = present(value, "responseObject");
     let status = present(value, "responseStatus");

@@ -22,7 +22,8 @@ fn read_texts(alloc: Global, list: &Vec<JsonValue<'_>>) -> Result<Option<Texts>,
 }
 
 fn read_groups(alloc: Global, member: Option<&JsonValue<'_>>) -> Result<Option<Texts>, OutOfMemory>
-    ensures { IfOk result (λ found. found ≡ groups_of (option_map (λ value. view value.now) member.entry)) }
+    ensures { IfOk result (λ found. found ≡ groups_of
+        (option_map (λ value. view value.now) member.entry)) }
 {
     let Some(value) = member else {
         return Ok(Some(Texts::new(alloc)));
@@ -34,7 +35,8 @@ fn read_groups(alloc: Global, member: Option<&JsonValue<'_>>) -> Result<Option<T
 }
 
 fn read_name(alloc: Global, member: Option<&JsonValue<'_>>) -> Result<Option<Text>, OutOfMemory>
-    ensures { IfOk result (λ found. found ≡ name_of (option_map (λ value. view value.now) member.entry)) }
+    ensures { IfOk result (λ found. found ≡ name_of
+        (option_map (λ value. view value.now) member.entry)) }
 {
     let Some(value) = member else {
         return Ok(Some(Text::new(alloc)));
@@ -65,7 +67,8 @@ fn read_impersonated(
     alloc: Global,
     member: Option<&JsonValue<'_>>,
 ) -> Result<Option<Option<User>>, OutOfMemory>
-    ensures { IfOk result (λ found. found ≡ impersonated_of (option_map (λ value. view value.now) member.entry)) }
+    ensures { IfOk result (λ found. found ≡ impersonated_of
+        (option_map (λ value. view value.now) member.entry)) }
 {
     match member {
         Some(value) => Ok(read_user(alloc, value)?.map(Some)),

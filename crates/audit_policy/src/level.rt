@@ -22,7 +22,8 @@ fn first_match<'a>(
     attrs: &RequestAttrs,
     user: &User,
 ) -> Option<&'a AuditRule>
-    ensures { option_map (λ rule. rule.now) result ≡ find (rule_matches attrs.now user.now) rules.now }
+    ensures { option_map (λ rule. rule.now) result ≡ find
+        (rule_matches attrs.now user.now) rules.now }
 {
     rules.iter().find(|rule| rule.matches(attrs, user))
 }

@@ -67,7 +67,8 @@ fn stages_at(tree: &Tree) -> Option<StageSet>
 }
 
 fn group_of(alloc: Global, member: Option<&Tree>) -> Result<Option<Text>, OutOfMemory>
-    ensures { IfOk result (λ found. found ≡ group_or_core (option_map (λ tree. tree.now) member.entry)) }
+    ensures { IfOk result (λ found. found ≡ group_or_core
+        (option_map (λ tree. tree.now) member.entry)) }
 {
     let Some(value) = member else {
         return Ok(Some(Text::new(alloc)));
@@ -117,7 +118,8 @@ fn read_resources(
     alloc: Global,
     member: Option<&Tree>,
 ) -> Result<Option<GroupResourcesList>, OutOfMemory>
-    ensures { IfOk result (λ found. found ≡ items_or_none (option_map (λ tree. tree.now) member.entry)) }
+    ensures { IfOk result (λ found. found ≡ items_or_none
+        (option_map (λ tree. tree.now) member.entry)) }
 {
     let Some(value) = member else {
         return Ok(Some(GroupResourcesList::new(alloc)));
@@ -153,8 +155,8 @@ struct Targets {
 
 fn read_callers(alloc: Global, tree: &Tree) -> Result<Option<Callers>, OutOfMemory>
     ensures { IfOk result (λ found. found ≡ (texts_at (codes "users") tree.now and_then λ users.
-        texts_at (codes "userGroups") tree.now and_then λ groups. texts_at (codes "verbs") tree.now and_then λ verbs.
-        Some (record { users = users; user_groups = groups; verbs = verbs }))) }
+        texts_at (codes "userGroups") tree.now and_then λ groups. texts_at (codes "verbs") tree.now
+        and_then λ verbs. Some (record { users = users; user_groups = groups; verbs = verbs }))) }
 {
     let Some(users) = tree.texts_at(alloc, "users")? else {
         return Ok(None);
@@ -173,10 +175,10 @@ fn read_callers(alloc: Global, tree: &Tree) -> Result<Option<Callers>, OutOfMemo
 }
 
 fn read_targets(alloc: Global, tree: &Tree) -> Result<Option<Targets>, OutOfMemory>
-    ensures { IfOk result (λ found. found ≡ (texts_at (codes "namespaces") tree.now and_then λ namespaces.
-        texts_at (codes "nonResourceURLs") tree.now and_then λ urls.
-        items_or_none (member_of (codes "resources") tree.now) and_then λ resources.
-        Some (record { namespaces = namespaces; non_resource_urls = urls; resources = resources }))) }
+    ensures { IfOk result (λ found. found ≡ (texts_at (codes "namespaces") tree.now
+        and_then λ namespaces. texts_at (codes "nonResourceURLs") tree.now and_then λ urls.
+        items_or_none (member_of (codes "resources") tree.now) and_then λ resources. Some
+        (record { namespaces = namespaces; non_resource_urls = urls; resources = resources }))) }
 {
     let Some(namespaces) = tree.texts_at(alloc, "namespaces")? else {
         return Ok(None);
@@ -233,7 +235,8 @@ fn read_rule(alloc: Global, tree: &Tree) -> Result<Option<AuditRule>, OutOfMemor
 
 // Whether an object of this kind and version is a policy.
 fn is_policy(kind: &Text, version: &Text) -> bool
-    ensures { result ≡ (bytes_eq kind.now (codes "Policy") && bytes_eq version.now (codes "audit.k8s.io/v1")) }
+    ensures { result ≡ (bytes_eq kind.now (codes "Policy") && bytes_eq version.now
+        (codes "audit.k8s.io/v1")) }
 {
     kind.as_str() == "Policy" && version.as_str() == "audit.k8s.io/v1"
 }

@@ -42,7 +42,8 @@ impl Revision {
 /// Reads a revision in its one spelling: decimal digits without a leading zero.
 pub fn read_revision(text: &[u8]) -> Option<Revision>
     ensures some { IfSome result (λ revision. text.now ≡ decimal revision) }
-    ensures none { IfNone result ((revision : ℕ) → IsRevision revision → text.now ≢ decimal revision) }
+    ensures none { IfNone result ((revision : ℕ) → IsRevision revision
+        → text.now ≢ decimal revision) }
 {
     if text.is_empty() {
         return None;

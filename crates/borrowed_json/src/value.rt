@@ -68,7 +68,8 @@ impl<'a> JsonValue<'a> {
     }
 
     pub fn as_object(&self) -> Option<&Map<'a>>
-        ensures { option_map (λ map. members_view map.now.entries) result ≡ as_object (view self.now) }
+        ensures { option_map (λ map. members_view map.now.entries) result
+            ≡ as_object (view self.now) }
     {
         match self {
             JsonValue::Object(map) => Some(map),

@@ -30,7 +30,8 @@ pub fn append_held(log: &mut String, name: usize, held: &Held) -> Result<(), Out
 
 /// Appends the answer to a deletion.
 pub fn append_success(log: &mut String, name: usize, held: &Held) -> Result<(), OutOfMemory>
-    ensures { OnOk result (string_bytes log.new ≡ string_bytes log.old ++ success_text name held.now) }
+    ensures { OnOk result (string_bytes log.new ≡ string_bytes log.old ++ success_text
+        name held.now) }
 {
     write!(
         log,
@@ -57,7 +58,8 @@ pub fn append_list(
     revision: u64,
     objects: &[Option<Held>],
 ) -> Result<(), OutOfMemory>
-    ensures { OnOk result (string_bytes log.new ≡ string_bytes log.old ++ list_text revision objects.now) }
+    ensures { OnOk result (string_bytes log.new ≡ string_bytes log.old ++ list_text revision
+        objects.now) }
 {
     write!(
         log,

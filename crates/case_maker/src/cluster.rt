@@ -31,7 +31,8 @@ pub fn first_cluster(seed: u64) -> Cluster
 pub fn append_next(log: &mut String, cluster: &mut Cluster, number: u32) -> Result<(), OutOfMemory>
     requires number { number + 3 < 3600000 }
     requires revision { cluster.old.revision + 1 < 2 ^ 64 }
-    ensures line { OnOk result (string_bytes log.new ≡ string_bytes log.old ++ line_at cluster.old number) }
+    ensures line { OnOk result (string_bytes log.new ≡ string_bytes log.old ++ line_at
+        cluster.old number) }
     ensures state { OnOk result (cluster.new ≡ state_past cluster.old number) }
 {
     let name = draw(&mut cluster.random, 64) as usize;

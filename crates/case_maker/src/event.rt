@@ -20,8 +20,8 @@ pub struct Event<'a> {
 /// Appends the line of an event, with its newline.
 pub fn append_event(log: &mut String, event: &Event<'_>) -> Result<(), OutOfMemory>
     requires { event.now.number + 3 < 3600000 }
-    ensures { OnOk result (string_bytes log.new ≡ string_bytes log.old ++ event_text event.now.number
-        (wording event.now)) }
+    ensures { OnOk result (string_bytes log.new ≡ string_bytes log.old ++ event_text
+        event.now.number (wording event.now)) }
 {
     append_head(log, event.number)?;
     append_wording(log, event)?;
@@ -42,7 +42,8 @@ fn append_head(log: &mut String, number: u32) -> Result<(), OutOfMemory>
 
 // From the URI to the answer.
 fn append_wording(log: &mut String, event: &Event<'_>) -> Result<(), OutOfMemory>
-    ensures { OnOk result (string_bytes log.new ≡ string_bytes log.old ++ wording_text (wording event.now)) }
+    ensures { OnOk result (string_bytes log.new ≡ string_bytes log.old ++ wording_text
+        (wording event.now)) }
 {
     let request = request_of(event);
     append_path(log, request.name)?;
@@ -124,7 +125,8 @@ fn append_verb(log: &mut String, verb: &str, code: u16) -> Result<(), OutOfMemor
 }
 
 fn append_asked_member(log: &mut String, event: &Event<'_>) -> Result<(), OutOfMemory>
-    ensures { OnOk result (string_bytes log.new ≡ string_bytes log.old ++ (wording event.now).asked) }
+    ensures { OnOk result (string_bytes log.new ≡ string_bytes log.old ++
+        (wording event.now).asked) }
 {
     match event.exchange {
         Exchange::Create(_) | Exchange::Update(_) => {
@@ -137,7 +139,8 @@ fn append_asked_member(log: &mut String, event: &Event<'_>) -> Result<(), OutOfM
 }
 
 fn append_answer(log: &mut String, event: &Event<'_>) -> Result<(), OutOfMemory>
-    ensures { OnOk result (string_bytes log.new ≡ string_bytes log.old ++ (wording event.now).answered) }
+    ensures { OnOk result (string_bytes log.new ≡ string_bytes log.old ++
+        (wording event.now).answered) }
 {
     let name = event.name;
     match &event.exchange {

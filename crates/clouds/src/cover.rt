@@ -69,7 +69,8 @@ impl CoverSpans {
 
     /// The least place from `low` to `high` at which some span of the key has begun that reaches the revision.
     pub fn first_reached(&self, key: &ObjectKey, revision: u64, low: u64, high: u64) -> Option<u64>
-        ensures { IsFirstPlace (λ place. Any (ReachesKey key.now place revision) self.now) low high result }
+        ensures { IsFirstPlace (λ place. Any (ReachesKey key.now place revision) self.now) low
+            high result }
     {
         if !covers(&self.cover, key) {
             return None;

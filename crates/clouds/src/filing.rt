@@ -25,7 +25,8 @@ impl Filed {
     // The least place from `low` to `high` at which some span of the key has begun that reaches the revision.
     fn first_reached(&self, key: &ObjectKey, revision: u64, low: u64, high: u64) -> Option<u64>
         ensures { (spans : List OpaqueSpan) → AreFiled self.now.named self.now.wide spans
-            → IsFirstPlace (λ place. Any (ReachesKey key.now place revision) spans) low high result }
+            → IsFirstPlace (λ place. Any (ReachesKey key.now place revision) spans) low
+            high result }
     {
         lesser_place(
             first_reached(self.named.get(key), key, revision, low, high),
@@ -44,7 +45,8 @@ impl Filed {
     ) -> Option<u64>
         requires { IsNonDecreasing revisions.now }
         ensures { (spans : List OpaqueSpan) → AreFiled self.now.named self.now.wide spans
-            → IsFirstUntilNext (λ place. Any (HidesKey revisions.now key.now place) spans) revisions.now low high result }
+            → IsFirstUntilNext (λ place. Any (HidesKey revisions.now key.now place) spans)
+            revisions.now low high result }
     {
         let last = last_before_next(revisions, low).min(high);
         self.first_reached(key, latest(revisions, low), low, last)
@@ -107,7 +109,8 @@ fn file(alloc: Global, filed: &mut Filed, span: &OpaqueSpan) -> Result<(), OutOf
 }
 
 fn file_each(alloc: Global, spans: &[&OpaqueSpan]) -> Result<Filed, OutOfMemory>
-    ensures { IfOk result (λ filed. AreFiled filed.named filed.wide (map (λ span. span.now) spans.now)) }
+    ensures { IfOk result (λ filed. AreFiled filed.named filed.wide
+        (map (λ span. span.now) spans.now)) }
 {
     let mut filed = Filed {
         named: BTreeMap::new(alloc),

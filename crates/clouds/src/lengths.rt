@@ -31,7 +31,8 @@ impl Lengths {
 
     /// Puts a length in its place, unless it is there.
     pub fn add(&mut self, length: usize) -> Result<(), OutOfMemory>
-        ensures { OnOk result ((other : ℕ) → Contains self.new other ↔ (Contains self.old other ⊎ (other ≡ length))) }
+        ensures { OnOk result ((other : ℕ) → Contains self.new other
+            ↔ (Contains self.old other ⊎ (other ≡ length))) }
     {
         let place = self.lengths.partition_point(|other| *other <= length);
         if place > 0 && self.lengths[place - 1] == length {

@@ -27,8 +27,8 @@ fn add_revision(
     recorded: &mut BTreeMap<ObjectKey, Recorded>,
     write: &KeyRevision,
 ) -> Result<(), OutOfMemory>
-    ensures revisions { OnOk result (Adds key_order (revisions_at recorded.old) (revisions_at recorded.new)
-        write.now.key write.now.revision) }
+    ensures revisions { OnOk result (Adds key_order (revisions_at recorded.old)
+        (revisions_at recorded.new) write.now.key write.now.revision) }
     ensures firsts { OnOk result (AreSame (firsts_at recorded.old) (firsts_at recorded.new)) }
 {
     let revision = write.revision.get();
@@ -49,7 +49,8 @@ fn add_revision(
 }
 
 fn by_revision(alloc: Global, writes: &[KeyRevision]) -> Result<Vec<&KeyRevision>, OutOfMemory>
-    ensures { IfOk result (λ order. IsPermutation writes.now (map (λ write. write.now) order.items)) }
+    ensures { IfOk result (λ order. IsPermutation writes.now
+        (map (λ write. write.now) order.items)) }
 {
     let mut order: Vec<&KeyRevision> = writes.iter().collect(alloc)?;
     order.sort_by_key(|write| write.revision.get())?;
@@ -60,7 +61,8 @@ fn record_each(
     alloc: Global,
     writes: &[&KeyRevision],
 ) -> Result<BTreeMap<ObjectKey, Recorded>, OutOfMemory>
-    ensures revisions { IfOk result (λ recorded. AreRecorded (revisions_at recorded) (map (λ write. write.now) writes.now)) }
+    ensures revisions { IfOk result (λ recorded. AreRecorded (revisions_at recorded)
+        (map (λ write. write.now) writes.now)) }
     ensures firsts { IfOk result (λ recorded. (key : ObjectKey) → firsts_at recorded key ≡ []) }
 {
     let mut recorded = BTreeMap::new(alloc);
@@ -78,9 +80,12 @@ fn add_first(
     write: &KeyRevision,
 ) -> Result<(), OutOfMemory>
     requires { Contains (revisions_at recorded.now write.now.key) write.now.revision }
-    ensures revisions { OnOk result (AreSame (revisions_at recorded.old) (revisions_at recorded.new)) }
-    ensures firsts { OnOk result ((spans : List OpaqueSpan) → AreFiled filed.now.named filed.now.wide spans
-        → AddsFirst spans (revisions_at recorded.old write.now.key) (firsts_at recorded.old) (firsts_at recorded.new)
+    ensures revisions { OnOk result (AreSame (revisions_at recorded.old)
+        (revisions_at recorded.new)) }
+    ensures firsts { OnOk result ((spans : List OpaqueSpan)
+        → AreFiled filed.now.named filed.now.wide spans
+        → AddsFirst spans (revisions_at recorded.old write.now.key) (firsts_at recorded.old)
+        (firsts_at recorded.new)
         write.now.key write.now.revision) }
 {
     let Some(held) = recorded.get_mut(&write.key) else {
@@ -99,11 +104,15 @@ fn add_each_first(
     recorded: &mut BTreeMap<ObjectKey, Recorded>,
     writes: &[&KeyRevision],
 ) -> Result<(), OutOfMemory>
-    requires revisions { AreRecorded (revisions_at recorded.now) (map (λ write. write.now) writes.now) }
+    requires revisions { AreRecorded (revisions_at recorded.now)
+        (map (λ write. write.now) writes.now) }
     requires firsts { (key : ObjectKey) → firsts_at recorded.now key ≡ [] }
-    ensures revisions { OnOk result (AreSame (revisions_at recorded.old) (revisions_at recorded.new)) }
-    ensures firsts { OnOk result ((spans : List OpaqueSpan) → AreFiled filed.now.named filed.now.wide spans
-        → (key : ObjectKey) → AreFirstClouded (record { spans = spans; revisions = map (λ write. write.now) writes.now })
+    ensures revisions { OnOk result (AreSame (revisions_at recorded.old)
+        (revisions_at recorded.new)) }
+    ensures firsts { OnOk result ((spans : List OpaqueSpan)
+        → AreFiled filed.now.named filed.now.wide spans
+        → (key : ObjectKey) → AreFirstClouded
+        (record { spans = spans; revisions = map (λ write. write.now) writes.now })
         key (firsts_at recorded.new key)) }
 {
     for write in writes {
@@ -122,8 +131,9 @@ pub fn all_recorded(
 ) -> Result<BTreeMap<ObjectKey, Recorded>, OutOfMemory>
     requires { AreFiled filed.now.named filed.now.wide spans.now }
     ensures revisions { IfOk result (λ recorded. AreRecorded (revisions_at recorded) writes.now) }
-    ensures firsts { IfOk result (λ recorded. (key : ObjectKey) → AreFirstClouded (record { spans = spans.now; revisions = writes.now })
-        key (firsts_at recorded key)) }
+    ensures firsts { IfOk result (λ recorded. (key : ObjectKey)
+        → AreFirstClouded (record { spans = spans.now; revisions = writes.now }) key
+        (firsts_at recorded key)) }
 {
     let order = by_revision(alloc, writes)?;
     let mut recorded = record_each(alloc, &order)?;

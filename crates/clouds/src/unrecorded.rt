@@ -59,7 +59,8 @@ impl Unrecorded {
 
     /// The least place from `low` to `high` at which some span of the key has begun that reaches the revision.
     pub fn first_reached(&self, key: &ObjectKey, revision: u64, low: u64, high: u64) -> Option<u64>
-        ensures { IsFirstPlace (λ place. Any (ReachesKey key.now place revision) self.now) low high result }
+        ensures { IsFirstPlace (λ place. Any (ReachesKey key.now place revision) self.now) low
+            high result }
     {
         let mut first = None;
         for part in &self.parts {
@@ -99,7 +100,8 @@ fn some_reaches(parts: &[CoverSpans], key: &ObjectKey, place: u64, revision: u64
 
 /// Whether some span of the key begins below the place and reaches the revision, where there are any.
 pub fn reach(spans: Option<&Unrecorded>, key: &ObjectKey, place: u64, revision: u64) -> bool
-    ensures { IsTrue result ↔ Any (ReachesKey key.now place revision) (items_of (option_copied spans.entry)) }
+    ensures { IsTrue result ↔ Any (ReachesKey key.now place revision)
+        (items_of (option_copied spans.entry)) }
 {
     match spans {
         Some(spans) => spans.reach(key, place, revision),

@@ -78,9 +78,12 @@ fn give_namespace(
 }
 
 fn give_scope(alloc: Global, numbers: &mut Numbers, cover: &Cover) -> Result<Scope, OutOfMemory>
-    ensures group { IfOk result (λ scope. number_of numbers.new cover.now.group ≡ Some scope.group) }
-    ensures resource { IfOk result (λ scope. number_of numbers.new cover.now.resource ≡ Some scope.resource) }
-    ensures namespace { IfOk result (λ scope. IsNumbered numbers.new cover.now.namespace scope.namespace) }
+    ensures group { IfOk result (λ scope. number_of numbers.new cover.now.group
+        ≡ Some scope.group) }
+    ensures resource { IfOk result (λ scope. number_of numbers.new cover.now.resource
+        ≡ Some scope.resource) }
+    ensures namespace { IfOk result (λ scope. IsNumbered numbers.new cover.now.namespace
+        scope.namespace) }
     ensures kept { OnOk result (Extends numbers.old numbers.new) }
 {
     let group = give_number(alloc, numbers, cover.group.as_bytes())?;
@@ -181,7 +184,8 @@ impl Wide {
         place: u64,
         revision: u64,
     ) -> bool
-        ensures { IsTrue result ↔ Any (ReachesKey key.now place revision) (spans_by self.now scope key.now count) }
+        ensures { IsTrue result ↔ Any (ReachesKey key.now place revision)
+            (spans_by self.now scope key.now count) }
     {
         let front = front_of_name(&key.name, count);
         reach(self.spans_of_front(scope, front), key, place, revision)
@@ -195,7 +199,8 @@ impl Wide {
         place: u64,
         revision: u64,
     ) -> bool
-        ensures { IsTrue result ↔ AnyOf self.now scope key.now counts.now (ReachesKey key.now place revision) }
+        ensures { IsTrue result ↔ AnyOf self.now scope key.now counts.now
+            (ReachesKey key.now place revision) }
     {
         counts.iter().any(|count| self.front_reaches(scope, key, *count, place, revision))
     }
@@ -234,8 +239,8 @@ impl Wide {
         low: u64,
         high: u64,
     ) -> Option<u64>
-        ensures { IsFirstPlace (λ place. AnyOf self.now scope key.now counts.now (ReachesKey key.now place revision))
-            low high result }
+        ensures { IsFirstPlace (λ place. AnyOf self.now scope key.now counts.now
+            (ReachesKey key.now place revision)) low high result }
     {
         let mut first = None;
         for count in counts {
@@ -253,8 +258,8 @@ impl Wide {
         low: u64,
         high: u64,
     ) -> Option<u64>
-        ensures { IsFirstPlace (λ place. AnyIn self.now key.now scope (ReachesKey key.now place revision))
-            low high result }
+        ensures { IsFirstPlace (λ place. AnyIn self.now key.now scope
+            (ReachesKey key.now place revision)) low high result }
     {
         let scope = scope?;
         let counts = self.lengths_upto(scope, key.name.len());
@@ -263,8 +268,8 @@ impl Wide {
 
     /// The least place from `low` to `high` at which some span of the key has begun that reaches the revision.
     pub fn first_reached(&self, key: &ObjectKey, revision: u64, low: u64, high: u64) -> Option<u64>
-        ensures { IsFirstPlace (λ place. AnyWide self.now key.now (ReachesKey key.now place revision))
-            low high result }
+        ensures { IsFirstPlace (λ place. AnyWide self.now key.now
+            (ReachesKey key.now place revision)) low high result }
     {
         lesser_place(
             self.first_in_scope(self.own_scope(key), key, revision, low, high),

@@ -28,8 +28,10 @@ pub trait Desk {
     fn read(&mut self, name: &str, into: &mut [u8]) -> Result<usize, DeskFailed>
         requires { 0 < length into.old }
         ensures bound { ReadsAtMost result into.new }
-        ensures bytes { ReadConsumes (left self.old name.now) (left self.new name.now) result into.new }
-        ensures others { (other : List ℕ) → other ≢ name.now → left self.new other ≡ left self.old other }
+        ensures bytes { ReadConsumes (left self.old name.now) (left self.new name.now)
+            result into.new }
+        ensures others { (other : List ℕ) → other ≢ name.now → left self.new other
+            ≡ left self.old other }
         ensures cause { HasCause (faults self.old) (faults self.new) result };
 }
 

@@ -97,9 +97,12 @@ fn find_named(files: &[OpenFile], name: &str) -> Option<usize>
 
 /// Moves bytes of a name to the front of `into`: those of the first file of that name.
 pub fn give_named(files: &mut [OpenFile], name: &str, most: usize, into: &mut [u8]) -> usize
-    ensures count { result ≡ min (min most (length into.new)) (length (left_of files.old name.now)) }
-    ensures given { left_of files.old name.now ≡ take result into.new ++ left_of files.new name.now }
-    ensures others { (other : List ℕ) → other ≢ name.now → left_of files.new other ≡ left_of files.old other }
+    ensures count { result ≡ min (min most (length into.new))
+        (length (left_of files.old name.now)) }
+    ensures given { left_of files.old name.now ≡ take result into.new ++ left_of
+        files.new name.now }
+    ensures others { (other : List ℕ) → other ≢ name.now → left_of files.new other
+        ≡ left_of files.old other }
 {
     match find_named(files, name) {
         Some(at) => files[at].give(most, into),

@@ -127,10 +127,12 @@ fn read_named<R: Files + Input>(
     into: &mut [u8],
 ) -> Result<usize, DeskFailed>
     ensures bound { ReadsAtMost result into.new }
-    ensures bytes { ReadConsumes (left_of_name R.File.remaining R.Reader.remaining sources.old name.now)
-        (left_of_name R.File.remaining R.Reader.remaining sources.new name.now) result into.new }
-    ensures others { (other : List ℕ) → other ≢ name.now → left_of_name R.File.remaining R.Reader.remaining sources.new
-        other ≡ left_of_name R.File.remaining R.Reader.remaining sources.old other }
+    ensures bytes { ReadConsumes (left_of_name R.File.remaining R.Reader.remaining sources.old
+        name.now) (left_of_name R.File.remaining R.Reader.remaining sources.new name.now)
+        result into.new }
+    ensures others { (other : List ℕ) → other ≢ name.now → left_of_name R.File.remaining
+        R.Reader.remaining sources.new other ≡ left_of_name R.File.remaining R.Reader.remaining
+        sources.old other }
 {
     match sources.get_mut(name) {
         Some(source) => read_source(rt, source, name, into),

@@ -34,9 +34,10 @@ pub fn read_whole<D: Desk>(
 ) -> Result<Bytes, WholeStop>
     requires some { 0 < length buffer.old }
     requires piece { length buffer.old ≤ most_piece }
-    ensures reads { ReadsWhole most (D.left desk.old name.now) (D.left desk.new name.now) (D.faults desk.old)
-        (D.faults desk.new) result }
-    ensures others { (other : List ℕ) → other ≢ name.now → D.left desk.new other ≡ D.left desk.old other }
+    ensures reads { ReadsWhole most (D.left desk.old name.now) (D.left desk.new name.now)
+        (D.faults desk.old) (D.faults desk.new) result }
+    ensures others { (other : List ℕ) → other ≢ name.now → D.left desk.new other
+        ≡ D.left desk.old other }
 {
     let mut bytes = Vec::new(alloc);
     'pieces: loop {
@@ -71,12 +72,15 @@ pub fn read_input<D: Desk>(
     name: &str,
     most: usize,
 ) -> Result<Bytes, WholeStop>
-    ensures answers { (bytes : List ℕ) → D.left desk.old name.now ≡ Some bytes → AnswersWhole most bytes result }
+    ensures answers { (bytes : List ℕ) → D.left desk.old name.now ≡ Some bytes
+        → AnswersWhole most bytes result }
     ensures within { IfOk result (λ all. length all ≤ most) }
     ensures whole { OnOk result (IsAtEnd (D.left desk.new name.now)) }
-    ensures fault { IsErrOf result WholeStop.ReadFault → Rose (D.faults desk.old) (D.faults desk.new) }
+    ensures fault { IsErrOf result WholeStop.ReadFault → Rose (D.faults desk.old)
+        (D.faults desk.new) }
     ensures counted { D.faults desk.old ≤ D.faults desk.new }
-    ensures others { (other : List ℕ) → other ≢ name.now → D.left desk.new other ≡ D.left desk.old other }
+    ensures others { (other : List ℕ) → other ≢ name.now → D.left desk.new other
+        ≡ D.left desk.old other }
 {
     let Ok(mut buffer) = piece_buffer(alloc) else {
         return Err(WholeStop::OutOfMemory);

@@ -107,7 +107,8 @@ fn step(alloc: Global, tree: &mut Draft, known: Option<u64>, op: &Op) -> Result<
 
 // The size of a document that had so many values within the limits, as far as the limits ask.
 fn size_after(count: u64, change: Change) -> Size
-    ensures { (old new : Meaning) → IsWithin old count → IsChange old new change → Tells new result }
+    ensures { (old new : Meaning) → IsWithin old count → IsChange old new change
+        → Tells new result }
 {
     Size {
         values: count
@@ -141,7 +142,8 @@ fn make(alloc: Global, tree: &mut Draft, op: &Op) -> Result<Change, Refusal>
 fn change_by(alloc: Global, tree: &mut Draft, path: &[Text], edit: Edit) -> Result<Change, Refusal>
     ensures done { IfOk result (λ _. edited_at path.now edit tree.old ≡ Ok tree.new) }
     ensures change { IfOk result (IsChange tree.old tree.new) }
-    ensures refused { IfErr result (RefusedBy (and_then (edited_at path.now edit tree.old) within_limits)) }
+    ensures refused { IfErr result (RefusedBy
+        (and_then (edited_at path.now edit tree.old) within_limits)) }
 {
     let (came, depth) = coming(&edit, path.len());
     if depth > MAX_DEPTH {
@@ -199,7 +201,8 @@ fn move_value(
 ) -> Result<Change, Refusal>
     ensures done { IfOk result (λ _. moved from.now path.now tree.old ≡ Ok tree.new) }
     ensures change { IfOk result (IsChange tree.old tree.new) }
-    ensures refused { IfErr result (RefusedBy (and_then (moved from.now path.now tree.old) within_limits)) }
+    ensures refused { IfErr result (RefusedBy
+        (and_then (moved from.now path.now tree.old) within_limits)) }
 {
     if is_proper_prefix(from, path) {
         return Err(Refusal::Cause(ApplyCause::IntoItself));
@@ -244,7 +247,8 @@ fn copy_value(
 ) -> Result<Change, Refusal>
     ensures done { IfOk result (λ _. copied from.now path.now tree.old ≡ Ok tree.new) }
     ensures change { IfOk result (IsChange tree.old tree.new) }
-    ensures refused { IfErr result (RefusedBy (and_then (copied from.now path.now tree.old) within_limits)) }
+    ensures refused { IfErr result (RefusedBy
+        (and_then (copied from.now path.now tree.old) within_limits)) }
 {
     let value = match get(tree, from)? {
         Some(value) => copy(alloc, value)?,
@@ -256,7 +260,8 @@ fn copy_value(
 fn test_value(tree: &Draft, path: &Pointer, value: &Tree) -> Result<Change, Refusal>
     ensures done { IfOk result (λ _. tested path.now value.now tree.now ≡ Ok tree.now) }
     ensures change { IfOk result (IsChange tree.now tree.now) }
-    ensures refused { IfErr result (RefusedBy (and_then (tested path.now value.now tree.now) within_limits)) }
+    ensures refused { IfErr result (RefusedBy
+        (and_then (tested path.now value.now tree.now) within_limits)) }
 {
     match get(tree, path)? {
         None => Err(Refusal::Cause(ApplyCause::NoValue)),

@@ -152,7 +152,8 @@ pub fn find(parts: &[Chunk], token: &str) -> Result<Option<Place>, OutOfMemory>
     ensures place { IfOk result (λ found. IfSome found (IsPlaceIn parts.now)) }
     ensures number { IfOk result (λ found. IfSome found (λ place. index_of token.now ≡
         Some (number_of parts.now place))) }
-    ensures none { IfOk result (λ found. IfNone found (option_and_then (λ n. kid_at n (kids_of (joined parts.now)))
+    ensures none { IfOk result (λ found. IfNone found
+        (option_and_then (λ n. kid_at n (kids_of (joined parts.now)))
         (index_of token.now) ≡ None)) }
     ensures uncounted { OnErr result (2 ^ 64 ≤ length (joined parts.now)) }
 {
@@ -214,8 +215,10 @@ fn split_long(parts: &mut Vec<Chunk>, at: usize) -> Result<(), OutOfMemory>
 /// Takes the item at a place out.
 pub fn remove_at(parts: &mut Vec<Chunk>, place: Place) -> Draft
     requires { IsPlaceIn parts.old.items place }
-    ensures value { result ≡ get_or (joined parts.old.items) (number_of parts.old.items place) result }
-    ensures items { joined parts.new.items ≡ remove (joined parts.old.items) (number_of parts.old.items place) }
+    ensures value { result ≡ get_or (joined parts.old.items)
+        (number_of parts.old.items place) result }
+    ensures items { joined parts.new.items ≡ remove (joined parts.old.items)
+        (number_of parts.old.items place) }
 {
     let part = &mut parts[place.part];
     part.remove(place.offset)
@@ -224,8 +227,10 @@ pub fn remove_at(parts: &mut Vec<Chunk>, place: Place) -> Draft
 /// Puts an item at a place, and answers the one that stood there.
 pub fn replace_at(parts: &mut Vec<Chunk>, place: Place, item: Draft) -> Draft
     requires { IsPlaceIn parts.old.items place }
-    ensures value { result ≡ get_or (joined parts.old.items) (number_of parts.old.items place) result }
-    ensures items { joined parts.new.items ≡ set (joined parts.old.items) (number_of parts.old.items place) item }
+    ensures value { result ≡ get_or (joined parts.old.items)
+        (number_of parts.old.items place) result }
+    ensures items { joined parts.new.items ≡ set (joined parts.old.items)
+        (number_of parts.old.items place) item }
 {
     let part = &mut parts[place.part];
     mem::replace(&mut part.all[place.offset], item)

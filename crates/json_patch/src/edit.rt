@@ -127,7 +127,8 @@ fn edit_at(
     edit: Edit,
 ) -> Result<Option<Draft>, Refusal>
     ensures done { IfOk result (λ _. edited first.now rest.now edit tree.old ≡ Ok tree.new) }
-    ensures taken { IfOk result (λ left. IsTaken edit left (pointed (first.now ∷ rest.now) tree.old)) }
+    ensures taken { IfOk result (λ left. IsTaken edit left
+        (pointed (first.now ∷ rest.now) tree.old)) }
     ensures size { IfOk result (IsEdited edit (1 + length rest.now) tree.old tree.new) }
     ensures refused { IfErr result (RefusedBy (edited first.now rest.now edit tree.old)) }
 {
@@ -151,12 +152,12 @@ fn edit_below_items(
     after: &[Text],
     edit: Edit,
 ) -> Result<Option<Draft>, Refusal>
-    ensures done { IfOk result
-        (λ _. edited first.now (next.now ∷ after.now) edit (items (kids_of list.old)) ≡ Ok (items (kids_of list.new))) }
-    ensures taken { IfOk result
-        (λ left. IsTaken edit left (pointed (first.now ∷ next.now ∷ after.now) (items (kids_of list.old)))) }
-    ensures size { IfOk result
-        (IsEdited edit (2 + length after.now) (items (kids_of list.old)) (items (kids_of list.new))) }
+    ensures done { IfOk result (λ _. edited first.now (next.now ∷ after.now) edit
+        (items (kids_of list.old)) ≡ Ok (items (kids_of list.new))) }
+    ensures taken { IfOk result (λ left. IsTaken edit left
+        (pointed (first.now ∷ next.now ∷ after.now) (items (kids_of list.old)))) }
+    ensures size { IfOk result (IsEdited edit (2 + length after.now) (items (kids_of list.old))
+        (items (kids_of list.new))) }
     ensures refused { IfErr result (RefusedBy (edited first.now (next.now ∷ after.now) edit
         (items (kids_of list.old)))) }
 {
@@ -182,10 +183,10 @@ fn edit_below_members(
     ensures done { IfOk result
         (λ _. edited first.now (next.now ∷ after.now) edit (members (fields_of list.old)) ≡ Ok
         (members (fields_of list.new))) }
-    ensures taken { IfOk result
-        (λ left. IsTaken edit left (pointed (first.now ∷ next.now ∷ after.now) (members (fields_of list.old)))) }
-    ensures size { IfOk result
-        (IsEdited edit (2 + length after.now) (members (fields_of list.old)) (members (fields_of list.new))) }
+    ensures taken { IfOk result (λ left. IsTaken edit left
+        (pointed (first.now ∷ next.now ∷ after.now) (members (fields_of list.old)))) }
+    ensures size { IfOk result (IsEdited edit (2 + length after.now) (members (fields_of list.old))
+        (members (fields_of list.new))) }
     ensures refused { IfErr result
         (RefusedBy (edited first.now (next.now ∷ after.now) edit (members (fields_of list.old)))) }
 {
@@ -226,9 +227,12 @@ fn edit_item(
 ) -> Result<Option<Draft>, Refusal>
     ensures done { IfOk result (λ _. change_of edit token.now (items (kids_of list.old)) ≡ Ok
         (items (kids_of list.new))) }
-    ensures taken { IfOk result (λ left. IsTaken edit left (child_of token.now (items (kids_of list.old)))) }
-    ensures size { IfOk result (IsEdited edit 1 (items (kids_of list.old)) (items (kids_of list.new))) }
-    ensures refused { IfErr result (RefusedBy (change_of edit token.now (items (kids_of list.old)))) }
+    ensures taken { IfOk result (λ left. IsTaken edit left
+        (child_of token.now (items (kids_of list.old)))) }
+    ensures size { IfOk result (IsEdited edit 1 (items (kids_of list.old))
+        (items (kids_of list.new))) }
+    ensures refused { IfErr result (RefusedBy
+        (change_of edit token.now (items (kids_of list.old)))) }
 {
     match edit {
         Edit::Add(value) => {
@@ -241,9 +245,12 @@ fn edit_item(
 }
 
 fn add_item(alloc: Global, list: &mut Chunks, token: &str, value: Draft) -> Result<(), Refusal>
-    ensures done { OnOk result (added_in value token.now (items (kids_of list.old)) ≡ Ok (items (kids_of list.new))) }
-    ensures size { OnOk result (IsEdited (Edit.Add value) 1 (items (kids_of list.old)) (items (kids_of list.new)) None) }
-    ensures refused { IfErr result (RefusedBy (added_in value token.now (items (kids_of list.old)))) }
+    ensures done { OnOk result (added_in value token.now (items (kids_of list.old))
+        ≡ Ok (items (kids_of list.new))) }
+    ensures size { OnOk result (IsEdited (Edit.Add value) 1 (items (kids_of list.old))
+        (items (kids_of list.new)) None) }
+    ensures refused { IfErr result (RefusedBy
+        (added_in value token.now (items (kids_of list.old)))) }
 {
     match place_of(token, list.len()?) {
         Some(at) => {
@@ -256,8 +263,10 @@ fn add_item(alloc: Global, list: &mut Chunks, token: &str, value: Draft) -> Resu
 
 // Takes an item out, and answers it.
 fn remove_item(list: &mut Chunks, token: &str) -> Result<Draft, Refusal>
-    ensures done { OnOk result (removed_in token.now (items (kids_of list.old)) ≡ Ok (items (kids_of list.new))) }
-    ensures taken { IfOk result (λ left. child_of token.now (items (kids_of list.old)) ≡ Some left) }
+    ensures done { OnOk result (removed_in token.now (items (kids_of list.old))
+        ≡ Ok (items (kids_of list.new))) }
+    ensures taken { IfOk result (λ left. child_of token.now (items (kids_of list.old))
+        ≡ Some left) }
     ensures size { IfOk result (λ left.
         IsEdited Edit.Remove 1 (items (kids_of list.old)) (items (kids_of list.new)) (Some left)) }
     ensures refused { IfErr result (RefusedBy (removed_in token.now (items (kids_of list.old)))) }
@@ -272,9 +281,10 @@ fn remove_item(list: &mut Chunks, token: &str) -> Result<Draft, Refusal>
 fn replace_item(list: &mut Chunks, token: &str, value: Draft) -> Result<Draft, Refusal>
     ensures done { OnOk result (replaced_in value token.now (items (kids_of list.old)) ≡ Ok
         (items (kids_of list.new))) }
-    ensures size { IfOk result (λ left.
-        IsEdited (Edit.Replace value) 1 (items (kids_of list.old)) (items (kids_of list.new)) (Some left)) }
-    ensures refused { IfErr result (RefusedBy (replaced_in value token.now (items (kids_of list.old)))) }
+    ensures size { IfOk result (λ left. IsEdited (Edit.Replace value) 1 (items (kids_of list.old))
+        (items (kids_of list.new)) (Some left)) }
+    ensures refused { IfErr result (RefusedBy
+        (replaced_in value token.now (items (kids_of list.old)))) }
 {
     match find(&list.parts, token)? {
         Some(place) => Ok(replace_at(&mut list.parts, place, value)),
@@ -321,9 +331,12 @@ fn edit_member(
 ) -> Result<Option<Draft>, Refusal>
     ensures done { IfOk result (λ _. change_of edit token.now (members (fields_of list.old)) ≡ Ok
         (members (fields_of list.new))) }
-    ensures taken { IfOk result (λ left. IsTaken edit left (child_of token.now (members (fields_of list.old)))) }
-    ensures size { IfOk result (IsEdited edit 1 (members (fields_of list.old)) (members (fields_of list.new))) }
-    ensures refused { IfErr result (RefusedBy (change_of edit token.now (members (fields_of list.old)))) }
+    ensures taken { IfOk result (λ left. IsTaken edit left
+        (child_of token.now (members (fields_of list.old)))) }
+    ensures size { IfOk result (IsEdited edit 1 (members (fields_of list.old))
+        (members (fields_of list.new))) }
+    ensures refused { IfErr result (RefusedBy
+        (change_of edit token.now (members (fields_of list.old)))) }
 {
     match edit {
         Edit::Add(value) => Ok(put_member(alloc, list, token, value)?),

@@ -43,7 +43,8 @@ impl MemberChunk {
     // Whether the first member stands behind a name.
     fn begins_behind(&self, name: &str) -> bool
         ensures some { 0 < length self.now }
-        ensures order { IsTrue result ↔ (slice_cmp nat_cmp (first_name self.now) name.now ≡ Greater) }
+        ensures order { IsTrue result ↔ (slice_cmp nat_cmp (first_name self.now)
+            name.now ≡ Greater) }
     {
         self.all[0].name.as_str().cmp(name).is_gt()
     }
@@ -100,9 +101,11 @@ impl MemberChunk {
 pub fn find(parts: &[MemberChunk], name: &str) -> Result<Place, Place>
     requires { AreSorted (joined parts.now) }
     ensures place { IfOk result (IsPlaceIn parts.now) }
-    ensures named { IfOk result (λ place. IsNamedAt name.now (joined parts.now) (number_of parts.now place)) }
+    ensures named { IfOk result (λ place. IsNamedAt name.now (joined parts.now)
+        (number_of parts.now place)) }
     ensures gap { IfErr result (IsGapIn parts.now) }
-    ensures absent { IfErr result (λ place. IsPlaceFor name.now (joined parts.now) (number_of parts.now place)) }
+    ensures absent { IfErr result (λ place. IsPlaceFor name.now (joined parts.now)
+        (number_of parts.now place)) }
 {
     let count = begun(parts, name);
     if count == 0 {
@@ -220,7 +223,8 @@ fn split_long(parts: &mut Vec<MemberChunk>, at: usize) -> Result<(), OutOfMemory
 /// Takes the member at a place out. A chunk without members goes.
 pub fn remove_at(parts: &mut Vec<MemberChunk>, place: Place) -> DraftMember
     requires { IsPlaceIn parts.old.items place }
-    ensures value { result ≡ get_or (joined parts.old.items) (number_of parts.old.items place) result }
+    ensures value { result ≡ get_or (joined parts.old.items)
+        (number_of parts.old.items place) result }
     ensures members { joined parts.new.items ≡
         remove (joined parts.old.items) (number_of parts.old.items place) }
 {

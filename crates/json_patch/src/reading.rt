@@ -75,7 +75,8 @@ fn read_other_op(alloc: Global, tree: &Tree, name: &str) -> Result<Option<Op>, O
 }
 
 fn read_path_and_value(alloc: Global, tree: &Tree) -> Result<Option<(Pointer, Tree)>, OutOfMemory>
-    ensures { IfOk result (λ both. both ≡ pair_of (pointer_at (codes "path") tree.now) (member_of (codes "value") tree.now)) }
+    ensures { IfOk result (λ both. both ≡ pair_of (pointer_at (codes "path") tree.now)
+        (member_of (codes "value") tree.now)) }
 {
     let Some(path) = read_path(alloc, tree, "path")? else {
         return Ok(None);
@@ -87,7 +88,8 @@ fn read_path_and_value(alloc: Global, tree: &Tree) -> Result<Option<(Pointer, Tr
 }
 
 fn read_from_and_path(alloc: Global, tree: &Tree) -> Result<Option<(Pointer, Pointer)>, OutOfMemory>
-    ensures { IfOk result (λ both. both ≡ pair_of (pointer_at (codes "from") tree.now) (pointer_at (codes "path") tree.now)) }
+    ensures { IfOk result (λ both. both ≡ pair_of (pointer_at (codes "from") tree.now)
+        (pointer_at (codes "path") tree.now)) }
 {
     let Some(from) = read_path(alloc, tree, "from")? else {
         return Ok(None);

@@ -22,7 +22,8 @@ pub fn get<'a>(draft: &'a Draft, at: &Pointer) -> Result<Option<&'a Draft>, OutO
 impl Draft {
     // The value that one token of a pointer refers to: an object's member, or an array's item.
     fn child(&self, token: &str) -> Result<Option<&Draft>, OutOfMemory>
-        ensures { IfOk result (λ found. option_map (λ t. t.now) found ≡ child_of token.now self.now) }
+        ensures { IfOk result (λ found. option_map (λ t. t.now) found
+            ≡ child_of token.now self.now) }
     {
         match &self.node {
             DraftNode::Items(list) => list.item(token),

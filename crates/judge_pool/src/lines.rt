@@ -31,7 +31,8 @@ pub fn lines_all<R: Threads + Sync, S: LineSource>(
     alloc: Global,
     source: &S,
 ) -> Result<Vec<Option<PlacedLine>>, OutOfMemory>
-    ensures { IfOk result (λ lines. AreLines (S.events source.now) (S.is_line source.now) lines.items) }
+    ensures { IfOk result (λ lines. AreLines (S.events source.now) (S.is_line source.now)
+        lines.items) }
 {
     let gathered: Result<Vec<Option<PlacedLine>>, OutOfMemory> = (0..source.count())
         .into_par_iter()

@@ -6,7 +6,8 @@ use base_types::json::Tree;
 use base_types::{Text, has_text};
 
 fn label_of<'a>(key: &Text, labels: Option<&'a Tree>) -> Option<&'a Text>
-    ensures { option_map (λ text. text.now) result ≡ label_of key.now (option_map (λ tree. tree.now) labels.entry) }
+    ensures { option_map (λ text. text.now) result ≡ label_of key.now
+        (option_map (λ tree. tree.now) labels.entry) }
 {
     labels?.member(key.as_str())?.as_text()
 }

@@ -20,7 +20,8 @@ fn is_key(word: &[u8]) -> bool
 
 // The key at the beginning, and what is behind it.
 fn read_key(alloc: Global, bytes: &[u8]) -> Result<Option<(Text, &[u8])>, OutOfMemory>
-    ensures { IfOk result (λ found. option_map (λ parts. (parts.0, parts.1.now)) found ≡ key_at bytes.entry.now) }
+    ensures { IfOk result (λ found. option_map (λ parts. (parts.0, parts.1.now)) found
+        ≡ key_at bytes.entry.now) }
 {
     let key = front(Class::Key, bytes);
     if !is_key(key) {
@@ -64,7 +65,8 @@ fn read_values(alloc: Global, bytes: &[u8]) -> Result<Option<(Texts, &[u8])>, Ou
 
 // The values in parentheses, and what is behind them.
 fn read_list(alloc: Global, bytes: &[u8]) -> Result<Option<(Texts, &[u8])>, OutOfMemory>
-    ensures { IfOk result (λ found. option_map (λ parts. (parts.0, parts.1.now)) found ≡ list_at bytes.entry.now) }
+    ensures { IfOk result (λ found. option_map (λ parts. (parts.0, parts.1.now)) found
+        ≡ list_at bytes.entry.now) }
 {
     match after(b"(", behind(Class::Space, bytes)) {
         Some(items) => read_values(alloc, items),
@@ -102,7 +104,8 @@ fn read_list_test<'a>(
 
 // The test behind a key, and what is behind it.
 fn read_test(alloc: Global, bytes: &[u8]) -> Result<Option<(Test, &[u8])>, OutOfMemory>
-    ensures { IfOk result (λ found. option_map (λ parts. (parts.0, parts.1.now)) found ≡ test_at bytes.entry.now) }
+    ensures { IfOk result (λ found. option_map (λ parts. (parts.0, parts.1.now)) found
+        ≡ test_at bytes.entry.now) }
 {
     let operator = behind(Class::Space, bytes);
     if let Some(rest) = after(b"==", operator) {
@@ -125,8 +128,8 @@ fn read_requirement(
     alloc: Global,
     bytes: &[u8],
 ) -> Result<Option<(Requirement, &[u8])>, OutOfMemory>
-    ensures { IfOk result (λ found. option_map (λ parts. (parts.0, parts.1.now)) found ≡ requirement_at
-        bytes.entry.now) }
+    ensures { IfOk result (λ found. option_map (λ parts. (parts.0, parts.1.now)) found
+        ≡ requirement_at bytes.entry.now) }
 {
     if let Some(rest) = after(b"!", bytes) {
         let Some((key, left)) = read_key(alloc, behind(Class::Space, rest))? else {
@@ -175,8 +178,10 @@ pub fn read_selector(alloc: Global, text: &str) -> Result<Selector, SelectorFaul
 
     // The text spells these requirements and no others, or none at all.
     ensures spelled { IfOk result (λ selector. Spells selector text.now) }
-    ensures only { IfOk result (λ selector. (other : List Requirement) → Spells other text.now → other ≡ selector) }
-    ensures unspelled { result ≡ Err SelectorFault.Form → (other : List Requirement) → Spells other text.now → ⊥ }
+    ensures only { IfOk result (λ selector. (other : List Requirement) → Spells other text.now
+        → other ≡ selector) }
+    ensures unspelled { result ≡ Err SelectorFault.Form → (other : List Requirement)
+        → Spells other text.now → ⊥ }
 {
     match read_joined(alloc, text.as_bytes())? {
         Some(selector) => Ok(selector),

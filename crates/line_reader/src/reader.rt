@@ -79,7 +79,8 @@ impl LineReader {
         requires small { length piece.now ≤ LONGEST_PIECE }
         requires none_waits { ¬ HasWaiting self.old }
         requires not_ended { self.old.ended ≡ false }
-        ensures ok { OnOk result (self.new ≡ record self.old { pending = self.old.pending ++ piece.now }) }
+        ensures ok { OnOk result (self.new ≡ record self.old
+            { pending = self.old.pending ++ piece.now }) }
         ensures err { OnErr result (self.new ≡ self.old) }
     {
         remove_front(&mut self.bytes, self.start);
@@ -136,7 +137,8 @@ impl LineReader {
     pub fn end(&mut self)
         ensures ended { self.new.ended ≡ true }
         ensures number { self.new.number ≡ self.old.number }
-        ensures lines { lines_from self.new.number self.new.pending ≡ lines_from self.old.number self.old.pending }
+        ensures lines { lines_from self.new.number self.new.pending
+            ≡ lines_from self.old.number self.old.pending }
     {
         close_line(&mut self.bytes, self.start);
         self.ended = true;
@@ -170,8 +172,10 @@ fn remove_front(bytes: &mut Vec<u8>, count: usize)
 // Puts a newline behind a line that has begun.
 fn close_line(bytes: &mut Vec<u8>, start: usize)
     requires within { start ≤ length bytes.old.items }
-    requires room { rest_of (drop start bytes.old.items) ≢ [] → vec_len bytes.old < vec_capacity bytes.old }
-    ensures { bytes.new.items ≡ bytes.old.items ++ closing_of (rest_of (drop start bytes.old.items)) }
+    requires room { rest_of (drop start bytes.old.items) ≢ []
+        → vec_len bytes.old < vec_capacity bytes.old }
+    ensures { bytes.new.items ≡ bytes.old.items ++ closing_of
+        (rest_of (drop start bytes.old.items)) }
 {
     if ends_open(&bytes[start..]) {
         bytes.push_reserved(NEWLINE);

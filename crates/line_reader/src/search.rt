@@ -53,7 +53,8 @@ pub fn is_dropped_line(line: &[u8]) -> bool
 fn find_newline(bytes: &[u8], from: usize) -> Option<usize>
     requires { from ≤ length bytes.now }
     ensures some { IfSome result (λ at. (from ≤ at) × (at < length bytes.now)
-        × (slice_index bytes.now at ≡ newline) × HasNoNewline (take (at - from) (drop from bytes.now))) }
+        × (slice_index bytes.now at ≡ newline) × HasNoNewline
+        (take (at - from) (drop from bytes.now))) }
     ensures none { IfNone result (HasNoNewline (drop from bytes.now)) }
 {
     let ahead = memchr(NEWLINE, &bytes[from..])?;

@@ -19,8 +19,8 @@ use std::thread::{Threads, join_mut};
 
 /// Reads the events of a log from a desk, by name, in batches of lines. Several threads decode a batch; each
 /// line's index in it enters the gate before the line is decoded. While a batch is decoded and its events are admitted,
-/// the next one is taken from the desk; a refusal in it comes before whatever was met behind it, as a read fault. The
-/// hashes of audit IDs begin with the seed.
+/// the next one is taken from the desk. A batch that is refused is refused whatever the desk met behind it, a failed
+/// read say. The hashes of audit IDs begin with the seed.
 pub fn read_log<R: Threads + Sync, D: Desk, G: Gate>(
     rt: &R,
     alloc: Global,

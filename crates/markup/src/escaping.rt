@@ -35,7 +35,8 @@ pub fn push_escaped(text: &mut String, told: &str) -> Result<(), OutOfMemory>
 }
 
 fn push_char(text: &mut String, c: char) -> Result<(), OutOfMemory>
-    ensures { OnOk result (string_bytes text.new ≡ string_bytes text.old ++ escaped (encode_utf8 c)) }
+    ensures { OnOk result (string_bytes text.new ≡ string_bytes text.old ++ escaped
+        (encode_utf8 c)) }
 {
     match reference_of(c) {
         Some(reference) => text.push_str(reference)?,

@@ -21,7 +21,8 @@ pub fn push_rest(
     count: usize,
     words: &str,
 ) -> Result<(), OutOfMemory>
-    ensures { OnOk result (string_bytes text.new ≡ string_bytes text.old ++ rest_text most count words.now) }
+    ensures { OnOk result (string_bytes text.new ≡ string_bytes text.old ++ rest_text most
+        count words.now) }
 {
     if most < count {
         let rest = count - most;

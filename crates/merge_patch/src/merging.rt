@@ -49,7 +49,8 @@ fn merge_members(
     changes: &MemberList,
 ) -> Result<MemberList, OutOfMemory>
     requires { AreSorted old.now }
-    ensures { IfOk result (λ made. fields_of made ≡ merged_fields (fields_of old.now) (fields_of changes.now)) }
+    ensures { IfOk result (λ made. fields_of made ≡ merged_fields (fields_of old.now)
+        (fields_of changes.now)) }
 {
     let mut all = Vec::new(alloc);
     let mut at = 0;
@@ -101,8 +102,10 @@ fn copy_below(
 ) -> Result<usize, OutOfMemory>
     requires { at ≤ length old.now }
     ensures within { IfOk result (λ next. next ≤ length old.now) }
-    ensures kept { IfOk result (λ next. all.new.items ++ drop next old.now ≡ all.old.items ++ drop at old.now) }
-    ensures below { AllBelow name.now all.old.items → OnOk result (AllBelow name.now all.new.items) }
+    ensures kept { IfOk result (λ next. all.new.items ++ drop next old.now
+        ≡ all.old.items ++ drop at old.now) }
+    ensures below { AllBelow name.now all.old.items → OnOk result
+        (AllBelow name.now all.new.items) }
     ensures next { IfOk result (λ next. StartsNotBelow name.now (drop next old.now)) }
 {
     let mut next = at;
@@ -148,7 +151,8 @@ fn take_named<'a>(old: &'a [Member], at: usize, name: &Text) -> (Option<&'a Tree
     requires { at ≤ length old.now }
     ensures value { IsFirstValue name.now (drop at old.now) (option_map (λ t. t.now) result.0) }
     ensures within { result.1 ≤ length old.now }
-    ensures next { drop result.1 old.now ≡ behind (option_map (λ t. t.now) result.0) (drop at old.now) }
+    ensures next { drop result.1 old.now ≡ behind (option_map (λ t. t.now) result.0)
+        (drop at old.now) }
 {
     if at < old.len() {
         let member = &old[at];

@@ -30,7 +30,8 @@ pub(crate) fn push_borrowed(out: &mut Vec<u8>, value: &JsonValue<'_>) -> Result<
 fn push_array(out: &mut Vec<u8>, list: &Vec<JsonValue<'_>>) -> Result<(), TreeFault>
     ensures ok { OnOk result (Packs encode (option_map items (of_items (items_view list.now.items)))
         out.old.items out.new.items) }
-    ensures fraction { result ≡ Err TreeFault.Fraction → of_items (items_view list.now.items) ≡ None }
+    ensures fraction { result ≡ Err TreeFault.Fraction → of_items
+        (items_view list.now.items) ≡ None }
 {
     out.push(6)?;
     push_items(out, list)
@@ -38,9 +39,10 @@ fn push_array(out: &mut Vec<u8>, list: &Vec<JsonValue<'_>>) -> Result<(), TreeFa
 
 #[cycle(push_borrowed)]
 fn push_object(out: &mut Vec<u8>, map: &Map<'_>) -> Result<(), TreeFault>
-    ensures ok { OnOk result (Packs encode (option_map members (of_members (members_view map.now.entries)))
-        out.old.items out.new.items) }
-    ensures fraction { result ≡ Err TreeFault.Fraction → of_members (members_view map.now.entries) ≡ None }
+    ensures ok { OnOk result (Packs encode (option_map members
+        (of_members (members_view map.now.entries))) out.old.items out.new.items) }
+    ensures fraction { result ≡ Err TreeFault.Fraction → of_members
+        (members_view map.now.entries) ≡ None }
 {
     out.push(7)?;
     push_members(out, map)
@@ -49,7 +51,8 @@ fn push_object(out: &mut Vec<u8>, map: &Map<'_>) -> Result<(), TreeFault>
 // Puts the bytes of a JSON value, with their length in front, behind others.
 #[cycle(push_borrowed)]
 fn push_item(out: &mut Vec<u8>, value: &JsonValue<'_>) -> Result<(), TreeFault>
-    ensures ok { OnOk result (Packs framed_code (of_data (view value.now)) out.old.items out.new.items) }
+    ensures ok { OnOk result (Packs framed_code (of_data (view value.now)) out.old.items
+        out.new.items) }
     ensures fraction { result ≡ Err TreeFault.Fraction → of_data (view value.now) ≡ None }
 {
     let at = out.len();
@@ -61,8 +64,10 @@ fn push_item(out: &mut Vec<u8>, value: &JsonValue<'_>) -> Result<(), TreeFault>
 
 #[cycle(push_borrowed)]
 fn push_items(out: &mut Vec<u8>, list: &Vec<JsonValue<'_>>) -> Result<(), TreeFault>
-    ensures ok { OnOk result (PacksKids (of_items (items_view list.now.items)) out.old.items out.new.items) }
-    ensures fraction { result ≡ Err TreeFault.Fraction → of_items (items_view list.now.items) ≡ None }
+    ensures ok { OnOk result (PacksKids (of_items (items_view list.now.items)) out.old.items
+        out.new.items) }
+    ensures fraction { result ≡ Err TreeFault.Fraction → of_items
+        (items_view list.now.items) ≡ None }
 {
     for item in list {
         push_item(out, item)?;
@@ -72,8 +77,10 @@ fn push_items(out: &mut Vec<u8>, list: &Vec<JsonValue<'_>>) -> Result<(), TreeFa
 
 #[cycle(push_borrowed)]
 fn push_members(out: &mut Vec<u8>, map: &Map<'_>) -> Result<(), TreeFault>
-    ensures ok { OnOk result (PacksFields (of_members (members_view map.now.entries)) out.old.items out.new.items) }
-    ensures fraction { result ≡ Err TreeFault.Fraction → of_members (members_view map.now.entries) ≡ None }
+    ensures ok { OnOk result (PacksFields (of_members (members_view map.now.entries)) out.old.items
+        out.new.items) }
+    ensures fraction { result ≡ Err TreeFault.Fraction → of_members
+        (members_view map.now.entries) ≡ None }
 {
     for (key, member) in map.iter() {
         push_name(out, key)?;

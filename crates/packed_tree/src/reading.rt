@@ -257,7 +257,8 @@ impl<'a> PackedItems<'a> {
 impl<'a> PackedMembers<'a> {
     /// The next member: its name and its value.
     pub fn next(&mut self) -> Option<(&'a str, PackedRef<'a>)>
-        ensures member { self.old ≡ option_to_list (option_map (λ m. (m.0.now, m.1)) result) ++ self.new }
+        ensures member { self.old ≡ option_to_list (option_map (λ m. (m.0.now, m.1)) result)
+            ++ self.new }
         ensures none { IfNone result (self.old ≡ []) }
     {
         if self.bytes.is_empty() {

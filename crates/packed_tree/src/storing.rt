@@ -146,7 +146,8 @@ fn push_other(
     value: &PackedRef<'_>,
     inner: &str,
 ) -> Result<(), OutOfMemory>
-    ensures { OnOk result (out.new.items ≡ out.old.items ++ other_bytes inner.now name.now value.now) }
+    ensures { OnOk result (out.new.items ≡ out.old.items ++ other_bytes inner.now
+        name.now value.now) }
 {
     if name == inner {
         return Ok(());

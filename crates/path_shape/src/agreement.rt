@@ -15,7 +15,8 @@ use base_types::json::Tree;
 /// Whether an answered object is the old one with what was asked, and with what the server may set or fill in,
 /// field by field. A tree that isn't an object counts as an empty one. It takes no memory.
 pub fn agrees(shape: &Shape, old: Option<&Tree>, asked: &Tree, answered: &Tree) -> bool
-    ensures { IsTrue result ↔ Agrees shape.now (option_map (λ t. t.now) old.entry) asked.now answered.now }
+    ensures { IsTrue result ↔ Agrees shape.now (option_map (λ t. t.now) old.entry) asked.now
+        answered.now }
 {
     let spot = Spot {
         had: old.is_some(),

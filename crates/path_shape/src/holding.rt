@@ -65,7 +65,8 @@ fn tree_in<'a>(part: Part<'a>) -> Option<&'a Tree>
 
 fn items_in<'a>(tree: Option<&'a Tree>) -> Option<&'a Trees>
     ensures { (ts : Kids) → is_held_by_child (items ts) (option_map (λ t. thin t.now) tree.entry)
-        ≡ is_held_by_child (items ts) (option_map (λ us. items (thin_kids (kids_of us.now))) result) }
+        ≡ is_held_by_child (items ts) (option_map
+        (λ us. items (thin_kids (kids_of us.now))) result) }
 {
     match tree {
         None => None,
@@ -77,8 +78,9 @@ fn items_in<'a>(tree: Option<&'a Tree>) -> Option<&'a Trees>
 }
 
 fn members_in<'a>(tree: Option<&'a Tree>) -> Option<&'a MemberList>
-    ensures { (ms : Fields) → is_held_by_child (members ms) (option_map (λ t. thin t.now) tree.entry)
-        ≡ is_held_by_child (members ms) (option_map members (option_map (λ ns. thin_fields (fields_of ns.now)) result)) }
+    ensures { (ms : Fields) → is_held_by_child (members ms)
+        (option_map (λ t. thin t.now) tree.entry) ≡ is_held_by_child (members ms)
+        (option_map members (option_map (λ ns. thin_fields (fields_of ns.now)) result)) }
 {
     match tree {
         None => None,
@@ -91,8 +93,10 @@ fn members_in<'a>(tree: Option<&'a Tree>) -> Option<&'a MemberList>
 
 // The value of a member of an object that may be absent.
 fn value_in<'a>(list: Option<&'a MemberList>, name: &str) -> Option<&'a Tree>
-    ensures { (t : Meaning) → says_nothing t ≡ false → is_held_by_child t (option_map (λ v. thin v.now) result)
-        ≡ is_held_by_child t (member_of name.now (object_or_null (option_map (λ ns. thin_fields (fields_of ns.now)) list.entry))) }
+    ensures { (t : Meaning) → says_nothing t ≡ false → is_held_by_child t
+        (option_map (λ v. thin v.now) result) ≡ is_held_by_child t
+        (member_of name.now (object_or_null (option_map (λ ns. thin_fields (fields_of ns.now))
+        list.entry))) }
 {
     match list {
         None => None,
@@ -101,8 +105,9 @@ fn value_in<'a>(list: Option<&'a MemberList>, name: &str) -> Option<&'a Tree>
 }
 
 fn member_value<'a>(list: &'a MemberList, name: &str) -> Option<&'a Tree>
-    ensures { (t : Meaning) → says_nothing t ≡ false → is_held_by_child t (option_map (λ v. thin v.now) result)
-        ≡ is_held_by_child t (lookup name.now (thin_fields (fields_of list.now))) }
+    ensures { (t : Meaning) → says_nothing t ≡ false → is_held_by_child t
+        (option_map (λ v. thin v.now) result) ≡ is_held_by_child t
+        (lookup name.now (thin_fields (fields_of list.now))) }
 {
     let _all = &list.all;
     list.get(name)
@@ -203,7 +208,8 @@ fn is_item_held(asked: &Tree, answered: &Tree) -> bool
 
 #[cycle(holdings)]
 fn are_held_in_turn(asked: &Trees, answered: &Trees) -> bool
-    ensures { result ≡ are_held_in_turn (thin_kids (kids_of asked.now)) (thin_kids (kids_of answered.now)) }
+    ensures { result ≡ are_held_in_turn (thin_kids (kids_of asked.now))
+        (thin_kids (kids_of answered.now)) }
 {
     if asked.all.len() != answered.all.len() {
         return false;

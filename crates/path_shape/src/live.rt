@@ -182,8 +182,8 @@ fn any_past(entries: &[ShapeEntry], way: &Way<'_>) -> bool
 
 // The entries from the first on that goes past a path.
 fn from_first_past<'e>(entries: &'e [ShapeEntry], way: &Way<'_>) -> &'e [ShapeEntry]
-    ensures { (nothing : Bool) → entries_past way.now nothing result.now ≡ entries_past way.now nothing
-        entries.entry.now }
+    ensures { (nothing : Bool) → entries_past way.now nothing result.now
+        ≡ entries_past way.now nothing entries.entry.now }
 {
     let mut rest = entries;
     while let [first, others @ ..] = rest {
@@ -197,8 +197,8 @@ fn from_first_past<'e>(entries: &'e [ShapeEntry], way: &Way<'_>) -> &'e [ShapeEn
 
 // The entries up to the last that goes past a path.
 fn up_to_last_past<'e>(entries: &'e [ShapeEntry], way: &Way<'_>) -> &'e [ShapeEntry]
-    ensures { (nothing : Bool) → entries_past way.now nothing result.now ≡ entries_past way.now nothing
-        entries.entry.now }
+    ensures { (nothing : Bool) → entries_past way.now nothing result.now
+        ≡ entries_past way.now nothing entries.entry.now }
 {
     let mut end = entries.len();
     'last: while end > 0 {
@@ -212,8 +212,8 @@ fn up_to_last_past<'e>(entries: &'e [ShapeEntry], way: &Way<'_>) -> &'e [ShapeEn
 
 /// Entries that go past a path, and no more than lie between the first and the last of them.
 pub fn going_past<'e>(entries: &'e [ShapeEntry], way: &Way<'_>) -> &'e [ShapeEntry]
-    ensures { (nothing : Bool) → entries_past way.now nothing result.now ≡ entries_past way.now nothing
-        entries.entry.now }
+    ensures { (nothing : Bool) → entries_past way.now nothing result.now
+        ≡ entries_past way.now nothing entries.entry.now }
 {
     up_to_last_past(from_first_past(entries, way), way)
 }

@@ -43,8 +43,8 @@ fn has_kind(asked: Part<'_>, answered: Part<'_>) -> bool
 
 /// Whether a spot at a closed path fits its class.
 pub fn fits_closed(class: FieldClass, spot: Spot<'_>) -> bool
-    ensures { IsTrue result ↔ FitsClosed class spot.entry.had (form spot.entry.old) (form spot.entry.asked)
-        (form spot.entry.answered) }
+    ensures { IsTrue result ↔ FitsClosed class spot.entry.had (form spot.entry.old)
+        (form spot.entry.asked) (form spot.entry.answered) }
 {
     match class {
         FieldClass::Asked => is_same(spot.asked, spot.answered),
@@ -61,8 +61,8 @@ pub fn fits_closed(class: FieldClass, spot: Spot<'_>) -> bool
 
 /// Whether a spot at an open path fits its class, its children aside.
 pub fn fits_open(class: FieldClass, spot: Spot<'_>) -> bool
-    ensures { IsTrue result ↔ FitsOpen class spot.entry.had (form spot.entry.old) (form spot.entry.asked)
-        (form spot.entry.answered) }
+    ensures { IsTrue result ↔ FitsOpen class spot.entry.had (form spot.entry.old)
+        (form spot.entry.asked) (form spot.entry.answered) }
 {
     match class {
         FieldClass::Asked => is_same_kind(spot.asked, spot.answered),

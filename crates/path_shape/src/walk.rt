@@ -46,7 +46,8 @@ fn fits_each(
 ) -> bool
     ensures sound { IsTrue result → (name : List ℕ) → IsSome (child_in name (whole part.entry))
         → IsDone done.entry done_too.entry class (past_of live.entry) spot.entry name }
-    ensures complete { ((name : List ℕ) → FitsUnder class (past_of live.entry) spot.entry name) → IsTrue result }
+    ensures complete { ((name : List ℕ) → FitsUnder class (past_of live.entry) spot.entry name)
+        → IsTrue result }
 {
     match part {
         Part::Absent => true,
@@ -66,7 +67,8 @@ fn fits_children(
 ) -> bool
     ensures sound { IsTrue result → (name : List ℕ) → IsSome (child_of name tree.now)
         → IsDone done.entry done_too.entry class (past_of live.entry) spot.entry name }
-    ensures complete { ((name : List ℕ) → FitsUnder class (past_of live.entry) spot.entry name) → IsTrue result }
+    ensures complete { ((name : List ℕ) → FitsUnder class (past_of live.entry) spot.entry name)
+        → IsTrue result }
 {
     match &tree.node {
         Node::Items(list) => fits_items(list, done, done_too, live, class, spot),
@@ -84,9 +86,11 @@ fn fits_items(
     class: FieldClass,
     spot: Spot<'_>,
 ) -> bool
-    ensures sound { IsTrue result → (name : List ℕ) → IsSome (child_of name (items (kids_of list.now)))
+    ensures sound { IsTrue result → (name : List ℕ) → IsSome
+        (child_of name (items (kids_of list.now)))
         → IsDone done.entry done_too.entry class (past_of live.entry) spot.entry name }
-    ensures complete { ((name : List ℕ) → FitsUnder class (past_of live.entry) spot.entry name) → IsTrue result }
+    ensures complete { ((name : List ℕ) → FitsUnder class (past_of live.entry) spot.entry name)
+        → IsTrue result }
 {
     let mut buffer = Buffer::new();
     for index in 0..list.all.len() {
@@ -109,7 +113,8 @@ fn fits_members(
 ) -> bool
     ensures sound { IsTrue result → (name : List ℕ) → IsSome (lookup name (fields_of list.now))
         → IsDone done.entry done_too.entry class (past_of live.entry) spot.entry name }
-    ensures complete { ((name : List ℕ) → FitsUnder class (past_of live.entry) spot.entry name) → IsTrue result }
+    ensures complete { ((name : List ℕ) → FitsUnder class (past_of live.entry) spot.entry name)
+        → IsTrue result }
 {
     for member in &list.all {
         let token = member.name.as_str();
@@ -129,7 +134,8 @@ fn fits_unless_done(
     class: FieldClass,
     spot: Spot<'_>,
 ) -> bool
-    ensures sound { IsTrue result → IsDone done.entry done_too.entry class (past_of live.entry) spot.entry token.now }
+    ensures sound { IsTrue result → IsDone done.entry done_too.entry class (past_of live.entry)
+        spot.entry token.now }
     ensures complete { FitsUnder class (past_of live.entry) spot.entry token.now → IsTrue result }
 {
     if done.has_child(token) {

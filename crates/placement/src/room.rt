@@ -10,7 +10,8 @@ use std::alloc::Global;
 pub fn narrow(ranges: &mut [Range], bounds: &[Bound]) -> bool
     requires { All (λ bound. bound.range < length ranges.old) bounds.now }
     ensures narrowed { IsTrue result → Narrows ranges.old ranges.new bounds.now }
-    ensures emptied { result ≡ false → (choice : List ℕ) → IsChoice ranges.old choice → MeetsAll choice bounds.now → ⊥ }
+    ensures emptied { result ≡ false → (choice : List ℕ) → IsChoice ranges.old choice
+        → MeetsAll choice bounds.now → ⊥ }
 {
     for bound in bounds {
         let range = &mut ranges[bound.range as usize];

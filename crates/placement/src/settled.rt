@@ -42,7 +42,8 @@ pub fn settle(
     claims: &[Claim],
 ) -> Result<Settled, OutOfMemory>
     requires order { IsPermutation (range_with_len 0 (length claims.now)) order.now }
-    requires bounds { All (λ claim. All (λ bound. bound.range < length ranges.now) claim.bounds) claims.now }
+    requires bounds { All (λ claim. All (λ bound. bound.range < length ranges.now) claim.bounds)
+        claims.now }
     ensures settled { IfOk result (IsSettled ranges.now order.now claims.now) }
 
     // A choice that explains all is never missed.

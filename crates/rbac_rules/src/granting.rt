@@ -74,7 +74,8 @@ impl PolicyRule {
     }
 
     fn grants(&self, attrs: &RequestAttrs) -> bool
-        ensures { IsTrue result ↔ (GrantsResource attrs.now self.now ⊎ GrantsPath attrs.now self.now) }
+        ensures { IsTrue result ↔ (GrantsResource attrs.now self.now
+            ⊎ GrantsPath attrs.now self.now) }
     {
         self.grants_resource(attrs) || self.grants_path(attrs)
     }

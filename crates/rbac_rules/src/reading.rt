@@ -46,9 +46,10 @@ struct Singles {
 }
 
 fn read_scope(alloc: Global, tree: &Tree) -> Result<Option<Scope>, OutOfMemory>
-    ensures { IfOk result (λ found. found ≡ (texts_at (codes "apiGroups") tree.now and_then λ groups.
-        texts_at (codes "resources") tree.now and_then λ resources. texts_at (codes "verbs") tree.now and_then λ verbs.
-        Some (record { api_groups = groups; resources = resources; verbs = verbs }))) }
+    ensures { IfOk result (λ found. found ≡ (texts_at (codes "apiGroups") tree.now
+        and_then λ groups. texts_at (codes "resources") tree.now and_then λ resources. texts_at
+        (codes "verbs") tree.now and_then λ verbs. Some
+        (record { api_groups = groups; resources = resources; verbs = verbs }))) }
 {
     let Some(api_groups) = tree.texts_at(alloc, "apiGroups")? else {
         return Ok(None);
@@ -67,9 +68,9 @@ fn read_scope(alloc: Global, tree: &Tree) -> Result<Option<Scope>, OutOfMemory>
 }
 
 fn read_singles(alloc: Global, tree: &Tree) -> Result<Option<Singles>, OutOfMemory>
-    ensures { IfOk result (λ found. found ≡ (texts_at (codes "resourceNames") tree.now and_then λ names.
-        texts_at (codes "nonResourceURLs") tree.now and_then λ urls.
-        Some (record { resource_names = names; non_resource_urls = urls }))) }
+    ensures { IfOk result (λ found. found ≡ (texts_at (codes "resourceNames") tree.now
+        and_then λ names. texts_at (codes "nonResourceURLs") tree.now and_then λ urls. Some
+        (record { resource_names = names; non_resource_urls = urls }))) }
 {
     let Some(resource_names) = tree.texts_at(alloc, "resourceNames")? else {
         return Ok(None);

@@ -33,7 +33,8 @@ impl<'a> Begun<'a> {
 
 // The last place before the next version, if it is one of the key.
 fn before_next(version: &RbacVersion, next: Option<&RbacVersion>) -> u64
-    ensures { (place : ℕ) → place ≤ last_place → MatchOption next.entry ⊤ (λ n. n.now.key ≡ version.now.key
+    ensures { (place : ℕ) → place ≤ last_place → MatchOption next.entry ⊤
+        (λ n. n.now.key ≡ version.now.key
         → n.now.revision ≤ place → n.now.revision ≤ version.now.revision) → place ≤ result }
 {
     let Some(next) = next else {
@@ -48,7 +49,8 @@ fn before_next(version: &RbacVersion, next: Option<&RbacVersion>) -> u64
 
 // The last place at which the object may be there, as far as its removal says.
 fn before_end(gap: Option<Gap>) -> u64
-    ensures { (place : ℕ) → place ≤ last_place → MatchOption gap ⊤ (λ gap. place < gap.high) → place ≤ result }
+    ensures { (place : ℕ) → place ≤ last_place → MatchOption gap ⊤ (λ gap. place < gap.high)
+        → place ≤ result }
 {
     match gap {
         Some(gap) => gap.high.saturating_sub(1),
@@ -57,7 +59,8 @@ fn before_end(gap: Option<Gap>) -> u64
 }
 
 fn removal_of(removals: &Removals, key: &ObjectKey, last: u64) -> Option<Gap>
-    ensures { (ends : List RbacEnd) → AreGaps removals.now ends → IsRemovalOf ends key.now last result }
+    ensures { (ends : List RbacEnd) → AreGaps removals.now ends
+        → IsRemovalOf ends key.now last result }
 {
     match removals.get(key) {
         Some(gaps) => gaps.behind(last),
@@ -93,8 +96,8 @@ fn begun_of<'a>(
     versions: &'a [RbacVersion],
     removals: &Removals,
 ) -> Result<Vec<Begun<'a>>, OutOfMemory>
-    ensures { IfOk result (λ begun. (ends : List RbacEnd) → AreGaps removals.now ends → AreBegun versions.now ends
-        begun.items) }
+    ensures { IfOk result (λ begun. (ends : List RbacEnd) → AreGaps removals.now ends
+        → AreBegun versions.now ends begun.items) }
 {
     let mut begun = Vec::new(alloc);
     for index in 0..versions.len() {
@@ -109,8 +112,8 @@ pub fn in_order<'a>(
     versions: &'a [RbacVersion],
     removals: &Removals,
 ) -> Result<Vec<Begun<'a>>, OutOfMemory>
-    ensures { IfOk result (λ begun. (ends : List RbacEnd) → AreGaps removals.now ends → AreBegun versions.now ends
-        begun.items) }
+    ensures { IfOk result (λ begun. (ends : List RbacEnd) → AreGaps removals.now ends
+        → AreBegun versions.now ends begun.items) }
 {
     let mut begun = begun_of(alloc, versions, removals)?;
     begun.sort_by_key(|one| one.version.revision.get())?;

@@ -13,7 +13,9 @@ ghost use Rattle.rbac_timeline.specs.Sound.{AreSound};
 /// Of sound versions and removals, a decision is possible by some choice of states exactly where the test
 /// of the greatest and the least states says so.
 pub fn deciding_law()
-    ensures { (known : Known) (places : Places) (who : User) (attrs : RequestAttrs) (decision : Decision)
+    ensures { (known : Known) (places : Places) (who : User) (attrs : RequestAttrs)
+        (decision : Decision)
         → AreSound known.versions known.ends
-        → (is_possible known places who attrs decision ≡ true) ↔ IsPossible known places who attrs decision }
+        → (is_possible known places who attrs decision ≡ true)
+        ↔ IsPossible known places who attrs decision }
 {}

@@ -26,7 +26,8 @@ pub enum Content {
 impl Content {
     /// The role that a binding names.
     pub fn role(&self) -> Option<&ObjectKey>
-        ensures { IfSome result (λ role. (binding : Binding) × (self.now ≡ Content.Bound binding role.now)) }
+        ensures { IfSome result (λ role. (binding : Binding)
+            × (self.now ≡ Content.Bound binding role.now)) }
     {
         match self {
             Content::Bound(_, role) => Some(role),
@@ -119,7 +120,8 @@ impl History {
     /// The latest version at or below a place.
     pub fn latest(&self, place: u64) -> Option<&Stored>
         ensures some { IfSome result (λ stored. IsLatestStored self.now place stored.now) }
-        ensures none { IfNone result ((stored : Stored) → Contains self.now stored → place < stored.revision) }
+        ensures none { IfNone result ((stored : Stored) → Contains self.now stored
+            → place < stored.revision) }
     {
         let upto = count_upto(self.stored.as_slice(), place);
         if upto == 0 {
@@ -131,7 +133,8 @@ impl History {
     /// The last place up to which no version begins behind this one.
     pub fn unbegun_until(&self, place: u64, high: u64) -> u64
         requires { place ≤ high }
-        ensures { IsLast (λ n. (stored : Stored) → Contains self.now stored → place < stored.revision
+        ensures { IsLast (λ n. (stored : Stored) → Contains self.now stored
+            → place < stored.revision
             → n < stored.revision) place high result }
     {
         let upto = count_upto(self.stored.as_slice(), place);
@@ -286,7 +289,8 @@ fn add_version(
     histories: &mut Histories,
     version: RbacVersion,
 ) -> Result<(), OutOfMemory>
-    ensures { OnOk result (AddsAt key_order histories.old histories.new version.key (stored_of version)) }
+    ensures { OnOk result (AddsAt key_order histories.old histories.new version.key
+        (stored_of version)) }
 {
     let RbacVersion {
         key,
@@ -334,7 +338,8 @@ fn begin_gaps(
 }
 
 fn add_end(alloc: Global, removals: &mut Removals, end: &RbacEnd) -> Result<(), OutOfMemory>
-    ensures { OnOk result (AddsAt key_order removals.old removals.new end.now.key (gap_of end.now)) }
+    ensures { OnOk result (AddsAt key_order removals.old removals.new end.now.key
+        (gap_of end.now)) }
 {
     let gap = Gap {
         last: end.last.get(),

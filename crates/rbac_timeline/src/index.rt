@@ -131,7 +131,8 @@ type Accounts = BTreeMap<Text, ByText>;
 
 // The first name of a namespace.
 fn one_name(alloc: Global, name: &Text, key: &ObjectKey) -> Result<ByText, OutOfMemory>
-    ensures { IfOk result (λ names. (empty : Names) × ((n : List ℕ) → items_at text_order empty n ≡ [])
+    ensures { IfOk result (λ names. (empty : Names)
+        × ((n : List ℕ) → items_at text_order empty n ≡ [])
         × AddsAt text_order empty names name.now key.now) }
 {
     let mut names = BTreeMap::new(alloc);

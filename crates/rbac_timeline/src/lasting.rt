@@ -66,8 +66,9 @@ impl<'a> Asked<'a> {
     fn key_until(&self, key: &ObjectKey, link: Link) -> Option<Until>
         requires roles { link.role_place ≤ self.now.high }
         requires bindings { link.binding_place ≤ self.now.high }
-        ensures { LastsUntil (λ r b. MustGrantByListed self.now.timeline.now link.way r b self.now.who.now
-            self.now.attrs.now key.now) link.role_place link.binding_place self.now.high result }
+        ensures { LastsUntil (λ r b. MustGrantByListed self.now.timeline.now link.way r b
+            self.now.who.now self.now.attrs.now key.now) link.role_place link.binding_place
+            self.now.high result }
     {
         if !self
             .timeline
@@ -90,9 +91,10 @@ impl<'a> Asked<'a> {
         requires bindings { link.binding_place ≤ self.now.high }
         requires known { (reign : Reign) → Contains (found_reigns reigns) reign → IsKnownKey
             self.now.timeline.now reign.key }
-        ensures { LastsFor (λ r b. MustGrantInWay self.now.timeline.now link.way r b self.now.who.now
-            self.now.attrs.now) (MustGrantReigning self.now.timeline.now link.way link.role_place
-            link.binding_place self.now.who.now self.now.attrs.now (found_reigns reigns.entry)) link.role_place
+        ensures { LastsFor (λ r b. MustGrantInWay self.now.timeline.now link.way r b
+            self.now.who.now self.now.attrs.now)
+            (MustGrantReigning self.now.timeline.now link.way link.role_place link.binding_place
+            self.now.who.now self.now.attrs.now (found_reigns reigns.entry)) link.role_place
             link.binding_place self.now.high result }
     {
         let Some(reigns) = reigns else {
@@ -119,10 +121,11 @@ impl<'a> Asked<'a> {
     fn groups_until(&self, groups: &[Text], link: Link) -> Option<Until>
         requires roles { link.role_place ≤ self.now.high }
         requires bindings { link.binding_place ≤ self.now.high }
-        ensures { LastsFor (λ r b. MustGrantInWay self.now.timeline.now link.way r b self.now.who.now
-            self.now.attrs.now) (Any (λ group. MustGrantNamed self.now.timeline.now
-            (λ s. Means AsGroup s group) link.way link.role_place link.binding_place self.now.who.now
-            self.now.attrs.now) groups.now) link.role_place link.binding_place self.now.high result }
+        ensures { LastsFor (λ r b. MustGrantInWay self.now.timeline.now link.way r b
+            self.now.who.now self.now.attrs.now)
+            (Any (λ group. MustGrantNamed self.now.timeline.now (λ s. Means AsGroup s group)
+            link.way link.role_place link.binding_place self.now.who.now self.now.attrs.now)
+            groups.now) link.role_place link.binding_place self.now.high result }
     {
         let _place = link.bindings_at();
         let mut farthest = None;
@@ -141,8 +144,9 @@ impl<'a> Asked<'a> {
     pub fn granted_until(&self, link: Link) -> Option<Until>
         requires roles { link.role_place ≤ self.now.high }
         requires bindings { link.binding_place ≤ self.now.high }
-        ensures { LastsUntil (λ r b. MustGrantInWay self.now.timeline.now link.way r b self.now.who.now
-            self.now.attrs.now) link.role_place link.binding_place self.now.high result }
+        ensures { LastsUntil (λ r b. MustGrantInWay self.now.timeline.now link.way r b
+            self.now.who.now self.now.attrs.now) link.role_place link.binding_place
+            self.now.high result }
     {
         self.timeline.tell_sound();
         let _place = link.bindings_at();

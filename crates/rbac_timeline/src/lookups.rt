@@ -48,8 +48,8 @@ fn reigns_of(
     removals: &Removals,
 ) -> Result<(Nameless, ReignIndex), OutOfMemory>
     ensures nameless { IfOk result (λ made. AreLows made.0 spans.now) }
-    ensures reigns { IfOk result (λ made. (ends : List RbacEnd) → AreGaps removals.now ends → AreReigning made.1
-        versions.now ends) }
+    ensures reigns { IfOk result (λ made. (ends : List RbacEnd) → AreGaps removals.now ends
+        → AreReigning made.1 versions.now ends) }
 {
     let nameless = Nameless::of(alloc, spans)?;
     let reigns = ReignIndex::of(alloc, versions, removals)?;
@@ -67,7 +67,8 @@ impl Lookups {
     ) -> Result<Lookups, OutOfMemory>
         ensures index { IfOk result (λ made. IsIndexed made.index (mentions_of versions.now)) }
         ensures nameless { IfOk result (λ made. AreLows made.nameless spans.now) }
-        ensures unsure { IfOk result (λ made. AreUnsure clouds.now versions.now spans.now made.unsure) }
+        ensures unsure { IfOk result (λ made. AreUnsure clouds.now versions.now spans.now
+            made.unsure) }
         ensures reigns { IfOk result (λ made. (ends : List RbacEnd) → AreGaps removals.now ends
             → AreReigning made.reigns versions.now ends) }
     {

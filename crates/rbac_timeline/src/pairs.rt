@@ -64,8 +64,8 @@ impl<'a> Asked<'a> {
     // its versions begins.
     fn first_role(&self, role: &ObjectKey) -> Option<u64>
         requires { self.now.low ≤ self.now.high }
-        ensures { IsFirstPlace (λ r. MayGrantByRole self.now.timeline.now role.now r self.now.attrs.now)
-            self.now.low self.now.high result }
+        ensures { IsFirstPlace (λ r. MayGrantByRole self.now.timeline.now role.now r
+            self.now.attrs.now) self.now.low self.now.high result }
     {
         if let Some(place) = self.role_at(role, self.low) {
             return Some(place);
@@ -80,10 +80,12 @@ impl<'a> Asked<'a> {
     // The same, found once where the role has several versions in the range.
     fn first_role_once(&self, firsts: &mut Firsts, role: &ObjectKey) -> Option<u64>
         requires range { self.now.low ≤ self.now.high }
-        requires firsts { AreFirst self.now.timeline.now self.now.attrs.now self.now.low self.now.high firsts.old }
-        ensures found { IsFirstPlace (λ r. MayGrantByRole self.now.timeline.now role.now r self.now.attrs.now)
-            self.now.low self.now.high result }
-        ensures firsts { AreFirst self.now.timeline.now self.now.attrs.now self.now.low self.now.high firsts.new }
+        requires firsts { AreFirst self.now.timeline.now self.now.attrs.now self.now.low
+            self.now.high firsts.old }
+        ensures found { IsFirstPlace (λ r. MayGrantByRole self.now.timeline.now role.now r
+            self.now.attrs.now) self.now.low self.now.high result }
+        ensures firsts { AreFirst self.now.timeline.now self.now.attrs.now self.now.low
+            self.now.high firsts.new }
     {
         let versions = self.timeline.versions_between(role, self.low, self.high);
         if versions.len() < 2 {
@@ -100,10 +102,12 @@ impl<'a> Asked<'a> {
     // The least place of the roles at which a binding may grant that holds this.
     fn role_of(&self, firsts: &mut Firsts, content: &Content, way: Way) -> Option<u64>
         requires range { self.now.low ≤ self.now.high }
-        requires firsts { AreFirst self.now.timeline.now self.now.attrs.now self.now.low self.now.high firsts.old }
-        ensures found { IsFirstPlace (λ r. MayGrantByContent self.now.timeline.now way r self.now.who.now
-            self.now.attrs.now content.now) self.now.low self.now.high result }
-        ensures firsts { AreFirst self.now.timeline.now self.now.attrs.now self.now.low self.now.high firsts.new }
+        requires firsts { AreFirst self.now.timeline.now self.now.attrs.now self.now.low
+            self.now.high firsts.old }
+        ensures found { IsFirstPlace (λ r. MayGrantByContent self.now.timeline.now way r
+            self.now.who.now self.now.attrs.now content.now) self.now.low self.now.high result }
+        ensures firsts { AreFirst self.now.timeline.now self.now.attrs.now self.now.low
+            self.now.high firsts.new }
     {
         match content {
             Content::Rules(_) => Some(self.low),
@@ -123,10 +127,12 @@ impl<'a> Asked<'a> {
     // The least place of the roles at which the binding may grant, with the bindings at this place.
     fn role_for(&self, firsts: &mut Firsts, key: &ObjectKey, way: Way, place: u64) -> Option<u64>
         requires range { self.now.low ≤ self.now.high }
-        requires firsts { AreFirst self.now.timeline.now self.now.attrs.now self.now.low self.now.high firsts.old }
-        ensures found { IsFirstPlace (λ r. MayGrantByListed self.now.timeline.now way r place self.now.who.now
-            self.now.attrs.now key.now) self.now.low self.now.high result }
-        ensures firsts { AreFirst self.now.timeline.now self.now.attrs.now self.now.low self.now.high firsts.new }
+        requires firsts { AreFirst self.now.timeline.now self.now.attrs.now self.now.low
+            self.now.high firsts.old }
+        ensures found { IsFirstPlace (λ r. MayGrantByListed self.now.timeline.now way r place
+            self.now.who.now self.now.attrs.now key.now) self.now.low self.now.high result }
+        ensures firsts { AreFirst self.now.timeline.now self.now.attrs.now self.now.low
+            self.now.high firsts.new }
     {
         if !is_kind(kind_of_key(key), way.bindings()) {
             return None;
@@ -153,21 +159,26 @@ impl<'a> Asked<'a> {
     ) -> Option<(u64, u64)>
         requires from_low { self.now.low ≤ place }
         requires upto_high { place ≤ self.now.high }
-        requires firsts { AreFirst self.now.timeline.now self.now.attrs.now self.now.low self.now.high firsts.old }
-        ensures found { IsFirstPair (λ r b. (b ≡ place) × MayGrantByListed self.now.timeline.now way r b
-            self.now.who.now self.now.attrs.now key.now) self.now.low self.now.high result }
-        ensures firsts { AreFirst self.now.timeline.now self.now.attrs.now self.now.low self.now.high firsts.new }
+        requires firsts { AreFirst self.now.timeline.now self.now.attrs.now self.now.low
+            self.now.high firsts.old }
+        ensures found { IsFirstPair (λ r b. (b ≡ place) × MayGrantByListed self.now.timeline.now way
+            r b self.now.who.now self.now.attrs.now key.now) self.now.low self.now.high result }
+        ensures firsts { AreFirst self.now.timeline.now self.now.attrs.now self.now.low
+            self.now.high firsts.new }
     {
         pair_with(place, self.role_for(firsts, key, way, place))
     }
 
     // The least places at which the binding may grant, being clouded.
     fn clouded_pair(&self, firsts: &mut Firsts, key: &ObjectKey, way: Way) -> Option<(u64, u64)>
-        requires { AreFirst self.now.timeline.now self.now.attrs.now self.now.low self.now.high firsts.old }
+        requires { AreFirst self.now.timeline.now self.now.attrs.now self.now.low
+            self.now.high firsts.old }
         ensures found { IsFirstPair (λ r b. IsClouded (writes_of self.now.timeline.now) key.now b
-            × MayGrantByListed self.now.timeline.now way r b self.now.who.now self.now.attrs.now key.now)
+            × MayGrantByListed self.now.timeline.now way r b self.now.who.now
+            self.now.attrs.now key.now)
             self.now.low self.now.high result }
-        ensures firsts { AreFirst self.now.timeline.now self.now.attrs.now self.now.low self.now.high firsts.new }
+        ensures firsts { AreFirst self.now.timeline.now self.now.attrs.now self.now.low
+            self.now.high firsts.new }
     {
         match self.timeline.first_clouded(key, self.low, self.high) {
             Some(place) => self.pair_at(firsts, key, way, place),
@@ -179,10 +190,12 @@ impl<'a> Asked<'a> {
     // or where one of its versions begins.
     fn key_pair(&self, firsts: &mut Firsts, key: &ObjectKey, way: Way) -> Option<(u64, u64)>
         requires range { self.now.low ≤ self.now.high }
-        requires firsts { AreFirst self.now.timeline.now self.now.attrs.now self.now.low self.now.high firsts.old }
-        ensures found { IsFirstPair (λ r b. MayGrantByListed self.now.timeline.now way r b self.now.who.now
-            self.now.attrs.now key.now) self.now.low self.now.high result }
-        ensures firsts { AreFirst self.now.timeline.now self.now.attrs.now self.now.low self.now.high firsts.new }
+        requires firsts { AreFirst self.now.timeline.now self.now.attrs.now self.now.low
+            self.now.high firsts.old }
+        ensures found { IsFirstPair (λ r b. MayGrantByListed self.now.timeline.now way r b
+            self.now.who.now self.now.attrs.now key.now) self.now.low self.now.high result }
+        ensures firsts { AreFirst self.now.timeline.now self.now.attrs.now self.now.low
+            self.now.high firsts.new }
     {
         let here = self.pair_at(firsts, key, way, self.low);
         if is_lowest(self.low, here) {
@@ -198,9 +211,10 @@ impl<'a> Asked<'a> {
     // The least places at which one of the bindings may grant.
     fn keys_pair(&self, firsts: &mut Firsts, keys: &[ObjectKey], way: Way) -> Option<(u64, u64)>
         requires range { self.now.low ≤ self.now.high }
-        requires firsts { AreFirst self.now.timeline.now self.now.attrs.now self.now.low self.now.high firsts.old }
-        ensures { IsFirstPair (λ r b. Any (MayGrantByListed self.now.timeline.now way r b self.now.who.now
-            self.now.attrs.now) keys.now) self.now.low self.now.high result }
+        requires firsts { AreFirst self.now.timeline.now self.now.attrs.now self.now.low
+            self.now.high firsts.old }
+        ensures { IsFirstPair (λ r b. Any (MayGrantByListed self.now.timeline.now way r b
+            self.now.who.now self.now.attrs.now) keys.now) self.now.low self.now.high result }
     {
         let mut best = None;
         for key in keys {
@@ -220,13 +234,16 @@ impl<'a> Asked<'a> {
         way: Way,
     ) -> Option<(u64, u64)>
         requires range { self.now.low ≤ self.now.high }
-        requires firsts { AreFirst self.now.timeline.now self.now.attrs.now self.now.low self.now.high firsts.old }
+        requires firsts { AreFirst self.now.timeline.now self.now.attrs.now self.now.low
+            self.now.high firsts.old }
         requires known { (reign : Reign) → Contains (found_reigns reigns) reign → IsKnownKey
             self.now.timeline.now reign.key }
-        ensures found { FirstFor (λ r b. MayGrantInWay self.now.timeline.now way r b self.now.who.now
-            self.now.attrs.now) (StartsReigning self.now.timeline.now way self.now.low self.now.high
-            self.now.who.now self.now.attrs.now (found_reigns reigns.entry)) self.now.low self.now.high result }
-        ensures firsts { AreFirst self.now.timeline.now self.now.attrs.now self.now.low self.now.high firsts.new }
+        ensures found { FirstFor (λ r b. MayGrantInWay self.now.timeline.now way r b
+            self.now.who.now self.now.attrs.now)
+            (StartsReigning self.now.timeline.now way self.now.low self.now.high self.now.who.now
+            self.now.attrs.now (found_reigns reigns.entry)) self.now.low self.now.high result }
+        ensures firsts { AreFirst self.now.timeline.now self.now.attrs.now self.now.low
+            self.now.high firsts.new }
     {
         let Some(reigns) = reigns else {
             return None;
@@ -249,12 +266,15 @@ impl<'a> Asked<'a> {
     fn groups_pair(&self, firsts: &mut Firsts, groups: &[Text], way: Way) -> Option<(u64, u64)>
         requires range { self.now.low ≤ self.now.high }
         requires fits { self.now.high ≤ last_place }
-        requires firsts { AreFirst self.now.timeline.now self.now.attrs.now self.now.low self.now.high firsts.old }
-        ensures found { FirstFor (λ r b. MayGrantInWay self.now.timeline.now way r b self.now.who.now
-            self.now.attrs.now) (λ r b. Any (λ group. MayGrantNamed self.now.timeline.now
-            (λ s. Means AsGroup s group) way r b self.now.who.now self.now.attrs.now) groups.now) self.now.low
+        requires firsts { AreFirst self.now.timeline.now self.now.attrs.now self.now.low
+            self.now.high firsts.old }
+        ensures found { FirstFor (λ r b. MayGrantInWay self.now.timeline.now way r b
+            self.now.who.now self.now.attrs.now)
+            (λ r b. Any (λ group. MayGrantNamed self.now.timeline.now (λ s. Means AsGroup s group)
+            way r b self.now.who.now self.now.attrs.now) groups.now) self.now.low
             self.now.high result }
-        ensures firsts { AreFirst self.now.timeline.now self.now.attrs.now self.now.low self.now.high firsts.new }
+        ensures firsts { AreFirst self.now.timeline.now self.now.attrs.now self.now.low
+            self.now.high firsts.new }
     {
         let mut best = None;
         for group in groups {
@@ -272,11 +292,14 @@ impl<'a> Asked<'a> {
     fn named_pair(&self, firsts: &mut Firsts, way: Way) -> Option<(u64, u64)>
         requires range { self.now.low ≤ self.now.high }
         requires fits { self.now.high ≤ last_place }
-        requires firsts { AreFirst self.now.timeline.now self.now.attrs.now self.now.low self.now.high firsts.old }
-        ensures found { FirstFor (λ r b. MayGrantInWay self.now.timeline.now way r b self.now.who.now
-            self.now.attrs.now) (λ r b. MayGrantNamed self.now.timeline.now (λ s. Matches s self.now.who.now)
-            way r b self.now.who.now self.now.attrs.now) self.now.low self.now.high result }
-        ensures firsts { AreFirst self.now.timeline.now self.now.attrs.now self.now.low self.now.high firsts.new }
+        requires firsts { AreFirst self.now.timeline.now self.now.attrs.now self.now.low
+            self.now.high firsts.old }
+        ensures found { FirstFor (λ r b. MayGrantInWay self.now.timeline.now way r b
+            self.now.who.now self.now.attrs.now)
+            (λ r b. MayGrantNamed self.now.timeline.now (λ s. Matches s self.now.who.now) way r b
+            self.now.who.now self.now.attrs.now) self.now.low self.now.high result }
+        ensures firsts { AreFirst self.now.timeline.now self.now.attrs.now self.now.low
+            self.now.high firsts.new }
     {
         let reigns = self.timeline.user_reigns(&self.who.name);
         let user = self.reigns_pair(firsts, reigns, way);
@@ -292,8 +315,8 @@ impl<'a> Asked<'a> {
     // The least places at which a binding may grant whose name isn't known.
     fn nameless_pair(&self, way: Way) -> Option<(u64, u64)>
         requires { self.now.low ≤ self.now.high }
-        ensures { IsFirstPair (λ r b. MayGrantNameless self.now.timeline.now way b self.now.attrs.now)
-            self.now.low self.now.high result }
+        ensures { IsFirstPair (λ r b. MayGrantNameless self.now.timeline.now way b
+            self.now.attrs.now) self.now.low self.now.high result }
     {
         match self
             .timeline

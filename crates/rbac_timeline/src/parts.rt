@@ -80,8 +80,8 @@ fn found_parts(
     ensures index { IfOk result (λ made. IsIndexed made.1.index (mentions_of versions.now)) }
     ensures nameless { IfOk result (λ made. AreLows made.1.nameless spans.now) }
     ensures unsure { IfOk result (λ made. AreUnsure made.0 versions.now spans.now made.1.unsure) }
-    ensures reigns { IfOk result (λ made. (ends : List RbacEnd) → AreGaps removals.now ends → AreReigning
-        made.1.reigns versions.now ends) }
+    ensures reigns { IfOk result (λ made. (ends : List RbacEnd) → AreGaps removals.now ends
+        → AreReigning made.1.reigns versions.now ends) }
 {
     let clouds = clouds_of(alloc, versions, spans)?;
     let Ok(lookups) = Lookups::of(alloc, versions, spans, &clouds, removals) else {
@@ -102,10 +102,12 @@ fn parts_of(
 ) -> Result<Parts, OutOfMemory>
     ensures bypass { IfOk result (λ made. made.bypass ≡ bypass.now) }
     ensures removals { IfOk result (λ made. AreGaps made.removals ends.now) }
-    ensures clouds { IfOk result (λ made. made.clouds ≡ writes_of (known_of versions.now [] spans.now)) }
+    ensures clouds { IfOk result (λ made. made.clouds ≡ writes_of
+        (known_of versions.now [] spans.now)) }
     ensures index { IfOk result (λ made. IsIndexed made.lookups.index (mentions_of versions.now)) }
     ensures nameless { IfOk result (λ made. AreLows made.lookups.nameless spans.now) }
-    ensures unsure { IfOk result (λ made. AreUnsure made.clouds versions.now spans.now made.lookups.unsure) }
+    ensures unsure { IfOk result (λ made. AreUnsure made.clouds versions.now spans.now
+        made.lookups.unsure) }
     ensures reigns { IfOk result (λ made. AreReigning made.lookups.reigns versions.now ends.now) }
 {
     let (bypass, removals) = few_parts(alloc, ends, bypass)?;
@@ -152,7 +154,8 @@ pub fn all_parts(
     ensures clouds { IfOk result (λ made. made.1.clouds ≡ writes_of (known_of versions [] spans)) }
     ensures index { IfOk result (λ made. IsIndexed made.1.lookups.index (mentions_of versions)) }
     ensures nameless { IfOk result (λ made. AreLows made.1.lookups.nameless spans) }
-    ensures unsure { IfOk result (λ made. AreUnsure made.1.clouds versions spans made.1.lookups.unsure) }
+    ensures unsure { IfOk result (λ made. AreUnsure made.1.clouds versions spans
+        made.1.lookups.unsure) }
     ensures reigns { IfOk result (λ made. AreReigning made.1.lookups.reigns versions ends) }
 {
     let made = parts_of(

@@ -141,8 +141,8 @@ impl ReignIndex {
         versions: &[RbacVersion],
         removals: &Removals,
     ) -> Result<ReignIndex, OutOfMemory>
-        ensures { IfOk result (λ index. (ends : List RbacEnd) → AreGaps removals.now ends → AreReigning index
-            versions.now ends) }
+        ensures { IfOk result (λ index. (ends : List RbacEnd) → AreGaps removals.now ends
+            → AreReigning index versions.now ends) }
     {
         let begun = in_order(alloc, versions, removals)?;
         let index = ReignIndex::of_begun(alloc, begun.as_slice())?;

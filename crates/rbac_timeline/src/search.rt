@@ -145,10 +145,12 @@ impl<'a> Asked<'a> {
     fn first_free_cluster_binding(&self, cluster_roles: u64) -> Result<u64, u64>
         requires range { self.now.low ≤ self.now.high }
         requires upto { cluster_roles ≤ self.now.high }
-        ensures found { IfOk result (IsLeastPlace (IsFreeCluster self.now.timeline.now self.now.who.now
-            self.now.attrs.now cluster_roles) self.now.low self.now.high) }
-        ensures none { IfErr result (IsLast (λ c. HoldsNowhere (IsFreeCluster self.now.timeline.now
-            self.now.who.now self.now.attrs.now c) self.now.low self.now.high) cluster_roles self.now.high) }
+        ensures found { IfOk result (IsLeastPlace
+            (IsFreeCluster self.now.timeline.now self.now.who.now self.now.attrs.now cluster_roles)
+            self.now.low self.now.high) }
+        ensures none { IfErr result (IsLast (λ c. HoldsNowhere
+            (IsFreeCluster self.now.timeline.now self.now.who.now self.now.attrs.now c) self.now.low
+            self.now.high) cluster_roles self.now.high) }
     {
         let mut place = self.low;
         let mut last = self.high;
@@ -170,8 +172,8 @@ impl<'a> Asked<'a> {
     fn role_bar(&self, bindings: u64, roles: u64) -> Option<Until>
         requires bindings { bindings ≤ self.now.high }
         requires roles { roles ≤ self.now.high }
-        ensures { LastsUntil (IsBarredRole self.now.timeline.now self.now.who.now self.now.attrs.now) bindings
-            roles self.now.high result }
+        ensures { LastsUntil (IsBarredRole self.now.timeline.now self.now.who.now
+            self.now.attrs.now) bindings roles self.now.high result }
     {
         turned(self.granted_until(Link {
             way: Way::Roles,
@@ -185,8 +187,9 @@ impl<'a> Asked<'a> {
         requires range { self.now.low ≤ self.now.high }
         requires bindings { bindings ≤ self.now.high }
         requires cluster_roles { cluster_roles ≤ self.now.high }
-        ensures { LastsUntil (IsBarredClusterRole self.now.timeline.now self.now.who.now self.now.attrs.now
-            self.now.low self.now.high) bindings cluster_roles self.now.high result }
+        ensures { LastsUntil (IsBarredClusterRole self.now.timeline.now self.now.who.now
+            self.now.attrs.now self.now.low self.now.high) bindings cluster_roles
+            self.now.high result }
     {
         let granted = turned(self.granted_until(Link {
             way: Way::ClusterRoles,
@@ -209,8 +212,8 @@ impl<'a> Asked<'a> {
     fn first_free_role(&self, bindings: u64) -> Freed
         requires range { self.now.low ≤ self.now.high }
         requires upto { bindings ≤ self.now.high }
-        ensures { IsFreed (IsBarredRole self.now.timeline.now self.now.who.now self.now.attrs.now) bindings
-            self.now.low self.now.high result.place result.last }
+        ensures { IsFreed (IsBarredRole self.now.timeline.now self.now.who.now self.now.attrs.now)
+            bindings self.now.low self.now.high result.place result.last }
     {
         let mut place = self.low;
         let mut last = self.high;
@@ -231,8 +234,9 @@ impl<'a> Asked<'a> {
     fn first_free_cluster_role(&self, bindings: u64) -> Freed
         requires range { self.now.low ≤ self.now.high }
         requires upto { bindings ≤ self.now.high }
-        ensures { IsFreed (IsBarredClusterRole self.now.timeline.now self.now.who.now self.now.attrs.now
-            self.now.low self.now.high) bindings self.now.low self.now.high result.place result.last }
+        ensures { IsFreed (IsBarredClusterRole self.now.timeline.now self.now.who.now
+            self.now.attrs.now self.now.low self.now.high) bindings self.now.low self.now.high
+            result.place result.last }
     {
         let mut place = self.low;
         let mut last = self.high;
@@ -255,8 +259,8 @@ impl<'a> Asked<'a> {
         requires range { self.now.low ≤ self.now.high }
         requires from { self.now.low ≤ bindings }
         requires upto { bindings ≤ self.now.high }
-        ensures places { AreFirstFrom self.now.timeline.now self.now.who.now self.now.attrs.now self.now.low
-            self.now.high bindings result.last result.places }
+        ensures places { AreFirstFrom self.now.timeline.now self.now.who.now self.now.attrs.now
+            self.now.low self.now.high bindings result.last result.places }
         ensures from { bindings ≤ result.last }
         ensures upto { result.last ≤ self.now.high }
     {
@@ -287,8 +291,8 @@ impl<'a> Asked<'a> {
     /// roles have least places of their own, so that those of the bindings alone are gone through.
     pub fn first_forbidden(&self) -> Option<Places>
         requires { self.now.low ≤ self.now.high }
-        ensures { AreFirstOf (IsFreeAt self.now.timeline.now self.now.who.now self.now.attrs.now) self.now.low
-            self.now.high result }
+        ensures { AreFirstOf (IsFreeAt self.now.timeline.now self.now.who.now self.now.attrs.now)
+            self.now.low self.now.high result }
     {
         let mut best = None;
         let mut bindings = self.low;

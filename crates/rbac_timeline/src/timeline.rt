@@ -150,8 +150,8 @@ impl Timeline {
     }
 
     fn latest(&self, key: &ObjectKey, place: u64) -> Option<&Stored>
-        ensures some { IfSome result (λ s. (v : RbacVersion) × IsLatestVersion self.now.versions key.now place
-            v × (s.now ≡ stored_of v)) }
+        ensures some { IfSome result (λ s. (v : RbacVersion)
+            × IsLatestVersion self.now.versions key.now place v × (s.now ≡ stored_of v)) }
         ensures none { IfNone result (NoneUpto self.now.versions key.now place) }
     {
         match self.histories.get(key) {
@@ -216,7 +216,8 @@ impl Timeline {
     // The bindings that may be clouded or unreadable somewhere and can reach the request, and maybe others.
     pub(crate) fn unsure_keys(&self, way: Way, attrs: &RequestAttrs) -> &[ObjectKey]
         ensures known { (key : ObjectKey) → Contains result.now key → IsKnownKey self.now key }
-        ensures full { (place : ℕ) (key : ObjectKey) → place ≤ last_place → IsKeyOf (bindings_in way) key
+        ensures full { (place : ℕ) (key : ObjectKey) → place ≤ last_place
+            → IsKeyOf (bindings_in way) key
             → IsReached key attrs.now → IsKnownUnsure self.now place key → Contains result.now key }
     {
         self.unsure.keys(way.bindings(), attrs)
@@ -231,7 +232,8 @@ impl Timeline {
         attrs: &RequestAttrs,
     ) -> Option<u64>
         requires { low ≤ high }
-        ensures { IsFirstPlace (λ place. MayGrantNameless self.now way place attrs.now) low high result }
+        ensures { IsFirstPlace (λ place. MayGrantNameless self.now way place attrs.now) low
+            high result }
     {
         match self.nameless.least(way.bindings(), attrs) {
             Some(least) => first_behind(least, low, high),

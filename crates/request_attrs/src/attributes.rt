@@ -69,7 +69,8 @@ fn copied_texts(
     request: &ResourceRequest,
     name: &str,
 ) -> Result<ResourceTexts, OutOfMemory>
-    ensures { IfOk result (λ texts. shown_texts texts ≡ record (shown_request request.now) { name = name.now }) }
+    ensures { IfOk result (λ texts. shown_texts texts ≡ record (shown_request request.now)
+        { name = name.now }) }
 {
     let resource = Text::from_str(alloc, request.resource)?;
     let name = Text::from_str(alloc, name)?;

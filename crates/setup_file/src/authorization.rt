@@ -56,7 +56,8 @@ pub fn read_authorization(
     value: &PackedRef<'_>,
 ) -> Result<Option<Authorization>, OutOfMemory>
     ensures authorization { IfOk result (λ found. found ≡ authorization_of value.now) }
-    ensures memory { OnErr result (IsSome (authorize_of (member_of (codes "authorize") value.now))) }
+    ensures memory { OnErr result (IsSome (authorize_of
+        (member_of (codes "authorize") value.now))) }
 {
     let Some(authorize) = authorize_of(value.member("authorize")) else {
         return Ok(None);
@@ -130,7 +131,8 @@ fn has_rbac_resource(
     resources: &TrackedList,
     resource: &str,
 ) -> Result<bool, OutOfMemory>
-    ensures { IfOk result (λ has. has ≡ is_some (tracked_as resources.now rbac_group resource.now)) }
+    ensures { IfOk result (λ has. has ≡ is_some
+        (tracked_as resources.now rbac_group resource.now)) }
 {
     let group = Text::from_str(alloc, RBAC_GROUP)?;
     let resource = Text::from_str(alloc, resource)?;
@@ -138,8 +140,8 @@ fn has_rbac_resource(
 }
 
 fn has_rbac_resources(alloc: Global, resources: &TrackedList) -> Result<bool, OutOfMemory>
-    ensures { IfOk result (λ has. has ≡ list_all (λ resource. is_some (tracked_as resources.now rbac_group resource))
-        rbac_resources) }
+    ensures { IfOk result (λ has. has ≡ list_all
+        (λ resource. is_some (tracked_as resources.now rbac_group resource)) rbac_resources) }
 {
     Ok(
         has_rbac_resource(alloc, resources, "roles")?
@@ -157,7 +159,8 @@ pub fn is_authorized(
     snapshot: &[SnapshotObject],
     authorization: &Authorization,
 ) -> Result<bool, OutOfMemory>
-    ensures is { IfOk result (λ is. is ≡ is_authorized resources.now snapshot.now authorization.now) }
+    ensures is { IfOk result (λ is. is ≡ is_authorized resources.now snapshot.now
+        authorization.now) }
     ensures memory { OnErr result (IsTrue authorization.now.authorize) }
 {
     if !authorization.authorize {

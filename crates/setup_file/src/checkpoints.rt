@@ -26,7 +26,8 @@ fn is_whole_at(start: Revision, list: &ListRead) -> bool
 
 // Whether a list is one that a checkpoint may have.
 fn is_fit(namespace: &str, tracked: &Tracked, start: Revision, list: &ListRead) -> bool
-    ensures { result ≡ ((is_no_text namespace.now || tracked.now.namespaced) && is_whole_at start list.now) }
+    ensures { result ≡ ((is_no_text namespace.now || tracked.now.namespaced) && is_whole_at
+        start list.now) }
 {
     (namespace.is_empty() || tracked.namespaced) && is_whole_at(start, list)
 }
@@ -176,7 +177,8 @@ pub fn read_checkpoints(
     resources: &TrackedList,
     member: Option<PackedRef<'_>>,
 ) -> Result<Option<Checkpoints>, OutOfMemory>
-    ensures checkpoints { IfOk result (λ found. found ≡ checkpoints_of start resources.now member.entry) }
+    ensures checkpoints { IfOk result (λ found. found ≡ checkpoints_of start resources.now
+        member.entry) }
     ensures memory { OnErr result (IsSome (option_and_then items_of member.entry)) }
 {
     let Some(member) = member else {

@@ -27,7 +27,8 @@ pub fn are_pairs_distinct(
     pairs: &[(&Text, &Text)],
     seed: Seed,
 ) -> Result<bool, OutOfMemory>
-    ensures { IfOk result (λ are. are ≡ are_distinct pair_eq (map (λ pair. (pair.0.now, pair.1.now)) pairs.now)) }
+    ensures { IfOk result (λ are. are ≡ are_distinct pair_eq
+        (map (λ pair. (pair.0.now, pair.1.now)) pairs.now)) }
 {
     let mut seen = HashSet::with_hasher(alloc, Seeded::new(seed));
     for pair in pairs {
@@ -61,7 +62,8 @@ pub fn are_revisions_distinct(
     revisions: &[&Revision],
     seed: Seed,
 ) -> Result<bool, OutOfMemory>
-    ensures { IfOk result (λ are. are ≡ are_distinct (λ a b. a == b) (map (λ revision. revision.now) revisions.now)) }
+    ensures { IfOk result (λ are. are ≡ are_distinct (λ a b. a == b)
+        (map (λ revision. revision.now) revisions.now)) }
 {
     let mut seen = HashSet::with_hasher(alloc, Seeded::new(seed));
     for revision in revisions {

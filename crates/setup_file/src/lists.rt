@@ -26,7 +26,8 @@ fn read_objects(
     namespace: &Text,
     values: &[PackedRef<'_>],
 ) -> Result<Option<Snapshot>, OutOfMemory>
-    ensures { IfOk result (λ found. found ≡ objects_in tracked.now name.now namespace.now values.now) }
+    ensures { IfOk result (λ found. found ≡ objects_in tracked.now name.now namespace.now
+        values.now) }
 {
     let mut objects = Snapshot::new(alloc);
     for value in values {
@@ -64,7 +65,8 @@ fn list_with(
     metadata: &PackedRef<'_>,
     value: &PackedRef<'_>,
 ) -> Result<Option<ListRead>, OutOfMemory>
-    ensures { IfOk result (λ found. found ≡ list_with tracked.now name.now namespace.now metadata.now value.now) }
+    ensures { IfOk result (λ found. found ≡ list_with tracked.now name.now namespace.now
+        metadata.now value.now) }
 {
     let Some(revision) = metadata.revision_at("resourceVersion") else {
         return Ok(None);

@@ -143,7 +143,8 @@ fn policy_or_rule(read: Result<Policy, PolicyFault>) -> Result<Policy, SetupFaul
 fn policy_at(alloc: Global, value: &PackedRef<'_>) -> Result<Policy, SetupFault>
     ensures policy { IfOk result (λ policy. policy_at value.now ≡ Ok policy) }
     ensures cause { IfErr result (IsCause (policy_at value.now)) }
-    ensures memory { result ≡ Err SetupFault.OutOfMemory → IsSome (member_of (codes "policy") value.now) }
+    ensures memory { result ≡ Err SetupFault.OutOfMemory → IsSome
+        (member_of (codes "policy") value.now) }
 {
     let Some(member) = value.member("policy") else {
         return Err(SetupFault::Rule(SetupRule::S7));
@@ -160,7 +161,8 @@ fn rest_at(
     snapshot: &[SnapshotObject],
     value: &PackedRef<'_>,
 ) -> Result<(Authorization, Checkpoints), SetupFault>
-    ensures rest { IfOk result (λ rest. rest_at start resources.now snapshot.now value.now ≡ Ok rest) }
+    ensures rest { IfOk result (λ rest. rest_at start resources.now snapshot.now
+        value.now ≡ Ok rest) }
     ensures cause { IfErr result (IsCause (rest_at start resources.now snapshot.now value.now)) }
 {
     let Some(authorization) = read_authorization(alloc, value)? else {

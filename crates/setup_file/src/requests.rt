@@ -18,7 +18,8 @@ pub fn tracked_of<'a>(setup: &'a Setup, attrs: &RequestAttrs) -> Option<&'a Trac
 
 /// The resource's subresource of this name, where the setup has it.
 pub fn subresource_named<'a>(tracked: &'a Tracked, name: &Text) -> Option<&'a Subresource>
-    ensures { option_map (λ subresource. subresource.now) result ≡ subresource_named name.now tracked.now }
+    ensures { option_map (λ subresource. subresource.now) result
+        ≡ subresource_named name.now tracked.now }
 {
     tracked
         .subresources

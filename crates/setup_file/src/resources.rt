@@ -189,7 +189,8 @@ fn read_entry(alloc: Global, value: &PackedRef<'_>) -> Result<Option<Entry>, Out
 }
 
 fn read_entries(alloc: Global, values: &[PackedRef<'_>]) -> Result<Option<Vec<Entry>>, OutOfMemory>
-    ensures { IfOk result (λ found. option_map (λ entries. entries.items) found ≡ entries_in values.now) }
+    ensures { IfOk result (λ found. option_map (λ entries. entries.items) found
+        ≡ entries_in values.now) }
 {
     let mut entries = Vec::new(alloc);
     for value in values {
@@ -250,7 +251,8 @@ fn are_entries_apart(
 
 // The shape that was read, or none where the list isn't in its form.
 fn formed(read: Result<Shape, ShapeFault>) -> Result<Option<Shape>, OutOfMemory>
-    ensures shape { IfOk result (λ found. (found ≡ result_ok read) × (read ≢ Err ShapeFault.OutOfMemory)) }
+    ensures shape { IfOk result (λ found. (found ≡ result_ok read)
+        × (read ≢ Err ShapeFault.OutOfMemory)) }
     ensures memory { OnErr result (read ≡ Err ShapeFault.OutOfMemory) }
 {
     match read {
@@ -354,8 +356,8 @@ pub fn read_resources(
 ) -> Result<TrackedList, SetupFault>
     ensures resources { IfOk result (λ resources. resources_at value.now ≡ Ok resources) }
     ensures cause { IfErr result (IsCause (resources_at value.now)) }
-    ensures memory { result ≡ Err SetupFault.OutOfMemory → IsSome (option_and_then items_of (member_of
-        (codes "resources") value.now)) }
+    ensures memory { result ≡ Err SetupFault.OutOfMemory → IsSome
+        (option_and_then items_of (member_of (codes "resources") value.now)) }
 {
     let Some(member) = value.member("resources") else {
         return Err(SetupFault::Rule(SetupRule::S8));

@@ -116,7 +116,8 @@ fn have_distinct_keys(
     objects: &[SnapshotObject],
     seed: Seed,
 ) -> Result<bool, OutOfMemory>
-    ensures { IfOk result (λ have. have ≡ are_distinct key_eq (map (λ object. object.key) objects.now)) }
+    ensures { IfOk result (λ have. have ≡ are_distinct key_eq
+        (map (λ object. object.key) objects.now)) }
 {
     let mut keys = Vec::with_capacity(alloc, objects.len())?;
     for object in objects {
@@ -130,7 +131,8 @@ fn have_distinct_uids(
     objects: &[SnapshotObject],
     seed: Seed,
 ) -> Result<bool, OutOfMemory>
-    ensures { IfOk result (λ have. have ≡ are_distinct bytes_eq (map (λ object. object.uid) objects.now)) }
+    ensures { IfOk result (λ have. have ≡ are_distinct bytes_eq
+        (map (λ object. object.uid) objects.now)) }
 {
     let mut uids = Vec::with_capacity(alloc, objects.len())?;
     for object in objects {
@@ -144,7 +146,8 @@ fn have_distinct_revisions(
     objects: &[SnapshotObject],
     seed: Seed,
 ) -> Result<bool, OutOfMemory>
-    ensures { IfOk result (λ have. have ≡ are_distinct (λ a b. a == b) (map (λ object. object.revision) objects.now)) }
+    ensures { IfOk result (λ have. have ≡ are_distinct (λ a b. a == b)
+        (map (λ object. object.revision) objects.now)) }
 {
     let mut revisions = Vec::with_capacity(alloc, objects.len())?;
     for object in objects {
@@ -184,10 +187,11 @@ pub fn read_snapshot(
     value: &PackedRef<'_>,
     seed: Seed,
 ) -> Result<Snapshot, SetupFault>
-    ensures snapshot { IfOk result (λ snapshot. snapshot_at start resources.now value.now ≡ Ok snapshot) }
+    ensures snapshot { IfOk result (λ snapshot. snapshot_at start resources.now value.now
+        ≡ Ok snapshot) }
     ensures cause { IfErr result (IsCause (snapshot_at start resources.now value.now)) }
-    ensures memory { result ≡ Err SetupFault.OutOfMemory → IsSome (option_and_then items_of (member_of
-        (codes "snapshot") value.now)) }
+    ensures memory { result ≡ Err SetupFault.OutOfMemory → IsSome
+        (option_and_then items_of (member_of (codes "snapshot") value.now)) }
 {
     let Some(member) = value.member("snapshot") else {
         return Err(SetupFault::Rule(SetupRule::S12));

@@ -32,9 +32,11 @@ fn read_subresource(
     value: &PackedRef<'_>,
 ) -> Result<Option<Subresource>, OutOfMemory>
     ensures subresource { IfOk result (λ found. found ≡ subresource_of value.now) }
-    ensures form { OnErr result (IsTrue (is_form (codes "name" ∷ codes "effect" ∷ codes "shapes" ∷ []) value.now)) }
+    ensures form { OnErr result (IsTrue (is_form
+        (codes "name" ∷ codes "effect" ∷ codes "shapes" ∷ []) value.now)) }
     ensures name { OnErr result (IsSome (text_at (codes "name") value.now)) }
-    ensures effect { OnErr result (IsSome (option_and_then effect_as (text_at (codes "effect") value.now))) }
+    ensures effect { OnErr result (IsSome (option_and_then effect_as
+        (text_at (codes "effect") value.now))) }
 {
     if !is_form(&["name", "effect", "shapes"], value) {
         return Ok(None);

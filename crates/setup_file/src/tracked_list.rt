@@ -48,7 +48,8 @@ impl Drop for TrackedList {
 
 // Puts the place of a resource among those of its group.
 fn put_among(places: &mut Places, tracked: &Tracked, place: usize) -> Result<(), OutOfMemory>
-    ensures { OnOk result (Updates (slice_cmp nat_cmp) places.old places.new tracked.now.resource (Some place)) }
+    ensures { OnOk result (Updates (slice_cmp nat_cmp) places.old places.new tracked.now.resource
+        (Some place)) }
 {
     let resource = tracked.resource.clone()?;
     let _later = places.insert(resource, place)?;
@@ -99,7 +100,8 @@ impl TrackedList {
 
     /// The resource of this group and type.
     pub fn find(&self, group: &Text, resource: &Text) -> Option<&Tracked>
-        ensures { option_map (λ tracked. tracked.now) result ≡ tracked_as self.now group.now resource.now }
+        ensures { option_map (λ tracked. tracked.now) result
+            ≡ tracked_as self.now group.now resource.now }
     {
         let places = self.groups.get(group)?;
         let place = places.get(resource)?;

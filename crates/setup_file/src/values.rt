@@ -35,7 +35,8 @@ pub fn values_or_none<'a>(
     alloc: Global,
     member: Option<PackedRef<'a>>,
 ) -> Result<Option<Vec<PackedRef<'a>>>, OutOfMemory>
-    ensures { IfOk result (λ found. option_map (λ values. values.items) found ≡ items_or_none member.entry) }
+    ensures { IfOk result (λ found. option_map (λ values. values.items) found
+        ≡ items_or_none member.entry) }
 {
     let Some(value) = member else {
         return Ok(Some(Vec::new(alloc)));

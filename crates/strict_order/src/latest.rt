@@ -61,7 +61,8 @@ pub fn marks_of(alloc: Global, things: &[Thing]) -> Result<Vec<Mark>, OutOfMemor
 
 /// The first moment that a thing can have: the latest `lo` of its own and of those that come before it.
 pub fn first_moment(marks: &[Mark], thing: &Thing) -> Moment
-    ensures { (things : List Thing) → IsLatest things marks.now → IsPrinted things thing.now result }
+    ensures { (things : List Thing) → IsLatest things marks.now
+        → IsPrinted things thing.now result }
 {
     let before = marks.partition_point(|mark| mark.number < thing.least);
     if before == 0 {

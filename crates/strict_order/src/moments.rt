@@ -56,8 +56,10 @@ fn moments_of(
 ) -> Result<(Vec<Moment>, Option<Thing>), OutOfMemory>
     requires marks { IsLatest things.now marks.now }
     requires moments { All (λ thing. thing.lo.0 ≤ℤ thing.hi.0) things.now }
-    ensures printed { IfOk result (λ found. AllZip (IsPrinted things.now) things.now found.0.items) }
-    ensures late { IfOk result (λ found. IsFirstSuch (λ b. Any (λ a. Crosses a b) things.now) things.now found.1) }
+    ensures printed { IfOk result (λ found. AllZip (IsPrinted things.now) things.now
+        found.0.items) }
+    ensures late { IfOk result (λ found. IsFirstSuch (λ b. Any (λ a. Crosses a b) things.now)
+        things.now found.1) }
 {
     let mut moments = Vec::with_capacity(alloc, things.len())?;
     let mut late = None;

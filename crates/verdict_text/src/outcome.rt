@@ -14,7 +14,8 @@ use std::alloc::Global;
 /// one that `read_placement` takes.
 pub fn print_outcome(alloc: Global, outcome: &Outcome) -> Result<Bytes, OutOfMemory>
     ensures text { IfOk result (λ text. text ≡ outcome_text outcome.now) }
-    ensures placement { OnOk result ((lines : List PlacedLine) → outcome.now ≡ Outcome.Explained lines
+    ensures placement { OnOk result ((lines : List PlacedLine) → outcome.now
+        ≡ Outcome.Explained lines
         → IsPlacement lines) }
 {
     let mut text = String::new(alloc);
@@ -23,8 +24,10 @@ pub fn print_outcome(alloc: Global, outcome: &Outcome) -> Result<Bytes, OutOfMem
 }
 
 fn append_outcome(alloc: Global, text: &mut String, outcome: &Outcome) -> Result<(), OutOfMemory>
-    ensures text { OnOk result (string_bytes text.new ≡ string_bytes text.old ++ outcome_text outcome.now) }
-    ensures placement { OnOk result ((lines : List PlacedLine) → outcome.now ≡ Outcome.Explained lines
+    ensures text { OnOk result (string_bytes text.new ≡ string_bytes text.old ++ outcome_text
+        outcome.now) }
+    ensures placement { OnOk result ((lines : List PlacedLine) → outcome.now
+        ≡ Outcome.Explained lines
         → IsPlacement lines) }
 {
     match outcome {
@@ -53,8 +56,9 @@ fn append_unexplained(
     low: u64,
     high: u64,
 ) -> Result<(), OutOfMemory>
-    ensures { OnOk result (string_bytes text.new ≡ string_bytes text.old ++ ended (spaced (codes "unexplained"
-        ∷ decimal line ∷ escaped audit_id.now ∷ code_text reason ∷ decimal low ∷ decimal high ∷ []))) }
+    ensures { OnOk result (string_bytes text.new ≡ string_bytes text.old ++ ended
+        (spaced (codes "unexplained" ∷ decimal line ∷ escaped audit_id.now ∷ code_text reason
+        ∷ decimal low ∷ decimal high ∷ []))) }
 {
     let name = escape(alloc, audit_id)?;
     let code = reason.number();
@@ -67,7 +71,8 @@ fn append_unexplained(
 }
 
 fn append_explained(text: &mut String, lines: &[PlacedLine]) -> Result<(), OutOfMemory>
-    ensures text { OnOk result (string_bytes text.new ≡ string_bytes text.old ++ explained_text lines.now) }
+    ensures text { OnOk result (string_bytes text.new ≡ string_bytes text.old ++
+        explained_text lines.now) }
     ensures fits { OnOk result (All FitsPlaced lines.now) }
     ensures counted { IsNumber (length lines.now) }
 {
@@ -80,7 +85,8 @@ fn append_explained(text: &mut String, lines: &[PlacedLine]) -> Result<(), OutOf
 }
 
 fn append_writes(text: &mut String, writes: &[WriteLine]) -> Result<(), OutOfMemory>
-    ensures { OnOk result (string_bytes text.new ≡ string_bytes text.old ++ writes_text writes.now) }
+    ensures { OnOk result (string_bytes text.new ≡ string_bytes text.old ++ writes_text
+        writes.now) }
 {
     for write in writes {
         append_write(text, write)?;
@@ -89,7 +95,8 @@ fn append_writes(text: &mut String, writes: &[WriteLine]) -> Result<(), OutOfMem
 }
 
 fn append_write(text: &mut String, write: &WriteLine) -> Result<(), OutOfMemory>
-    ensures { OnOk result (string_bytes text.new ≡ string_bytes text.old ++ ended (write_text write.now)) }
+    ensures { OnOk result (string_bytes text.new ≡ string_bytes text.old ++ ended
+        (write_text write.now)) }
 {
     match write {
         WriteLine::Made {

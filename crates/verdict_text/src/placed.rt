@@ -13,7 +13,8 @@ use base_types::{Decision, OutOfMemory, PlacedAnswer, PlacedDecision, PlacedLine
 
 /// Appends the line of one event.
 pub fn append_placed(text: &mut String, placed: &PlacedLine) -> Result<(), OutOfMemory>
-    ensures text { OnOk result (string_bytes text.new ≡ string_bytes text.old ++ ended (placed_text placed.now)) }
+    ensures text { OnOk result (string_bytes text.new ≡ string_bytes text.old ++ ended
+        (placed_text placed.now)) }
     ensures fits { OnOk result (FitsPlaced placed.now) }
 {
     let line = placed.line;
@@ -26,7 +27,8 @@ pub fn append_placed(text: &mut String, placed: &PlacedLine) -> Result<(), OutOf
 }
 
 fn append_answer(text: &mut String, answer: &PlacedAnswer) -> Result<(), OutOfMemory>
-    ensures text { OnOk result (string_bytes text.new ≡ string_bytes text.old ++ answer_text answer.now) }
+    ensures text { OnOk result (string_bytes text.new ≡ string_bytes text.old ++ answer_text
+        answer.now) }
     ensures fits { OnOk result (FitsAnswer answer.now) }
 {
     match *answer {
@@ -39,7 +41,8 @@ fn append_answer(text: &mut String, answer: &PlacedAnswer) -> Result<(), OutOfMe
 }
 
 fn append_decision(text: &mut String, decision: &Option<PlacedDecision>) -> Result<(), OutOfMemory>
-    ensures text { OnOk result (string_bytes text.new ≡ string_bytes text.old ++ decision_text decision.now) }
+    ensures text { OnOk result (string_bytes text.new ≡ string_bytes text.old ++ decision_text
+        decision.now) }
     ensures fits { OnOk result (FitsDecision decision.now) }
 {
     let Some(judged) = decision else {
@@ -67,7 +70,8 @@ fn append_decision(text: &mut String, decision: &Option<PlacedDecision>) -> Resu
 pub fn read_placed(text: &str) -> Option<PlacedLine>
     ensures some { IfSome result (λ placed. text.now ≡ placed_text placed) }
     ensures fits { IfSome result FitsPlaced }
-    ensures none { IfNone result ((placed : PlacedLine) → FitsPlaced placed → text.now ≢ placed_text placed) }
+    ensures none { IfNone result ((placed : PlacedLine) → FitsPlaced placed
+        → text.now ≢ placed_text placed) }
 {
     let (line, rest) = read_spaced_number(text)?;
     let (answer, rest) = read_answer(rest)?;
@@ -132,7 +136,8 @@ fn read_decision_word(text: &str) -> Option<(Decision, &str)>
 fn read_places(text: &str) -> Option<Places>
     ensures some { IfSome result (λ places. text.now ≡ places_text places) }
     ensures fits { IfSome result FitsPlaces }
-    ensures none { IfNone result ((places : Places) → FitsPlaces places → text.now ≢ places_text places) }
+    ensures none { IfNone result ((places : Places) → FitsPlaces places
+        → text.now ≢ places_text places) }
 {
     let (roles, rest) = read_spaced_number(text)?;
     let (cluster_roles, rest) = read_spaced_number(rest)?;

@@ -85,7 +85,8 @@ fn read_count(line: &[u8]) -> Option<u64>
 // The placed line that this line says, where it may follow the lines of the placement.
 fn read_next(placement: &Placement, count: u64, line: &[u8]) -> Option<PlacedLine>
     ensures some { IfSome result (IsNext placement.now count line.now) }
-    ensures none { IfNone result ((placed : PlacedLine) → ¬ (IsNext placement.now count line.now placed)) }
+    ensures none { IfNone result ((placed : PlacedLine) → ¬
+        (IsNext placement.now count line.now placed)) }
 {
     let placed = read_placed(as_text(line)?)?;
     let lines = placement.as_slice();

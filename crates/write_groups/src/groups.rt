@@ -52,8 +52,8 @@ fn add(
     revision: u64,
     number: u32,
 ) -> Result<(), OutOfMemory>
-    ensures { OnOk result ((other : ℕ) → numbers_at made.new other ≡ numbers_at made.old other ++ number_if
-        revision number other) }
+    ensures { OnOk result ((other : ℕ) → numbers_at made.new other
+        ≡ numbers_at made.old other ++ number_if revision number other) }
 {
     match made.get_mut(&revision) {
         Some(numbers) => {
@@ -172,7 +172,8 @@ pub fn groups_of(
 ) -> Result<Groups, OutOfMemory>
     ensures rising { IfOk result (λ groups. AllPairs (λ a b. a.revision < b.revision) groups) }
     ensures above { IfOk result (λ groups. All (λ group. start < group.revision) groups) }
-    ensures members { IfOk result (λ groups. All (λ group. AreWrites events.now group.members) groups) }
+    ensures members { IfOk result (λ groups. All
+        (λ group. AreWrites events.now group.members) groups) }
     ensures groups { IfOk result (λ groups. (h : History) → HasEvents events.now h → h.start ≡ start
         → h.order ≡ order.now → IsOrder h → AreGroupsOf h groups) }
 {

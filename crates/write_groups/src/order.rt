@@ -68,7 +68,8 @@ fn numbers_of(alloc: Global, turns: &[Turn]) -> Result<Vec<u32>, OutOfMemory>
 pub fn order_of(alloc: Global, events: &[LogEvent]) -> Result<Vec<u32>, OutOfMemory>
     requires few { length events.now < 2 ^ 32 }
     requires lines { AllPairs (λ a b. a.line < b.line) events.now }
-    ensures { IfOk result (λ order. (h : History) → HasEvents events.now h → h.order ≡ order.items → IsOrder h) }
+    ensures { IfOk result (λ order. (h : History) → HasEvents events.now h → h.order ≡ order.items
+        → IsOrder h) }
 {
     let turns = sorted(turns_of(alloc, events)?)?;
     Ok(numbers_of(alloc, &turns)?)

@@ -160,7 +160,8 @@ pub fn spans_of(
     requires above { All (λ group. start < group.revision) groups.now }
     ensures rising { IfOk result (λ spans. AllPairs (λ a b. a.revision < b.revision) spans.items) }
     ensures above { IfOk result (λ spans. All (λ span. start < span.revision) spans.items) }
-    ensures spans { IfOk result (λ spans. (h : History) → HasEvents events.now h → IsOrder h → AreGroupsOf h groups.now
+    ensures spans { IfOk result (λ spans. (h : History) → HasEvents events.now h → IsOrder h
+        → AreGroupsOf h groups.now
         → h.spans ≡ map span_of spans.items → AreSpans h) }
 {
     let hidden = Hidden::build(alloc, events)?;

@@ -46,8 +46,10 @@ fn exact_window(start: Revision, revision: Revision, high: u64) -> Window
 /// The window of an event.
 pub fn window_of(windows: &Windows, start: Revision, event: &LogEvent) -> Window
     requires { start ≡ windows.now.start }
-    ensures low { (h : History) → HasTimes windows.now h → result.low ≡ low_end h (event_of event.now) }
-    ensures high { (h : History) → HasTimes windows.now h → result.high ≡ high_end h (event_of event.now) }
+    ensures low { (h : History) → HasTimes windows.now h → result.low
+        ≡ low_end h (event_of event.now) }
+    ensures high { (h : History) → HasTimes windows.now h → result.high
+        ≡ high_end h (event_of event.now) }
 {
     let high = highest(windows, event.hi);
     match event.reading {

@@ -66,7 +66,8 @@ pub fn read_pointer(alloc: Global, text: &str) -> Result<Pointer, PointerFault>
     ensures ok { IfOk result (λ tokens. pointer_of text.now ≡ Some tokens) }
     ensures written { IfOk result (λ tokens. pointer_text tokens ≡ text.now) }
     ensures form { result ≡ Err PointerFault.Form → pointer_of text.now ≡ None }
-    ensures unwritten { result ≡ Err PointerFault.Form → (tokens : List (List ℕ)) → pointer_text tokens ≡ text.now → ⊥ }
+    ensures unwritten { result ≡ Err PointerFault.Form → (tokens : List (List ℕ))
+        → pointer_text tokens ≡ text.now → ⊥ }
 {
     if text.is_empty() {
         return Ok(Listed::new(alloc));
@@ -79,8 +80,10 @@ pub fn read_pointer(alloc: Global, text: &str) -> Result<Pointer, PointerFault>
 
 // The tokens that a text behind its first `/` writes.
 fn read_tokens(alloc: Global, text: &str) -> Result<Pointer, PointerFault>
-    ensures ok { IfOk result (λ tokens. all_unescaped (slice_split is_slash text.now) ≡ Some tokens) }
-    ensures form { result ≡ Err PointerFault.Form → all_unescaped (slice_split is_slash text.now) ≡ None }
+    ensures ok { IfOk result (λ tokens. all_unescaped (slice_split is_slash text.now)
+        ≡ Some tokens) }
+    ensures form { result ≡ Err PointerFault.Form → all_unescaped
+        (slice_split is_slash text.now) ≡ None }
 {
     let mut tokens = Vec::new(alloc);
     let mut rest = text;
@@ -186,7 +189,8 @@ impl Trees {
     /// The index that a token is, where it is that of an item.
     pub fn find(&self, token: &str) -> Option<usize>
         ensures some { IfSome result (λ n. (index_of token.now ≡ Some n) × (n < length self.now)) }
-        ensures none { IfNone result (option_and_then (λ n. kid_at n (kids_of self.now)) (index_of token.now) ≡ None) }
+        ensures none { IfNone result (option_and_then (λ n. kid_at n (kids_of self.now))
+            (index_of token.now) ≡ None) }
     {
         match read_index(token) {
             Some(index) if index < self.all.len() => Some(index),
@@ -197,8 +201,8 @@ impl Trees {
 
     /// The item at an index, where the token is one.
     pub fn item(&self, token: &str) -> Option<&Tree>
-        ensures { option_map (λ t. t.now) result ≡ option_and_then (λ n. kid_at n (kids_of self.now))
-            (index_of token.now) }
+        ensures { option_map (λ t. t.now) result ≡ option_and_then
+            (λ n. kid_at n (kids_of self.now)) (index_of token.now) }
     {
         match self.find(token) {
             Some(index) => Some(&self.all[index]),

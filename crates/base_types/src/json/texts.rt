@@ -31,7 +31,8 @@ fn non_empty(text: &Text) -> Option<&Text>
 
 // The items of a list that may be missing or null.
 fn items_or_none<'a>(member: Option<&'a Tree>) -> Option<&'a [Tree]>
-    ensures { option_map (λ trees. trees.now) result ≡ items_or_none (option_map (λ tree. tree.now) member.entry) }
+    ensures { option_map (λ trees. trees.now) result ≡ items_or_none
+        (option_map (λ tree. tree.now) member.entry) }
 {
     match member {
         None => Some(&[]),
@@ -64,7 +65,8 @@ impl Tree {
 
     /// The items of a member that is a list; no items where it is missing or null.
     pub fn items_at(&self, name: &str) -> Option<&[Tree]>
-        ensures { option_map (λ trees. trees.now) result ≡ items_or_none (member_of name.now self.now) }
+        ensures { option_map (λ trees. trees.now) result ≡ items_or_none
+            (member_of name.now self.now) }
     {
         items_or_none(self.member(name))
     }

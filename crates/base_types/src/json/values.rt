@@ -47,7 +47,8 @@ pub fn from_number(number: &Number) -> Result<i128, TreeFault>
 fn from_items(alloc: Global, list: &Vec<Value>) -> Result<Trees, TreeFault>
     ensures ok { IfOk result (λ ts. of_items (items_view list.now.items) ≡ Some (kids_of ts)) }
     ensures range { IfOk result (λ ts. KidsInRange (kids_of ts)) }
-    ensures fraction { result ≡ Err TreeFault.Fraction → of_items (items_view list.now.items) ≡ None }
+    ensures fraction { result ≡ Err TreeFault.Fraction → of_items
+        (items_view list.now.items) ≡ None }
 {
     let mut all = Vec::with_capacity(alloc, list.len())?;
     for item in list {
@@ -58,9 +59,11 @@ fn from_items(alloc: Global, list: &Vec<Value>) -> Result<Trees, TreeFault>
 
 #[cycle(from_value)]
 fn from_members(alloc: Global, map: &Map<String, Value>) -> Result<MemberList, TreeFault>
-    ensures ok { IfOk result (λ ms. of_members (members_view map.now.entries) ≡ Some (fields_of ms)) }
+    ensures ok { IfOk result (λ ms. of_members (members_view map.now.entries)
+        ≡ Some (fields_of ms)) }
     ensures range { IfOk result (λ ms. FieldsInRange (fields_of ms)) }
-    ensures fraction { result ≡ Err TreeFault.Fraction → of_members (members_view map.now.entries) ≡ None }
+    ensures fraction { result ≡ Err TreeFault.Fraction → of_members
+        (members_view map.now.entries) ≡ None }
 {
     let mut all = Vec::with_capacity(alloc, map.len())?;
     for (key, member) in map.iter() {

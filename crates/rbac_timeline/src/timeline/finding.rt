@@ -43,8 +43,10 @@ impl Timeline {
     /// Which decisions an authorizer could have given whose caches stood at these places. A role or binding
     /// that is clouded or can't be read may grant everything that it can reach, or nothing.
     pub fn decide(&self, places: &Places, who: &User, attrs: &RequestAttrs) -> Possible
-        ensures allow { IsTrue result.allow ↔ IsPossible self.now places.now who.now attrs.now Decision.Allow }
-        ensures forbid { IsTrue result.forbid ↔ IsPossible self.now places.now who.now attrs.now Decision.Forbid }
+        ensures allow { IsTrue result.allow ↔ IsPossible self.now places.now who.now attrs.now
+            Decision.Allow }
+        ensures forbid { IsTrue result.forbid ↔ IsPossible self.now places.now who.now attrs.now
+            Decision.Forbid }
     {
         let _known = &self.clouds;
         if self.is_bypassed(who) {
@@ -89,7 +91,8 @@ impl Timeline {
     // The least places at which the request may be allowed.
     fn find_allowed(&self, low: u64, high: u64, who: &User, attrs: &RequestAttrs) -> Option<Places>
         requires { low ≤ high }
-        ensures { AreFirstOf (λ places. IsPossible self.now places who.now attrs.now Decision.Allow) low high result }
+        ensures { AreFirstOf (λ places. IsPossible self.now places who.now attrs.now Decision.Allow)
+            low high result }
     {
         let _known = &self.clouds;
         let asked = Asked {
@@ -114,7 +117,8 @@ impl Timeline {
         attrs: &RequestAttrs,
     ) -> Option<Places>
         requires { low ≤ high }
-        ensures { AreFirstOf (λ places. IsPossible self.now places who.now attrs.now Decision.Forbid) low high result }
+        ensures { AreFirstOf (λ places. IsPossible self.now places who.now attrs.now
+            Decision.Forbid) low high result }
     {
         let _known = &self.clouds;
         let asked = Asked {
@@ -139,7 +143,8 @@ impl Timeline {
         attrs: &RequestAttrs,
         wanted: Decision,
     ) -> Option<Places>
-        ensures some { IfSome result (AreLeastPlaces (IsDecidedAt self.now low high who.now attrs.now wanted)) }
+        ensures some { IfSome result (AreLeastPlaces
+            (IsDecidedAt self.now low high who.now attrs.now wanted)) }
         ensures none { IfNone result ((places : Places)
             → ¬ (IsDecidedAt self.now low high who.now attrs.now wanted places)) }
     {

@@ -101,10 +101,10 @@ impl Timeline {
         who: &User,
         attrs: &RequestAttrs,
     ) -> Extent
-        ensures may { IsTrue result.may ↔ MayGrantByContent self.now link.way link.role_place who.now
-            attrs.now content.now }
-        ensures must { IsTrue result.must ↔ MustGrantByContent self.now link.way link.role_place who.now
-            attrs.now content.now }
+        ensures may { IsTrue result.may ↔ MayGrantByContent self.now link.way link.role_place
+            who.now attrs.now content.now }
+        ensures must { IsTrue result.must ↔ MustGrantByContent self.now link.way link.role_place
+            who.now attrs.now content.now }
     {
         match content {
             Content::Rules(_) => Extent::UNSURE,
@@ -158,11 +158,12 @@ impl Timeline {
         who: &User,
         attrs: &RequestAttrs,
     ) -> bool
-        requires { (reign : Reign) → Contains (found_reigns reigns) reign → IsKnownKey self.now reign.key }
-        ensures sound { IsTrue result → MayGrantInWay self.now link.way link.role_place link.binding_place
-            who.now attrs.now }
-        ensures full { MayGrantReigning self.now link.way link.role_place link.binding_place who.now attrs.now
-            (found_reigns reigns.entry) → IsTrue result }
+        requires { (reign : Reign) → Contains (found_reigns reigns) reign
+            → IsKnownKey self.now reign.key }
+        ensures sound { IsTrue result → MayGrantInWay self.now link.way link.role_place
+            link.binding_place who.now attrs.now }
+        ensures full { MayGrantReigning self.now link.way link.role_place link.binding_place who.now
+            attrs.now (found_reigns reigns.entry) → IsTrue result }
     {
         let Some(reigns) = reigns else {
             return false;
@@ -184,8 +185,8 @@ impl Timeline {
 
     // Whether a binding may grant whose version names one of the groups.
     fn may_by_groups(&self, groups: &[Text], link: Link, who: &User, attrs: &RequestAttrs) -> bool
-        ensures sound { IsTrue result → MayGrantInWay self.now link.way link.role_place link.binding_place
-            who.now attrs.now }
+        ensures sound { IsTrue result → MayGrantInWay self.now link.way link.role_place
+            link.binding_place who.now attrs.now }
         ensures full { Any (λ group. MayGrantNamed self.now (λ s. Means AsGroup s group) link.way
             link.role_place link.binding_place who.now attrs.now) groups.now → IsTrue result }
     {
@@ -201,8 +202,8 @@ impl Timeline {
 
     // Whether a binding may grant whose version names the user, the account that it is, or one of its groups.
     fn may_by_names(&self, link: Link, who: &User, attrs: &RequestAttrs) -> bool
-        ensures sound { IsTrue result → MayGrantInWay self.now link.way link.role_place link.binding_place
-            who.now attrs.now }
+        ensures sound { IsTrue result → MayGrantInWay self.now link.way link.role_place
+            link.binding_place who.now attrs.now }
         ensures full { MayGrantNamed self.now (λ s. Matches s who.now) link.way link.role_place
             link.binding_place who.now attrs.now → IsTrue result }
     {
@@ -216,8 +217,8 @@ impl Timeline {
 
     // Whether one of these bindings may grant the request.
     fn some_may(&self, keys: &[ObjectKey], link: Link, who: &User, attrs: &RequestAttrs) -> bool
-        ensures { IsTrue result ↔ Any (MayGrantByListed self.now link.way link.role_place link.binding_place
-            who.now attrs.now) keys.now }
+        ensures { IsTrue result ↔ Any (MayGrantByListed self.now link.way link.role_place
+            link.binding_place who.now attrs.now) keys.now }
     {
         for key in keys {
             if self.key_extent(key, link, who, attrs).may {
@@ -230,8 +231,8 @@ impl Timeline {
     // Whether a binding may grant the request that may be clouded or unreadable somewhere; others may be
     // among them.
     fn may_by_unsure(&self, link: Link, who: &User, attrs: &RequestAttrs) -> bool
-        ensures sound { IsTrue result → MayGrantOf self.now (IsKnownKey self.now) link.way link.role_place
-            link.binding_place who.now attrs.now }
+        ensures sound { IsTrue result → MayGrantOf self.now (IsKnownKey self.now) link.way
+            link.role_place link.binding_place who.now attrs.now }
         ensures full { MayGrantOf self.now (IsKnownUnsure self.now link.binding_place) link.way
             link.role_place link.binding_place who.now attrs.now → IsTrue result }
     {
@@ -250,7 +251,8 @@ impl Timeline {
 
     // Whether some binding may grant the request in this way.
     pub(crate) fn may(&self, link: Link, who: &User, attrs: &RequestAttrs) -> bool
-        ensures { IsTrue result ↔ MayGrantInWay self.now link.way link.role_place link.binding_place who.now attrs.now }
+        ensures { IsTrue result ↔ MayGrantInWay self.now link.way link.role_place link.binding_place
+            who.now attrs.now }
     {
         if self.may_by_names(link, who, attrs) {
             return true;
@@ -263,8 +265,8 @@ impl Timeline {
 
     // Whether some binding grants the request for certain in this way.
     pub(crate) fn must(&self, link: Link, who: &User, attrs: &RequestAttrs) -> bool
-        ensures { IsTrue result ↔ MustGrantInWay self.now link.way link.role_place link.binding_place who.now
-            attrs.now }
+        ensures { IsTrue result ↔ MustGrantInWay self.now link.way link.role_place
+            link.binding_place who.now attrs.now }
     {
         let place = link.role_place.max(link.binding_place);
         let asked = Asked {
@@ -283,7 +285,8 @@ impl Timeline {
         ensures some { IfSome result (λ content. (way : Way) (role_place : ℕ) (who : User)
             (attrs : RequestAttrs) → MayGrantByKey self.now way role_place place who attrs key.now
             ↔ MayGrantByContent self.now way role_place who attrs content.now) }
-        ensures none { IfNone result ((way : Way) (role_place : ℕ) (who : User) (attrs : RequestAttrs)
+        ensures none { IfNone result ((way : Way) (role_place : ℕ) (who : User)
+            (attrs : RequestAttrs)
             → MayGrantByKey self.now way role_place place who attrs key.now → ⊥) }
     {
         let _known = &self.clouds;
@@ -301,7 +304,8 @@ impl Timeline {
     // The role that the binding names. Where that one grants for certain, so does the binding, if it does at all.
     pub(crate) fn role_bound(&self, key: &ObjectKey, place: u64) -> Option<&ObjectKey>
         ensures { IfSome result (λ role. (way : Way) (who : User) (attrs : RequestAttrs) (r n : ℕ)
-            → (MustGrantByRole self.now role.now r attrs → MustGrantByRole self.now role.now n attrs)
+            → (MustGrantByRole self.now role.now r attrs → MustGrantByRole self.now
+            role.now n attrs)
             → MustGrantByKey self.now way r place who attrs key.now
             → MustGrantByKey self.now way n place who attrs key.now) }
     {

@@ -10,7 +10,8 @@ use base_types::ObjectKey;
 // The last place up to which the removal hasn't begun behind this one.
 fn gap_until(gap: Option<Gap>, place: u64, high: u64) -> u64
     requires { place ≤ high }
-    ensures { IsLast (λ n. MatchOption gap ⊤ (λ gap. place < gap.low → n < gap.low)) place high result }
+    ensures { IsLast (λ n. MatchOption gap ⊤ (λ gap. place < gap.low → n < gap.low)) place
+        high result }
 {
     match gap {
         Some(gap) => {
