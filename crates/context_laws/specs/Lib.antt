@@ -1,3 +1,5 @@
+pub mod Bodies
 pub mod Classes
 pub mod Deciding
 pub mod Placing
+pub mod Statements

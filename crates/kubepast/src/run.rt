@@ -1,8 +1,7 @@
 ghost use Rattle.std.specs.Prelude.{◌≡◌, ℕ, List, Some, map, string_bytes};
 ghost use Rattle.std.specs.Io.KnownBytes.{Appends};
 ghost use Rattle.command_words.specs.Command.{IsAsked, Judge, TellsWords};
-ghost use Rattle.context_laws.specs.Classes.{IsByTable};
-ghost use Rattle.context_laws.specs.Deciding.{DecidesByChoice};
+ghost use Rattle.context_laws.specs.Statements.{AreStatements};
 ghost use Rattle.log_verdict.specs.Answers.{IsPlacementText};
 ghost use Rattle.log_verdict.specs.Endings.{IsAnswered};
 ghost use Rattle.kubepast.specs.Program.{Concludes, IsAnswer, IsOfTable};
@@ -11,7 +10,7 @@ ghost use Rattle.kubepast.specs.Running.{ReadsDesk, StatusTells};
 use crate::reporting::report_of;
 use command_words::read_words;
 use context_intake::Stop;
-use context_laws::{class_law, deciding_law};
+use context_laws::statement_law;
 use edge_io::{Desk, Sink, end_with};
 use judge_pool::Gate;
 use log_verdict::{Gates, Report};
@@ -52,11 +51,9 @@ pub fn run<R: Threads + Sync, D: Desk, K: Sink, G: Gate, H: Gate>(
         × Appends (K.written out.old) (K.written out.new) text }
 
     // Of the history that a setup and a log tell, in `answer`.
-    ensures decided { DecidesByChoice }
-    ensures classes { IsByTable }
+    ensures statements { AreStatements }
 {
-    deciding_law();
-    class_law();
+    statement_law();
     let gates = Gates {
         events: gate,
         lines,

@@ -21,11 +21,8 @@ returns-in-Ok-None-clause-read g c = usage_read refl (subst (IsRead (map (string
 pub returns-in-Ok-None-clause-printed : goal.returns-in-Ok-None-clause-printed
 returns-in-Ok-None-clause-printed g c = λ setup log asks is. absurd (subst (IsRead (map (string_bytes {Z = Global}) c.args.words.now)) c.in-Ok-None.field-0-is c.in-Ok-None.ensures.read (Judge setup log) asks)
 
-pub returns-in-Ok-None-clause-decided : goal.returns-in-Ok-None-clause-decided
-returns-in-Ok-None-clause-decided g c = c.deciding_law.ensures
-
-pub returns-in-Ok-None-clause-classes : goal.returns-in-Ok-None-clause-classes
-returns-in-Ok-None-clause-classes g c = c.class_law.ensures
+pub returns-in-Ok-None-clause-statements : goal.returns-in-Ok-None-clause-statements
+returns-in-Ok-None-clause-statements g c = c.statement_law.ensures
 
 -- no memory for the words
 pub returns-in-Err-clause-answer : goal.returns-in-Err-clause-answer
@@ -40,11 +37,8 @@ returns-in-Err-clause-status g c = unread_status c.in-Err.ensures.memory
 pub returns-in-Err-clause-read : goal.returns-in-Err-clause-read
 returns-in-Err-clause-read g c = unread_read refl
 
-pub returns-in-Err-clause-decided : goal.returns-in-Err-clause-decided
-returns-in-Err-clause-decided g c = c.deciding_law.ensures
-
-pub returns-in-Err-clause-classes : goal.returns-in-Err-clause-classes
-returns-in-Err-clause-classes g c = c.class_law.ensures
+pub returns-in-Err-clause-statements : goal.returns-in-Err-clause-statements
+returns-in-Err-clause-statements g c = c.statement_law.ensures
 
 -- words that are one
 ran : (g : Over) (c : goal.After-conclude g)
@@ -72,8 +66,5 @@ returns-in-Ok-Some-clause-read g c = run_read (ran g c)
 pub returns-in-Ok-Some-clause-printed : goal.returns-in-Ok-Some-clause-printed
 returns-in-Ok-Some-clause-printed g c = run_printed (ran g c)
 
-pub returns-in-Ok-Some-clause-decided : goal.returns-in-Ok-Some-clause-decided
-returns-in-Ok-Some-clause-decided g c = c.deciding_law.ensures
-
-pub returns-in-Ok-Some-clause-classes : goal.returns-in-Ok-Some-clause-classes
-returns-in-Ok-Some-clause-classes g c = c.class_law.ensures
+pub returns-in-Ok-Some-clause-statements : goal.returns-in-Ok-Some-clause-statements
+returns-in-Ok-Some-clause-statements g c = c.statement_law.ensures
