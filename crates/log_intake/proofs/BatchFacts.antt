@@ -275,7 +275,7 @@ ends_then Failed r a b fed fed' past past' given given' now taken c none ends = 
 ends_then LineTooLong r a b fed fed' past past' given given' now taken c none ends = (ends.0, continues_then r a ends.0 fed fed' given given' c ends.1, ends.2)
 ends_then InputTooLong r a b fed fed' past past' given given' now taken c none ends = (continues_then r a b fed fed' given given' c ends.0, ends.1, ends.2, ends.3)
 
-pub gathers_then : (end : BatchEnd) (old middle now : Option (List ℕ)) (r a b : Reading) (lines lines' : List NumberedLine) (before at taken : ℕ) → Gathers GoesOn old middle r a lines before at 2031615 → TakesPiece end middle now a b lines lines' at taken → Gathers end old now r b lines' before taken 2097152
+pub gathers_then : (end : BatchEnd) (old middle now : Option (List ℕ)) (r a b : Reading) (lines lines' : List NumberedLine) (before at taken : ℕ) → Gathers GoesOn old middle r a lines before at 1310719 → TakesPiece end middle now a b lines lines' at taken → Gathers end old now r b lines' before taken 1376256
 gathers_then end old middle now r a b lines lines' before at taken g p =
     let h = p.gathers in
     let first : HasTaken old middle g.fed = taken_as old middle (g.fed ++ g.past) g.fed (ap (λ l. g.fed ++ l) g.lines.2 ∙ append-nil g.fed) g.told in
@@ -300,7 +300,7 @@ gathers_then end old middle now r a b lines lines' before at taken g p =
     }
 
 -- the batch goes on while few bytes were taken
-pub gathers_on : (old now : Option (List ℕ)) (r b : Reading) (lines : List NumberedLine) (before taken : ℕ) → Gathers GoesOn old now r b lines before taken 2097152 → taken - before < 2031616 → Gathers GoesOn old now r b lines before taken 2031615
+pub gathers_on : (old now : Option (List ℕ)) (r b : Reading) (lines : List NumberedLine) (before taken : ℕ) → Gathers GoesOn old now r b lines before taken 1376256 → taken - before < 1310720 → Gathers GoesOn old now r b lines before taken 1310719
 gathers_on old now r b lines before taken g small =
     let c = g.counted in
     let sum : length (g.fed ++ g.past) ≡ length g.fed = ap length (ap (λ l. g.fed ++ l) g.lines.2 ∙ append-nil g.fed) in
@@ -317,7 +317,7 @@ gathers_on old now r b lines before taken g small =
     }
 
 -- want of memory at a piece behind those of a batch
-pub some_then : (old middle now : Option (List ℕ)) (r a : Reading) (lines : List NumberedLine) (before at : ℕ) → Gathers GoesOn old middle r a lines before at 2031615 → TakesSome middle now at 65536 → TakesSome old now before 2097152
+pub some_then : (old middle now : Option (List ℕ)) (r a : Reading) (lines : List NumberedLine) (before at : ℕ) → Gathers GoesOn old middle r a lines before at 1310719 → TakesSome middle now at 65536 → TakesSome old now before 1376256
 some_then old middle now r a lines before at g s =
     let few = g.few in
     let more = s.few in
@@ -333,9 +333,9 @@ some_then old middle now r a lines before at g s =
       within = omega (arith, w, c, sum);
     }
 
-pub gathers_goes_on : (end : BatchEnd) (old middle now : Option (List ℕ)) (r a b : Reading) (lines lines' : List NumberedLine) (before at taken : ℕ) → end ≡ GoesOn → Gathers GoesOn old middle r a lines before at 2031615 → TakesPiece end middle now a b lines lines' at taken → Gathers GoesOn old now r b lines' before taken 2097152
+pub gathers_goes_on : (end : BatchEnd) (old middle now : Option (List ℕ)) (r a b : Reading) (lines lines' : List NumberedLine) (before at taken : ℕ) → end ≡ GoesOn → Gathers GoesOn old middle r a lines before at 1310719 → TakesPiece end middle now a b lines lines' at taken → Gathers GoesOn old now r b lines' before taken 1376256
 gathers_goes_on end old middle now r a b lines lines' before at taken is g p =
-    subst (λ e. Gathers e old now r b lines' before taken 2097152) is (gathers_then end old middle now r a b lines lines' before at taken g p)
+    subst (λ e. Gathers e old now r b lines' before taken 1376256) is (gathers_then end old middle now r a b lines lines' before at taken g p)
 
 pub on_err : {T E : Type 0} (answer : Result T E) (P : Type 0) → P → OnErr answer P
 on_err {T} {E} (Ok value) P p = tt

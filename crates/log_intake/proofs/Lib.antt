@@ -1,4 +1,6 @@
+pub mod AdmitFacts
 pub mod AheadFacts
+pub mod AnswerFacts
 pub mod BatchFacts
 pub mod CheckpointFacts
 pub mod EventFacts
@@ -7,7 +9,6 @@ pub mod LogFacts
 pub mod NumberFacts
 pub mod OneReadingFacts
 pub mod OneSetupFacts
-pub mod PartFacts
 pub mod ReadFacts
 pub mod SetupFacts
 pub mod StepFacts

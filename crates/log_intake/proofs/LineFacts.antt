@@ -16,7 +16,7 @@ use Rattle.log_intake.specs.Batches.{AreShort, line_values}
 use Rattle.log_intake.specs.Kept.{AreBefore}
 use Rattle.log_intake.specs.Log.{TakesLine, TakesLines, log_state}
 use Rattle.log_intake.specs.Numbering.{AreOrdered, last_number, most_extra, most_items}
-use Rattle.log_intake.specs.Parts.{AdmitsLines, AllAdmitted}
+use Rattle.log_intake.specs.Admitting.{AdmitsLines, AllAdmitted}
 use Rattle.log_intake.specs.Taking.{IsRefusal}
 use Rattle.log_intake.proofs.NumberFacts.{last_number-append, most_extra-append, ordered_less}
 use Rattle.log_intake.proofs.StepFacts.{in_order_push, in_order_stopped}

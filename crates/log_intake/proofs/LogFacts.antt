@@ -1,13 +1,12 @@
 -- How far a log was read, batch by batch.
 use Rattle.std.proofs.Common.{◌≡◌, ℕ, ◌+◌, ◌^◌, ◌<◌, ◌≤◌, List, [], ◌++◌, length, Option, Some, Ok, Err, refl, sym, ◌∙◌, ap, subst, arith, append_assoc, false, true}
-use Rattle.std.proofs.lemmas.List.{append-nil, length-append, length-map}
+use Rattle.std.proofs.lemmas.List.{append-nil, length-append}
 use Rattle.std.specs.Io.KnownBytes.{IsAtEnd}
-use Rattle.edge_io.specs.Faults.{Rose}
 use Rattle.audit_event.specs.declared.event.Event.{Event}
 use Rattle.audit_event.specs.Keeping.{AreKept}
 use Rattle.line_reader.specs.declared.line.Line.{Line}
 use Rattle.line_reader.specs.Lines.{NumberedLine, lines_of, lines_from}
-use Rattle.line_reader.specs.Reading.{Reading, Continues, line_value, new_reading}
+use Rattle.line_reader.specs.Reading.{Reading, Continues, new_reading}
 use Rattle.log_intake.specs.declared.admitting.Place.{Place}
 use Rattle.log_intake.specs.declared.batch.BatchEnd.{BatchEnd}
 use Rattle.log_intake.specs.declared.batch.BatchEnd.TheVariants.{GoesOn, Ended, Failed, LineTooLong, InputTooLong}
@@ -17,9 +16,9 @@ use Rattle.log_intake.specs.Batches.{EndsBatch, Gathers, HoldsOpen, TakesSome, f
 use Rattle.log_intake.specs.Kept.{AreBefore, AreLogEvents}
 use Rattle.log_intake.specs.Log.{IsLogRead, TakesLine, TakesLines, log_state, nothing_read}
 use Rattle.log_intake.specs.Numbering.{AreOrdered, last_number, most_extra}
-use Rattle.log_intake.specs.Parts.{AllAdmitted, AreNext}
+use Rattle.log_intake.specs.Admitting.{AreNext}
 use Rattle.edge_io.specs.Whole.{HasTaken}
-use Rattle.log_intake.specs.Taking.{HoldsNoRefusal, IsRefusal, ReadsLog, RefusesNothing, TakesLog}
+use Rattle.log_intake.specs.Taking.{HoldsNoRefusal, TakesLog}
 use Rattle.log_intake.proofs.BatchFacts.{continues_then, waiting}
 use Rattle.log_intake.proofs.NumberFacts.{few_given, few_numbers, last_number-append, most_extra-append, most_extra_less, ordered_behind, ordered_front, ordered_less, ordered_numbered, ordered_within}
 use Rattle.log_intake.proofs.ReadFacts.{front_holds, given_refuse, limit_is, log_holds, log_past, log_refused, log_whole, long_refuses}
@@ -85,13 +84,23 @@ front_length front fed before taken long counted = let sum = length-append front
 all_lines : (front : List ℕ) (r : Reading) (given : List NumberedLine) (fed : List ℕ) (more : List NumberedLine) → Continues (fed_with new_reading front) given r → lines_from r.number (r.pending ++ fed) ≡ more → lines_from 0 (front ++ fed) ≡ given ++ more
 all_lines front r given fed more c is = c.lines fed ∙ ap (λ l. given ++ l) is
 
--- what a batch may rest on
-pub record IsReady (given : List NumberedLine) (place : Place) : Type 0 where
-  pub few : length given < 2 ^ 32
-  pub ordered : AreOrdered place.line place.extra given
+-- a batch has few lines
+pub few_lines : (end : BatchEnd) (middle now : Option (List ℕ)) (r b : Reading) (given : List NumberedLine) (before taken : ℕ) → HoldsOpen r → Gathers end middle now r b given before taken 1376256 → length given < 2 ^ 32
+few_lines end middle now r b given before taken held g =
+    let fed = fed_lines end r b g.fed g.past given now taken g.lines in
+    let numbers = few_numbers (r.pending ++ g.fed) in
+    let count = few_given r.number (lines_of (r.pending ++ g.fed)) in
+    let sum = length-append r.pending g.fed in
+    let sum' = length-append given fed.0 in
+    let sum'' = length-append g.fed g.past in
+    let same : length (lines_from r.number (r.pending ++ g.fed)) ≡ length (given ++ fed.0) = ap length fed.1 in
+    let few = g.few in
+    let short = held.rest.short in
+    omega (arith, numbers, count, sum, sum', sum'', same, few, short)
 
-pub batch_ready : (end : BatchEnd) (old middle now : Option (List ℕ)) (r b : Reading) (kept : List Event) (place : Place) (given : List NumberedLine) (before taken : ℕ) → HasReadLog old middle r kept place before → Gathers end middle now r b given before taken 2097152 → IsReady given place
-batch_ready end old middle now r b kept place given before taken s g =
+-- its lines have numbers behind those that were taken
+batch_ordered : (end : BatchEnd) (old middle now : Option (List ℕ)) (r b : Reading) (kept : List Event) (place : Place) (given : List NumberedLine) (before taken : ℕ) → HasReadLog old middle r kept place before → Gathers end middle now r b given before taken 1376256 → AreOrdered place.line place.extra given
+batch_ordered end old middle now r b kept place given before taken s g =
     let fed = fed_lines end r b g.fed g.past given now taken g.lines in
     let rest = fed.0 in
     let all : lines_from 0 (s.front ++ g.fed) ≡ s.given ++ (given ++ rest) = all_lines s.front r s.given g.fed (given ++ rest) s.continues fed.1 in
@@ -101,18 +110,7 @@ batch_ready end old middle now r b kept place given before taken s g =
     let ordered : AreOrdered 0 0 (lines_from 0 (s.front ++ g.fed)) = ordered_numbered 0 0 0 (lines_of (s.front ++ g.fed)) (omega arith) (omega (arith, most, long, w)) in
     let behind = ordered_behind 0 0 s.given (given ++ rest) (subst (AreOrdered 0 0) all ordered) in
     let less : AreOrdered (last_number 0 s.given) place.extra (given ++ rest) = ordered_less (last_number 0 s.given) (most_extra 0 s.given) place.extra (given ++ rest) s.extra behind in
-    let numbers = few_numbers (r.pending ++ g.fed) in
-    let count = few_given r.number (lines_of (r.pending ++ g.fed)) in
-    let sum = length-append r.pending g.fed in
-    let sum' = length-append given rest in
-    let sum'' = length-append g.fed g.past in
-    let same : length (lines_from r.number (r.pending ++ g.fed)) ≡ length (given ++ rest) = ap length fed.1 in
-    let few = g.few in
-    let short = s.held.rest.short in
-    record {
-      few = omega (arith, numbers, count, sum, sum', sum'', same, few, short);
-      ordered = subst (λ n. AreOrdered n place.extra given) (sym s.line) (ordered_front (last_number 0 s.given) place.extra given rest less);
-    }
+    subst (λ n. AreOrdered n place.extra given) (sym s.line) (ordered_front (last_number 0 s.given) place.extra given rest less)
 
 -- the lines of the bytes so far, once those of the batch were taken
 both_take : (given given' : List NumberedLine) (place place' : Place) (kept kept' : List Event) → TakesLines nothing_read given (Ok (log_state place.extra kept)) → TakesLines (log_state place.extra kept) given' (Ok (log_state place'.extra kept')) → TakesLines nothing_read (given ++ given') (Ok (log_state place'.extra kept'))
@@ -130,7 +128,7 @@ unpast : (front fed past : List ℕ) → past ≡ [] → (front ++ fed) ++ past 
 unpast front fed past none = ap (λ l. (front ++ fed) ++ l) none ∙ append-nil (front ++ fed)
 
 -- a batch more was read
-pub batch_read : (old middle now : Option (List ℕ)) (r b : Reading) (kept kept' : List Event) (place place' : Place) (given : List NumberedLine) (before taken : ℕ) → (s : HasReadLog old middle r kept place before) → (g : Gathers GoesOn middle now r b given before taken 2097152)
+pub batch_read : (old middle now : Option (List ℕ)) (r b : Reading) (kept kept' : List Event) (place place' : Place) (given : List NumberedLine) (before taken : ℕ) → (s : HasReadLog old middle r kept place before) → (g : Gathers GoesOn middle now r b given before taken 1376256)
     → TakesLines (log_state place.extra kept) given (Ok (log_state place'.extra kept')) → place'.line ≡ last_number place.line given → place'.extra ≤ most_extra place.extra given → AreBefore (place'.line + place'.extra + 1) kept' → HasReadLog old now b kept' place' taken
 batch_read old middle now r b kept kept' place place' given before taken s g takes line extra are =
     let grown = most_extra_less (most_extra 0 s.given) place.extra given s.extra in
@@ -167,7 +165,7 @@ batch_front LineTooLong now r b kept place front fed past behind bytes before gi
 batch_front InputTooLong now r b kept place front fed past behind bytes before given taken why c e refused within is all =
     log_refused bytes (front ++ fed) (past ++ behind) why is within (given_refuse (front ++ fed) b (before ++ given) why (continues_then new_reading r b front fed before given c e.0) refused)
 
-pub batch_refused : (end : BatchEnd) (old middle now : Option (List ℕ)) (r b : Reading) (kept : List Event) (place : Place) (given : List NumberedLine) (before taken : ℕ) (why : LogStop) (bytes : List ℕ) → HasReadLog old middle r kept place before → Gathers end middle now r b given before taken 2097152
+pub batch_refused : (end : BatchEnd) (old middle now : Option (List ℕ)) (r b : Reading) (kept : List Event) (place : Place) (given : List NumberedLine) (before taken : ℕ) (why : LogStop) (bytes : List ℕ) → HasReadLog old middle r kept place before → Gathers end middle now r b given before taken 1376256
     → TakesLines (log_state place.extra kept) given (Err why) → old ≡ Some bytes → IsLogRead bytes (Err why)
 batch_refused end old middle now r b kept place given before taken why bytes s g refused told =
     let h = told_all old middle now s.front g.fed g.past s.told g.told in
@@ -178,7 +176,7 @@ batch_refused end old middle now r b kept place given before taken why bytes s g
     (λ end none. taken_all old now (s.front ++ g.fed) bytes (taken_as old now ((s.front ++ g.fed) ++ g.past) (s.front ++ g.fed) (unpast s.front g.fed g.past none) h) told end)
 
 -- the log ended behind the batch
-pub batch_ended : (old middle now : Option (List ℕ)) (r b : Reading) (kept kept' : List Event) (place place' : Place) (given : List NumberedLine) (before taken : ℕ) (bytes : List ℕ) → HasReadLog old middle r kept place before → Gathers Ended middle now r b given before taken 2097152
+pub batch_ended : (old middle now : Option (List ℕ)) (r b : Reading) (kept kept' : List Event) (place place' : Place) (given : List NumberedLine) (before taken : ℕ) (bytes : List ℕ) → HasReadLog old middle r kept place before → Gathers Ended middle now r b given before taken 1376256
     → TakesLines (log_state place.extra kept) given (Ok (log_state place'.extra kept')) → old ≡ Some bytes → IsLogRead bytes (Ok kept')
 batch_ended old middle now r b kept kept' place place' given before taken bytes s g takes told =
     let h = told_all old middle now s.front g.fed g.past s.told g.told in
@@ -189,7 +187,7 @@ batch_ended old middle now r b kept kept' place place' given before taken bytes 
     (log_whole (s.front ++ g.fed) (s.given ++ given) (Ok (log_state place'.extra kept')) (omega (arith, long, w)) (all_lines s.front r s.given g.fed given s.continues g.lines.0) (both_take s.given given place place' kept kept' s.takes takes))
 
 -- a line behind the batch is too long
-pub batch_line_long : (old middle now : Option (List ℕ)) (r b : Reading) (kept kept' : List Event) (place place' : Place) (given : List NumberedLine) (before taken : ℕ) (bytes : List ℕ) → HasReadLog old middle r kept place before → Gathers LineTooLong middle now r b given before taken 2097152
+pub batch_line_long : (old middle now : Option (List ℕ)) (r b : Reading) (kept kept' : List Event) (place place' : Place) (given : List NumberedLine) (before taken : ℕ) (bytes : List ℕ) → HasReadLog old middle r kept place before → Gathers LineTooLong middle now r b given before taken 1376256
     → TakesLines (log_state place.extra kept) given (Ok (log_state place'.extra kept')) → old ≡ Some bytes → IsLogRead bytes (Err stop.LineTooLong)
 batch_line_long old middle now r b kept kept' place place' given before taken bytes s g takes told =
     let all = told_all old middle now s.front g.fed g.past s.told g.told bytes told in
@@ -200,7 +198,7 @@ batch_line_long old middle now r b kept kept' place place' given before taken by
     (long_refuses (s.front ++ g.fed) e.0 (s.given ++ given) (log_state place'.extra kept') e.2.0 (continues_then new_reading r e.0 s.front g.fed s.given given s.continues e.1) (both_take s.given given place place' kept kept' s.takes takes) e.2.1)
 
 -- the batch passes the limit
-pub batch_past : (old middle now : Option (List ℕ)) (r b : Reading) (kept kept' : List Event) (place place' : Place) (given : List NumberedLine) (before taken : ℕ) (bytes : List ℕ) → HasReadLog old middle r kept place before → Gathers InputTooLong middle now r b given before taken 2097152
+pub batch_past : (old middle now : Option (List ℕ)) (r b : Reading) (kept kept' : List Event) (place place' : Place) (given : List NumberedLine) (before taken : ℕ) (bytes : List ℕ) → HasReadLog old middle r kept place before → Gathers InputTooLong middle now r b given before taken 1376256
     → TakesLines (log_state place.extra kept) given (Ok (log_state place'.extra kept')) → old ≡ Some bytes → IsLogRead bytes (Err stop.TooLong)
 batch_past old middle now r b kept kept' place place' given before taken bytes s g takes told =
     let all = told_all old middle now s.front g.fed g.past s.told g.told bytes told in
@@ -218,7 +216,7 @@ front_so_far old now r kept place taken s =
     front_holds s.front s.given r (log_state place.extra kept) s.continues s.held.rest s.takes (omega (arith, long, w))
 
 -- what was taken, wherever the batch stops
-pub takes_batch : (end : BatchEnd) (old middle now : Option (List ℕ)) (r b : Reading) (kept : List Event) (place : Place) (given : List NumberedLine) (before taken : ℕ) (failed : Type 0) → (s : HasReadLog old middle r kept place before) → (g : Gathers end middle now r b given before taken 2097152)
+pub takes_batch : (end : BatchEnd) (old middle now : Option (List ℕ)) (r b : Reading) (kept : List Event) (place : Place) (given : List NumberedLine) (before taken : ℕ) (failed : Type 0) → (s : HasReadLog old middle r kept place before) → (g : Gathers end middle now r b given before taken 1376256)
     → (failed → HoldsNoRefusal (s.front ++ (g.fed ++ g.past))) → TakesLog old now failed
 takes_batch end old middle now r b kept place given before taken failed s g fine =
     let sum = length-append s.front (g.fed ++ g.past) in
@@ -238,7 +236,7 @@ takes_batch end old middle now r b kept place given before taken failed s g fine
     }
 
 -- a read failed behind the batch, whose lines were taken
-pub takes_failed : (old middle now : Option (List ℕ)) (r b : Reading) (kept kept' : List Event) (place place' : Place) (given : List NumberedLine) (before taken : ℕ) (failed : Type 0) → HasReadLog old middle r kept place before → Gathers Failed middle now r b given before taken 2097152
+pub takes_failed : (old middle now : Option (List ℕ)) (r b : Reading) (kept kept' : List Event) (place place' : Place) (given : List NumberedLine) (before taken : ℕ) (failed : Type 0) → HasReadLog old middle r kept place before → Gathers Failed middle now r b given before taken 1376256
     → TakesLines (log_state place.extra kept) given (Ok (log_state place'.extra kept')) → TakesLog old now failed
 takes_failed old middle now r b kept kept' place place' given before taken failed s g takes =
     let long = front_length s.front g.fed before taken s.long g.counted in
@@ -248,7 +246,7 @@ takes_failed old middle now r b kept kept' place place' given before taken faile
     takes_batch Failed old middle now r b kept place given before taken failed s g (λ _. subst HoldsNoRefusal (ap (λ l. s.front ++ l) (sym (append-nil g.fed) ∙ ap (λ l. g.fed ++ l) (sym g.lines.2))) holds)
 
 -- the log ended behind the batch, whose lines were taken
-pub takes_ended : (old middle now : Option (List ℕ)) (r b : Reading) (kept kept' : List Event) (place place' : Place) (given : List NumberedLine) (before taken : ℕ) (fine : Type 0) → HasReadLog old middle r kept place before → Gathers Ended middle now r b given before taken 2097152
+pub takes_ended : (old middle now : Option (List ℕ)) (r b : Reading) (kept kept' : List Event) (place place' : Place) (given : List NumberedLine) (before taken : ℕ) (fine : Type 0) → HasReadLog old middle r kept place before → Gathers Ended middle now r b given before taken 1376256
     → TakesLines (log_state place.extra kept) given (Ok (log_state place'.extra kept')) → TakesLog old now fine
 takes_ended old middle now r b kept kept' place place' given before taken fine s g takes =
     let long = front_length s.front g.fed before taken s.long g.counted in
@@ -258,7 +256,7 @@ takes_ended old middle now r b kept kept' place place' given before taken fine s
     takes_batch Ended old middle now r b kept place given before taken fine s g (λ _. subst HoldsNoRefusal (ap (λ l. s.front ++ l) (sym (append-nil g.fed) ∙ ap (λ l. g.fed ++ l) (sym g.lines.1))) holds)
 
 -- want of memory amid a batch
-pub takes_some : (old middle now : Option (List ℕ)) (r : Reading) (kept : List Event) (place : Place) (before : ℕ) (failed : Type 0) → HasReadLog old middle r kept place before → TakesSome middle now before 2097152 → (failed → ⊥) → TakesLog old now failed
+pub takes_some : (old middle now : Option (List ℕ)) (r : Reading) (kept : List Event) (place : Place) (before : ℕ) (failed : Type 0) → HasReadLog old middle r kept place before → TakesSome middle now before 4259840 → (failed → ⊥) → TakesLog old now failed
 takes_some old middle now r kept place before failed s g fine =
     let sum = length-append s.front g.taken in
     let long = s.long in
@@ -268,7 +266,7 @@ takes_some old middle now r kept place before failed s g fine =
       batch = g.taken;
       taken = taken_then old middle now s.front g.taken s.told g.told;
       admitted = front_so_far old middle r kept place before s;
-      short = (let few = g.few in omega (arith, few));
+      short = g.few;
       within = rw (← limit_is) (omega (arith, sum, long, w));
       blameless = λ no. absurd (fine no);
     }
@@ -288,7 +286,7 @@ takes_nothing old failed =
     }
 
 -- what those who take the events may rest on
-pub log_events : (end : BatchEnd) (old middle now : Option (List ℕ)) (r b : Reading) (kept events : List Event) (place place' : Place) (given : List NumberedLine) (before taken : ℕ) → HasReadLog old middle r kept place before → Gathers end middle now r b given before taken 2097152
+pub log_events : (end : BatchEnd) (old middle now : Option (List ℕ)) (r b : Reading) (kept events : List Event) (place place' : Place) (given : List NumberedLine) (before taken : ℕ) → HasReadLog old middle r kept place before → Gathers end middle now r b given before taken 1376256
     → place'.line ≡ last_number place.line given → place'.extra ≤ most_extra place.extra given → AreBefore (place'.line + place'.extra + 1) events → AreKept events → AreLogEvents events
 log_events end old middle now r b kept events place place' given before taken s g line extra are kept_are =
     let fed = fed_lines end r b g.fed g.past given now taken g.lines in
@@ -311,122 +309,7 @@ log_events end old middle now r b kept events place place' given before taken s 
       few = are.few;
     }
 
--- what a batch may rest on, whose lines are those of a slice
-pub record BatchAsks (slice : List Line) (place : Place) (kept : List Event) : Type 0 where
-  pub few : length slice < 2 ^ 32
-  pub next : AreNext slice place kept
-
-pub batch_asks : (end : BatchEnd) (old middle now : Option (List ℕ)) (r b : Reading) (kept : List Event) (place : Place) (lines slice : List Line) (before taken : ℕ) → HasReadLog old middle r kept place before → Gathers end middle now r b (line_values lines) before taken 2097152 → slice ≡ lines → BatchAsks slice place kept
-batch_asks end old middle now r b kept place lines slice before taken s g is =
-    let ready = batch_ready end old middle now r b kept place (line_values lines) before taken s g in
-    let few = ready.few in
-    let long = length-map lines line_value in
-    subst (λ l. BatchAsks l place kept) (sym is) record { few = omega (arith, few, long); next = record { short = g.short; ordered = ready.ordered; before = s.before } }
-
-pub admitted_as : (slice lines : List Line) (place place' : Place) (kept kept' : List Event) → slice ≡ lines → AllAdmitted slice place place' kept kept' → AllAdmitted lines place place' kept kept'
-admitted_as slice lines place place' kept kept' is all = subst (λ l. AllAdmitted l place place' kept kept') is all
-
--- before any read
-pub reads_nothing : (old : Option (List ℕ)) (faults : ℕ) → ReadsLog old old faults faults (Err stop.OutOfMemory)
-reads_nothing old faults = record {
-  answers = λ bytes told refusal. absurd refusal;
-  sound = tt;
-  whole = tt;
-  fault = λ is. absurd cc;
-  counted = omega arith;
-  taken = takes_nothing old _;
-}
-
--- want of memory amid a batch
-pub reads_some : (old middle now : Option (List ℕ)) (faults faults' : ℕ) (r : Reading) (kept : List Event) (place : Place) (before : ℕ) → HasReadLog old middle r kept place before → TakesSome middle now before 2097152 → faults ≤ faults' → ReadsLog old now faults faults' (Err stop.OutOfMemory)
-reads_some old middle now faults faults' r kept place before s g counted = record {
-  answers = λ bytes told refusal. absurd refusal;
-  sound = tt;
-  whole = tt;
-  fault = λ is. absurd cc;
-  counted = counted;
-  taken = takes_some old middle now r kept place before _ s g (λ never. never);
-}
-
--- a stop that isn't a failed read refuses, or wants memory
-pub refused_bytes : (why : LogStop) → (why ≡ stop.ReadFault → ⊥) → RefusesNothing (Err why) → ⊥
-refused_bytes (stop.Malformed line code) fine is = is
-refused_bytes stop.LineTooLong fine is = is
-refused_bytes stop.TooManyEvents fine is = is
-refused_bytes stop.TooLong fine is = is
-refused_bytes stop.ReadFault fine is = fine refl
-refused_bytes stop.OutOfMemory fine is = is
-
--- the lines of a batch stop the log
-pub reads_refused : (end : BatchEnd) (old middle now : Option (List ℕ)) (faults faults' : ℕ) (r b : Reading) (kept : List Event) (place : Place) (lines slice : List Line) (before taken : ℕ) (why : LogStop) → HasReadLog old middle r kept place before → Gathers end middle now r b (line_values lines) before taken 2097152
-    → slice ≡ lines → (IsRefusal why → TakesLines (log_state place.extra kept) (line_values slice) (Err why)) → (why ≡ stop.ReadFault → ⊥) → faults ≤ faults' → ReadsLog old now faults faults' (Err why)
-reads_refused end old middle now faults faults' r b kept place lines slice before taken why s g is refused fine counted = record {
-  answers = λ bytes told refusal. batch_refused end old middle now r b kept place (line_values lines) before taken why bytes s g (subst (λ l. TakesLines (log_state place.extra kept) (line_values l) (Err why)) is (refused refusal)) told;
-  sound = tt;
-  whole = tt;
-  fault = λ same. absurd (fine (let here : why ≡ stop.ReadFault = cc in here));
-  counted = counted;
-  taken = takes_batch end old middle now r b kept place (line_values lines) before taken _ s g (λ is. absurd (refused_bytes why fine is));
-}
-
--- the input ended
-pub reads_ended : (end : BatchEnd) (old middle now : Option (List ℕ)) (faults faults' : ℕ) (r b : Reading) (kept kept' events : List Event) (place place' : Place) (lines slice : List Line) (before taken : ℕ) → end ≡ Ended → HasReadLog old middle r kept place before → Gathers end middle now r b (line_values lines) before taken 2097152
-    → slice ≡ lines → AllAdmitted slice place place' kept kept' → events ≡ kept' → AreKept events → faults ≤ faults' → ReadsLog old now faults faults' (Ok events)
-reads_ended end old middle now faults faults' r b kept kept' events place place' lines slice before taken ended s g is admitted finished are counted =
-    let at_end : Gathers Ended middle now r b (line_values lines) before taken 2097152 = subst (λ e. Gathers e middle now r b (line_values lines) before taken 2097152) ended g in
-    let a = admitted_as slice lines place place' kept kept' is admitted in
-    record {
-      answers = λ bytes told. subst (λ l. IsLogRead bytes (Ok l)) (sym finished) (batch_ended old middle now r b kept kept' place place' (line_values lines) before taken bytes s at_end a.takes told);
-      sound = log_events Ended old middle now r b kept events place place' (line_values lines) before taken s at_end a.line a.extra (subst (AreBefore (place'.line + place'.extra + 1)) (sym finished) a.before) are;
-      whole = at_end.lines.2;
-      fault = λ same. absurd cc;
-      counted = counted;
-      taken = takes_ended old middle now r b kept kept' place place' (line_values lines) before taken _ s at_end a.takes;
-    }
-
--- a read failed
-pub reads_failed : (end : BatchEnd) (old middle now : Option (List ℕ)) (faults faults' : ℕ) (r b : Reading) (kept kept' : List Event) (place place' : Place) (lines slice : List Line) (before taken : ℕ) → end ≡ Failed → HasReadLog old middle r kept place before → Gathers end middle now r b (line_values lines) before taken 2097152
-    → slice ≡ lines → AllAdmitted slice place place' kept kept' → faults ≤ faults' → Rose faults faults' → ReadsLog old now faults faults' (Err stop.ReadFault)
-reads_failed end old middle now faults faults' r b kept kept' place place' lines slice before taken failed s g is admitted counted rose = record {
-  answers = λ bytes told refusal. absurd refusal;
-  sound = tt;
-  whole = tt;
-  fault = λ _. rose;
-  counted = counted;
-  taken = takes_failed old middle now r b kept kept' place place' (line_values lines) before taken _ s (subst (λ e. Gathers e middle now r b (line_values lines) before taken 2097152) failed g) (admitted_as slice lines place place' kept kept' is admitted).takes;
-}
-
--- a line is too long
-pub reads_long : (end : BatchEnd) (old middle now : Option (List ℕ)) (faults faults' : ℕ) (r b : Reading) (kept kept' : List Event) (place place' : Place) (lines slice : List Line) (before taken : ℕ) → end ≡ LineTooLong → HasReadLog old middle r kept place before → Gathers end middle now r b (line_values lines) before taken 2097152
-    → slice ≡ lines → AllAdmitted slice place place' kept kept' → faults ≤ faults' → ReadsLog old now faults faults' (Err stop.LineTooLong)
-reads_long end old middle now faults faults' r b kept kept' place place' lines slice before taken long s g is admitted counted =
-    let here : Gathers LineTooLong middle now r b (line_values lines) before taken 2097152 = subst (λ e. Gathers e middle now r b (line_values lines) before taken 2097152) long g in
-    record {
-      answers = λ bytes told refusal. batch_line_long old middle now r b kept kept' place place' (line_values lines) before taken bytes s here (admitted_as slice lines place place' kept kept' is admitted).takes told;
-      sound = tt;
-      whole = tt;
-      fault = λ same. absurd cc;
-      counted = counted;
-      taken = takes_batch LineTooLong old middle now r b kept place (line_values lines) before taken _ s here (λ never. absurd never);
-    }
-
--- the input is too long
-pub reads_past : (end : BatchEnd) (old middle now : Option (List ℕ)) (faults faults' : ℕ) (r b : Reading) (kept kept' : List Event) (place place' : Place) (lines slice : List Line) (before taken : ℕ) → end ≡ InputTooLong → HasReadLog old middle r kept place before → Gathers end middle now r b (line_values lines) before taken 2097152
-    → slice ≡ lines → AllAdmitted slice place place' kept kept' → faults ≤ faults' → ReadsLog old now faults faults' (Err stop.TooLong)
-reads_past end old middle now faults faults' r b kept kept' place place' lines slice before taken long s g is admitted counted =
-    let here : Gathers InputTooLong middle now r b (line_values lines) before taken 2097152 = subst (λ e. Gathers e middle now r b (line_values lines) before taken 2097152) long g in
-    record {
-      answers = λ bytes told refusal. batch_past old middle now r b kept kept' place place' (line_values lines) before taken bytes s here (admitted_as slice lines place place' kept kept' is admitted).takes told;
-      sound = tt;
-      whole = tt;
-      fault = λ same. absurd cc;
-      counted = counted;
-      taken = takes_batch InputTooLong old middle now r b kept place (line_values lines) before taken _ s here (λ never. absurd never);
-    }
-
--- the log goes on
-pub reads_on : (end : BatchEnd) (old middle now : Option (List ℕ)) (r b : Reading) (kept kept' : List Event) (place place' : Place) (lines slice : List Line) (before taken : ℕ) → end ≡ GoesOn → HasReadLog old middle r kept place before → Gathers end middle now r b (line_values lines) before taken 2097152
-    → slice ≡ lines → AllAdmitted slice place place' kept kept' → HasReadLog old now b kept' place' taken
-reads_on end old middle now r b kept kept' place place' lines slice before taken on s g is admitted =
-    let a = admitted_as slice lines place place' kept kept' is admitted in
-    batch_read old middle now r b kept kept' place place' (line_values lines) before taken s (subst (λ e. Gathers e middle now r b (line_values lines) before taken 2097152) on g) a.takes a.line a.extra a.before
+-- what the admission of a batch may rest on, whose lines are those of a slice
+pub batch_next : (end : BatchEnd) (old middle now : Option (List ℕ)) (r b : Reading) (kept : List Event) (place : Place) (lines slice : List Line) (before taken : ℕ) → HasReadLog old middle r kept place before → Gathers end middle now r b (line_values lines) before taken 1376256 → slice ≡ lines → AreNext slice place kept
+batch_next end old middle now r b kept place lines slice before taken s g is =
+    subst (λ l. AreNext l place kept) (sym is) record { short = g.short; ordered = batch_ordered end old middle now r b kept place (line_values lines) before taken s g; before = s.before }

@@ -60,7 +60,7 @@ pub record TakesSome (old now : Option (List ℕ)) (before most : ℕ) : Type 0 
 
 -- a batch takes at most so many bytes
 abbrev pub most_gathered : ℕ
-most_gathered = 2097152
+most_gathered = 1376256
 
 -- a batch was gathered, or memory was wanted
 pub record GathersBatch (left left' : List ℕ → Option (List ℕ)) (name : List ℕ) (faults faults' : ℕ) (reader reader' : Reading) (before : ℕ) (answer : Result Batch OutOfMemory) : Type 0 where

@@ -1,9 +1,9 @@
+pub mod Admitting
 pub mod Batches
 pub mod Kept
 pub mod Log
 pub mod Numbering
 pub mod OneReading
-pub mod Parts
 pub mod Setup
 pub mod Steps
 pub mod Taking

@@ -1,5 +1,5 @@
 ghost use Rattle.std.specs.Prelude.{◌≡◌, ◌+◌, ◌-◌, ◌<◌, ◌≤◌, ◌⊎◌, ◌^◌, Ok, Err, OnOk, IfOk, IfErr, IsOk, IsErr, IsErrOf};
-ghost use Rattle.std.specs.Prelude.{All, length, take};
+ghost use Rattle.std.specs.Prelude.{All, length};
 ghost use Rattle.std.specs.List.{AllZip};
 ghost use Rattle.line_reader.specs.Lines.{longest_line};
 ghost use Rattle.line_reader.specs.Reading.{line_value};
@@ -8,7 +8,7 @@ ghost use Rattle.batch_decode.specs.Batches.{IsDecodedLine};
 ghost use Rattle.log_intake.specs.Kept.{AreBefore};
 ghost use Rattle.log_intake.specs.Log.{TakesEvent, TakesLine, log_state, numbered_events};
 ghost use Rattle.log_intake.specs.Numbering.{most_items};
-ghost use Rattle.log_intake.specs.Parts.{AdmitsLines, AreNext};
+ghost use Rattle.log_intake.specs.Admitting.{AdmitsAndDecodes, AdmitsBoth, AdmitsLines, AreNext, AreNextBehind};
 ghost use Rattle.log_intake.specs.Steps.{InOrder};
 ghost use Rattle.log_intake.specs.Taking.{IsRefusal};
 
@@ -26,12 +26,6 @@ use std::thread::{Threads, join_mut};
 /// So many events of a log are kept.
 const MOST_EVENTS: u32 = 4_194_304;
 
-/// A batch is cut into so many parts.
-const PARTS: usize = 4;
-
-/// How many lines are worth a part of their own.
-const LINES_FOR_A_PART: usize = 64;
-
 /// How far the numbers of a log were taken.
 #[derive(Clone, Copy)]
 pub struct Place {
@@ -39,6 +33,22 @@ pub struct Place {
     pub line: u64,
     /// The numbers that lists took beyond one for each line.
     pub extra: u64,
+}
+
+/// The lines of a batch that were decoded, and wait to be admitted.
+#[derive(Drop)]
+pub struct DecodedBatch {
+    pub lines: Vec<Line>,
+    pub decoded: DecodedList,
+}
+
+impl DecodedBatch {
+    pub fn of(lines: Vec<Line>, decoded: DecodedList) -> DecodedBatch
+        ensures lines { result.lines.items ≡ lines.items }
+        ensures decoded { result.decoded ≡ decoded }
+    {
+        DecodedBatch { lines, decoded }
+    }
 }
 
 /// What goes on behind lines that were admitted.
@@ -49,155 +59,73 @@ pub struct Step<T> {
     pub ahead: T,
 }
 
-// Tells the gate of a batch of the lines of a part, in front of which so many lines stand.
-#[derive(Drop)]
-struct PartGate<'a, G> {
-    gate: &'a G,
-    front: u32,
-}
-
-impl<'a, G: Gate> Gate for PartGate<'a, G> {
-    fn enter(&self, line: u32) {
-        self.gate.enter(self.front.wrapping_add(line));
-    }
-}
-
-/// Decodes lines and admits their events, up to the first number that is refused.
-pub fn admit_batch<R: Threads + Sync, G: Gate>(
+/// Admits the events of the batch in front, and takes its decoding, while other threads decode the lines of the next
+/// one.
+pub fn admit_and_decode<R: Threads + Sync, G: Gate>(
     rt: &R,
     alloc: Global,
-    place: Place,
-    lines: &[Line],
-    gate: &G,
-    seen: &mut Seen,
-) -> Result<Place, LogStop>
-    requires few { length lines.now < 2 ^ 32 }
-    requires next { AreNext lines.now place seen.old }
-    ensures { AdmitsLines lines.now place seen.old seen.new result }
-{
-    let size = part_size(lines.len());
-    match decode_part(rt, alloc, &lines[..size], 0, gate) {
-        Ok(decoded) => admit_parts(rt, alloc, place, lines, size, decoded, gate, seen),
-        Err(OutOfMemory) => Err(LogStop::OutOfMemory),
-    }
-}
-
-// How many lines each part of a batch has, except for the last.
-fn part_size(lines: usize) -> usize
-    ensures within { result ≤ lines }
-    ensures some { 0 < lines → 0 < result }
-{
-    if lines < PARTS * LINES_FOR_A_PART {
-        return lines;
-    }
-    lines.div_ceil(PARTS)
-}
-
-// Decodes the lines of a part, in front of which so many lines of the batch stand.
-fn decode_part<R: Threads + Sync, G: Gate>(
-    rt: &R,
-    alloc: Global,
-    lines: &[Line],
-    front: u32,
-    gate: &G,
-) -> Result<DecodedList, OutOfMemory>
-    requires { length lines.now < 2 ^ 32 }
-    ensures { IfOk result (AllZip IsDecodedLine lines.now) }
-{
-    let gate = PartGate { gate, front };
-    decode_all(rt, alloc, lines, &gate)
-}
-
-// Admits the events of a batch, of which the first part was decoded. While those of one part are admitted, the next
-// part is decoded.
-fn admit_parts<R: Threads + Sync, G: Gate>(
-    rt: &R,
-    alloc: Global,
-    place: Place,
-    lines: &[Line],
-    size: usize,
-    decoded: DecodedList,
-    gate: &G,
-    seen: &mut Seen,
-) -> Result<Place, LogStop>
-    requires few { length lines.now < 2 ^ 32 }
-    requires within { size ≤ length lines.now }
-    requires some { 0 < length lines.now → 0 < size }
-    requires decoded { AllZip IsDecodedLine (take size lines.now) decoded }
-    requires next { AreNext lines.now place seen.old }
-    ensures { AdmitsLines lines.now place seen.old seen.new result }
-{
-    let mut step = Step {
-        place,
-        ahead: decoded,
-    };
-    let (mut part, mut rest) = lines.split_at(size);
-    'parts: loop {
-        let Step {
-            place,
-            ahead: decoded,
-        } = step;
-        if rest.is_empty() {
-            return admit_lines(place, part, decoded, seen);
-        }
-        let front = (lines.len() - rest.len()) as u32;
-        let (next, behind) = rest.split_at(size.min(rest.len()));
-        let (ahead, admitted) = admit_beside(
-            rt, alloc, place, part, decoded, next, front, gate, seen,
-        );
-        match both(admitted, ahead) {
-            Ok(after) => step = after,
-            Err(stop) => return Err(stop),
-        }
-        part = next;
-        rest = behind;
-    }
-}
-
-// Admits the events of a part, while other threads decode the next part.
-fn admit_beside<R: Threads + Sync, G: Gate>(
-    rt: &R,
-    alloc: Global,
-    place: Place,
-    part: &[Line],
-    decoded: DecodedList,
     next: &[Line],
-    front: u32,
     gate: &G,
+    place: Place,
+    front: &mut DecodedBatch,
     seen: &mut Seen,
-) -> (Result<DecodedList, OutOfMemory>, Result<Place, LogStop>)
+) -> (Result<Place, LogStop>, Result<DecodedList, OutOfMemory>)
     requires few { length next.now < 2 ^ 32 }
-    requires decoded { AllZip IsDecodedLine part.now decoded }
-    requires ready { AreNext part.now place seen.old }
-    ensures ahead { IfOk result.0 (AllZip IsDecodedLine next.now) }
-    ensures admits { AdmitsLines part.now place seen.old seen.new result.1 }
+    requires decoded { AllZip IsDecodedLine front.old.lines.items front.old.decoded }
+    requires ready { AreNext front.old.lines.items place seen.old }
+    ensures { AdmitsAndDecodes front.old.lines.items next.now place seen.old seen.new result.0
+        result.1 }
 {
-    let mut held = decoded;
     let mut decode = move || -> Result<DecodedList, OutOfMemory>
         requires { length next.now < 2 ^ 32 }
         ensures { IfOk result (AllZip IsDecodedLine next.entry.now) }
-    { decode_part(rt, alloc, next, front, gate) };
+    { decode_all(rt, alloc, next, gate) };
     let mut admit = || -> Result<Place, LogStop>
-        requires { AllZip IsDecodedLine part.now held × AreNext part.now place seen.now }
-        ensures { AdmitsLines part.entry.now place seen.entry.now seen.exit.now result }
-    { admit_held(alloc, place, part, &mut held, seen) };
-    join_mut(rt, &mut decode, &mut admit)
+        requires { AllZip IsDecodedLine front.now.lines.items front.now.decoded
+            × AreNext front.now.lines.items place seen.now }
+        ensures { AdmitsLines front.entry.now.lines.items place seen.entry.now seen.exit.now
+            result }
+    { admit_decoded(alloc, place, front, seen) };
+    let (decoded, admitted) = join_mut(rt, &mut decode, &mut admit);
+    (admitted, decoded)
 }
 
-// Admits the events of lines whose decoding is held, and takes it. What lends is last, so that a closure may call it.
-fn admit_held(
+// Admits the events of a batch that was decoded, and takes its decoding.
+fn admit_decoded(
     alloc: Global,
     place: Place,
-    lines: &[Line],
-    held: &mut DecodedList,
+    batch: &mut DecodedBatch,
     seen: &mut Seen,
 ) -> Result<Place, LogStop>
-    requires decoded { AllZip IsDecodedLine lines.now held.old }
-    requires next { AreNext lines.now place seen.old }
-    ensures { AdmitsLines lines.now place seen.old seen.new result }
+    requires decoded { AllZip IsDecodedLine batch.old.lines.items batch.old.decoded }
+    requires next { AreNext batch.old.lines.items place seen.old }
+    ensures { AdmitsLines batch.old.lines.items place seen.old seen.new result }
 {
-    let decoded = mem::replace(held, DecodedList::new(alloc));
-    admit_lines(place, lines, decoded, seen)
+    let decoded = mem::replace(&mut batch.decoded, DecodedList::new(alloc));
+    admit_lines(place, batch.lines.as_slice(), decoded, seen)
+}
+
+/// Admits the events of the batch in front, and then those of the last one, which is decoded meanwhile.
+pub fn admit_rest<R: Threads + Sync, G: Gate>(
+    rt: &R,
+    alloc: Global,
+    last: &[Line],
+    gate: &G,
+    place: Place,
+    front: &mut DecodedBatch,
+    seen: &mut Seen,
+) -> Result<Place, LogStop>
+    requires few { length last.now < 2 ^ 32 }
+    requires decoded { AllZip IsDecodedLine front.old.lines.items front.old.decoded }
+    requires ready { AreNext front.old.lines.items place seen.old }
+    requires behind { AreNextBehind front.old.lines.items last.now place seen.old }
+    ensures { AdmitsBoth front.old.lines.items last.now place seen.old seen.new result }
+{
+    let (admitted, decoded) = admit_and_decode(rt, alloc, last, gate, place, front, seen);
+    match both(admitted, decoded) {
+        Ok(step) => admit_lines(step.place, last, step.ahead, seen),
+        Err(stop) => Err(stop),
+    }
 }
 
 /// What goes on behind lines that were admitted. A refusal of theirs comes before want of memory for what is ahead.

@@ -14,9 +14,9 @@ use std::alloc::Global;
 /// So many bytes of a log are read.
 const MOST_INPUT: usize = 1_099_511_627_776;
 
-/// A batch ends where so many bytes were taken: 31 pieces. So it has less than 32, and two batches, of which one is
-/// admitted and the other one gathered, less than 64.
-const BATCH: usize = 2_031_616;
+/// A batch ends where so many bytes were taken: 20 pieces. So it has less than 21, and three batches, of which one is
+/// admitted, one decoded and one gathered, less than 63.
+const BATCH: usize = 1_310_720;
 
 /// How the bytes of a batch end.
 #[derive(Clone, Copy)]

@@ -1,14 +1,18 @@
-ghost use Rattle.std.specs.Prelude.{◌≡◌, ◌≢◌, ℕ, ◌<◌, ◌≤◌, ◌^◌, List, [], Ok, Err, IfErr, OnOk, length};
+ghost use Rattle.std.specs.Prelude.{◌≡◌, ◌≢◌, ℕ, ◌<◌, ◌≤◌, ◌⊎◌, ◌^◌, List, [], Ok, Err, IfErr, IfOk, IsErr, IsOk, OnOk};
+ghost use Rattle.std.specs.Prelude.{length};
+ghost use Rattle.std.specs.List.{AllZip};
 ghost use Rattle.audit_event.specs.Keeping.{AreKept};
+ghost use Rattle.batch_decode.specs.Batches.{IsDecodedLine};
+ghost use Rattle.log_intake.specs.Admitting.{AdmitsAndDecodes, AreNext};
 ghost use Rattle.log_intake.specs.Batches.{GathersBatch, HoldsOpen};
-ghost use Rattle.log_intake.specs.Parts.{AdmitsLines, AreNext};
 ghost use Rattle.log_intake.specs.Taking.{ReadsLog};
 
-use crate::admitting::{Place, admit_batch, both};
+use crate::admitting::{DecodedBatch, Place, admit_and_decode, admit_rest, both};
 use crate::batch::{Batch, gather};
 use crate::stop::LogStop;
 use audit_event::{Events, Seen};
 use base_types::OutOfMemory;
+use batch_decode::DecodedList;
 use edge_io::Desk;
 use hash_seed::Seed;
 use judge_pool::Gate;
@@ -17,10 +21,18 @@ use std::alloc::Global;
 use std::marker::Sync;
 use std::thread::{Threads, join_mut};
 
-/// Reads the events of a log from a desk, by name, in batches of lines. Several threads decode a batch; each
-/// line's index in it enters the gate before the line is decoded. While a batch is decoded and its events are admitted,
-/// the next one is taken from the desk. A batch that is refused is refused whatever the desk met behind it, a failed
-/// read say. The hashes of audit IDs begin with the seed.
+// How far a log was advanced: one batch was admitted, the next one decoded, and the one behind that gathered.
+#[derive(Drop)]
+struct Advanced {
+    place: Place,
+    decoded: DecodedList,
+    gathered: Batch,
+}
+
+/// Reads the events of a log from a desk, by name, in batches of lines. Several threads decode a batch; each line's
+/// index in it enters the gate before the line is decoded. While the events of one batch are admitted, the next one is
+/// decoded, and the one behind that is taken from the desk. A batch that is refused is refused whatever the desk met
+/// behind it, a failed read say. The hashes of audit IDs begin with the seed.
 pub fn read_log<R: Threads + Sync, D: Desk, G: Gate>(
     rt: &R,
     alloc: Global,
@@ -75,68 +87,82 @@ fn read_batches<R: Threads + Sync, D: Desk, G: Gate>(
         Ok(reader) => reader,
         Err(OutOfMemory) => return Err(LogStop::OutOfMemory),
     };
-    let mut place = Place { line: 0, extra: 0 };
-    let mut batch = match gather(alloc, desk, name, &mut reader, 0, buffer) {
+    let mut next = match gather(alloc, desk, name, &mut reader, 0, buffer) {
         Ok(batch) => batch,
         Err(OutOfMemory) => return Err(LogStop::OutOfMemory),
     };
-    'batches: while batch.end.goes_on() {
-        let (admitted, ahead) = admit_and_gather(
+    let mut place = Place { line: 0, extra: 0 };
+    let mut front = DecodedBatch::of(Vec::new(alloc), DecodedList::new(alloc));
+    'batches: while next.end.goes_on() {
+        let (admitted, decoded, gathered) = advance(
             rt,
             alloc,
-            place,
-            &batch,
+            &next,
             gate,
+            place,
+            &mut front,
             seen,
             desk,
             name,
             &mut reader,
             buffer,
         );
-        match both(admitted, ahead) {
-            Ok(step) => {
-                place = step.place;
-                batch = step.ahead;
+        match all_three(admitted, decoded, gathered) {
+            Ok(after) => {
+                place = after.place;
+                front = DecodedBatch::of(next.lines, after.decoded);
+                next = after.gathered;
             }
             Err(stop) => return Err(stop),
         }
     }
-    match admit_batch(rt, alloc, place, batch.lines.as_slice(), gate, seen) {
-        Ok(_) => batch.end.answer(),
+    let last = next.lines.as_slice();
+    match admit_rest(rt, alloc, last, gate, place, &mut front, seen) {
+        Ok(_) => next.end.answer(),
         Err(stop) => Err(stop),
     }
 }
 
-// Admits the events of a batch, while this thread takes the next one from the desk.
-fn admit_and_gather<R: Threads + Sync, D: Desk, G: Gate>(
+// Admits the events of the batch in front and decodes the next one, while this thread takes the one behind that from
+// the desk.
+fn advance<R: Threads + Sync, D: Desk, G: Gate>(
     rt: &R,
     alloc: Global,
-    place: Place,
-    batch: &Batch,
+    next: &Batch,
     gate: &G,
+    place: Place,
+    front: &mut DecodedBatch,
     seen: &mut Seen,
     desk: &mut D,
     name: &str,
     reader: &mut LineReader,
     buffer: &mut [u8],
-) -> (Result<Place, LogStop>, Result<Batch, OutOfMemory>)
-    requires few { length batch.now.lines.items < 2 ^ 32 }
-    requires next { AreNext batch.now.lines.items place seen.old }
+) -> (
+    Result<Place, LogStop>,
+    Result<DecodedList, OutOfMemory>,
+    Result<Batch, OutOfMemory>,
+)
+    requires few { length next.now.lines.items < 2 ^ 32 }
+    requires decoded { AllZip IsDecodedLine front.old.lines.items front.old.decoded }
+    requires ready { AreNext front.old.lines.items place seen.old }
     requires some { 0 < length buffer.old }
     requires piece { length buffer.old ≤ 65536 }
-    requires within { batch.now.taken ≤ 1099511627776 }
+    requires within { next.now.taken ≤ 1099511627776 }
     requires going { HoldsOpen reader.old }
-    ensures admits { AdmitsLines batch.now.lines.items place seen.old seen.new result.0 }
+    ensures admits { AdmitsAndDecodes front.old.lines.items next.now.lines.items place seen.old
+        seen.new result.0 result.1 }
     ensures gathers { GathersBatch (D.left desk.old) (D.left desk.new) name.now (D.faults desk.old)
-        (D.faults desk.new) reader.old reader.new batch.now.taken result.1 }
+        (D.faults desk.new) reader.old reader.new next.now.taken result.2 }
 {
-    let lines = batch.lines.as_slice();
-    let taken = batch.taken;
-    let mut admit = || -> Result<Place, LogStop>
+    let lines = next.lines.as_slice();
+    let taken = next.taken;
+    let mut admit = || -> (Result<Place, LogStop>, Result<DecodedList, OutOfMemory>)
         requires few { length lines.now < 2 ^ 32 }
-        requires next { AreNext lines.now place seen.now }
-        ensures { AdmitsLines lines.entry.now place seen.entry.now seen.exit.now result }
-    { admit_batch(rt, alloc, place, lines, gate, seen) };
+        requires decoded { AllZip IsDecodedLine front.now.lines.items front.now.decoded }
+        requires ready { AreNext front.now.lines.items place seen.now }
+        ensures { AdmitsAndDecodes front.entry.now.lines.items lines.entry.now place
+            seen.entry.now seen.exit.now result.0 result.1 }
+    { admit_and_decode(rt, alloc, lines, gate, place, front, seen) };
     let mut gather_next = || -> Result<Batch, OutOfMemory>
         requires some { 0 < length buffer.now }
         requires piece { length buffer.now ≤ 65536 }
@@ -146,5 +172,34 @@ fn admit_and_gather<R: Threads + Sync, D: Desk, G: Gate>(
             (D.faults desk.entry.now) (D.faults desk.exit.now) reader.entry.now reader.exit.now
             taken result }
     { gather(alloc, desk, name, reader, taken, buffer) };
-    join_mut(rt, &mut admit, &mut gather_next)
+    let ((admitted, decoded), gathered) = join_mut(rt, &mut admit, &mut gather_next);
+    (admitted, decoded, gathered)
+}
+
+// What goes on behind a batch that was admitted. A refusal in it comes before want of memory for those behind it.
+fn all_three(
+    admitted: Result<Place, LogStop>,
+    decoded: Result<DecodedList, OutOfMemory>,
+    gathered: Result<Batch, OutOfMemory>,
+) -> Result<Advanced, LogStop>
+    ensures ok { IfOk result (λ after. (admitted ≡ Ok after.place) × (decoded ≡ Ok after.decoded)
+        × (gathered ≡ Ok after.gathered)) }
+    ensures err { IfErr result (λ stop. (admitted ≡ Err stop)
+        ⊎ (IsOk admitted × (IsErr decoded ⊎ IsErr gathered) × (stop ≡ LogStop.OutOfMemory))) }
+{
+    let step = match both(admitted, decoded) {
+        Ok(step) => step,
+        Err(stop) => {
+            drop(gathered);
+            return Err(stop);
+        }
+    };
+    match gathered {
+        Ok(gathered) => Ok(Advanced {
+            place: step.place,
+            decoded: step.ahead,
+            gathered,
+        }),
+        Err(OutOfMemory) => Err(LogStop::OutOfMemory),
+    }
 }

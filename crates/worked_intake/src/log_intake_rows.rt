@@ -163,15 +163,15 @@ fn put_lists(rt: &(impl Abort + AllocGlobal), log: &mut String, count: u32) {
     }
 }
 
-// Enough lines that a batch of them is cut into parts.
+// Enough lines that several threads decode a batch of them.
 const LINES: u32 = 300;
 
 #[test]
-fn batches_in_parts(rt: HostRuntime) {
+fn batches_of_many_lines(rt: HostRuntime) {
     let mut log = String::new(rt.alloc());
     put_lists(&rt, &mut log, LINES);
     check_log(&rt, log.as_str(), 65_536, &[], "0 0");
-    // Of two lines that are refused, the one in the second part counts.
+    // Of two lines that are refused, the first one counts.
     push(&rt, &mut log, "x\n");
     put_lists(&rt, &mut log, 2 * LINES);
     push(&rt, &mut log, "x");
@@ -187,8 +187,8 @@ fn batches_in_parts(rt: HostRuntime) {
 // So much of a line of spaces, which is no event.
 const SPACES: &str = "                                                                ";
 
-// So many of them are 31 reads of 65,536 bytes, and with any byte in front of them a batch is full.
-const SPACES_OF_A_BATCH: u32 = 31_744;
+// So many of them are 20 reads of 65,536 bytes, and with any byte in front of them a batch is full.
+const SPACES_OF_A_BATCH: u32 = 20_480;
 
 // Rows as in `ROWS`. `FILL` stands for the spaces of a batch: what is in front of it comes with one batch, and what is
 // behind it with the next.
@@ -257,12 +257,12 @@ fn failing_reads_of_batches(rt: HostRuntime) {
     let refused = "Malformed { line: 1, code: M1 }";
     let refused_behind = "Malformed { line: 3, code: M1 }";
     // The first read of the second batch fails.
-    check_filled(&rt, "x\nFILL\n", &[32], refused);
-    check_filled(&rt, "LIST]}\nFILL\nx", &[32], "ReadFault");
+    check_filled(&rt, "x\nFILL\n", &[21], refused);
+    check_filled(&rt, "LIST]}\nFILL\nx", &[21], "ReadFault");
     // One behind lines of the second batch fails, and the first one of the third batch.
-    check_filled(&rt, "LIST]}\nFILL\nx\n", &[33], refused_behind);
-    check_filled(&rt, "LIST]}\nFILL\nLIST]}\n", &[33], "ReadFault");
-    check_filled(&rt, "LIST]}\nFILL\nx\nFILL\n", &[63], refused_behind);
+    check_filled(&rt, "LIST]}\nFILL\nx\n", &[22], refused_behind);
+    check_filled(&rt, "LIST]}\nFILL\nLIST]}\n", &[22], "ReadFault");
+    check_filled(&rt, "LIST]}\nFILL\nx\nFILL\n", &[41], refused_behind);
 }
 
 #[test]

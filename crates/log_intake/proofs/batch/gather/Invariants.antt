@@ -5,7 +5,7 @@ use Rattle.log_intake.proofs.batch.gather.Given as goal
 
 abbrev pub invariant-pieces : goal.invariant-pieces
 invariant-pieces g l = record {
-  gathers : Gathers GoesOn (g.D.Desk.left l.initial.desk l.name) (g.D.Desk.left l.desk l.name) l.initial.reader l.reader (line_values l.lines.items) l.taken l.at 2031615;
+  gathers : Gathers GoesOn (g.D.Desk.left l.initial.desk l.name) (g.D.Desk.left l.desk l.name) l.initial.reader l.reader (line_values l.lines.items) l.taken l.at 1310719;
   counted : g.D.Desk.faults l.initial.desk ≤ g.D.Desk.faults l.desk;
   others : (other : List ℕ) → other ≢ l.name → g.D.Desk.left l.desk other ≡ g.D.Desk.left l.initial.desk other;
   buffer : length l.buffer ≡ length l.initial.buffer;

@@ -1,8 +1,9 @@
-use Rattle.std.proofs.Common.{◌∙◌, refl}
+use Rattle.std.proofs.Common.{◌∙◌, refl, arith}
 use Rattle.std.proofs.lemmas.Result.{IfErr-weaker}
-use Rattle.log_intake.proofs.AheadFacts.{fewer_left, gathered_asks, gathered_ended, gathered_first, gathered_on, gathered_open, gathered_refused, gathered_stopped, gathered_stops, gathered_within}
+use Rattle.log_intake.proofs.AheadFacts.{decoded_behind, decoded_few, decoded_first, decoded_next, decoded_on, decoded_open, decoded_stops, decoded_within, fewer_left, rest_ended, rest_refused, rest_stopped, some_within}
+use Rattle.log_intake.proofs.AnswerFacts.{reads_nothing, reads_some}
 use Rattle.log_intake.proofs.EventFacts.{on_ok}
-use Rattle.log_intake.proofs.LogFacts.{nothing_read_from, reads_nothing, reads_some}
+use Rattle.log_intake.proofs.LogFacts.{nothing_read_from}
 use Rattle.log_intake.proofs.log.read_batches.Goals as goal
 
 pub returns-in-Err-clause-stopped : goal.returns-in-Err-clause-stopped
@@ -10,57 +11,67 @@ returns-in-Err-clause-stopped g c = reads_nothing _ _
 
 pub returns-in-Err-gather-clause-stopped : goal.returns-in-Err-gather-clause-stopped
 returns-in-Err-gather-clause-stopped g c =
-    reads_some _ _ _ _ _ c.in-Ok.reader c.args.seen.now record { line = 0; extra = 0 } 0 (nothing_read_from _ c.in-Ok.reader c.args.seen.now record { line = 0; extra = 0 } c.in-Ok.ensures c.requires.none refl refl) c.in-Err-gather.ensures.memory c.in-Err-gather.ensures.counted
+    reads_some _ _ _ _ _ c.in-Ok.reader c.args.seen.now record { line = 0; extra = 0 } 0 (nothing_read_from _ c.in-Ok.reader c.args.seen.now record { line = 0; extra = 0 } c.in-Ok.ensures c.requires.none refl refl)
+    (some_within _ _ 0 1376256 4259840 (omega arith) c.in-Err-gather.ensures.memory) c.in-Err-gather.ensures.counted
 
 pub batches-init : goal.batches-init
 batches-init g c = record {
-  read = gathered_first (g.D.Desk.left c.args.desk.now) (g.D.Desk.left c.gather.new.desk) c.args.name.now _ _ c.in-Ok.reader c.gather.new.reader c.args.seen.now record { line = 0; extra = 0 } c.in-Ok-gather.batch
-      (nothing_read_from _ c.in-Ok.reader c.args.seen.now record { line = 0; extra = 0 } c.in-Ok.ensures c.requires.none refl refl) c.in-Ok-gather.ensures;
+  read = decoded_first (g.D.Desk.left c.args.desk.now) (g.D.Desk.left c.gather.new.desk) c.args.name.now _ _ c.in-Ok.reader c.gather.new.reader c.args.seen.now record { line = 0; extra = 0 } c.of-front.result c.in-Ok-gather.batch
+      (nothing_read_from _ c.in-Ok.reader c.args.seen.now record { line = 0; extra = 0 } c.in-Ok.ensures c.requires.none refl refl) c.in-Ok-gather.ensures (c.of-front.ensures.lines ∙ c.new-2.ensures.items) (c.of-front.ensures.decoded ∙ c.new-3.ensures);
   others = c.in-Ok-gather.ensures.others;
 }
 
-pub admit_and_gather-admitted-requires-clause-few : goal.admit_and_gather-admitted-requires-clause-few
-admit_and_gather-admitted-requires-clause-few g c κs _ = (gathered_asks _ _ _ _ c.batches.reader c.batches.seen c.batches.place c.batches.batch c.batches.batch.lines.items c.batches.invariant.read refl).few
+pub advance-admitted-requires-clause-few : goal.advance-admitted-requires-clause-few
+advance-admitted-requires-clause-few g c κs _ = decoded_few _ _ _ _ c.batches.reader c.batches.seen c.batches.place c.batches.front c.batches.next c.batches.next.lines.items c.batches.invariant.read refl
 
-pub admit_and_gather-admitted-requires-clause-next : goal.admit_and_gather-admitted-requires-clause-next
-admit_and_gather-admitted-requires-clause-next g c κs _ = (gathered_asks _ _ _ _ c.batches.reader c.batches.seen c.batches.place c.batches.batch c.batches.batch.lines.items c.batches.invariant.read refl).next
+pub advance-admitted-requires-clause-decoded : goal.advance-admitted-requires-clause-decoded
+advance-admitted-requires-clause-decoded g c κs _ = c.batches.invariant.read.decodes
 
-pub admit_and_gather-admitted-requires-clause-within : goal.admit_and_gather-admitted-requires-clause-within
-admit_and_gather-admitted-requires-clause-within g c κs _ = gathered_within _ _ _ _ c.batches.reader c.batches.seen c.batches.place c.batches.batch c.batches.invariant.read
+pub advance-admitted-requires-clause-ready : goal.advance-admitted-requires-clause-ready
+advance-admitted-requires-clause-ready g c κs _ = decoded_next _ _ _ _ c.batches.reader c.batches.seen c.batches.place c.batches.front c.batches.next c.batches.invariant.read
 
-pub admit_and_gather-admitted-requires-clause-going : goal.admit_and_gather-admitted-requires-clause-going
-admit_and_gather-admitted-requires-clause-going g c κs _ = gathered_open _ _ _ _ c.batches.reader c.batches.seen c.batches.place c.batches.batch c.batches.invariant.read (c.goes_on.ensures.0 c.batches-test.true)
+pub advance-admitted-requires-clause-within : goal.advance-admitted-requires-clause-within
+advance-admitted-requires-clause-within g c κs _ = decoded_within _ _ _ _ c.batches.reader c.batches.seen c.batches.place c.batches.front c.batches.next c.batches.invariant.read
 
-pub returns-in-Err-both-clause-stopped : goal.returns-in-Err-both-clause-stopped
-returns-in-Err-both-clause-stopped g c =
-    gathered_stops _ (g.D.Desk.left c.batches.desk) (g.D.Desk.left c.admit_and_gather-admitted.new.desk) c.args.name.now _ _ _ c.batches.reader c.admit_and_gather-admitted.new.reader c.batches.seen c.admit_and_gather-admitted.new.seen c.batches.place c.batches.batch _ _ c.in-Err-both.stop
-    (c.goes_on.ensures.0 c.batches-test.true) c.batches.invariant.read c.admit_and_gather-admitted.ensures.admits c.admit_and_gather-admitted.ensures.gathers c.in-Err-both.ensures.err
+pub advance-admitted-requires-clause-going : goal.advance-admitted-requires-clause-going
+advance-admitted-requires-clause-going g c κs _ = decoded_open _ _ _ _ c.batches.reader c.batches.seen c.batches.place c.batches.front c.batches.next c.batches.invariant.read (c.goes_on.ensures.0 c.batches-test.true)
+
+pub returns-in-Err-all_three-clause-stopped : goal.returns-in-Err-all_three-clause-stopped
+returns-in-Err-all_three-clause-stopped g c =
+    decoded_stops _ (g.D.Desk.left c.batches.desk) (g.D.Desk.left c.advance-admitted.new.desk) c.args.name.now _ _ _ c.batches.reader c.advance-admitted.new.reader c.batches.seen c.advance-admitted.new.seen c.batches.place c.batches.front c.batches.next c.batches.next.lines.items _ _ _ c.in-Err-all_three.stop
+    (c.goes_on.ensures.0 c.batches-test.true) c.batches.invariant.read c.advance-admitted.ensures.admits c.advance-admitted.ensures.gathers c.in-Err-all_three.ensures.err
 
 pub batches-smaller : goal.batches-smaller
 batches-smaller g c =
-    fewer_left (g.D.Desk.left c.batches.desk) (g.D.Desk.left c.admit_and_gather-admitted.new.desk) c.args.name.now _ _ c.batches.reader c.admit_and_gather-admitted.new.reader c.batches.batch c.in-Ok-both.step.ahead _ (c.goes_on.ensures.0 c.batches-test.true) c.admit_and_gather-admitted.ensures.gathers c.in-Ok-both.ensures.ok.1
+    fewer_left (g.D.Desk.left c.batches.desk) (g.D.Desk.left c.advance-admitted.new.desk) c.args.name.now _ _ c.batches.reader c.advance-admitted.new.reader c.batches.next c.in-Ok-all_three.after.gathered _ (c.goes_on.ensures.0 c.batches-test.true) c.advance-admitted.ensures.gathers c.in-Ok-all_three.ensures.ok.2
 
 pub batches-preserved : goal.batches-preserved
 batches-preserved g c = record {
-  read = gathered_on _ (g.D.Desk.left c.batches.desk) (g.D.Desk.left c.admit_and_gather-admitted.new.desk) c.args.name.now _ _ _ c.batches.reader c.admit_and_gather-admitted.new.reader c.batches.seen c.admit_and_gather-admitted.new.seen c.batches.place c.in-Ok-both.step.place c.batches.batch c.in-Ok-both.step.ahead _ _
-      (c.goes_on.ensures.0 c.batches-test.true) c.batches.invariant.read c.admit_and_gather-admitted.ensures.admits c.admit_and_gather-admitted.ensures.gathers c.in-Ok-both.ensures.ok;
-  others = λ other differs. c.admit_and_gather-admitted.ensures.gathers.others other differs ∙ c.batches.invariant.others other differs;
+  read = decoded_on _ (g.D.Desk.left c.batches.desk) (g.D.Desk.left c.advance-admitted.new.desk) c.args.name.now _ _ _ c.batches.reader c.advance-admitted.new.reader c.batches.seen c.advance-admitted.new.seen c.batches.place c.in-Ok-all_three.after.place c.batches.front c.of-front-in-Ok-all_three.result c.batches.next c.in-Ok-all_three.after.gathered c.in-Ok-all_three.after.decoded _ _ _
+      (c.goes_on.ensures.0 c.batches-test.true) c.batches.invariant.read c.advance-admitted.ensures.admits c.advance-admitted.ensures.gathers c.of-front-in-Ok-all_three.ensures.lines c.of-front-in-Ok-all_three.ensures.decoded c.in-Ok-all_three.ensures.ok;
+  others = λ other differs. c.advance-admitted.ensures.gathers.others other differs ∙ c.batches.invariant.others other differs;
 }
 
-pub admit_batch-requires-clause-few : goal.admit_batch-requires-clause-few
-admit_batch-requires-clause-few g c κs _ = (gathered_asks _ _ _ _ c.batches.reader c.batches.seen c.batches.place c.batches.batch c.as_slice.result.now c.batches.invariant.read c.as_slice.ensures.value).few
+pub admit_rest-requires-clause-few : goal.admit_rest-requires-clause-few
+admit_rest-requires-clause-few g c κs _ = decoded_few _ _ _ _ c.batches.reader c.batches.seen c.batches.place c.batches.front c.batches.next c.as_slice-last.result.now c.batches.invariant.read c.as_slice-last.ensures.value
 
-pub admit_batch-requires-clause-next : goal.admit_batch-requires-clause-next
-admit_batch-requires-clause-next g c κs _ = (gathered_asks _ _ _ _ c.batches.reader c.batches.seen c.batches.place c.batches.batch c.as_slice.result.now c.batches.invariant.read c.as_slice.ensures.value).next
+pub admit_rest-requires-clause-decoded : goal.admit_rest-requires-clause-decoded
+admit_rest-requires-clause-decoded g c κs _ = c.batches.invariant.read.decodes
 
-pub returns-in-Ok-admit_batch-clause-whole : goal.returns-in-Ok-admit_batch-clause-whole
-returns-in-Ok-admit_batch-clause-whole g c =
-    on_ok c.answer.result _ _ (λ ended are. gathered_ended _ _ _ _ c.batches.reader c.batches.seen c.admit_batch.new.seen c.batches.place c.in-Ok-admit_batch.field-0 c.batches.batch c.as_slice.result.now c.batches.invariant.read c.as_slice.ensures.value c.in-Ok-admit_batch.ensures ended are) c.answer.ensures.whole
+pub admit_rest-requires-clause-ready : goal.admit_rest-requires-clause-ready
+admit_rest-requires-clause-ready g c κs _ = decoded_next _ _ _ _ c.batches.reader c.batches.seen c.batches.place c.batches.front c.batches.next c.batches.invariant.read
 
-pub returns-in-Ok-admit_batch-clause-stopped : goal.returns-in-Ok-admit_batch-clause-stopped
-returns-in-Ok-admit_batch-clause-stopped g c =
-    IfErr-weaker c.answer.result _ _ (λ why at. gathered_stopped _ _ _ _ c.batches.reader c.batches.seen c.admit_batch.new.seen c.batches.place c.in-Ok-admit_batch.field-0 c.batches.batch c.as_slice.result.now why c.batches.invariant.read c.as_slice.ensures.value c.in-Ok-admit_batch.ensures at) c.answer.ensures.stopped
+pub admit_rest-requires-clause-behind : goal.admit_rest-requires-clause-behind
+admit_rest-requires-clause-behind g c κs _ = decoded_behind _ _ _ _ c.batches.reader c.batches.seen c.batches.place c.batches.front c.batches.next c.as_slice-last.result.now c.batches.invariant.read c.as_slice-last.ensures.value
+
+pub returns-in-Ok-admit_rest-clause-whole : goal.returns-in-Ok-admit_rest-clause-whole
+returns-in-Ok-admit_rest-clause-whole g c =
+    on_ok c.answer.result _ _ (λ ended are. rest_ended _ _ _ _ c.batches.reader c.batches.seen c.admit_rest.new.seen c.batches.place c.in-Ok-admit_rest.field-0 c.batches.front c.batches.next c.as_slice-last.result.now c.batches.invariant.read c.as_slice-last.ensures.value c.in-Ok-admit_rest.ensures ended are) c.answer.ensures.whole
+
+pub returns-in-Ok-admit_rest-clause-stopped : goal.returns-in-Ok-admit_rest-clause-stopped
+returns-in-Ok-admit_rest-clause-stopped g c =
+    IfErr-weaker c.answer.result _ _ (λ why at. rest_stopped _ _ _ _ c.batches.reader c.batches.seen c.admit_rest.new.seen c.batches.place c.in-Ok-admit_rest.field-0 c.batches.front c.batches.next c.as_slice-last.result.now why c.batches.invariant.read c.as_slice-last.ensures.value c.in-Ok-admit_rest.ensures at) c.answer.ensures.stopped
 
 pub returns-clause-stopped : goal.returns-clause-stopped
 returns-clause-stopped g c =
-    gathered_refused _ _ _ _ c.batches.reader c.batches.seen c.admit_batch.new.seen c.batches.place c.batches.batch c.as_slice.result.now c.in-Err-admit_batch.stop c.batches.invariant.read c.as_slice.ensures.value c.in-Err-admit_batch.ensures
+    rest_refused _ _ _ _ c.batches.reader c.batches.seen c.admit_rest.new.seen c.batches.place c.batches.front c.batches.next c.as_slice-last.result.now c.in-Err-admit_rest.stop c.batches.invariant.read c.as_slice-last.ensures.value c.in-Err-admit_rest.ensures

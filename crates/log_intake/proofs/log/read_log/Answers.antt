@@ -1,7 +1,7 @@
 use Rattle.std.proofs.Common.{Ok, sym, subst}
 use Rattle.audit_event.specs.Keeping.{AreKept}
 use Rattle.log_intake.specs.Taking.{ReadsLog}
-use Rattle.log_intake.proofs.LogFacts.{reads_nothing}
+use Rattle.log_intake.proofs.AnswerFacts.{reads_nothing}
 use Rattle.log_intake.proofs.log.read_log.Goals as goal
 
 pub returns-in-Err-clause-reads : goal.returns-in-Err-clause-reads

@@ -1,7 +1,11 @@
--- The parts of a batch, which are admitted one after another.
-use Rattle.std.specs.Prelude.{◌≡◌, ◌+◌, ◌≤◌, List, Result, Ok, Err, IfOk, IfErr, IsErrOf}
+-- Batches of lines, which are admitted one after another.
+use Rattle.std.specs.Prelude.{◌≡◌, ◌+◌, ◌≤◌, ◌⊎◌, List, Result, Ok, Err, IfOk, IfErr, IsErr, IsErrOf}
+use Rattle.std.specs.List.{AllZip}
+use Rattle.base_types.specs.declared.memory.OutOfMemory.{OutOfMemory}
 use Rattle.line_reader.specs.declared.line.Line.{Line}
 use Rattle.audit_event.specs.declared.event.Event.{Event}
+use Rattle.batch_decode.specs.declared.decoded.Decoded.{Decoded}
+use Rattle.batch_decode.specs.Batches.{IsDecodedLine}
 use Rattle.log_intake.specs.declared.admitting.Place.{Place}
 use Rattle.log_intake.specs.declared.stop.LogStop.{LogStop}
 use Rattle.log_intake.specs.declared.stop.LogStop.TheVariants.{ReadFault}
@@ -29,3 +33,18 @@ pub record AdmitsLines (lines : List Line) (place : Place) (kept kept' : List Ev
   pub all : IfOk answer (λ after. AllAdmitted lines place after kept kept')
   pub refused : IfErr answer (λ stop. IsRefusal stop → TakesLines (log_state place.extra kept) (line_values lines) (Err stop))
   pub no_fault : IsErrOf answer ReadFault → ⊥
+
+-- lines were admitted so, and those behind them decoded, or memory was wanted for that
+pub record AdmitsAndDecodes (lines next : List Line) (place : Place) (kept kept' : List Event) (admitted : Result Place LogStop) (decoded : Result (List Decoded) OutOfMemory) : Type 0 where
+  pub admits : AdmitsLines lines place kept kept' admitted
+  pub decodes : IfOk decoded (AllZip IsDecodedLine next)
+
+-- lines that may be admitted once those in front were
+abbrev pub AreNextBehind : List Line → List Line → Place → List Event → Type 0
+AreNextBehind front lines place kept = (place' : Place) (kept' : List Event) → AllAdmitted front place place' kept kept' → AreNext lines place' kept'
+
+-- those in front stop the lines, or they were admitted, and then these so
+abbrev pub AdmitsBoth : List Line → List Line → Place → List Event → List Event → Result Place LogStop → Type 0
+AdmitsBoth front lines place kept kept' answer =
+    (IsErr answer × AdmitsLines front place kept kept' answer)
+    ⊎ ((place' : Place) × (between : List Event) × AllAdmitted front place place' kept between × AdmitsLines lines place' between kept' answer)
