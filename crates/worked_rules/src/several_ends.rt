@@ -1,17 +1,18 @@
+ghost use Rattle.std.specs.Prelude.{◌≡◌, map};
+ghost use Rattle.rbac_timeline.specs.Known.{key_revision};
+ghost use Rattle.worked_rules.specs.SeveralEnds.{rbac_key, several_ends, several_revisions};
+
 use crate::given::{text, user};
-use base_types::{Decision, ObjectKey, Pairs, Places, RequestAttrs, Revision, Texts};
+use crate::timelines::{end, one_text, reader, revision, version};
+use base_types::{Decision, ObjectKey, Pairs, Places, RequestAttrs};
 use clouds::OpaqueSpans;
-use rbac_rules::{Binding, PolicyRule, PolicyRules, Subject, Subjects};
-use rbac_timeline::{RbacContent, RbacEnd, RbacEnds, RbacVersion, RbacVersions, Timeline};
+use rbac_rules::{Binding, Subject, Subjects};
+use rbac_timeline::{RbacContent, RbacEnds, RbacVersions, Timeline};
 use std::process::Abort;
 
-fn one_text(rt: &(impl Abort + AllocGlobal), only: &str) -> Texts {
-    let mut texts = Texts::new(rt.alloc());
-    texts.push(text(rt, only)).expect(rt, "memory");
-    texts
-}
-
-fn key(rt: &(impl Abort + AllocGlobal), resource: &str, namespace: &str, name: &str) -> ObjectKey {
+fn key(rt: &(impl Abort + AllocGlobal), resource: &str, namespace: &str, name: &str) -> ObjectKey
+    ensures { result ≡ rbac_key resource.now namespace.now name.now }
+{
     ObjectKey {
         group: text(rt, "rbac.authorization.k8s.io"),
         resource: text(rt, resource),
@@ -20,24 +21,11 @@ fn key(rt: &(impl Abort + AllocGlobal), resource: &str, namespace: &str, name: &
     }
 }
 
-fn reader(rt: &(impl Abort + AllocGlobal)) -> RbacContent {
-    let mut rules = PolicyRules::new(rt.alloc());
-    let rule = PolicyRule {
-        api_groups: one_text(rt, ""),
-        resources: one_text(rt, "configmaps"),
-        verbs: one_text(rt, "get"),
-        resource_names: Texts::new(rt.alloc()),
-        non_resource_urls: Texts::new(rt.alloc()),
-    };
-    rules.push(rule).expect(rt, "memory");
-    RbacContent::Role(rules)
-}
-
+// From the user `u` to a role or cluster role.
 fn bound(rt: &(impl Abort + AllocGlobal), role_is_cluster: bool, role: &str) -> RbacContent {
     let mut subjects = Subjects::new(rt.alloc());
-    subjects
-        .push(Subject::User(text(rt, "u")))
-        .expect(rt, "memory");
+    let subject = Subject::User(text(rt, "u"));
+    subjects.push(subject).expect(rt, "memory");
     RbacContent::Bound(Binding {
         role_is_cluster,
         role: text(rt, role),
@@ -45,85 +33,61 @@ fn bound(rt: &(impl Abort + AllocGlobal), role_is_cluster: bool, role: &str) -> 
     })
 }
 
-fn revision(rt: &impl Abort, number: u64) -> Revision {
-    Revision::new(number).expect(rt, "a revision")
-}
-
-fn add(
-    rt: &impl Abort,
-    versions: &mut RbacVersions,
-    key: ObjectKey,
-    number: u64,
-    content: RbacContent,
-) {
-    let version = RbacVersion {
-        key,
-        revision: revision(rt, number),
-        content,
-    };
-    versions.push(version).expect(rt, "memory");
-}
-
-fn remove(rt: &impl Abort, ends: &mut RbacEnds, key: ObjectKey, last: u64, low: u64) {
-    let end = RbacEnd {
-        key,
-        last: revision(rt, last),
-        low,
-        high: low + 1,
-    };
-    ends.push(end).expect(rt, "memory");
-}
-
 // The cluster role binding `g` at 5 and the role binding `b` at 7 of the cluster role `k` at 4, and the role
 // binding `a` at 6 of the role `r` at 3, all of user u.
-fn versions(rt: &(impl Abort + AllocGlobal)) -> RbacVersions {
-    let mut versions = RbacVersions::new(rt.alloc());
-    add(
-        rt,
-        &mut versions,
+fn versions(rt: &(impl Abort + AllocGlobal)) -> RbacVersions
+    ensures { map key_revision result ≡ several_revisions }
+{
+    let g = version(
         key(rt, "clusterrolebindings", "", "g"),
-        5,
+        revision(rt, 5),
         bound(rt, true, "k"),
     );
-    add(
-        rt,
-        &mut versions,
+    let k = version(
         key(rt, "clusterroles", "", "k"),
-        4,
+        revision(rt, 4),
         reader(rt),
     );
-    add(
-        rt,
-        &mut versions,
+    let a = version(
         key(rt, "rolebindings", "d", "a"),
-        6,
+        revision(rt, 6),
         bound(rt, false, "r"),
     );
-    add(
-        rt,
-        &mut versions,
+    let b = version(
         key(rt, "rolebindings", "d", "b"),
-        7,
+        revision(rt, 7),
         bound(rt, true, "k"),
     );
-    add(rt, &mut versions, key(rt, "roles", "d", "r"), 3, reader(rt));
+    let r = version(key(rt, "roles", "d", "r"), revision(rt, 3), reader(rt));
+    let mut versions = RbacVersions::new(rt.alloc());
+    versions.push(g).expect(rt, "memory");
+    versions.push(k).expect(rt, "memory");
+    versions.push(a).expect(rt, "memory");
+    versions.push(b).expect(rt, "memory");
+    versions.push(r).expect(rt, "memory");
     versions
 }
 
 // They are there for certain before 12 (`a`), 15 (`b`), 20 (`r`), 25 (`k`) and 30 (`g`).
-fn ends(rt: &(impl Abort + AllocGlobal)) -> RbacEnds {
-    let mut ends = RbacEnds::new(rt.alloc());
-    remove(rt, &mut ends, key(rt, "rolebindings", "d", "a"), 6, 12);
-    remove(rt, &mut ends, key(rt, "rolebindings", "d", "b"), 7, 15);
-    remove(rt, &mut ends, key(rt, "roles", "d", "r"), 3, 20);
-    remove(rt, &mut ends, key(rt, "clusterroles", "", "k"), 4, 25);
-    remove(
-        rt,
-        &mut ends,
+fn ends(rt: &(impl Abort + AllocGlobal)) -> RbacEnds
+    ensures { result ≡ several_ends }
+{
+    let a = end(key(rt, "rolebindings", "d", "a"), revision(rt, 6), 12, 13);
+    let b = end(key(rt, "rolebindings", "d", "b"), revision(rt, 7), 15, 16);
+    let r = end(key(rt, "roles", "d", "r"), revision(rt, 3), 20, 21);
+    let k = end(key(rt, "clusterroles", "", "k"), revision(rt, 4), 25, 26);
+    let g = end(
         key(rt, "clusterrolebindings", "", "g"),
-        5,
+        revision(rt, 5),
         30,
+        31,
     );
+    let mut ends = RbacEnds::new(rt.alloc());
+    ends.push(a).expect(rt, "memory");
+    ends.push(b).expect(rt, "memory");
+    ends.push(r).expect(rt, "memory");
+    ends.push(k).expect(rt, "memory");
+    ends.push(g).expect(rt, "memory");
     ends
 }
 
@@ -203,21 +167,21 @@ fn all_at(roles: u64, cluster_roles: u64, bindings: u64, cluster_bindings: u64) 
     }
 }
 
-// The least of all places of a range, one after another.
+// The least of all places from one up to another, which is left out, one after another.
 fn tried(
     rt: &(impl Abort + AllocGlobal),
     timeline: &Timeline,
     low: u64,
-    high: u64,
+    past: u64,
     wanted: Decision,
 ) -> Option<Places> {
     let who = user(rt, "u", &["u"]);
     let attrs = get(rt);
     let mut found = None;
-    for r in low..high + 1 {
-        for c in low..high + 1 {
-            for b in low..high + 1 {
-                for d in low..high + 1 {
+    for r in low..past {
+        for c in low..past {
+            for b in low..past {
+                for d in low..past {
                     if found.is_none() {
                         let possible = timeline.decide(&all_at(r, c, b, d), &who, &attrs);
                         let is = match wanted {
@@ -242,8 +206,8 @@ fn least_places_as_tried(rt: HostRuntime) {
     let timeline = example(&rt);
     for low in [1u64, 3, 5, 9, 11, 13, 18, 23, 28] {
         for wanted in [Decision::Allow, Decision::Forbid] {
-            let row = (low, low + 6, wanted, None);
-            let slow = tried(&rt, &timeline, low, low + 6, wanted);
+            let row = (low, low.saturating_add(6), wanted, None);
+            let slow = tried(&rt, &timeline, low, low.saturating_add(7), wanted);
             assert!(rt; least(&rt, &timeline, &row) == slow);
         }
     }

@@ -14,7 +14,7 @@ use std::process::Abort;
 
 const MAX: u64 = u64::MAX;
 
-fn one_text(rt: &(impl Abort + AllocGlobal), only: &str) -> Texts {
+pub fn one_text(rt: &(impl Abort + AllocGlobal), only: &str) -> Texts {
     let mut texts = Texts::new(rt.alloc());
     texts.push(text(rt, only)).expect(rt, "memory");
     texts
@@ -32,7 +32,7 @@ fn key(rt: &(impl Abort + AllocGlobal), resource: &str, name: &str) -> ObjectKey
 }
 
 // Gets configmaps.
-fn reader(rt: &(impl Abort + AllocGlobal)) -> RbacContent {
+pub fn reader(rt: &(impl Abort + AllocGlobal)) -> RbacContent {
     let mut rules = PolicyRules::new(rt.alloc());
     let rule = PolicyRule {
         api_groups: one_text(rt, ""),
@@ -57,13 +57,13 @@ fn bound(rt: &(impl Abort + AllocGlobal), user: &str) -> RbacContent {
     })
 }
 
-fn revision(rt: &impl Abort, number: u64) -> Revision
+pub fn revision(rt: &impl Abort, number: u64) -> Revision
     ensures { result ≡ number }
 {
     Revision::new(number).expect(rt, "a revision")
 }
 
-fn version(key: ObjectKey, revision: Revision, content: RbacContent) -> RbacVersion
+pub fn version(key: ObjectKey, revision: Revision, content: RbacContent) -> RbacVersion
     ensures { key_revision result ≡ record { key = key; revision = revision } }
 {
     RbacVersion {
@@ -73,7 +73,7 @@ fn version(key: ObjectKey, revision: Revision, content: RbacContent) -> RbacVers
     }
 }
 
-fn end(key: ObjectKey, last: Revision, low: u64, high: u64) -> RbacEnd
+pub fn end(key: ObjectKey, last: Revision, low: u64, high: u64) -> RbacEnd
     ensures { result ≡ record { key = key; last = last; low = low; high = high } }
 {
     RbacEnd {
