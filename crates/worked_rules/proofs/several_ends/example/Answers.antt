@@ -6,5 +6,5 @@ use Rattle.worked_rules.proofs.several_ends.example.Goals as goal
 
 pub build-timeline-requires : goal.build-timeline-requires
 build-timeline-requires g c =
-    sound_by_test c.versions-versions.result c.ends-ends.result
-    (ap (λ (r : List KeyRevision). are_sound r c.ends-ends.result) c.versions-versions.ensures ∙ ap (are_sound several_revisions) c.ends-ends.ensures ∙ refl)
+    sound_by_test c.versions.result c.ends.result
+    (ap (λ (r : List KeyRevision). are_sound r c.ends.result) c.versions.ensures ∙ ap (are_sound several_revisions) c.ends.ensures ∙ refl)
