@@ -59,8 +59,8 @@ pub struct Step<T> {
     pub ahead: T,
 }
 
-/// Admits the events of the batch in front, and takes its lines and decoding, while this thread and others decode the
-/// lines of the next one.
+/// Admits the events of the batch in front, and takes its decoding, while other threads decode the lines of the next
+/// one.
 pub fn admit_and_decode<R: Threads + Sync, G: Gate>(
     rt: &R,
     alloc: Global,
@@ -86,12 +86,11 @@ pub fn admit_and_decode<R: Threads + Sync, G: Gate>(
         ensures { AdmitsLines front.entry.now.lines.items place seen.entry.now seen.exit.now
             result }
     { admit_decoded(alloc, place, front, seen) };
-    // A new thread may begin only once this one waits: so the longest work, the decoding, is here.
-    join_mut(rt, &mut admit, &mut decode)
+    let (decoded, admitted) = join_mut(rt, &mut decode, &mut admit);
+    (admitted, decoded)
 }
 
-// Admits the events of a batch that was decoded, and lets its lines go, beside the decoding of the next one and not
-// between the two.
+// Admits the events of a batch that was decoded, and takes its decoding.
 fn admit_decoded(
     alloc: Global,
     place: Place,
@@ -102,11 +101,8 @@ fn admit_decoded(
     requires next { AreNext batch.old.lines.items place seen.old }
     ensures { AdmitsLines batch.old.lines.items place seen.old seen.new result }
 {
-    let lines = mem::replace(&mut batch.lines, Vec::new(alloc));
     let decoded = mem::replace(&mut batch.decoded, DecodedList::new(alloc));
-    let admitted = admit_lines(place, lines.as_slice(), decoded, seen);
-    drop(lines);
-    admitted
+    admit_lines(place, batch.lines.as_slice(), decoded, seen)
 }
 
 /// Admits the events of the batch in front, and then those of the last one, which is decoded meanwhile.
