@@ -1,11 +1,9 @@
 -- The first clouded places behind a key's revisions, and what is found by them.
-use Rattle.std.proofs.Common.{◌≡◌, ℕ, zero, suc, ◌+◌, ◌<◌, ◌≤◌, ◌⊎◌, ⊎_elim, inl, inr, true, Option, Some, None, List, [], ◌∷◌, ◌++◌, length, min, sym, subst, arith}
+use Rattle.std.proofs.Common.{◌≡◌, ℕ, zero, suc, ◌+◌, ◌<◌, ◌≤◌, ◌⊎◌, ⊎_elim, inl, inr, Option, Some, None, List, [], ◌∷◌, ◌++◌, min, sym, subst, arith}
 use Rattle.std.specs.BTreeMap.{BTreeMap}
-use Rattle.std.specs.Bool.{◌==◌}
 use Rattle.std.specs.List.{Any, Contains}
 use Rattle.std.specs.List.Sorted.{IsPermutation}
 use Rattle.std.proofs.lemmas.Bool.{cases_lt}
-use Rattle.std.proofs.lemmas.Bool.Decides.{Decides-eqb}
 use Rattle.std.proofs.lemmas.List.Elements.{Contains-push_cases}
 use Rattle.std.proofs.lemmas.List.Sorted.{Contains-permutation, IsPermutation-sym}
 use Rattle.base_types.proofs.Quantifiers.{Any-weaker}
@@ -15,7 +13,7 @@ use Rattle.clouds.specs.declared.span.KeyRevision.{KeyRevision}
 use Rattle.clouds.specs.declared.span.OpaqueSpan.{OpaqueSpan}
 use Rattle.clouds.specs.declared.wide.Wide.{Wide}
 use Rattle.clouds.specs.Clouds.{IsClouded, IsHiddenBy}
-use Rattle.clouds.specs.Filed.{AreFiled, AreKept, AreRecorded}
+use Rattle.clouds.specs.Filed.{AreFiled, AreKept, AreRecorded, IsNoneFiled}
 use Rattle.clouds.specs.FirstClouded.{AreFirstClouded, IsFirstUntilNext, SomeFirst}
 use Rattle.clouds.specs.FirstPlace.{IsFirstPlace}
 use Rattle.clouds.specs.Hiding.{AreRevisionsOf, HidesKey, ReachesKey, revision_of}
@@ -191,15 +189,6 @@ AreFirstClouded-all writes firsts key far = record {
   found = λ revision place among from fits clouded. chain writes firsts key place far fits clouded (place + 1) revision (omega arith) among from;
 }
 
--- without spans nothing is clouded
-pub AreFirstClouded-none : (spans : List OpaqueSpan) (revisions : List KeyRevision) (key : ObjectKey) (firsts : List ℕ) → (length spans == 0) ≡ true → firsts ≡ []
-    → AreFirstClouded (record { spans = spans; revisions = revisions }) key firsts
-AreFirstClouded-none [] revisions key firsts empty none = record {
-  among = λ place among. let within = (subst (λ l. Contains l place) none among).1 in absurd (omega arith);
-  found = λ revision place among from fits clouded. let within = clouded.2 in absurd (omega arith);
-}
-AreFirstClouded-none (span ∷ spans) revisions key firsts empty none = let zeroth : length (span ∷ spans) ≡ 0 = (Decides-eqb (length (span ∷ spans)) 0).0 empty in absurd (omega arith)
-
 -- the order in which revisions are given doesn't matter
 clouded_permuted : (spans : List OpaqueSpan) (given order : List KeyRevision) (key : ObjectKey) (place : ℕ) → IsPermutation given order
     → IsClouded (record { spans = spans; revisions = order }) key place → IsClouded (record { spans = spans; revisions = given }) key place
@@ -226,9 +215,10 @@ pub AreFirstClouded-is : (writes : Writes) (key : ObjectKey) (firsts same : List
 AreFirstClouded-is writes key firsts same is all = subst (λ l. AreFirstClouded writes key l) is all
 
 pub AreKept-made : (spans shown_spans : List OpaqueSpan) (given shown_given : List KeyRevision) (named : BTreeMap ObjectKey (List OpaqueSpan)) (wide : Wide) (recorded : BTreeMap ObjectKey Recorded)
-    → shown_spans ≡ spans → shown_given ≡ given → AreFiled named wide spans → AreRecorded (revisions_at recorded) given
-    → ((key : ObjectKey) → AreFirstClouded (record { spans = spans; revisions = given }) key (firsts_at recorded key))
+    → shown_spans ≡ spans → shown_given ≡ given → AreFiled named wide spans → IsNoneFiled named wide ⊎ AreRecorded (revisions_at recorded) given
+    → IsNoneFiled named wide ⊎ ((all : List OpaqueSpan) → AreFiled named wide all → (key : ObjectKey) → AreFirstClouded (record { spans = all; revisions = given }) key (firsts_at recorded key))
     → AreKept (record { spans = shown_spans; revisions = shown_given }) named wide recorded
 AreKept-made spans shown_spans given shown_given named wide recorded same_spans same_given filed all firsts =
-    let kept : AreKept (record { spans = spans; revisions = given }) named wide recorded = record { filed = filed; recorded_all = all; firsts = firsts } in
+    let kept : AreKept (record { spans = spans; revisions = given }) named wide recorded =
+    record { filed = filed; recorded_all = all; firsts = ⊎_elim inl (λ found. inr (found spans filed)) firsts } in
     rw (same_spans, same_given) kept

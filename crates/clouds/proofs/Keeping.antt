@@ -1,9 +1,13 @@
 -- What was filed is found again.
-use Rattle.std.proofs.Common.{◌≡◌, ℕ, ◌+◌, ◌<◌, ◌⊎◌, ⊎_elim, inl, inr, Option, Some, None, List, [], ◌∷◌, ◌++◌, length, get_or, map, take, refl, sym, ◌∙◌, subst, ap}
-use Rattle.std.specs.BTreeMap.{BTreeMap}
+use Rattle.std.proofs.Common.{◌≡◌, ℕ, ◌+◌, ◌<◌, ◌⊎◌, ⊎_elim, inl, inr, Bool, false, Option, Some, None, List, [], ◌∷◌, ◌++◌, length, get_or, map, take, refl, sym, ◌∙◌, subst, ap, arith}
+use Rattle.std.specs.BTreeMap.{BTreeMap, IsEmpty, is_at}
+use Rattle.std.specs.Bool.{Decides}
 use Rattle.std.specs.List.{Any, Contains}
 use Rattle.std.specs.List.Sorted.{IsPermutation}
+use Rattle.std.specs.Map.{lookup}
 use Rattle.std.specs.Option.{IfNone, IfSome, MatchOption}
+use Rattle.std.specs.declared.cmp.Ordering.{Ordering}
+use Rattle.std.proofs.lemmas.Bool.{both_ways}
 use Rattle.std.proofs.lemmas.List.{map-append, take_more}
 use Rattle.std.proofs.lemmas.List.Elements.{Contains-append_left, Contains-push, Contains-push_cases}
 use Rattle.std.proofs.lemmas.List.Sorted.{Contains-permutation, IsPermutation-sym}
@@ -18,12 +22,12 @@ use Rattle.clouds.specs.declared.wide.Wide.{Wide}
 use Rattle.clouds.specs.Clouds.{IsHiddenBy}
 use Rattle.clouds.specs.FirstPlace.{HoldsNowhere, IsFirstPlace, IsLeastPlace, lesser_place}
 use Rattle.clouds.specs.Hiding.{AreRevisionsOf, HidesKey, ReachesKey, revision_of}
-use Rattle.clouds.specs.Items.{AddsAt, items_at}
-use Rattle.clouds.specs.Filed.{AreFiled, AreRecorded}
+use Rattle.clouds.specs.Items.{AddsAt, items_at, items_of}
+use Rattle.clouds.specs.Filed.{AreFiled, AreRecorded, IsNoneFiled}
 use Rattle.clouds.specs.Kept.{key_order}
 use Rattle.clouds.specs.Latest.{IsLatest}
 use Rattle.clouds.specs.Recorded.{Adds}
-use Rattle.clouds.specs.Wide.{AddsWide, AnyWide}
+use Rattle.clouds.specs.Wide.{AddsWide, AnyWide, folder_order}
 use Rattle.clouds.proofs.Adding.{same_key_from}
 use Rattle.clouds.proofs.FirstPlaces.{Either, IsFirstPlace-either, IsFirstPlace-same}
 use Rattle.clouds.proofs.Fronts.{AnyWide-folder, AnyWide-weaker}
@@ -129,6 +133,30 @@ Any-given named wide spans key P filed either = ⊎_elim
     (λ any. Any-contains P spans any.1 (filed.among_named key any.1 (any.0, any.2, any.3)) any.4)
     (λ any. let held = AnyWide-folder wide key P any in Any-contains P spans held.0 (filed.among_wide held.1 held.0 held.2) held.3)
     either
+
+-- an empty map of lists has no item
+no_item : {K X : Type 0} (order : K → K → Ordering) (m : BTreeMap K (List X)) (key : K) (x : X) → IsEmpty m → Contains (items_at order m key) x → ⊥
+no_item order m key x empty among =
+    let none : items_at order m key ≡ [] = ap (λ entries. items_of (lookup (is_at (order key)) entries)) empty in
+    let within = (subst (λ l. Contains l x) none among).1 in
+    absurd (omega arith)
+
+-- where none is filed no span covers a key
+pub Any-none : (named : BTreeMap ObjectKey (List OpaqueSpan)) (wide : Wide) (spans : List OpaqueSpan) (key : ObjectKey) (P : OpaqueSpan → Type 0)
+    → AreFiled named wide spans → IsNoneFiled named wide → ((s : OpaqueSpan) → P s → Covers s.cover key) → Any P spans → ⊥
+Any-none named wide spans key P filed none covers any = ⊎_elim
+    (λ there. no_item key_order named key there.1 none.0 (there.0, there.2, there.3))
+    (λ there. let held = AnyWide-folder wide key P there in no_item folder_order wide.spans held.1 held.0 none.1 held.2)
+    (Any-filed named wide spans key P filed covers any)
+
+pub clouded_nowhere : (named : BTreeMap ObjectKey (List OpaqueSpan)) (wide : Wide) (spans : List OpaqueSpan) (given : List KeyRevision) (key : ObjectKey) (place : ℕ)
+    → AreFiled named wide spans → IsNoneFiled named wide → Any (IsHiddenBy given key place) spans → ⊥
+clouded_nowhere named wide spans given key place filed none clouded =
+    Any-none named wide spans key (IsHiddenBy given key place) filed none (λ span hidden. hidden.hides) clouded
+
+-- the one of two that is left where the other was found not to hold
+pub other_of : {P Q : Type 0} (is : Bool) → Decides is P → is ≡ false → P ⊎ Q → Q
+other_of is decides not either = ⊎_elim (λ p. absurd (both_ways is not (decides.1 p))) (λ q. q) either
 
 -- the key's revisions as numbers, and among all revisions
 IsHiddenBy-key : (given : List KeyRevision) (revisions : List ℕ) (key : ObjectKey) (place : ℕ) (span : OpaqueSpan) → AreRevisionsOf given key revisions → HidesKey revisions key place span

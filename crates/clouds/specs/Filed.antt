@@ -1,6 +1,6 @@
 -- Where the spans and the revisions are found again.
 use Rattle.std.specs.Prelude.{◌≡◌, ℕ, ◌⊎◌, List, Contains}
-use Rattle.std.specs.BTreeMap.{BTreeMap}
+use Rattle.std.specs.BTreeMap.{BTreeMap, IsEmpty}
 use Rattle.base_types.specs.Covers.{Covers}
 use Rattle.base_types.specs.declared.key.ObjectKey.{ObjectKey}
 use Rattle.clouds.specs.declared.recorded.Recorded.{Recorded}
@@ -28,7 +28,12 @@ pub record AreRecorded (recorded : ObjectKey → List ℕ) (revisions : List Key
   pub among : (key : ObjectKey) (revision : ℕ) → Contains (recorded key) revision → Contains revisions (revision_of key revision)
   pub found : (r : KeyRevision) → Contains revisions r → Contains (recorded r.key) r.revision
 
+-- no span is filed
+abbrev pub IsNoneFiled : BTreeMap ObjectKey (List OpaqueSpan) → Wide → Type 0
+IsNoneFiled named wide = IsEmpty named × IsEmpty wide.spans
+
+-- the recorded writes are kept only where there are spans
 pub record AreKept (writes : Writes) (named : BTreeMap ObjectKey (List OpaqueSpan)) (wide : Wide) (recorded : BTreeMap ObjectKey Recorded) : Type 0 where
   pub filed : AreFiled named wide writes.spans
-  pub recorded_all : AreRecorded (revisions_at recorded) writes.revisions
-  pub firsts : (key : ObjectKey) → AreFirstClouded writes key (firsts_at recorded key)
+  pub recorded_all : IsNoneFiled named wide ⊎ AreRecorded (revisions_at recorded) writes.revisions
+  pub firsts : IsNoneFiled named wide ⊎ ((key : ObjectKey) → AreFirstClouded writes key (firsts_at recorded key))

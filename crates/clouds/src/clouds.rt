@@ -1,9 +1,8 @@
 ghost use Rattle.std.specs.Prelude.{◌≡◌, ◌≤◌, ◌↔◌, ℕ, IsTrue, IfOk, IfSome, IfNone, Any, map};
-ghost use Rattle.std.specs.List.Sorted.{IsNonDecreasing};
 
 use crate::filing::{Filed, all_filed};
 use crate::places::{first_from, latest};
-use crate::recorded::{Recorded, all_recorded};
+use crate::recorded::{Recorded, all_recorded, firsts_of, revisions_of};
 use crate::span::{KeyRevision, OpaqueSpan};
 use crate::unrecorded::reach;
 use base_types::{ObjectKey, OutOfMemory, Revision};
@@ -17,6 +16,7 @@ use std::snapshot::Snapshot;
 #[derive(Drop)]
 pub struct Clouds {
     filed: Filed,
+    // Empty where no span is filed: nothing is looked up there.
     recorded: BTreeMap<ObjectKey, Recorded>,
     // For contracts alone: they take no memory.
     spans: Snapshot<Vec<Snapshot<OpaqueSpan>>>,
@@ -58,9 +58,8 @@ fn shown<T>(alloc: Global, items: &[T]) -> Result<Vec<Snapshot<T>>, OutOfMemory>
 
 impl Clouds {
     ghost use Rattle.clouds.specs.Clouds.{IsClouded, MayBeUnrecorded};
-    ghost use Rattle.clouds.specs.FirstClouded.{AreFirstClouded};
     ghost use Rattle.clouds.specs.FirstPlace.{HoldsNowhere, IsLeastPlace};
-    ghost use Rattle.clouds.specs.Hiding.{AreRevisionsOf, ReachesKey};
+    ghost use Rattle.clouds.specs.Hiding.{ReachesKey};
 
     /// Keeps the spans of the unrecorded writes, and the revisions of the recorded ones, in any order.
     pub fn build(
@@ -72,35 +71,13 @@ impl Clouds {
         ensures revisions { IfOk result (λ clouds. clouds.revisions ≡ revisions.now) }
     {
         let filed = all_filed(alloc, spans)?;
-        let recorded = all_recorded(alloc, spans, &filed, revisions)?;
+        let recorded = all_recorded(alloc, &filed, revisions)?;
         Ok(Clouds {
             filed,
             recorded,
             spans: Snapshot::of(&shown(alloc, spans)?),
             revisions: Snapshot::of(&shown(alloc, revisions)?),
         })
-    }
-
-    // The key's revisions, in order.
-    fn revisions_of(&self, key: &ObjectKey) -> &[u64]
-        ensures order { IsNonDecreasing result.now }
-        ensures revisions { AreRevisionsOf self.now.revisions key.now result.now }
-    {
-        match self.recorded.get(key) {
-            Some(recorded) => recorded.revisions.as_slice(),
-            None => &[],
-        }
-    }
-
-    // The first clouded places at or behind the key's revisions, in order.
-    fn firsts_of(&self, key: &ObjectKey) -> &[u64]
-        ensures order { IsNonDecreasing result.now }
-        ensures firsts { AreFirstClouded self.now key.now result.now }
-    {
-        match self.recorded.get(key) {
-            Some(recorded) => recorded.first_clouded.as_slice(),
-            None => &[],
-        }
     }
 
     // Whether an unrecorded write of the key begins below the place and reaches the revision.
@@ -115,7 +92,11 @@ impl Clouds {
     pub fn clouded(&self, key: &ObjectKey, place: u64) -> bool
         ensures { IsTrue result ↔ IsClouded self.now key.now place }
     {
-        self.reaches(key, place, latest(self.revisions_of(key), place))
+        if self.filed.is_empty() {
+            return false;
+        }
+        let revisions = revisions_of(self.recorded.get(key));
+        self.reaches(key, place, latest(revisions, place))
     }
 
     /// The least clouded place from `low` to `high`, both among them.
@@ -123,17 +104,24 @@ impl Clouds {
         ensures some { IfSome result (IsLeastPlace (IsClouded self.now key.now) low high) }
         ensures none { IfNone result (HoldsNowhere (IsClouded self.now key.now) low high) }
     {
-        let revisions = self.revisions_of(key);
+        if self.filed.is_empty() {
+            return None;
+        }
+        let recorded = self.recorded.get(key);
+        let revisions = revisions_of(recorded);
         if let Some(place) = self.filed.first_hidden(key, revisions, low, high) {
             return Some(place);
         }
-        first_from(self.firsts_of(key), low, high)
+        first_from(firsts_of(recorded), low, high)
     }
 
     /// Whether an unrecorded write may have made this revision of the key.
     pub fn may_make(&self, key: &ObjectKey, revision: Revision) -> bool
         ensures { IsTrue result ↔ MayBeUnrecorded self.now key.now revision }
     {
+        if self.filed.is_empty() {
+            return false;
+        }
         self.reaches(key, revision.get(), revision.get())
     }
 }

@@ -1,7 +1,7 @@
-ghost use Rattle.std.specs.Prelude.{[], ◌∷◌, ◌++◌, IfOk, OnOk, Any, List, map};
+ghost use Rattle.std.specs.Prelude.{◌↔◌, [], ◌∷◌, ◌++◌, IsTrue, IfOk, OnOk, Any, List, map};
 ghost use Rattle.std.specs.List.Sorted.{IsNonDecreasing, IsPermutation};
 ghost use Rattle.clouds.specs.declared.span.OpaqueSpan.{OpaqueSpan};
-ghost use Rattle.clouds.specs.Filed.{AreFiled};
+ghost use Rattle.clouds.specs.Filed.{AreFiled, IsNoneFiled};
 ghost use Rattle.clouds.specs.FirstClouded.{IsFirstUntilNext};
 ghost use Rattle.clouds.specs.FirstPlace.{IsFirstPlace};
 ghost use Rattle.clouds.specs.Hiding.{HidesKey, ReachesKey};
@@ -22,6 +22,13 @@ pub struct Filed {
 }
 
 impl Filed {
+    /// Whether no span is filed: then nothing is hidden.
+    pub fn is_empty(&self) -> bool
+        ensures { IsTrue result ↔ IsNoneFiled self.now.named self.now.wide }
+    {
+        self.named.is_empty() && self.wide.spans.is_empty()
+    }
+
     // The least place from `low` to `high` at which some span of the key has begun that reaches the revision.
     fn first_reached(&self, key: &ObjectKey, revision: u64, low: u64, high: u64) -> Option<u64>
         ensures { (spans : List OpaqueSpan) → AreFiled self.now.named self.now.wide spans

@@ -1,15 +1,17 @@
-ghost use Rattle.std.specs.Prelude.{◌≡◌, ◌∷◌, [], List, IfOk, OnOk, Contains, map};
-ghost use Rattle.std.specs.List.Sorted.{IsPermutation};
+ghost use Rattle.std.specs.Prelude.{◌≡◌, ◌⊎◌, ◌∷◌, [], List, IfOk, OnOk, Contains, map};
+ghost use Rattle.std.specs.List.Sorted.{IsNonDecreasing, IsPermutation};
+ghost use Rattle.std.specs.Option.{option_copied};
 ghost use Rattle.base_types.specs.declared.key.ObjectKey.{ObjectKey};
 ghost use Rattle.clouds.specs.declared.span.OpaqueSpan.{OpaqueSpan};
-ghost use Rattle.clouds.specs.Filed.{AreFiled, AreRecorded};
+ghost use Rattle.clouds.specs.Filed.{AreFiled, AreRecorded, IsNoneFiled};
 ghost use Rattle.clouds.specs.FirstClouded.{AreFirstClouded};
 ghost use Rattle.clouds.specs.Kept.{key_order};
-ghost use Rattle.clouds.specs.Recorded.{Adds, AddsFirst, AreSame, firsts_at, revisions_at};
+ghost use Rattle.clouds.specs.Recorded.{Adds, AddsFirst, AreSame, firsts_at, firsts_in};
+ghost use Rattle.clouds.specs.Recorded.{revisions_at, revisions_in};
 
 use crate::filing::Filed;
 use crate::places::Places;
-use crate::span::{KeyRevision, OpaqueSpan};
+use crate::span::KeyRevision;
 use base_types::{ObjectKey, OutOfMemory};
 use std::alloc::Global;
 use std::collections::BTreeMap;
@@ -20,6 +22,28 @@ pub struct Recorded {
     pub revisions: Places,
     /// For each revision the first clouded place at or behind it, if that comes before the next revision.
     pub first_clouded: Places,
+}
+
+/// A key's revisions in order, none where nothing is kept of the key.
+pub fn revisions_of(recorded: Option<&Recorded>) -> &[u64]
+    ensures order { IsNonDecreasing result.now }
+    ensures revisions { result.now ≡ revisions_in (option_copied recorded.entry) }
+{
+    match recorded {
+        Some(recorded) => recorded.revisions.as_slice(),
+        None => &[],
+    }
+}
+
+/// The first clouded places at or behind them in order, none where nothing is kept of the key.
+pub fn firsts_of(recorded: Option<&Recorded>) -> &[u64]
+    ensures order { IsNonDecreasing result.now }
+    ensures firsts { result.now ≡ firsts_in (option_copied recorded.entry) }
+{
+    match recorded {
+        Some(recorded) => recorded.first_clouded.as_slice(),
+        None => &[],
+    }
 }
 
 fn add_revision(
@@ -121,25 +145,24 @@ fn add_each_first(
     Ok(())
 }
 
-/// Keeps each key's revisions, and the first clouded places behind them. Where there are no spans none is
-/// looked for.
+/// Keeps each key's revisions, and the first clouded places behind them. Where no span is filed nothing is kept.
 pub fn all_recorded(
     alloc: Global,
-    spans: &[OpaqueSpan],
     filed: &Filed,
     writes: &[KeyRevision],
 ) -> Result<BTreeMap<ObjectKey, Recorded>, OutOfMemory>
-    requires { AreFiled filed.now.named filed.now.wide spans.now }
-    ensures revisions { IfOk result (λ recorded. AreRecorded (revisions_at recorded) writes.now) }
-    ensures firsts { IfOk result (λ recorded. (key : ObjectKey)
-        → AreFirstClouded (record { spans = spans.now; revisions = writes.now }) key
-        (firsts_at recorded key)) }
+    ensures revisions { IfOk result (λ recorded. IsNoneFiled filed.now.named filed.now.wide
+        ⊎ AreRecorded (revisions_at recorded) writes.now) }
+    ensures firsts { IfOk result (λ recorded. IsNoneFiled filed.now.named filed.now.wide
+        ⊎ ((spans : List OpaqueSpan) → AreFiled filed.now.named filed.now.wide spans
+        → (key : ObjectKey) → AreFirstClouded
+        (record { spans = spans; revisions = writes.now }) key (firsts_at recorded key))) }
 {
+    if filed.is_empty() {
+        return Ok(BTreeMap::new(alloc));
+    }
     let order = by_revision(alloc, writes)?;
     let mut recorded = record_each(alloc, &order)?;
-    if spans.is_empty() {
-        return Ok(recorded);
-    }
     add_each_first(filed, &mut recorded, &order)?;
     Ok(recorded)
 }
