@@ -1,5 +1,5 @@
 -- Up to a place where an object is still as before, it keeps what it grants for certain.
-use Rattle.std.proofs.Common.{◌≡◌, ℕ, zero, suc, ◌<◌, ◌≤◌, ⊎_elim, inl, inr, List, [], ◌∷◌, length, get_or, refl, ◌∙◌, ap, map, arith}
+use Rattle.std.proofs.Common.{◌≡◌, ℕ, zero, suc, ◌<◌, ◌≤◌, ⊎_elim, inl, inr, List, [], ◌∷◌, length, get_or, refl, ◌∙◌, subst, ap, map, arith}
 use Rattle.std.specs.List.{Contains}
 use Rattle.std.proofs.lemmas.Bool.{cases_lt}
 use Rattle.base_types.proofs.Quantifiers.{Any-contains}
@@ -73,7 +73,10 @@ module _ (known : Known) (key : ObjectKey) (before place : ℕ) (upto : before �
       (cases_lt before end.low))
 
   unsure_before : {X : Type 0} (reads : Reading X) → IsUnsure reads known key place → IsUnsure reads known key before
-  unsure_before reads (inl clouded) = inl (still.stays_clear clouded)
+  unsure_before reads (inl clouded) = ⊎_elim
+      (λ (behind : before < place). absurd (still.none_clouded place behind (omega arith) clouded))
+      (λ (here : place ≤ before). let same : place ≡ before = omega arith in inl (subst (λ p. IsClouded (writes_of known) key p) same clouded))
+      (cases_lt before place)
   unsure_before reads (inr unread) = inr (unread.0, there_before unread.0 unread.1, unread.2)
 
   state_before : {X : Type 0} (reads : Reading X) (state : State X) → IsState reads known key place state → IsState reads known key before state

@@ -1,5 +1,5 @@
 -- What holds up to places of caches.
-use Rattle.std.proofs.Common.{◌≡◌, ℕ, ◌+◌, ◌<◌, ◌≤◌, ◌⊎◌, ⊎_elim, min, Option, Some, None, List, subst, ap, arith}
+use Rattle.std.proofs.Common.{◌≡◌, ℕ, ◌+◌, ◌<◌, ◌≤◌, ◌⊎◌, ⊎_elim, inl, inr, min, Option, Some, None, List, refl, subst, sym, ap, arith}
 use Rattle.std.specs.BTreeMap.{BTreeMap}
 use Rattle.std.specs.List.{AllPairs, Contains}
 use Rattle.std.specs.Option.{IfSome, MatchOption}
@@ -18,33 +18,55 @@ use Rattle.rbac_timeline.specs.declared.lasting.Until.{Until}
 use Rattle.rbac_timeline.specs.declared.version.RbacEnd.{RbacEnd}
 use Rattle.rbac_timeline.specs.declared.version.RbacVersion.{RbacVersion}
 use Rattle.rbac_timeline.specs.Kept.{AreStored, IsRemovalOf, stored_of}
-use Rattle.rbac_timeline.specs.Lasting.{HoldsUntil, IsLast, NoneBegins}
+use Rattle.rbac_timeline.specs.Known.{Known}
+use Rattle.rbac_timeline.specs.Lasting.{HoldsUntil, HoldsUpTo, IsLast, NoneBegins, NoneRemoved}
 use Rattle.rbac_timeline.specs.States.{IsEndOf, IsLatestVersion}
 use Rattle.rbac_timeline.proofs.Holding.{one_end}
 
 pub IsLast-all : (P : ℕ → Type 0) (place high : ℕ) → place ≤ high → ((n : ℕ) → place ≤ n → n ≤ high → P n) → IsLast P place high high
-IsLast-all P place high within all = record { from = within; upto = omega arith; throughout = all }
+IsLast-all P place high within all = record { holds_upto = record { from = within; upto = omega arith; throughout = all }; behind = inl refl }
 
-pub IsLast-here : (P : ℕ → Type 0) (place high : ℕ) → place ≤ high → P place → IsLast P place high place
-IsLast-here P place high within here = record { from = omega arith; upto = within; throughout = λ n from upto. let same : place ≡ n = omega arith in subst P same here }
+pub HoldsUpTo-here : (P : ℕ → Type 0) (place high : ℕ) → place ≤ high → P place → HoldsUpTo P place high place
+HoldsUpTo-here P place high within here = record { from = omega arith; upto = within; throughout = λ n from upto. let same : place ≡ n = omega arith in subst P same here }
 
-pub IsLast-map : (P Q : ℕ → Type 0) (place high last : ℕ) → ((n : ℕ) → place ≤ n → n ≤ high → P n → Q n) → IsLast P place high last → IsLast Q place high last
-IsLast-map P Q place high last forth is = record {
+pub HoldsUpTo-map : (P Q : ℕ → Type 0) (place high reached : ℕ) → ((n : ℕ) → place ≤ n → n ≤ high → P n → Q n) → HoldsUpTo P place high reached → HoldsUpTo Q place high reached
+HoldsUpTo-map P Q place high reached forth is = record {
   from = is.from;
   upto = is.upto;
-  throughout = λ n from upto. let bound : last ≤ high = is.upto in forth n from (omega arith) (is.throughout n from upto);
+  throughout = λ n from upto. let bound : reached ≤ high = is.upto in forth n from (omega arith) (is.throughout n from upto);
 }
 
-pub IsLast-both : (P Q R : ℕ → Type 0) (place high a b last : ℕ) → last ≡ min a b → ((n : ℕ) → P n → Q n → R n) → IsLast P place high a → IsLast Q place high b → IsLast R place high last
-IsLast-both P Q R place high a b last is join first second =
-    let a_from : place ≤ a = first.from in
-    let a_upto : a ≤ high = first.upto in
-    let b_from : place ≤ b = second.from in
+pub IsLast-map : (P Q : ℕ → Type 0) (place high last : ℕ) → ((n : ℕ) → place ≤ n → n ≤ high → P n → Q n) → ((n : ℕ) → Q n → P n) → IsLast P place high last → IsLast Q place high last
+IsLast-map P Q place high last forth back is = record {
+  holds_upto = HoldsUpTo-map P Q place high last forth is.holds_upto;
+  behind = ⊎_elim (λ (end : last ≡ high). inl end) (λ (fails : P (last + 1) → ⊥). inr (λ holds. fails (back (last + 1) holds))) is.behind;
+}
+
+pub IsLast-both : (P Q R : ℕ → Type 0) (place high a b last : ℕ) → last ≡ min a b → ((n : ℕ) → P n → Q n → R n) → ((n : ℕ) → R n → P n × Q n) → IsLast P place high a → IsLast Q place high b
+    → IsLast R place high last
+IsLast-both P Q R place high a b last is join parts first second =
+    let a_from : place ≤ a = first.holds_upto.from in
+    let a_upto : a ≤ high = first.holds_upto.upto in
+    let b_from : place ≤ b = second.holds_upto.from in
+    let b_upto : b ≤ high = second.holds_upto.upto in
     record {
-      from = omega arith;
-      upto = omega arith;
-      throughout = λ n from upto. join n (first.throughout n from (omega arith)) (second.throughout n from (omega arith));
+      holds_upto = record {
+        from = omega arith;
+        upto = omega arith;
+        throughout = λ n from upto. join n (first.holds_upto.throughout n from (omega arith)) (second.holds_upto.throughout n from (omega arith));
+      };
+      behind = ⊎_elim
+          (λ (less : a < b).
+          let same : a ≡ last = omega arith in
+          subst (λ n. (n ≡ high) ⊎ (R (n + 1) → ⊥)) same (fails_behind P a (λ n holds. (parts n holds).0) first.behind))
+          (λ (more : b ≤ a).
+          let same : b ≡ last = omega arith in
+          subst (λ n. (n ≡ high) ⊎ (R (n + 1) → ⊥)) same (fails_behind Q b (λ n holds. (parts n holds).1) second.behind))
+          (cases_lt a b);
     }
+  where
+    fails_behind : (S : ℕ → Type 0) (n : ℕ) → ((m : ℕ) → R m → S m) → (n ≡ high) ⊎ (S (n + 1) → ⊥) → (n ≡ high) ⊎ (R (n + 1) → ⊥)
+    fails_behind S n each behind = ⊎_elim (λ (end : n ≡ high). inl end) (λ (fails : S (n + 1) → ⊥). inr (λ holds. fails (each (n + 1) holds))) behind
 
 pub HoldsUntil-map : (P Q : ℕ → ℕ → Type 0) (first second high : ℕ) (until : Until) → ((a b : ℕ) → P a b → Q a b) → HoldsUntil P first second high until → HoldsUntil Q first second high until
 HoldsUntil-map P Q first second high until forth holds = record {
@@ -71,7 +93,7 @@ least_there P low high place from upto fails here = record {
 pub record AreBarred (barred : ℕ → ℕ → Type 0) (start low high place last : ℕ) : Type 0 where
   pub from : low ≤ place
   pub upto : place ≤ high
-  pub below : IsLast (λ a. (b : ℕ) → low ≤ b → b < place → barred a b) start high last
+  pub below : HoldsUpTo (λ a. (b : ℕ) → low ≤ b → b < place → barred a b) start high last
 
 pub AreBarred-start : (barred : ℕ → ℕ → Type 0) (start low high : ℕ) → low ≤ high → start ≤ high → AreBarred barred start low high low high
 AreBarred-start barred start low high range within = record {
@@ -81,7 +103,7 @@ AreBarred-start barred start low high range within = record {
 }
 
 barred_upto : (barred : ℕ → ℕ → Type 0) (start low high place last next : ℕ) (until : Until) → next ≡ min last until.first → AreBarred barred start low high place last → HoldsUntil barred start place high until
-    → IsLast (λ a. (b : ℕ) → low ≤ b → b ≤ until.second → barred a b) start high next
+    → HoldsUpTo (λ a. (b : ℕ) → low ≤ b → b ≤ until.second → barred a b) start high next
 barred_upto barred start low high place last next until is so_far block =
     let last_from : start ≤ last = so_far.below.from in
     let last_upto : last ≤ high = so_far.below.upto in
@@ -108,7 +130,7 @@ AreBarred-more barred start low high place last next until is before so_far bloc
     }
 
 pub AreBarred-all : (barred : ℕ → ℕ → Type 0) (start low high place last next : ℕ) (until : Until) → next ≡ min last until.first → high ≤ until.second → AreBarred barred start low high place last
-    → HoldsUntil barred start place high until → IsLast (λ a. (b : ℕ) → low ≤ b → b ≤ high → barred a b) start high next
+    → HoldsUntil barred start place high until → HoldsUpTo (λ a. (b : ℕ) → low ≤ b → b ≤ high → barred a b) start high next
 AreBarred-all barred start low high place last next until is past so_far block =
     let all = barred_upto barred start low high place last next until is so_far block in
     record { from = all.from; upto = all.upto; throughout = λ a a_from a_upto b b_from b_upto. all.throughout a a_from a_upto b b_from (omega arith) }
@@ -127,6 +149,24 @@ not_removed ends distinct key last place n (Some gap) removal until version of_k
     let low : gap.low ≡ found.0.low = ap (λ (g : Gap). g.low) found.2 in
     let same : found.0.low ≡ end.low = ap (λ (e : RbacEnd). e.low) (one_end ends distinct version found.0 end found.1 is) in
     let later : n < gap.low = until (omega arith) in
+    omega arith
+
+pub NoneBegins-known : (histories : BTreeMap ObjectKey (List Stored)) (versions : List RbacVersion) (key : ObjectKey) (place n : ℕ) (all : List Stored) → AreStored histories versions
+    → items_at key_order histories key ≡ all → NoneBegins versions key place n → (stored : Stored) → Contains all stored → place < stored.revision → n < stored.revision
+NoneBegins-known histories versions key place n all are is none stored among above =
+    let found = are.among key stored (subst (λ l. Contains l stored) (sym is) among) in
+    let same : stored.revision ≡ found.0.revision = ap (λ (s : Stored). s.revision) found.3 in
+    let later : n < found.0.revision = none found.0 found.1 found.2 (omega arith) in
+    omega arith
+
+-- up to where no removal that is known begins, the one that is kept doesn't
+pub removal_unbegun : (known : Known) (key : ObjectKey) (last place n : ℕ) (gap : Option Gap) (version : RbacVersion) → IsLatestVersion known.versions key place version → version.revision ≡ last
+    → IsRemovalOf known.ends key last gap → NoneRemoved known key place n → MatchOption gap (Unit {0}) (λ g. place < g.low → n < g.low)
+removal_unbegun known key last place n None version latest revision removal none = tt
+removal_unbegun known key last place n (Some gap) version latest revision removal none = λ before.
+    let found = removal version latest.of_key revision in
+    let low : gap.low ≡ found.0.low = ap (λ (g : Gap). g.low) found.2 in
+    let later : n < found.0.low = none version found.0 latest found.1 (omega arith) in
     omega arith
 
 -- two latest versions have one revision

@@ -8,7 +8,7 @@ use Rattle.rbac_timeline.specs.declared.lasting.Until.{Until}
 use Rattle.rbac_timeline.specs.declared.way.Way.TheVariants.{ClusterRoles, Roles}
 use Rattle.rbac_timeline.specs.Extents.{MustGrantInWay}
 use Rattle.rbac_timeline.specs.Known.{Known}
-use Rattle.rbac_timeline.specs.Lasting.{IsLast}
+use Rattle.rbac_timeline.specs.Lasting.{HoldsUpTo}
 use Rattle.rbac_timeline.specs.Searched.{AreFirstOf, IsFreeAt, IsFreeCluster}
 
 -- all places below this one are barred, or all places where there is none
@@ -16,9 +16,9 @@ abbrev pub AllBarred : (ℕ → ℕ → Type 0) → ℕ → ℕ → Option ℕ �
 AllBarred barred low high None binding = (n : ℕ) → low ≤ n → n ≤ high → barred binding n
 AllBarred barred low high (Some place) binding = (n : ℕ) → low ≤ n → n < place → barred binding n
 
--- the least place that isn't barred, if there is one, and up to which place of bindings no lesser one is free
+-- the least place that isn't barred, if there is one, and a place of bindings up to which no lesser one is free
 pub record IsFreed (barred : ℕ → ℕ → Type 0) (bindings low high : ℕ) (place : Option ℕ) (last : ℕ) : Type 0 where
-  pub below : IsLast (AllBarred barred low high place) bindings high last
+  pub below : HoldsUpTo (AllBarred barred low high place) bindings high last
   pub here : IfSome place (λ n. (low ≤ n) × ((n ≤ high) × (barred bindings n → ⊥)))
 
 -- role bindings grant for certain by roles

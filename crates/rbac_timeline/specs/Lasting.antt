@@ -1,5 +1,5 @@
 -- Up to which places objects may only be in states that they may be in before, and what grants for certain still does.
-use Rattle.std.specs.Prelude.{◌<◌, ◌≡◌, ◌≤◌, ℕ, Bool, false, ◌&&◌, nat_le, nat_lt, List, Option, Some, None, Contains, if◌then◌else◌}
+use Rattle.std.specs.Prelude.{◌+◌, ◌<◌, ◌≡◌, ◌≤◌, ◌⊎◌, ℕ, Bool, false, ◌&&◌, nat_le, nat_lt, List, Option, Some, None, Contains, if◌then◌else◌}
 use Rattle.base_types.specs.declared.key.ObjectKey.{ObjectKey}
 use Rattle.clouds.specs.Clouds.{IsClouded}
 use Rattle.rbac_timeline.specs.declared.lasting.Until.{Until}
@@ -9,11 +9,17 @@ use Rattle.rbac_timeline.specs.Known.{Known, writes_of}
 use Rattle.rbac_timeline.specs.Searched.{lesser_number}
 use Rattle.rbac_timeline.specs.States.{IsEndOf, IsLatestVersion}
 
--- it holds at each place from one up to the last
+-- It holds at each place from one up to another, and may hold behind that. A search that goes on behind it asks for no
+-- more.
+pub record HoldsUpTo (holds : ℕ → Type 0) (place high reached : ℕ) : Type 0 where
+  pub from : place ≤ reached
+  pub upto : reached ≤ high
+  pub throughout : (n : ℕ) → place ≤ n → n ≤ reached → holds n
+
+-- up to the last place: it is the end of the range, or right behind it it doesn't hold
 pub record IsLast (holds : ℕ → Type 0) (place high last : ℕ) : Type 0 where
-  pub from : place ≤ last
-  pub upto : last ≤ high
-  pub throughout : (n : ℕ) → place ≤ n → n ≤ last → holds n
+  pub holds_upto : HoldsUpTo holds place high last
+  pub behind : (last ≡ high) ⊎ (holds (last + 1) → ⊥)
 
 -- each version of the key above the first place is above the second
 abbrev pub NoneBegins : List RbacVersion → ObjectKey → ℕ → ℕ → Type 0
@@ -23,14 +29,14 @@ NoneBegins versions key place n = (version : RbacVersion) → Contains versions 
 abbrev pub NoneRemoved : Known → ObjectKey → ℕ → ℕ → Type 0
 NoneRemoved known key place n = (version : RbacVersion) (end : RbacEnd) → IsLatestVersion known.versions key place version → IsEndOf known.ends version end → place < end.low → n < end.low
 
--- it isn't clouded at the second place, or was at the first
-abbrev pub StaysClear : Known → ObjectKey → ℕ → ℕ → Type 0
-StaysClear known key place n = IsClouded (writes_of known) key n → IsClouded (writes_of known) key place
+-- it isn't clouded behind the first place, up to the second
+abbrev pub NoneClouded : Known → ObjectKey → ℕ → ℕ → Type 0
+NoneClouded known key place n = (m : ℕ) → place < m → m ≤ n → IsClouded (writes_of known) key m → ⊥
 
 pub record IsStill (known : Known) (key : ObjectKey) (place n : ℕ) : Type 0 where
   pub none_begins : NoneBegins known.versions key place n
   pub none_removed : NoneRemoved known key place n
-  pub stays_clear : StaysClear known key place n
+  pub none_clouded : NoneClouded known key place n
 
 -- it holds at all pairs of places from two up to those of `until`
 pub record HoldsUntil (holds : ℕ → ℕ → Type 0) (first second high : ℕ) (until : Until) : Type 0 where

@@ -3,7 +3,7 @@ ghost use Rattle.rbac_timeline.specs.Choices.{IsKnownKey};
 ghost use Rattle.rbac_timeline.specs.Extents.{MustGrantByKey, MustGrantInWay};
 ghost use Rattle.rbac_timeline.specs.Found.{LastsFor, MustGrantNamed, MustGrantReigning};
 ghost use Rattle.rbac_timeline.specs.Kept.{MustGrantByListed};
-ghost use Rattle.rbac_timeline.specs.Lasting.{IsLast, LastsUntil, farther, is_farther, lasts_throughout};
+ghost use Rattle.rbac_timeline.specs.Lasting.{HoldsUpTo, LastsUntil, farther, is_farther, lasts_throughout};
 ghost use Rattle.rbac_timeline.specs.Reigning.{AsGroup, Means, found_reigns};
 ghost use Rattle.rbac_timeline.specs.declared.reigns.Reign.{Reign};
 
@@ -48,10 +48,11 @@ fn lasts_throughout(high: u64, until: Option<Until>) -> bool
 }
 
 impl<'a> Asked<'a> {
-    // The last place of the roles up to which the binding grants for certain, if it does.
+    // A place of the roles up to which the binding grants for certain, if it does. It is the last one up to
+    // which the role stays as it is, so that the binding may grant behind it too.
     fn role_until(&self, key: &ObjectKey, link: Link) -> u64
         requires { link.role_place ≤ self.now.high }
-        ensures { IsLast (λ r. MustGrantByKey self.now.timeline.now link.way link.role_place
+        ensures { HoldsUpTo (λ r. MustGrantByKey self.now.timeline.now link.way link.role_place
             link.binding_place self.now.who.now self.now.attrs.now key.now
             → MustGrantByKey self.now.timeline.now link.way r link.binding_place self.now.who.now
             self.now.attrs.now key.now) link.role_place self.now.high result }

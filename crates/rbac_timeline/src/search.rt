@@ -4,7 +4,7 @@ ghost use Rattle.rbac_timeline.specs.declared.way.Way.TheVariants.{ClusterBindin
 ghost use Rattle.rbac_timeline.specs.Extents.{MustGrantInWay};
 ghost use Rattle.rbac_timeline.specs.Freed.{AreFirstFrom, IsBarredClusterRole, IsBarredRole, IsFreed};
 ghost use Rattle.rbac_timeline.specs.Freed.{has_first_roles, turned};
-ghost use Rattle.rbac_timeline.specs.Lasting.{IsLast, LastsUntil};
+ghost use Rattle.rbac_timeline.specs.Lasting.{HoldsUpTo, LastsUntil};
 ghost use Rattle.rbac_timeline.specs.Searched.{AreFirstOf, IsFreeAt, IsFreeCluster, MayGrantAt, MayGrantBy};
 ghost use Rattle.rbac_timeline.specs.Searched.{all_at, lesser_places, with_cluster_bindings, with_cluster_roles};
 ghost use Rattle.rbac_timeline.specs.Searched.{with_roles};
@@ -71,8 +71,7 @@ fn with_cluster_bindings(pair: Option<(u64, u64)>, lowest: Places) -> Option<Pla
     })
 }
 
-/// A least place of roles, if there is one, and the last place of role bindings up to which no lesser one is
-/// free.
+/// A least place of roles, if there is one, and a place of role bindings up to which no lesser one is free.
 #[derive(Clone, Copy)]
 struct Freed {
     place: Option<u64>,
@@ -140,15 +139,15 @@ impl<'a> Asked<'a> {
         )
     }
 
-    // The least place of the cluster role bindings at which they don't grant for certain, or up to which place
-    // of the cluster roles there is none.
+    // The least place of the cluster role bindings at which they don't grant for certain, or a place of the
+    // cluster roles up to which there is none; behind that, whoever asks looks again.
     fn first_free_cluster_binding(&self, cluster_roles: u64) -> Result<u64, u64>
         requires range { self.now.low ≤ self.now.high }
         requires upto { cluster_roles ≤ self.now.high }
         ensures found { IfOk result (IsLeastPlace
             (IsFreeCluster self.now.timeline.now self.now.who.now self.now.attrs.now cluster_roles)
             self.now.low self.now.high) }
-        ensures none { IfErr result (IsLast (λ c. HoldsNowhere
+        ensures none { IfErr result (HoldsUpTo (λ c. HoldsNowhere
             (IsFreeCluster self.now.timeline.now self.now.who.now self.now.attrs.now c) self.now.low
             self.now.high) cluster_roles self.now.high) }
     {

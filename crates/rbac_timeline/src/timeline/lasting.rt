@@ -26,7 +26,7 @@ fn gap_until(gap: Option<Gap>, place: u64, high: u64) -> u64
 
 impl Timeline {
     ghost use Rattle.base_types.specs.declared.key.ObjectKey.{ObjectKey};
-    ghost use Rattle.rbac_timeline.specs.Lasting.{IsStill, NoneBegins, NoneRemoved, StaysClear};
+    ghost use Rattle.rbac_timeline.specs.Lasting.{IsStill, NoneBegins, NoneClouded, NoneRemoved};
 
     // The last place up to which no version of the key begins behind this one.
     fn unbegun_until(&self, key: &ObjectKey, place: u64, high: u64) -> u64
@@ -54,7 +54,7 @@ impl Timeline {
     // The last place up to which the object isn't clouded behind this one.
     fn clear_until(&self, key: &ObjectKey, place: u64, high: u64) -> u64
         requires { place ≤ high }
-        ensures { IsLast (StaysClear self.now key.now place) place high result }
+        ensures { IsLast (NoneClouded self.now key.now place) place high result }
     {
         if place >= high {
             return high;
@@ -65,7 +65,8 @@ impl Timeline {
         }
     }
 
-    // The last place up to which the object may only be in states that it may be in here.
+    // The last place up to which no version, removal or cloud of the object begins behind this one: it may only
+    // be in states that it may be in here.
     pub(crate) fn still_until(&self, key: &ObjectKey, place: u64, high: u64) -> u64
         requires { place ≤ high }
         ensures { IsLast (IsStill self.now key.now place) place high result }

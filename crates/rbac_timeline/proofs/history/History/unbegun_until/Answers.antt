@@ -1,4 +1,4 @@
-use Rattle.std.proofs.Common.{◌≡◌, ℕ, ◌<◌, ◌≤◌, ap, get_or, arith}
+use Rattle.std.proofs.Common.{◌≡◌, ℕ, ◌<◌, ◌≤◌, ap, get_or, sym, arith}
 use Rattle.std.specs.List.{Contains}
 use Rattle.rbac_timeline.specs.declared.history.Stored.{Stored}
 use Rattle.rbac_timeline.proofs.Throughout.{IsLast-all, IsLast-map}
@@ -28,4 +28,5 @@ returns c =
     least_above (λ (s : Stored). s.revision) c.self.inside.stored.items c.args.place c.count_upto-upto.result c.index.result.now c.self.invariant parts (omega arith) stored among above in
     let is : c.index.result.now.revision ≡ (get_or c.self.inside.stored.items c.count_upto-upto.result c.index.result.now).revision = ap (λ (s : Stored). s.revision) c.index.ensures in
     omega arith)
+    (λ n none. none c.index.result.now (c.count_upto-upto.result, omega arith, sym c.index.ensures) (rw c.index.ensures (first_above (λ (s : Stored). s.revision) c.self.inside.stored.items c.args.place _ _ parts (omega arith))))
     c.last_before.ensures)

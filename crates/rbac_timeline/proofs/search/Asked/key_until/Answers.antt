@@ -13,7 +13,7 @@ returns c =
     let place = c.args.link.binding_place in
     let must = c.key_extent.ensures.must.0 (not-false _ c.if-not-key_extent.false) in
     let roles = c.role_until-first.ensures in
-    let bindings = c.still_until-second.ensures in
+    let bindings = c.still_until-second.ensures.holds_upto in
     record {
       first_from = roles.from;
       first_upto = roles.upto;

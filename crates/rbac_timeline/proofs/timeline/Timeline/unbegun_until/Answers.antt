@@ -3,13 +3,15 @@ use Rattle.std.specs.List.{Contains}
 use Rattle.clouds.specs.Items.{items_at, items_of}
 use Rattle.clouds.specs.Kept.{key_order}
 use Rattle.rbac_timeline.specs.declared.history.Stored.{Stored}
-use Rattle.rbac_timeline.proofs.Throughout.{IsLast-all, IsLast-map, NoneBegins-stored}
+use Rattle.rbac_timeline.proofs.Throughout.{IsLast-all, IsLast-map, NoneBegins-known, NoneBegins-stored}
 use Rattle.rbac_timeline.proofs.timeline.Timeline.unbegun_until.Goals as goal
 
 pub returns-in-Some : goal.returns-in-Some
 returns-in-Some c =
     rw (← c.self.view_is) (IsLast-map (λ (n : ℕ). (stored : Stored) → Contains c.in-Some.history.now stored → c.args.place < stored.revision → n < stored.revision) _ c.args.place c.args.high _
-    (λ n from upto none. NoneBegins-stored c.self.inside.histories _ c.args.key.now c.args.place n c.in-Some.history.now c.self.invariant.stored (ap items_of (sym c.in-Some.ensures.value)) none) c.unbegun_until.ensures)
+    (λ n from upto none. NoneBegins-stored c.self.inside.histories _ c.args.key.now c.args.place n c.in-Some.history.now c.self.invariant.stored (ap items_of (sym c.in-Some.ensures.value)) none)
+    (λ n none. NoneBegins-known c.self.inside.histories _ c.args.key.now c.args.place n c.in-Some.history.now c.self.invariant.stored (ap items_of (sym c.in-Some.ensures.value)) none)
+    c.unbegun_until.ensures)
 
 pub returns-in-None : goal.returns-in-None
 returns-in-None c =

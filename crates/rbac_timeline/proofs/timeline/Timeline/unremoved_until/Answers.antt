@@ -4,7 +4,7 @@ use Rattle.rbac_timeline.specs.declared.history.Stored.{Stored}
 use Rattle.rbac_timeline.specs.Known.{Known}
 use Rattle.rbac_timeline.specs.Lasting.{NoneRemoved}
 use Rattle.rbac_timeline.specs.Sound.{AreSound}
-use Rattle.rbac_timeline.proofs.Throughout.{IsLast-all, IsLast-map, not_removed, one_revision}
+use Rattle.rbac_timeline.proofs.Throughout.{IsLast-all, IsLast-map, not_removed, one_revision, removal_unbegun}
 use Rattle.rbac_timeline.proofs.timeline.Timeline.unremoved_until.Goals as goal
 
 pub returns-in-Some : goal.returns-in-Some
@@ -19,6 +19,7 @@ returns-in-Some c =
     (λ n from upto until version end latest is before.
     not_removed known.ends sound.distinct key c.in-Some.stored.now.revision place n c.removal.result c.removal.ensures until version latest.of_key
     (one_revision known.versions key place version found.0 latest found.1 ∙ stored) end is before)
+    (λ n none. removal_unbegun known key c.in-Some.stored.now.revision place n c.removal.result found.0 found.1 stored c.removal.ensures none)
     c.gap_until.ensures
 
 pub returns-in-None : goal.returns-in-None
