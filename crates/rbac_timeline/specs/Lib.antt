@@ -14,6 +14,7 @@ pub mod Known
 pub mod Lasting
 pub mod Nameless
 pub mod Pairs
+pub mod Parts
 pub mod Reigning
 pub mod Reigns
 pub mod Requests

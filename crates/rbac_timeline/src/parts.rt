@@ -4,6 +4,7 @@ ghost use Rattle.rbac_timeline.specs.Indexed.{IsIndexed, mentions_of};
 ghost use Rattle.rbac_timeline.specs.Kept.{AreGaps, AreStored};
 ghost use Rattle.rbac_timeline.specs.Known.{key_revision, known_of, writes_of};
 ghost use Rattle.rbac_timeline.specs.Nameless.{AreLows};
+ghost use Rattle.rbac_timeline.specs.Parts.{ArePartsOf};
 ghost use Rattle.rbac_timeline.specs.Reigning.{AreReigning};
 ghost use Rattle.rbac_timeline.specs.Unsure.{AreUnsure};
 
@@ -100,15 +101,7 @@ fn parts_of(
     spans: &[OpaqueSpan],
     bypass: &Texts,
 ) -> Result<Parts, OutOfMemory>
-    ensures bypass { IfOk result (λ made. made.bypass ≡ bypass.now) }
-    ensures removals { IfOk result (λ made. AreGaps made.removals ends.now) }
-    ensures clouds { IfOk result (λ made. made.clouds ≡ writes_of
-        (known_of versions.now [] spans.now)) }
-    ensures index { IfOk result (λ made. IsIndexed made.lookups.index (mentions_of versions.now)) }
-    ensures nameless { IfOk result (λ made. AreLows made.lookups.nameless spans.now) }
-    ensures unsure { IfOk result (λ made. AreUnsure made.clouds versions.now spans.now
-        made.lookups.unsure) }
-    ensures reigns { IfOk result (λ made. AreReigning made.lookups.reigns versions.now ends.now) }
+    ensures { IfOk result (ArePartsOf versions.now ends.now spans.now bypass.now) }
 {
     let (bypass, removals) = few_parts(alloc, ends, bypass)?;
     let Ok((clouds, lookups)) = found_parts(alloc, versions, spans, &removals) else {
@@ -149,14 +142,7 @@ pub fn all_parts(
     bypass: &Texts,
 ) -> Result<(Histories, Parts), OutOfMemory>
     ensures stored { IfOk result (λ made. AreStored made.0 versions) }
-    ensures bypass { IfOk result (λ made. made.1.bypass ≡ bypass.now) }
-    ensures removals { IfOk result (λ made. AreGaps made.1.removals ends) }
-    ensures clouds { IfOk result (λ made. made.1.clouds ≡ writes_of (known_of versions [] spans)) }
-    ensures index { IfOk result (λ made. IsIndexed made.1.lookups.index (mentions_of versions)) }
-    ensures nameless { IfOk result (λ made. AreLows made.1.lookups.nameless spans) }
-    ensures unsure { IfOk result (λ made. AreUnsure made.1.clouds versions spans
-        made.1.lookups.unsure) }
-    ensures reigns { IfOk result (λ made. AreReigning made.1.lookups.reigns versions ends) }
+    ensures parts { IfOk result (λ made. ArePartsOf versions ends spans bypass.now made.1) }
 {
     let made = parts_of(
         alloc,
