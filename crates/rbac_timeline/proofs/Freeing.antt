@@ -1,40 +1,55 @@
 -- With the role bindings at one place, roles and cluster roles have least places of their own.
 use Rattle.std.proofs.Common.{◌≡◌, ℕ, ◌+◌, ◌<◌, ◌≤◌, ◌⊎◌, ⊎_elim, inl, inr, min, true, false, Option, Some, None, sym, subst, arith}
-use Rattle.std.specs.Prelude.{nat_le}
-use Rattle.std.specs.Option.{is_some}
-use Rattle.std.proofs.lemmas.Bool.{and_parts, cases_lt, false≢true, leb-true}
+use Rattle.std.specs.Option.{MatchOption, is_some}
+use Rattle.std.proofs.lemmas.Bool.{cases_lt, false≢true}
 use Rattle.base_types.specs.PlaceOrder.{ComesFirst}
 use Rattle.base_types.specs.declared.placed.Places.{Places}
 use Rattle.base_types.specs.declared.request.RequestAttrs.{RequestAttrs}
 use Rattle.base_types.specs.declared.request.User.{User}
 use Rattle.clouds.specs.FirstPlace.{HoldsNowhere, IsLeastPlace}
 use Rattle.rbac_timeline.specs.declared.lasting.Until.{Until}
+use Rattle.rbac_timeline.specs.declared.search.RoleCache.TheVariants.{Cluster, Plain}
 use Rattle.rbac_timeline.specs.Decisions.{AreWithin}
-use Rattle.rbac_timeline.specs.Freed.{AreFirstFrom, IsBarredClusterRole, IsBarredRole, IsFreed, has_first_roles, turned}
+use Rattle.rbac_timeline.specs.Freed.{AreFirstFrom, IsBarred, IsBarredClusterRole, IsFreed}
 use Rattle.rbac_timeline.specs.Known.{Known}
 use Rattle.rbac_timeline.specs.Lasting.{HoldsUntil, LastsUntil}
 use Rattle.rbac_timeline.specs.Searched.{AreFirstOf, IsFreeAt, IsFreeCluster, lesser_places}
 use Rattle.rbac_timeline.proofs.Comparing.{AreFirstOf-lesser_places}
-use Rattle.rbac_timeline.proofs.Throughout.{AreBarred, AreBarred-all, HoldsUntil-map}
+use Rattle.rbac_timeline.proofs.Throughout.{AreBarred, AreBarred-all, AreBarred-more, HoldsUntil-map}
 
-pub LastsUntil-turned : (P : ℕ → ℕ → Type 0) (first second high : ℕ) (until : Option Until) → LastsUntil P first second high until → LastsUntil (λ b a. P a b) second first high (turned until)
-LastsUntil-turned P first second high None none = none
-LastsUntil-turned P first second high (Some until) lasts = record {
-  first_from = lasts.second_from;
-  first_upto = lasts.second_upto;
-  second_from = lasts.first_from;
-  second_upto = lasts.first_upto;
-  throughout = λ b a b_from b_upto a_from a_upto. lasts.throughout a b a_from a_upto b_from b_upto;
+-- the two caches the other way round
+abbrev turned : Until → Until
+turned until = record { first = until.second; second = until.first }
+
+HoldsUntil-turned : (P : ℕ → ℕ → Type 0) (first second high : ℕ) (until : Until) → HoldsUntil P first second high until → HoldsUntil (λ b a. P a b) second first high (turned until)
+HoldsUntil-turned P first second high until holds = record {
+  first_from = holds.second_from;
+  first_upto = holds.second_upto;
+  second_from = holds.first_from;
+  second_upto = holds.first_upto;
+  throughout = λ b a b_from b_upto a_from a_upto. holds.throughout a b a_from a_upto b_from b_upto;
 }
 
--- a search that ends at a place, or behind the last one
+-- a search of roles goes on, ends at a place, or ends behind the last one
 module _ (barred : ℕ → ℕ → Type 0) (bindings low high : ℕ) where
-  pub IsFreed-found : (place last : ℕ) → AreBarred barred bindings low high place last → (barred bindings place → ⊥) → IsFreed barred bindings low high (Some place) last
+  -- all roles below this place are barred, with the role bindings up to another
+  abbrev pub AreRolesBarred : ℕ → ℕ → Type 0
+  AreRolesBarred place last = AreBarred (λ binding role. barred role binding) bindings low high place last
+
+  pub AreRolesBarred-more : (place last next : ℕ) (until : Until) → next ≡ min last until.second → until.first < high → AreRolesBarred place last → HoldsUntil barred place bindings high until
+      → AreRolesBarred (until.first + 1) next
+  AreRolesBarred-more place last next until is before so_far block =
+      AreBarred-more (λ binding role. barred role binding) bindings low high place last next (turned until) is before so_far (HoldsUntil-turned barred place bindings high until block)
+
+  pub IsFreed-found : (place last : ℕ) → AreRolesBarred place last → (barred place bindings → ⊥) → IsFreed barred bindings low high (Some place) last
   IsFreed-found place last so_far free = record { below = so_far.below; here = (so_far.from, (so_far.upto, free)) }
 
-  pub IsFreed-none : (place last next : ℕ) (until : Until) → next ≡ min last until.first → high ≤ until.second → AreBarred barred bindings low high place last → HoldsUntil barred bindings place high until
+  pub IsFreed-none : (place last next : ℕ) (until : Until) → next ≡ min last until.second → high ≤ until.first → AreRolesBarred place last → HoldsUntil barred place bindings high until
       → IsFreed barred bindings low high None next
-  IsFreed-none place last next until is past so_far block = record { below = AreBarred-all barred bindings low high place last next until is past so_far block; here = tt }
+  IsFreed-none place last next until is past so_far block = record {
+    below = AreBarred-all (λ binding role. barred role binding) bindings low high place last next (turned until) is past so_far (HoldsUntil-turned barred place bindings high until block);
+    here = tt;
+  }
 
 -- where something lasts, or nothing is there
 pub bar_some : (P Q : ℕ → ℕ → Type 0) (first second high : ℕ) (until : Option Until) → is_some until ≡ true → ((a b : ℕ) → P a b → Q a b) → LastsUntil P first second high until → LastsUntil Q first second high until
@@ -58,24 +73,24 @@ module _ (known : Known) (who : User) (attrs : RequestAttrs) (low high bindings 
   abbrev Free : Places → Type 0
   Free p = IsFreeAt known who attrs p
 
-  pub none_by_roles : (last upto : ℕ) → last ≤ upto → IsFreed (IsBarredRole known who attrs) bindings low high None upto → AreFirstFrom known who attrs low high bindings last None
+  pub none_by_roles : (last upto : ℕ) → last ≤ upto → IsFreed (IsBarred known who attrs low high Plain) bindings low high None upto → AreFirstFrom known who attrs low high bindings last None
   none_by_roles last upto within freed = λ p p_within holds.
       let free : Free p = holds.1.1 in
       let p_last : p.bindings ≤ last = holds.1.0 in
       free.0.0 (freed.below.throughout p.bindings holds.0 (omega arith) p.roles p_within.roles_from p_within.roles_upto)
 
-  barred_not_free : (p : Places) → AreWithin low high p → Free p → IsBarredClusterRole known who attrs low high p.bindings p.cluster_roles → ⊥
+  barred_not_free : (p : Places) → AreWithin low high p → Free p → IsBarredClusterRole known who attrs low high p.cluster_roles p.bindings → ⊥
   barred_not_free p within free (inl must) = free.0.1 must
   barred_not_free p within free (inr nowhere) = nowhere p.cluster_bindings within.cluster_bindings_from within.cluster_bindings_upto free.1
 
-  pub none_by_cluster_roles : (last upto : ℕ) → last ≤ upto → IsFreed (IsBarredClusterRole known who attrs low high) bindings low high None upto → AreFirstFrom known who attrs low high bindings last None
+  pub none_by_cluster_roles : (last upto : ℕ) → last ≤ upto → IsFreed (IsBarred known who attrs low high Cluster) bindings low high None upto → AreFirstFrom known who attrs low high bindings last None
   none_by_cluster_roles last upto within freed = λ p p_within holds.
       let free : Free p = holds.1.1 in
       let p_last : p.bindings ≤ last = holds.1.0 in
       barred_not_free p p_within free (freed.below.throughout p.bindings holds.0 (omega arith) p.cluster_roles p_within.cluster_roles_from p_within.cluster_roles_upto)
 
-  module _ (roles cluster_roles last role_last cluster_last : ℕ) (is : last ≡ min role_last cluster_last) (by_roles : IsFreed (IsBarredRole known who attrs) bindings low high (Some roles) role_last)
-      (by_cluster : IsFreed (IsBarredClusterRole known who attrs low high) bindings low high (Some cluster_roles) cluster_last) where
+  module _ (roles cluster_roles last role_last cluster_last : ℕ) (is : last ≡ min role_last cluster_last) (by_roles : IsFreed (IsBarred known who attrs low high Plain) bindings low high (Some roles) role_last)
+      (by_cluster : IsFreed (IsBarred known who attrs low high Cluster) bindings low high (Some cluster_roles) cluster_last) where
     pub no_cluster_binding : HoldsNowhere (IsFreeCluster known who attrs cluster_roles) low high → ⊥
     no_cluster_binding nowhere = by_cluster.here.1.1 (inr nowhere)
 
@@ -164,12 +179,14 @@ module _ (known : Known) (who : User) (attrs : RequestAttrs) (low high : ℕ) wh
       (joined bindings last best found within so_far here)
 
   -- both caches of roles at the first place: those behind are not before
-  first_enough : (last : ℕ) (best : Option Places) → has_first_roles low best ≡ true → AreFirstOf (Upto last) low high best → AreFirstOf (IsFreeAt known who attrs) low high best
-  first_enough last None first none = absurd (false≢true first)
+  abbrev pub HasFirstRoles : Option Places → Type 0
+  HasFirstRoles best = MatchOption best ⊥ (λ places. (places.roles ≤ low) × (places.cluster_roles ≤ low))
+
+  first_enough : (last : ℕ) (best : Option Places) → HasFirstRoles best → AreFirstOf (Upto last) low high best → AreFirstOf (IsFreeAt known who attrs) low high best
+  first_enough last None first none = absurd first
   first_enough last (Some best) first found =
-      let test = and_parts (nat_le best.roles low) (nat_le best.cluster_roles low) first in
-      let at_roles : best.roles ≤ low = leb-true best.roles low test.0 in
-      let at_cluster : best.cluster_roles ≤ low = leb-true best.cluster_roles low test.1 in
+      let at_roles : best.roles ≤ low = first.0 in
+      let at_cluster : best.cluster_roles ≤ low = first.1 in
       let best_last : best.bindings ≤ last = found.here.0 in
       record {
         within = found.within;
@@ -192,6 +209,6 @@ module _ (known : Known) (who : User) (attrs : RequestAttrs) (low high : ℕ) wh
             (cases_lt last other.bindings);
       }
 
-  pub enough_before : (bindings last : ℕ) (best found : Option Places) → bindings ≤ last → has_first_roles low (lesser_places best found) ≡ true → AreBefore bindings best
+  pub enough_before : (bindings last : ℕ) (best found : Option Places) → bindings ≤ last → HasFirstRoles (lesser_places best found) → AreBefore bindings best
       → AreFirstFrom known who attrs low high bindings last found → AreFirstOf (IsFreeAt known who attrs) low high (lesser_places best found)
   enough_before bindings last best found within first so_far here = first_enough last (lesser_places best found) first (joined bindings last best found within so_far here)

@@ -1,10 +1,11 @@
 -- The least places of roles with which bindings at a place don't grant for certain.
-use Rattle.std.specs.Prelude.{◌<◌, ◌≤◌, ◌⊎◌, ℕ, Bool, false, ◌&&◌, nat_le, Option, Some, None, IfSome}
+use Rattle.std.specs.Prelude.{◌<◌, ◌≤◌, ◌⊎◌, ℕ, Option, Some, None, IfSome}
 use Rattle.base_types.specs.declared.placed.Places.{Places}
 use Rattle.base_types.specs.declared.request.RequestAttrs.{RequestAttrs}
 use Rattle.base_types.specs.declared.request.User.{User}
 use Rattle.clouds.specs.FirstPlace.{HoldsNowhere}
-use Rattle.rbac_timeline.specs.declared.lasting.Until.{Until}
+use Rattle.rbac_timeline.specs.declared.search.RoleCache.{RoleCache}
+use Rattle.rbac_timeline.specs.declared.search.RoleCache.TheVariants.{Cluster, Plain}
 use Rattle.rbac_timeline.specs.declared.way.Way.TheVariants.{ClusterRoles, Roles}
 use Rattle.rbac_timeline.specs.Extents.{MustGrantInWay}
 use Rattle.rbac_timeline.specs.Known.{Known}
@@ -13,33 +14,24 @@ use Rattle.rbac_timeline.specs.Searched.{AreFirstOf, IsFreeAt, IsFreeCluster}
 
 -- all places below this one are barred, or all places where there is none
 abbrev pub AllBarred : (ℕ → ℕ → Type 0) → ℕ → ℕ → Option ℕ → ℕ → Type 0
-AllBarred barred low high None binding = (n : ℕ) → low ≤ n → n ≤ high → barred binding n
-AllBarred barred low high (Some place) binding = (n : ℕ) → low ≤ n → n < place → barred binding n
+AllBarred barred low high None binding = (n : ℕ) → low ≤ n → n ≤ high → barred n binding
+AllBarred barred low high (Some place) binding = (n : ℕ) → low ≤ n → n < place → barred n binding
 
 -- the least place that isn't barred, if there is one, and a place of bindings up to which no lesser one is free
 pub record IsFreed (barred : ℕ → ℕ → Type 0) (bindings low high : ℕ) (place : Option ℕ) (last : ℕ) : Type 0 where
   pub below : HoldsUpTo (AllBarred barred low high place) bindings high last
-  pub here : IfSome place (λ n. (low ≤ n) × ((n ≤ high) × (barred bindings n → ⊥)))
+  pub here : IfSome place (λ n. (low ≤ n) × ((n ≤ high) × (barred n bindings → ⊥)))
 
--- role bindings grant for certain by roles
-abbrev pub IsBarredRole : Known → User → RequestAttrs → ℕ → ℕ → Type 0
-IsBarredRole known who attrs bindings roles = MustGrantInWay known Roles roles bindings who attrs
-
--- or by cluster roles, or cluster role bindings do wherever they are
+-- role bindings grant for certain by cluster roles, or cluster role bindings do wherever they are
 abbrev pub IsBarredClusterRole : Known → User → RequestAttrs → ℕ → ℕ → ℕ → ℕ → Type 0
-IsBarredClusterRole known who attrs low high bindings cluster_roles =
+IsBarredClusterRole known who attrs low high cluster_roles bindings =
     MustGrantInWay known ClusterRoles cluster_roles bindings who attrs ⊎ HoldsNowhere (IsFreeCluster known who attrs cluster_roles) low high
+
+-- nothing is free with these roles and these role bindings: those grant for certain by roles, or as above
+abbrev pub IsBarred : Known → User → RequestAttrs → ℕ → ℕ → RoleCache → ℕ → ℕ → Type 0
+IsBarred known who attrs low high Plain roles bindings = MustGrantInWay known Roles roles bindings who attrs
+IsBarred known who attrs low high Cluster cluster_roles bindings = IsBarredClusterRole known who attrs low high cluster_roles bindings
 
 -- the least free places with the role bindings from one place up to another
 abbrev pub AreFirstFrom : Known → User → RequestAttrs → ℕ → ℕ → ℕ → ℕ → Option Places → Type 0
 AreFirstFrom known who attrs low high bindings last places = AreFirstOf (λ p. (bindings ≤ p.bindings) × ((p.bindings ≤ last) × IsFreeAt known who attrs p)) low high places
-
--- the two caches the other way round
-abbrev pub turned : Option Until → Option Until
-turned None = None
-turned (Some until) = Some (record { first = until.second; second = until.first })
-
--- both caches of roles are at the first place
-abbrev pub has_first_roles : ℕ → Option Places → Bool
-has_first_roles low None = false
-has_first_roles low (Some places) = nat_le places.roles low && nat_le places.cluster_roles low

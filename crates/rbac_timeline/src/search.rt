@@ -1,9 +1,8 @@
-ghost use Rattle.std.specs.Prelude.{◌≡◌, ◌≤◌, IfErr, IfNone, IfOk, IfSome};
+ghost use Rattle.std.specs.Prelude.{◌≡◌, ◌≤◌, ◌↔◌, IfErr, IfNone, IfOk, IfSome, IsTrue, MatchOption};
 ghost use Rattle.clouds.specs.FirstPlace.{HoldsNowhere, IsLeastPlace};
 ghost use Rattle.rbac_timeline.specs.declared.way.Way.TheVariants.{ClusterBindings, ClusterRoles, Roles};
 ghost use Rattle.rbac_timeline.specs.Extents.{MustGrantInWay};
-ghost use Rattle.rbac_timeline.specs.Freed.{AreFirstFrom, IsBarredClusterRole, IsBarredRole, IsFreed};
-ghost use Rattle.rbac_timeline.specs.Freed.{has_first_roles, turned};
+ghost use Rattle.rbac_timeline.specs.Freed.{AreFirstFrom, IsBarred, IsBarredClusterRole, IsFreed};
 ghost use Rattle.rbac_timeline.specs.Lasting.{HoldsUpTo, LastsUntil};
 ghost use Rattle.rbac_timeline.specs.Searched.{AreFirstOf, IsFreeAt, IsFreeCluster, MayGrantAt, MayGrantBy};
 ghost use Rattle.rbac_timeline.specs.Searched.{all_at, lesser_places, with_cluster_bindings, with_cluster_roles};
@@ -71,6 +70,13 @@ fn with_cluster_bindings(pair: Option<(u64, u64)>, lowest: Places) -> Option<Pla
     })
 }
 
+// Of which roles a place is looked for. Roles and cluster roles don't ask for each other.
+#[derive(Clone, Copy)]
+enum RoleCache {
+    Plain,
+    Cluster,
+}
+
 /// A least place of roles, if there is one, and a place of role bindings up to which no lesser one is free.
 #[derive(Clone, Copy)]
 struct Freed {
@@ -85,20 +91,10 @@ struct FreeFrom {
     last: u64,
 }
 
-// The two caches the other way round.
-fn turned(until: Option<Until>) -> Option<Until>
-    ensures { result ≡ turned until }
-{
-    let Until { first, second } = until?;
-    Some(Until {
-        first: second,
-        second: first,
-    })
-}
-
 // Whether both caches of roles are at the first place.
 fn has_first_roles(low: u64, places: Option<Places>) -> bool
-    ensures { result ≡ has_first_roles low places }
+    ensures { IsTrue result ↔ MatchOption places ⊥ (λ p. (p.roles ≤ low)
+        × (p.cluster_roles ≤ low)) }
 {
     match places {
         Some(places) => places.roles <= low && places.cluster_roles <= low,
@@ -167,84 +163,66 @@ impl<'a> Asked<'a> {
         Ok(place)
     }
 
-    // Until where role bindings grant for certain by roles, first by their own places.
-    fn role_bar(&self, bindings: u64, roles: u64) -> Option<Until>
-        requires bindings { bindings ≤ self.now.high }
-        requires roles { roles ≤ self.now.high }
-        ensures { LastsUntil (IsBarredRole self.now.timeline.now self.now.who.now
-            self.now.attrs.now) bindings roles self.now.high result }
-    {
-        turned(self.granted_until(Link {
-            way: Way::Roles,
-            role_place: roles,
-            binding_place: bindings,
-        }))
-    }
-
     // Until where role bindings grant for certain by cluster roles, or cluster role bindings wherever they are.
-    fn cluster_role_bar(&self, bindings: u64, cluster_roles: u64) -> Option<Until>
+    fn cluster_role_bar(&self, cluster_roles: u64, bindings: u64) -> Option<Until>
         requires range { self.now.low ≤ self.now.high }
-        requires bindings { bindings ≤ self.now.high }
         requires cluster_roles { cluster_roles ≤ self.now.high }
+        requires bindings { bindings ≤ self.now.high }
         ensures { LastsUntil (IsBarredClusterRole self.now.timeline.now self.now.who.now
-            self.now.attrs.now self.now.low self.now.high) bindings cluster_roles
+            self.now.attrs.now self.now.low self.now.high) cluster_roles bindings
             self.now.high result }
     {
-        let granted = turned(self.granted_until(Link {
+        let granted = self.granted_until(Link {
             way: Way::ClusterRoles,
             role_place: cluster_roles,
             binding_place: bindings,
-        }));
+        });
         if granted.is_some() {
             return granted;
         }
         match self.first_free_cluster_binding(cluster_roles) {
             Ok(_) => None,
-            Err(last) => Some(Until {
-                first: self.high,
-                second: last,
+            Err(reached) => Some(Until {
+                first: reached,
+                second: self.high,
             }),
         }
     }
 
-    // The least place of roles with the role bindings at this one.
-    fn first_free_role(&self, bindings: u64) -> Freed
+    // Until where nothing is free with the roles of this cache and the role bindings.
+    fn bar(&self, cache: RoleCache, roles: u64, bindings: u64) -> Option<Until>
         requires range { self.now.low ≤ self.now.high }
-        requires upto { bindings ≤ self.now.high }
-        ensures { IsFreed (IsBarredRole self.now.timeline.now self.now.who.now self.now.attrs.now)
-            bindings self.now.low self.now.high result.place result.last }
+        requires roles { roles ≤ self.now.high }
+        requires bindings { bindings ≤ self.now.high }
+        ensures { LastsUntil (IsBarred self.now.timeline.now self.now.who.now self.now.attrs.now
+            self.now.low self.now.high cache) roles bindings self.now.high result }
     {
-        let mut place = self.low;
-        let mut last = self.high;
-        'places: while let Some(until) = self.role_bar(bindings, place) {
-            last = last.min(until.first);
-            if until.second >= self.high {
-                return Freed { place: None, last };
-            }
-            place = until.second + 1;
-        }
-        Freed {
-            place: Some(place),
-            last,
+        match cache {
+            RoleCache::Plain => self.granted_until(Link {
+                way: Way::Roles,
+                role_place: roles,
+                binding_place: bindings,
+            }),
+            RoleCache::Cluster => self.cluster_role_bar(roles, bindings),
         }
     }
 
-    // The same of cluster roles.
-    fn first_free_cluster_role(&self, bindings: u64) -> Freed
+    // The least place of these roles that is free with the role bindings at this one.
+    fn first_free(&self, cache: RoleCache, bindings: u64) -> Freed
         requires range { self.now.low ≤ self.now.high }
         requires upto { bindings ≤ self.now.high }
-        ensures { IsFreed (IsBarredClusterRole self.now.timeline.now self.now.who.now
-            self.now.attrs.now self.now.low self.now.high) bindings self.now.low self.now.high
-            result.place result.last }
+        ensures { IsFreed (IsBarred self.now.timeline.now self.now.who.now self.now.attrs.now
+            self.now.low self.now.high cache) bindings self.now.low self.now.high result.place
+            result.last }
     {
         let mut place = self.low;
         let mut last = self.high;
-        'places: while let Some(until) = self.cluster_role_bar(bindings, place) {
-            last = last.min(until.first);
-            if until.second >= self.high {
+        'places: while let Some(until) = self.bar(cache, place, bindings) {
+            last = last.min(until.second);
+            if until.first >= self.high {
                 return Freed { place: None, last };
             }
-            place = until.second + 1;
+            place = until.first + 1;
         }
         Freed {
             place: Some(place),
@@ -263,8 +241,8 @@ impl<'a> Asked<'a> {
         ensures from { bindings ≤ result.last }
         ensures upto { result.last ≤ self.now.high }
     {
-        let role = self.first_free_role(bindings);
-        let cluster_role = self.first_free_cluster_role(bindings);
+        let role = self.first_free(RoleCache::Plain, bindings);
+        let cluster_role = self.first_free(RoleCache::Cluster, bindings);
         let last = role.last.min(cluster_role.last);
         let Some(roles) = role.place else {
             return FreeFrom { places: None, last };

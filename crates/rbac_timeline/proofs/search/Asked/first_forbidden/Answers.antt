@@ -1,4 +1,4 @@
-use Rattle.std.proofs.Common.{◌≤◌, ◌∙◌, sym, arith}
+use Rattle.std.proofs.Common.{◌≤◌, arith}
 use Rattle.rbac_timeline.proofs.Freeing.{AreBefore-more, AreBefore-none, all_before, enough_before}
 use Rattle.rbac_timeline.proofs.search.Asked.first_forbidden.Goals as goal
 
@@ -12,7 +12,7 @@ pub returns-then-has_first_roles : goal.returns-then-has_first_roles
 returns-then-has_first_roles c =
     let s = c.args.self.now in
     rw c.lesser_places-best.ensures (enough_before s.timeline.now s.who.now s.attrs.now s.low s.high c.places.bindings c.free_from-found.result.last c.places.best c.free_from-found.result.places c.free_from-found.ensures.from
-    (rw c.lesser_places-best.ensures at (sym c.has_first_roles.ensures ∙ c.if-has_first_roles.true)) c.places.invariant c.free_from-found.ensures.places)
+    (rw c.lesser_places-best.ensures at (c.has_first_roles.ensures.0 c.if-has_first_roles.true)) c.places.invariant c.free_from-found.ensures.places)
 
 pub returns-then-found-self : goal.returns-then-found-self
 returns-then-found-self c =
