@@ -17,6 +17,7 @@ two kinds are sifted by the companion (`sift --left`), where it is given.
   decisions  roles and bindings that come and go within the lag, and refused requests
   ends       the same, all there where the ranges of the refused requests begin, to end one behind the other in them
   product    the same with one binding more that stays, its role the last to end
+  ends_once, product_once    these with ten refused requests alone, to tell what one request costs
   pages      first pages of one list that all have one token
   inserts    JSON Patches that insert at the front of a list, ten to an object
   members    JSON Patches that remove the first members of a large object and add them again
@@ -151,10 +152,10 @@ def decisions(log, size):
         log.remove_role_object("roles", name)
 
 
-def ends(log, size, stays=False):
+def ends(log, size, stays=False, refusals=None):
     log.authorize(size * 10 ** 6)
     log.write("w", "")
-    names = ["r%06d" % number for number in range(size // 7)]
+    names = ["r%06d" % number for number in range(size // 7 if refusals is None else size // 6)]
     for name in names + ["z"] * stays:
         log.grant(name)
     log.now += size * 1000  # the caches may still be here when the refusals come
@@ -164,12 +165,20 @@ def ends(log, size, stays=False):
             log.write("w", plural + name, "update")  # the removal was before this revision
     if stays:
         log.remove_role_object("roles", "z")
-    for _ in names:
+    for _ in names if refusals is None else range(refusals):
         log.refuse()
 
 
 def product(log, size):
     ends(log, size, stays=True)
+
+
+def ends_once(log, size):
+    ends(log, size, refusals=10)
+
+
+def product_once(log, size):
+    ends(log, size, stays=True, refusals=10)
 
 
 def pages(log, size):
@@ -312,8 +321,8 @@ def sift_lists(log, size):
 
 
 SIFTED = {it.__name__: it for it in (sift_ids, sift_lists)}
-KINDS = {it.__name__: it for it in (plain, prefixes, nested, namespaces, decisions, ends, product, bindings, pages, inserts,
-                                    members, spans, absent, resources, clouded, names, subjects)}
+KINDS = {it.__name__: it for it in (plain, prefixes, nested, namespaces, decisions, ends, product, ends_once, product_once,
+                                    bindings, pages, inserts, members, spans, absent, resources, clouded, names, subjects)}
 
 
 def answered(words, folder):
@@ -350,7 +359,7 @@ def main():
             length = os.path.getsize(os.path.join(folder, "log.json"))
             taken, peak, answer = answered(sift if kind in SIFTED else judge, folder)
             grown = "" if before is None else f", {taken / before:.1f} times"
-            print(f"{kind:10} {size:7} events {length / 1e6:7.1f} MB {taken:8.2f} s {peak / 1024:7.0f} MB{grown}  {answer}",
+            print(f"{kind:12} {size:7} events {length / 1e6:7.1f} MB {taken:8.2f} s {peak / 1024:7.0f} MB{grown}  {answer}",
                   flush=True)
             before = taken
             if not asked.keep:

@@ -3,8 +3,8 @@ ghost use Rattle.rbac_timeline.specs.Known.{key_revision};
 ghost use Rattle.worked_rules.specs.SeveralEnds.{rbac_key, several_ends, several_revisions};
 
 use crate::given::{text, user};
-use crate::timelines::{end, one_text, reader, revision, version};
-use base_types::{Decision, ObjectKey, Pairs, Places, RequestAttrs};
+use crate::timelines::{end, get, one_text, reader, revision, version};
+use base_types::{Decision, ObjectKey, Places};
 use clouds::OpaqueSpans;
 use rbac_rules::{Binding, Subject, Subjects};
 use rbac_timeline::{RbacContent, RbacEnds, RbacVersions, Timeline};
@@ -99,21 +99,6 @@ fn example(rt: &(impl Abort + AllocGlobal)) -> Timeline {
     timeline.expect(rt, "memory")
 }
 
-fn get(rt: &(impl Abort + AllocGlobal)) -> RequestAttrs {
-    RequestAttrs {
-        verb: text(rt, "get"),
-        path: text(rt, ""),
-        is_resource: true,
-        group: text(rt, ""),
-        version: text(rt, ""),
-        resource: text(rt, "configmaps"),
-        subresource: text(rt, ""),
-        namespace: text(rt, "d"),
-        name: text(rt, ""),
-        query: Pairs::new(rt.alloc()),
-    }
-}
-
 /// The range, the decision, and the least places of roles, cluster roles, bindings and cluster bindings.
 type Row = (u64, u64, Decision, Option<[u64; 4]>);
 
@@ -141,7 +126,7 @@ fn places_of(numbers: Option<[u64; 4]>) -> Option<Places> {
 
 fn least(rt: &(impl Abort + AllocGlobal), timeline: &Timeline, row: &Row) -> Option<Places> {
     let who = user(rt, "u", &["u"]);
-    let attrs = get(rt);
+    let attrs = get(rt, "d");
     let (low, high, wanted, _) = *row;
     let places = timeline.find_decision(low, high, &who, &attrs, wanted);
     drop(attrs);
@@ -176,7 +161,7 @@ fn tried(
     wanted: Decision,
 ) -> Option<Places> {
     let who = user(rt, "u", &["u"]);
-    let attrs = get(rt);
+    let attrs = get(rt, "d");
     let mut found = None;
     for r in low..past {
         for c in low..past {

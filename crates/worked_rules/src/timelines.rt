@@ -1,4 +1,4 @@
-ghost use Rattle.std.specs.Prelude.{◌≡◌, map};
+ghost use Rattle.std.specs.Prelude.{◌≡◌, [], ◌∷◌, map};
 ghost use Rattle.rbac_timeline.specs.Examples.{example_ends, example_key, example_revisions};
 ghost use Rattle.rbac_timeline.specs.Known.{key_revision};
 
@@ -14,7 +14,9 @@ use std::process::Abort;
 
 const MAX: u64 = u64::MAX;
 
-pub fn one_text(rt: &(impl Abort + AllocGlobal), only: &str) -> Texts {
+pub(crate) fn one_text(rt: &(impl Abort + AllocGlobal), only: &str) -> Texts
+    ensures { result ≡ only.now ∷ [] }
+{
     let mut texts = Texts::new(rt.alloc());
     texts.push(text(rt, only)).expect(rt, "memory");
     texts
@@ -32,7 +34,7 @@ fn key(rt: &(impl Abort + AllocGlobal), resource: &str, name: &str) -> ObjectKey
 }
 
 // Gets configmaps.
-pub fn reader(rt: &(impl Abort + AllocGlobal)) -> RbacContent {
+pub(crate) fn reader(rt: &(impl Abort + AllocGlobal)) -> RbacContent {
     let mut rules = PolicyRules::new(rt.alloc());
     let rule = PolicyRule {
         api_groups: one_text(rt, ""),
@@ -57,13 +59,13 @@ fn bound(rt: &(impl Abort + AllocGlobal), user: &str) -> RbacContent {
     })
 }
 
-pub fn revision(rt: &impl Abort, number: u64) -> Revision
+pub(crate) fn revision(rt: &impl Abort, number: u64) -> Revision
     ensures { result ≡ number }
 {
     Revision::new(number).expect(rt, "a revision")
 }
 
-pub fn version(key: ObjectKey, revision: Revision, content: RbacContent) -> RbacVersion
+pub(crate) fn version(key: ObjectKey, revision: Revision, content: RbacContent) -> RbacVersion
     ensures { key_revision result ≡ record { key = key; revision = revision } }
 {
     RbacVersion {
@@ -73,7 +75,7 @@ pub fn version(key: ObjectKey, revision: Revision, content: RbacContent) -> Rbac
     }
 }
 
-pub fn end(key: ObjectKey, last: Revision, low: u64, high: u64) -> RbacEnd
+pub(crate) fn end(key: ObjectKey, last: Revision, low: u64, high: u64) -> RbacEnd
     ensures { result ≡ record { key = key; last = last; low = low; high = high } }
 {
     RbacEnd {
@@ -152,7 +154,7 @@ fn who(rt: &(impl Abort + AllocGlobal), name: &str) -> User {
 }
 
 // A get of a configmap.
-fn get(rt: &(impl Abort + AllocGlobal), namespace: &str) -> RequestAttrs {
+pub(crate) fn get(rt: &(impl Abort + AllocGlobal), namespace: &str) -> RequestAttrs {
     RequestAttrs {
         verb: text(rt, "get"),
         path: text(rt, ""),
