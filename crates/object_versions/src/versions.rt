@@ -1,5 +1,5 @@
-ghost use Rattle.std.specs.Prelude.{◌≡◌, ◌≢◌, ◌<◌, ◌++◌, ◌∷◌, [], ℕ, List, IfOk, IsSome, All, AllPairs, Some};
-ghost use Rattle.std.specs.Prelude.{length, map, option_map};
+ghost use Rattle.std.specs.Prelude.{◌≡◌, ◌≢◌, ◌<◌, ◌++◌, ◌∷◌, ◌↔◌, [], ℕ, List, IfOk, IsSome, IsTrue, All, AllPairs, Any, Some};
+ghost use Rattle.std.specs.Prelude.{length, map, option_map, true};
 ghost use Rattle.std.specs.List.Sorted.{IsPermutation};
 ghost use Rattle.history_model.specs.Histories.{History};
 ghost use Rattle.history_model.specs.Makers.{AreVersions, IsMadeVersion};
@@ -22,7 +22,7 @@ ghost use Rattle.object_versions.specs.Written.{IsSnapshot};
 use crate::bodies::Bodies;
 use crate::grown::{Grown, Latest};
 use crate::maker::{Judged, maker_among, shown_by};
-use crate::making::{Making, making_at, making_fault};
+use crate::making::{Making, making_at, write_fault};
 use crate::owner::{Owner, owned};
 use crate::removal::range_behind;
 use crate::removed::Removed;
@@ -86,6 +86,14 @@ fn entry_before<'a>(
     Some(latest.version)
 }
 
+// Whether a write that created its object gave it a uid that a version has; of others it isn't looked up.
+fn is_reused(grown: &Grown, making: Making<'_>) -> bool
+    ensures { making.entry.created ≡ true
+        → IsTrue result ↔ Any (λ v. v.uid ≡ making.entry.item.now.uid) grown.now }
+{
+    making.created && grown.is_used(&making.item.uid)
+}
+
 // Why a write could not have made its revision behind these versions.
 fn judge<B: Bodies>(
     alloc: Global,
@@ -99,12 +107,11 @@ fn judge<B: Bodies>(
         → Extends h grown.now making.entry.item.now.revision
         → IsJudgement h (making_of making.entry) judged) }
 {
-    let item = making.item;
-    let before = entry_before(log, grown.latest(&item.key), making);
-    let is_used = grown.is_used(&item.uid);
+    let before = entry_before(log, grown.latest(&making.item.key), making);
+    let is_used = is_reused(grown, making);
     Ok(Judged {
         number: making.number,
-        making: making_fault(
+        making: write_fault(
             alloc,
             log.windows,
             log.clouds,
