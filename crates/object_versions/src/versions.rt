@@ -1,6 +1,7 @@
 ghost use Rattle.std.specs.Prelude.{◌≡◌, ◌≢◌, ◌<◌, ◌++◌, ◌∷◌, ◌↔◌, [], ℕ, List, IfOk, IsSome, IsTrue, All, AllPairs, Any, Some};
 ghost use Rattle.std.specs.Prelude.{length, map, option_map, true};
 ghost use Rattle.std.specs.List.Sorted.{IsPermutation};
+ghost use Rattle.base_types.specs.declared.key.ObjectKey.{ObjectKey};
 ghost use Rattle.history_model.specs.Histories.{History};
 ghost use Rattle.history_model.specs.Makers.{AreVersions, IsMadeVersion};
 ghost use Rattle.history_model.specs.Making.{IsEntryBefore};
@@ -94,20 +95,22 @@ fn is_reused(grown: &Grown, making: Making<'_>) -> bool
     making.created && grown.is_used(&making.item.uid)
 }
 
-// Why a write could not have made its revision behind these versions.
+// Why a write could not have made its revision behind these versions, of which `latest` is its key's latest.
 fn judge<B: Bodies>(
     alloc: Global,
     log: Log<'_>,
     bodies: &B,
     grown: &Grown,
+    latest: Option<Latest<'_>>,
     making: Making<'_>,
 ) -> Result<Judged, OutOfMemory>
     ensures number { IfOk result (λ judged. judged.number ≡ making.entry.number) }
     ensures judged { IfOk result (λ judged. (h : History) → IsOfLog log.entry (B.body bodies.now) h
         → Extends h grown.now making.entry.item.now.revision
+        → IsLatestIn grown.now making.entry.item.now.key latest.entry
         → IsJudgement h (making_of making.entry) judged) }
 {
-    let before = entry_before(log, grown.latest(&making.item.key), making);
+    let before = entry_before(log, latest, making);
     let is_used = is_reused(grown, making);
     Ok(Judged {
         number: making.number,
@@ -123,24 +126,27 @@ fn judge<B: Bodies>(
     })
 }
 
+// Judges the writes of one key and revision, whose key's latest version is looked up once for all.
 fn judge_each<B: Bodies>(
     alloc: Global,
     log: Log<'_>,
     bodies: &B,
     grown: &Grown,
+    latest: Option<Latest<'_>>,
     members: &[u32],
 ) -> Result<Vec<Judged>, OutOfMemory>
     requires writes { AreWrites log.events.now members.now }
     ensures numbers { IfOk result (λ judged. map (λ one. one.number) judged.items ≡ members.now) }
-    ensures judged { IfOk result (λ judged. (h : History) (revision : ℕ)
+    ensures judged { IfOk result (λ judged. (h : History) (key : ObjectKey) (revision : ℕ)
         → IsOfLog log.entry (B.body bodies.now) h → Extends h grown.now revision
-        → All (IsAnsweredAt log.entry.events.now revision) members.now
+        → IsLatestIn grown.now key latest.entry
+        → All (IsAnsweredAt log.entry.events.now key revision) members.now
         → AreJudged h log.entry.events.now members.now judged.items) }
 {
     let mut judged = Vec::with_capacity(alloc, members.len())?;
     for number in members {
         let making = write_at(log.events, *number);
-        judged.push(judge(alloc, log, bodies, grown, making)?)?;
+        judged.push(judge(alloc, log, bodies, grown, latest, making)?)?;
     }
     Ok(judged)
 }
@@ -209,12 +215,12 @@ fn by_revision(alloc: Global, snapshot: &[Item]) -> Result<Vec<&Item>, OutOfMemo
     Ok(order)
 }
 
-// The versions that were there at the start.
-fn begin(alloc: Global, order: &[&Item], seed: Seed) -> Result<Grown, OutOfMemory>
+// The versions that were there at the start, with room for so many in all.
+fn begin(alloc: Global, order: &[&Item], room: usize, seed: Seed) -> Result<Grown, OutOfMemory>
     requires { AllPairs (λ a b. a.now.revision < b.now.revision) order.now }
     ensures { IfOk result (λ grown. grown ≡ map (λ item. snapshot_version item.now) order.now) }
 {
-    let mut grown = Grown::new(alloc, seed);
+    let mut grown = Grown::new(alloc, room, seed)?;
     for item in order {
         grown = grown.with(snapshot_version(item)?)?;
     }
@@ -248,12 +254,14 @@ fn add_group<B: Bodies>(
         × (map (λ one. one.number) more ≡ group.now.members)
         × ((h : History) → IsOfLog log.entry (B.body bodies.now) h
         → Extends h grown group.now.revision
-        → All (IsAnsweredAt log.entry.events.now group.now.revision) group.now.members
+        → All (IsAnsweredAt log.entry.events.now group.now.key group.now.revision) group.now.members
         → AreJudged h log.entry.events.now group.now.members more)
         × ((h : History) → IsOfGroup log.entry (B.body bodies.now) group.now more h
         → IsMadeVersion h (version_of version))) }
 {
-    let mut members = judge_each(alloc, log, bodies, &grown, group.members.as_slice())?;
+    let latest = grown.latest(&group.key);
+    let numbers = group.members.as_slice();
+    let mut members = judge_each(alloc, log, bodies, &grown, latest, numbers)?;
     let version = version_in(alloc, log, bodies, group, &members)?;
     let grown = grown.with(version)?;
     judged.append(&mut members)?;
@@ -292,8 +300,9 @@ pub fn write_versions<B: Bodies>(
         written.judged.items) }
 {
     let order = by_revision(alloc, snapshot)?;
-    let mut grown = begin(alloc, &order, seed)?;
-    let mut judged = Vec::new(alloc);
+    let room = snapshot.len() + groups.len();
+    let mut grown = begin(alloc, &order, room, seed)?;
+    let mut judged = Vec::with_capacity(alloc, groups.len())?;
     for group in groups {
         grown = add_group(alloc, log, bodies, grown, &mut judged, group)?;
     }

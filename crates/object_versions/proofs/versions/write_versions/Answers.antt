@@ -14,7 +14,7 @@ pub loop-group-init : goal.loop-group-init
 loop-group-init g c = (
   begun_grown c.in_ok-order.order.items c.in_ok-grown.grown begun,
   λ h of grouped start on.
-      subst (AreWritten h c.args.log.events.now (map snapshot_version (map (λ item. item.now) c.in_ok-order.order.items)) [] c.in_ok-grown.grown) (sym c.new-judged.ensures.items)
+      subst (AreWritten h c.args.log.events.now (map snapshot_version (map (λ item. item.now) c.in_ok-order.order.items)) [] c.in_ok-grown.grown) (sym c.in_ok-judged.ensures.items)
       (begun_written h c.args.log.events.now c.in_ok-order.order.items c.in_ok-grown.grown begun),
 )
   where
