@@ -11,7 +11,9 @@ ghost use Rattle.write_groups.specs.Modelled.{item_of};
 ghost use Rattle.object_past.specs.Modelled.{version_of};
 ghost use Rattle.object_past.specs.declared.version.Version.{Version};
 ghost use Rattle.object_versions.specs.Chosen.{first_write, shown_by};
-ghost use Rattle.object_versions.specs.Growing.{AreFlagged, AreLinked, IsLatestIn};
+ghost use Rattle.object_versions.specs.Behind.{AreGroupsBehind};
+ghost use Rattle.object_versions.specs.Growing.{IsLatestIn};
+ghost use Rattle.object_versions.specs.Traced.{AreTraced};
 ghost use Rattle.object_versions.specs.declared.maker.Judged.{Judged as Writing};
 ghost use Rattle.object_versions.specs.Hidden.{slots_of};
 ghost use Rattle.object_versions.specs.Modelled.{making_of};
@@ -279,11 +281,9 @@ pub fn write_versions<B: Bodies>(
     seed: Seed,
 ) -> Result<Written, OutOfMemory>
     requires snapshot { IsSnapshot start snapshot.now }
-    requires rising { AllPairs (λ a b. a.revision < b.revision) groups.now }
-    requires above { All (λ group. start < group.revision) groups.now }
-    requires members { All (λ group. AreWrites log.events.now group.members) groups.now }
-    ensures rising { IfOk result
-        (λ written. AllPairs (λ a b. a.revision < b.revision) written.versions) }
+    requires groups { AreGroupsBehind start log.events.now groups.now }
+    ensures traced { IfOk result (λ written. AreTraced written.versions written.firsts.items
+        written.earlier.items) }
     ensures slots { IfOk result
         (λ written. AreSlots (slots_of snapshot.now groups.now) written.versions) }
     ensures versions { IfOk result
@@ -291,8 +291,6 @@ pub fn write_versions<B: Bodies>(
         → AreGroupsOf h groups.now → h.start ≡ start
         → h.snapshot ≡ map item_of snapshot.now → h.versions ≡ map version_of written.versions
         → AreVersions h) }
-    ensures firsts { IfOk result (λ written. AreFlagged written.versions written.firsts.items) }
-    ensures earlier { IfOk result (λ written. AreLinked written.versions written.earlier.items) }
     ensures judged { IfOk result (λ written. (h : History) → IsOfLog log.entry (B.body bodies.now) h
         → AreGroupsOf h groups.now → h.start ≡ start
         → h.versions ≡ map version_of written.versions
