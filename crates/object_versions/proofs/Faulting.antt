@@ -69,7 +69,7 @@ pub record AreTold (h : History) (m : Making) (before : Option Version) (created
   pub inside : IsOutside h m → ⊥
   pub clear : IsClear h m
   pub made : m.created ≡ created
-  pub had : IsTrue used' ↔ IsUsedUid h m
+  pub had : created ≡ true → IsTrue used' ↔ IsUsedUid h m
   pub there : IsTrue present' ↔ IsSome before
   pub differs : IsTrue other ↔ IsOtherObject m before
   pub meets : IsTrue met ↔ MeetsConditions m.event.conditions before
@@ -88,7 +88,7 @@ clear_least h m before true used' true other met right t = (
       (λ is clear wrong. omega (arith, ap code_number is)),
 )
 clear_least h m before true true false other met right t = (
-  used refl t.made (t.had.0 refl),
+  used refl t.made ((t.had refl).0 refl),
   λ code fault. fault_cases h m before code (5 ≤ code_number code) fault
       (λ is out. absurd (t.inside out))
       (λ is clear made there. absurd (no_true (t.there.1 there)))
@@ -102,7 +102,7 @@ clear_least h m before true false false other false right t = (
   λ code fault. fault_cases h m before code (7 ≤ code_number code) fault
       (λ is out. absurd (t.inside out))
       (λ is clear made there. absurd (no_true (t.there.1 there)))
-      (λ is made had. absurd (no_true (t.had.1 had)))
+      (λ is made had. absurd (no_true ((t.had refl).1 had)))
       (λ is clear made differs. absurd (true≢false (sym t.made ∙ made)))
       (λ is clear not_met. omega (arith, ap code_number is))
       (λ is clear wrong. omega (arith, ap code_number is)),
@@ -112,7 +112,7 @@ clear_least h m before true false false other true false t = (
   λ code fault. fault_cases h m before code (8 ≤ code_number code) fault
       (λ is out. absurd (t.inside out))
       (λ is clear made there. absurd (no_true (t.there.1 there)))
-      (λ is made had. absurd (no_true (t.had.1 had)))
+      (λ is made had. absurd (no_true ((t.had refl).1 had)))
       (λ is clear made differs. absurd (true≢false (sym t.made ∙ made)))
       (λ is clear not_met. absurd (not_met (t.meets.0 refl)))
       (λ is clear wrong. omega (arith, ap code_number is)),
@@ -120,7 +120,7 @@ clear_least h m before true false false other true false t = (
 clear_least h m before true false false other true true t = λ code fault. fault_cases h m before code ⊥ fault
     (λ is out. t.inside out)
     (λ is clear made there. no_true (t.there.1 there))
-    (λ is made had. no_true (t.had.1 had))
+    (λ is made had. no_true ((t.had refl).1 had))
     (λ is clear made differs. true≢false (sym t.made ∙ made))
     (λ is clear not_met. not_met (t.meets.0 refl))
     (λ is clear wrong. true≢false (sym t.asked ∙ wrong))

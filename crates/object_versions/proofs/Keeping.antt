@@ -149,10 +149,7 @@ set_same {K} f versions p v Has known same has k = (forth, back)
         (λ is. (has k).1 (in_any (λ w. f w ≡ k) versions p known (same ∙ ap f is ∙ found.2)))
         (Contains-push_cases versions v found.0 found.1)
 
--- a uid that was there adds nothing
-pub uid_there : (uids : UidSet) (uid : List ℕ) → IsTrue (set.contains bytes_eq uids uid) → AddsUid uids uids uid
-uid_there uids uid has other = (inr, λ either. ⊎_elim (λ same. subst (λ u. IsTrue (set.contains bytes_eq uids u)) same has) (λ held. held) either)
-
+-- a uid that is put adds itself
 pub uid_added : (old new : UidSet) (uid : List ℕ) → set.Updates bytes_eq old new uid true → AddsUid old new uid
 uid_added old new uid updates k = ⊎_elim
     (λ same. (

@@ -48,7 +48,7 @@ pub clear_is_least : (h : past.History) (body : ℕ → Option ℕ → Bool) (nu
     → h.body ≡ body
     → (IsOutside h (record { number = number; event = event_of event; item = item_of item; created = created }) → ⊥)
     → IsClear h (record { number = number; event = event_of event; item = item_of item; created = created })
-    → (IsTrue is_used ↔ IsUsedUid h (record { number = number; event = event_of event; item = item_of item; created = created }))
+    → (created ≡ true → IsTrue is_used ↔ IsUsedUid h (record { number = number; event = event_of event; item = item_of item; created = created }))
     → IsLeastFault h (record { number = number; event = event_of event; item = item_of item; created = created }) (option_map version_of before)
     (clear_code body number event item created is_used before)
 clear_is_least h body number event item created is_used before bodies inside clear used =

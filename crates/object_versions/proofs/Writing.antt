@@ -6,6 +6,7 @@ use Rattle.std.proofs.lemmas.List.{take_more, map-append, append-nil}
 use Rattle.std.proofs.lemmas.List.Elements.{All-append, Contains-append_left, Contains-append_right, Contains-push_cases}
 use Rattle.std.proofs.lemmas.List.Sorted.{Contains-permutation, IsPermutation-sym}
 use Rattle.std.proofs.lemmas.Option.{same_Some}
+use Rattle.base_types.specs.declared.key.ObjectKey.{ObjectKey}
 use Rattle.history_model.proofs.Members.{all_at, all_from, in_cons, not_in_none, pairs_head}
 use Rattle.history_model.specs.Events as event
 use Rattle.history_model.specs.Groups.{Making}
@@ -90,10 +91,10 @@ all_judged_more h events groups i group judged more within is before zipped numb
 }
 
 -- the writes of a group are answered with its revision
-pub answered : (h : past.History) (events : List LogEvent) (group : Group) → HasEvents events h → IsGroupOf h group → All (IsAnsweredAt events group.revision) group.members
-answered h events group all grouped = all_from (IsAnsweredAt events group.revision) group.members (λ number among.
+pub answered : (h : past.History) (events : List LogEvent) (group : Group) → HasEvents events h → IsGroupOf h group → All (IsAnsweredAt events group.key group.revision) group.members
+answered h events group all grouped = all_from (IsAnsweredAt events group.key group.revision) group.members (λ number among.
     let known = grouped.known number among in
-    (known.0, subst (λ n. making_at events n ≡ Some known.0) known.2 (making_from h events known.0 all known.1.making), known.1.at_revision))
+    (known.0, subst (λ n. making_at events n ≡ Some known.0) known.2 (making_from h events known.0 all known.1.making), known.1.of_key, known.1.at_revision))
 
 abbrev pub AreMade : past.History → (begun versions : List Version) → Type 0
 AreMade h begun versions = All (λ v. Contains begun v ⊎ IsMadeVersion h (version_of v)) versions
@@ -236,5 +237,8 @@ each_more h events members i d judged m one within at number judgement done =
     subst (λ l. AreJudged h events l (judged ++ one ∷ [])) (sym (take_more members i d within))
     (zip_push (IsJudgedAt h events) (take i members) judged (get_or members i d) one done (number ∙ number_is events (get_or members i d) m at, (m, at, judgement)))
 
-pub same_revision : (events : List LogEvent) (revision number : ℕ) (m : Making) → making_at events number ≡ Some m → IsAnsweredAt events revision number → m.item.revision ≡ revision
-same_revision events revision number m at (other, known, is) = ap (λ (x : Making). x.item.revision) (same_Some m other (sym at ∙ known)) ∙ is
+pub same_revision : (events : List LogEvent) (key : ObjectKey) (revision number : ℕ) (m : Making) → making_at events number ≡ Some m → IsAnsweredAt events key revision number → m.item.revision ≡ revision
+same_revision events key revision number m at (other, known, of_key, is) = ap (λ (x : Making). x.item.revision) (same_Some m other (sym at ∙ known)) ∙ is
+
+pub same_item_key : (events : List LogEvent) (key : ObjectKey) (revision number : ℕ) (m : Making) → making_at events number ≡ Some m → IsAnsweredAt events key revision number → m.item.key ≡ key
+same_item_key events key revision number m at (other, known, of_key, is) = ap (λ (x : Making). x.item.key) (same_Some m other (sym at ∙ known)) ∙ of_key

@@ -1,6 +1,8 @@
+pub mod Behind
 pub mod Chosen
 pub mod Ended
 pub mod Faults
+pub mod Few
 pub mod Following
 pub mod Found
 pub mod Growing
@@ -10,4 +12,5 @@ pub mod Modelled
 pub mod Owners
 pub mod Removals
 pub mod Surrounded
+pub mod Traced
 pub mod Written

@@ -66,8 +66,9 @@ IsJudgedAt h events number judged = (judged.number ≡ number) × ((m : Making) 
 abbrev pub AreJudged : past.History → List LogEvent → List ℕ → List Judged → Type 0
 AreJudged h events members judged = AllZip (IsJudgedAt h events) members judged
 
-abbrev pub IsAnsweredAt : List LogEvent → ℕ → ℕ → Type 0
-IsAnsweredAt events revision number = (m : Making) × (making_at events number ≡ Some m) × (m.item.revision ≡ revision)
+-- the write of the number is of the key, and was answered with the revision
+abbrev pub IsAnsweredAt : List LogEvent → ObjectKey → ℕ → ℕ → Type 0
+IsAnsweredAt events key revision number = (m : Making) × (making_at events number ≡ Some m) × (m.item.key ≡ key) × (m.item.revision ≡ revision)
 
 -- a group of the history whose writes are judged
 pub record IsOfGroup (log : Log) (body : ℕ → Option ℕ → Bool) (group : Group) (judged : List Judged) (h : past.History) : Type 0 where

@@ -124,13 +124,10 @@ fn add_owner(owners: &mut HashSet<Owner, Seeded>, version: &Version) -> Result<b
     Ok(owners.insert(owner)?)
 }
 
-// Keeps that a version has the uid. It is copied only where it wasn't there.
+// Keeps that a version has the uid. It is new nearly always, so it isn't looked for before it is copied.
 fn add_uid(uids: &mut HashSet<Text, Seeded>, uid: &Text) -> Result<(), OutOfMemory>
     ensures { OnOk result (AddsUid uids.old uids.new uid.now) }
 {
-    if uids.contains(uid) {
-        return Ok(());
-    }
     let _added = uids.insert(uid.clone()?)?;
     Ok(())
 }
@@ -208,20 +205,24 @@ fn add(versions: &mut Versions, index: &mut Index, version: Version) -> Result<(
 }
 
 impl Grown {
-    pub fn new(alloc: Global, seed: Seed) -> Grown
-        ensures { result ≡ [] }
+    /// No versions yet, and room for so many.
+    pub fn new(alloc: Global, room: usize, seed: Seed) -> Result<Grown, OutOfMemory>
+        ensures { IfOk result (λ grown. grown ≡ []) }
     {
         let seeded = Seeded::new(seed);
-        Grown {
-            versions: Versions::new(alloc),
+        let versions = Versions::from_vec(Vec::with_capacity(alloc, room)?);
+        let firsts = Vec::with_capacity(alloc, room)?;
+        let earlier = Vec::with_capacity(alloc, room)?;
+        Ok(Grown {
+            versions,
             index: Index {
-                firsts: Vec::new(alloc),
-                earlier: Vec::new(alloc),
+                firsts,
+                earlier,
                 last: HashMap::with_hasher(alloc, seeded),
                 owners: HashSet::with_hasher(alloc, seeded),
                 uids: HashSet::with_hasher(alloc, seeded),
             },
-        }
+        })
     }
 
     /// The key's latest version.

@@ -1,13 +1,14 @@
-ghost use Rattle.std.specs.Prelude.{◌≡◌, ◌<◌, ◌≤◌, ◌+◌, ◌^◌, length, map, IfOk, All, AllPairs};
+ghost use Rattle.std.specs.Prelude.{◌≡◌, ◌<◌, ◌^◌, length, map, IfOk, All, AllPairs};
 ghost use Rattle.history_model.specs.Groups.{AreSpans};
 ghost use Rattle.history_model.specs.Histories.{History};
 ghost use Rattle.history_model.specs.Incarnations.{AreRemovals};
 ghost use Rattle.history_model.specs.Judging.{IsOrder};
 ghost use Rattle.history_model.specs.Makers.{AreVersions};
 ghost use Rattle.object_past.specs.Modelled.{recorded, version_of};
-ghost use Rattle.write_groups.specs.Grouped.{AreWrites};
 ghost use Rattle.write_groups.specs.Members.{AreGroupsOf};
 ghost use Rattle.write_groups.specs.Modelled.{HasEvents, HasTimes, item_of, span_of};
+ghost use Rattle.object_versions.specs.Behind.{AreGroupsBehind};
+ghost use Rattle.object_versions.specs.Few.{AreFew};
 ghost use Rattle.object_versions.specs.Found.{HasFound, IsPastOf};
 ghost use Rattle.object_versions.specs.Hidden.{HasSlots, slots_of};
 ghost use Rattle.object_versions.specs.Modelled.{AreCloudsOf};
@@ -91,10 +92,7 @@ fn timed_of(alloc: Global, start: Revision, events: &[LogEvent]) -> Result<Timed
     requires few { length events.now < 2 ^ 32 }
     requires lines { AllPairs (λ a b. a.line < b.line) events.now }
     ensures start { IfOk result (λ timed. timed.windows.start ≡ start) }
-    ensures rising { IfOk result (λ timed. AllPairs (λ a b. a.revision < b.revision) timed.groups) }
-    ensures above { IfOk result (λ timed. All (λ group. start < group.revision) timed.groups) }
-    ensures members { IfOk result
-        (λ timed. All (λ group. AreWrites events.now group.members) timed.groups) }
+    ensures groups { IfOk result (λ timed. AreGroupsBehind start events.now timed.groups) }
     ensures timed { IfOk result (λ timed. (h : History) → HasEvents events.now h → h.start ≡ start
         → h.order ≡ timed.order.items
         → h.spans ≡ map span_of timed.windows.spans
@@ -138,9 +136,7 @@ fn ended_of<B: Bodies>(
     seed: Seed,
 ) -> Result<Ended, OutOfMemory>
     requires snapshot { IsSnapshot start snapshot.now }
-    requires rising { AllPairs (λ a b. a.revision < b.revision) timed.now.groups }
-    requires above { All (λ group. start < group.revision) timed.now.groups }
-    requires members { All (λ group. AreWrites events.now group.members) timed.now.groups }
+    requires groups { AreGroupsBehind start events.now timed.now.groups }
     ensures slots { IfOk result
         (λ ended. AreSlots (slots_of snapshot.now timed.now.groups) ended.written.versions) }
     ensures ended { IfOk result (λ ended. (h : History) → HasTimes timed.now.windows h
@@ -224,9 +220,7 @@ pub fn past_of<B: Bodies>(
     ensures start { IfOk result (λ past. past.windows.start ≡ start) }
     ensures past { IfOk result (λ past. (h : History) → HasFound start snapshot.now events.now
         (B.body bodies.now) past h → IsPastOf events.now past h) }
-    ensures few_versions { IfOk result
-        (λ past. length past.versions ≤ length snapshot.now + length events.now) }
-    ensures few_removals { IfOk result (λ past. length past.removals ≤ length events.now) }
+    ensures few_found { IfOk result (AreFew snapshot.now events.now) }
 {
     let timed = timed_of(alloc, start, events)?;
     let clouds = hidden_of(alloc, start, snapshot, events, &timed)?;

@@ -1,4 +1,4 @@
-ghost use Rattle.std.specs.Prelude.{◌≡◌, ◌↔◌, ◌||◌, IfOk, IsTrue, is_some, option_map};
+ghost use Rattle.std.specs.Prelude.{◌≡◌, ◌↔◌, ◌||◌, true, IfOk, IsTrue, is_some, option_map};
 ghost use Rattle.history_model.specs.Histories.{History};
 ghost use Rattle.history_model.specs.Making.{IsUsedUid, IsLeastFault};
 ghost use Rattle.write_groups.specs.Modelled.{HasTimes};
@@ -113,6 +113,36 @@ fn clear_fault<B: Bodies>(
 }
 
 /// The least fault by which a write could not have made its revision, `before` being the object that was there before
+/// it; None where it could. `is_used` tells of a write that created its object whether an earlier version has the uid;
+/// of others it isn't asked.
+pub fn write_fault<B: Bodies>(
+    alloc: Global,
+    windows: &Windows,
+    clouds: &Clouds,
+    bodies: &B,
+    making: Making<'_>,
+    is_used: bool,
+    before: Option<&Version>,
+) -> Result<Option<Reason>, OutOfMemory>
+    ensures { IfOk result (λ found. (h : History) → HasTimes windows.now h
+        → IsJudgedBy clouds.now (B.body bodies.now) h
+        → (making.entry.created ≡ true → IsTrue is_used ↔ IsUsedUid h (making_of making.entry))
+        → IsLeastFault h (making_of making.entry) (option_map (λ v. version_of v.now) before.entry)
+        found) }
+{
+    if is_out_of_reach(windows, making) {
+        return Ok(Some(Reason::U3));
+    }
+    if clouds.clouded(&making.item.key, making.item.revision.get() - 1) {
+        if making.created && is_used {
+            return Ok(Some(Reason::U5));
+        }
+        return Ok(None);
+    }
+    clear_fault(alloc, bodies, making, is_used, before)
+}
+
+/// The least fault by which a write could not have made its revision, `before` being the object that was there before
 /// it; None where it could. `is_used` tells whether an earlier version has the uid.
 pub fn making_fault<B: Bodies>(
     alloc: Global,
@@ -129,16 +159,7 @@ pub fn making_fault<B: Bodies>(
         → IsLeastFault h (making_of making.entry) (option_map (λ v. version_of v.now) before.entry)
         found) }
 {
-    if is_out_of_reach(windows, making) {
-        return Ok(Some(Reason::U3));
-    }
-    if clouds.clouded(&making.item.key, making.item.revision.get() - 1) {
-        if making.created && is_used {
-            return Ok(Some(Reason::U5));
-        }
-        return Ok(None);
-    }
-    clear_fault(alloc, bodies, making, is_used, before)
+    write_fault(alloc, windows, clouds, bodies, making, is_used, before)
 }
 
 // Why a write could not have found its answer and left it as it was.

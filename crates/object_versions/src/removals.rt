@@ -1,13 +1,13 @@
-ghost use Rattle.std.specs.Prelude.{◌≡◌, ◌<◌, IfOk, AllPairs, map, option_and_then, option_map, slice_get};
+ghost use Rattle.std.specs.Prelude.{◌≡◌, IfOk, map, option_and_then, option_map, slice_get};
 ghost use Rattle.std.specs.List.Sorted.{IsPermutation};
 ghost use Rattle.history_model.specs.Histories.{History};
 ghost use Rattle.history_model.specs.Incarnations.{AreRemovals};
 ghost use Rattle.object_past.specs.Modelled.{recorded};
 ghost use Rattle.object_versions.specs.Ended.{AreFound, IsFoundAfter};
 ghost use Rattle.object_versions.specs.Following.{AreBefore, AreNexts};
-ghost use Rattle.object_versions.specs.Growing.{AreFlagged, AreLinked};
 ghost use Rattle.object_past.specs.Modelled.{version_of};
 ghost use Rattle.object_versions.specs.Surrounded.{HasLog};
+ghost use Rattle.object_versions.specs.Traced.{AreTraced};
 
 use crate::owner::{Owner, owned};
 use crate::removal::range_behind;
@@ -85,9 +85,7 @@ fn find_removals(
     firsts: &[bool],
     earlier: &[Option<usize>],
 ) -> Result<Vec<Removal>, OutOfMemory>
-    requires rising { AllPairs (λ a b. a.revision < b.revision) versions.now }
-    requires firsts { AreFlagged versions.now firsts.now }
-    requires earlier { AreLinked versions.now earlier.now }
+    requires traced { AreTraced versions.now firsts.now earlier.now }
     ensures { IfOk result
         (λ removals. (h : History) → HasLog log.entry.windows.now log.entry.events.now
         log.entry.removed.now h
@@ -114,9 +112,7 @@ pub fn removals_of(
     firsts: &[bool],
     earlier: &[Option<usize>],
 ) -> Result<Removals, OutOfMemory>
-    requires rising { AllPairs (λ a b. a.revision < b.revision) versions.now }
-    requires firsts { AreFlagged versions.now firsts.now }
-    requires earlier { AreLinked versions.now earlier.now }
+    requires traced { AreTraced versions.now firsts.now earlier.now }
     ensures { IfOk result
         (λ removals. (h : History) → HasLog log.entry.windows.now log.entry.events.now
         log.entry.removed.now h

@@ -1,6 +1,7 @@
-ghost use Rattle.std.specs.Prelude.{◌≡◌, ◌≢◌, ◌<◌, ◌++◌, ◌∷◌, [], ℕ, List, IfOk, IsSome, All, AllPairs, Some};
-ghost use Rattle.std.specs.Prelude.{length, map, option_map};
+ghost use Rattle.std.specs.Prelude.{◌≡◌, ◌≢◌, ◌<◌, ◌++◌, ◌∷◌, ◌↔◌, [], ℕ, List, IfOk, IsSome, IsTrue, All, AllPairs, Any, Some};
+ghost use Rattle.std.specs.Prelude.{length, map, option_map, true};
 ghost use Rattle.std.specs.List.Sorted.{IsPermutation};
+ghost use Rattle.base_types.specs.declared.key.ObjectKey.{ObjectKey};
 ghost use Rattle.history_model.specs.Histories.{History};
 ghost use Rattle.history_model.specs.Makers.{AreVersions, IsMadeVersion};
 ghost use Rattle.history_model.specs.Making.{IsEntryBefore};
@@ -10,7 +11,9 @@ ghost use Rattle.write_groups.specs.Modelled.{item_of};
 ghost use Rattle.object_past.specs.Modelled.{version_of};
 ghost use Rattle.object_past.specs.declared.version.Version.{Version};
 ghost use Rattle.object_versions.specs.Chosen.{first_write, shown_by};
-ghost use Rattle.object_versions.specs.Growing.{AreFlagged, AreLinked, IsLatestIn};
+ghost use Rattle.object_versions.specs.Behind.{AreGroupsBehind};
+ghost use Rattle.object_versions.specs.Growing.{IsLatestIn};
+ghost use Rattle.object_versions.specs.Traced.{AreTraced};
 ghost use Rattle.object_versions.specs.declared.maker.Judged.{Judged as Writing};
 ghost use Rattle.object_versions.specs.Hidden.{slots_of};
 ghost use Rattle.object_versions.specs.Modelled.{making_of};
@@ -22,7 +25,7 @@ ghost use Rattle.object_versions.specs.Written.{IsSnapshot};
 use crate::bodies::Bodies;
 use crate::grown::{Grown, Latest};
 use crate::maker::{Judged, maker_among, shown_by};
-use crate::making::{Making, making_at, making_fault};
+use crate::making::{Making, making_at, write_fault};
 use crate::owner::{Owner, owned};
 use crate::removal::range_behind;
 use crate::removed::Removed;
@@ -86,25 +89,34 @@ fn entry_before<'a>(
     Some(latest.version)
 }
 
-// Why a write could not have made its revision behind these versions.
+// Whether a write that created its object gave it a uid that a version has; of others it isn't looked up.
+fn is_reused(grown: &Grown, making: Making<'_>) -> bool
+    ensures { making.entry.created ≡ true
+        → IsTrue result ↔ Any (λ v. v.uid ≡ making.entry.item.now.uid) grown.now }
+{
+    making.created && grown.is_used(&making.item.uid)
+}
+
+// Why a write could not have made its revision behind these versions, of which `latest` is its key's latest.
 fn judge<B: Bodies>(
     alloc: Global,
     log: Log<'_>,
     bodies: &B,
     grown: &Grown,
+    latest: Option<Latest<'_>>,
     making: Making<'_>,
 ) -> Result<Judged, OutOfMemory>
     ensures number { IfOk result (λ judged. judged.number ≡ making.entry.number) }
     ensures judged { IfOk result (λ judged. (h : History) → IsOfLog log.entry (B.body bodies.now) h
         → Extends h grown.now making.entry.item.now.revision
+        → IsLatestIn grown.now making.entry.item.now.key latest.entry
         → IsJudgement h (making_of making.entry) judged) }
 {
-    let item = making.item;
-    let before = entry_before(log, grown.latest(&item.key), making);
-    let is_used = grown.is_used(&item.uid);
+    let before = entry_before(log, latest, making);
+    let is_used = is_reused(grown, making);
     Ok(Judged {
         number: making.number,
-        making: making_fault(
+        making: write_fault(
             alloc,
             log.windows,
             log.clouds,
@@ -116,24 +128,27 @@ fn judge<B: Bodies>(
     })
 }
 
+// Judges the writes of one key and revision, whose key's latest version is looked up once for all.
 fn judge_each<B: Bodies>(
     alloc: Global,
     log: Log<'_>,
     bodies: &B,
     grown: &Grown,
+    latest: Option<Latest<'_>>,
     members: &[u32],
 ) -> Result<Vec<Judged>, OutOfMemory>
     requires writes { AreWrites log.events.now members.now }
     ensures numbers { IfOk result (λ judged. map (λ one. one.number) judged.items ≡ members.now) }
-    ensures judged { IfOk result (λ judged. (h : History) (revision : ℕ)
+    ensures judged { IfOk result (λ judged. (h : History) (key : ObjectKey) (revision : ℕ)
         → IsOfLog log.entry (B.body bodies.now) h → Extends h grown.now revision
-        → All (IsAnsweredAt log.entry.events.now revision) members.now
+        → IsLatestIn grown.now key latest.entry
+        → All (IsAnsweredAt log.entry.events.now key revision) members.now
         → AreJudged h log.entry.events.now members.now judged.items) }
 {
     let mut judged = Vec::with_capacity(alloc, members.len())?;
     for number in members {
         let making = write_at(log.events, *number);
-        judged.push(judge(alloc, log, bodies, grown, making)?)?;
+        judged.push(judge(alloc, log, bodies, grown, latest, making)?)?;
     }
     Ok(judged)
 }
@@ -202,12 +217,12 @@ fn by_revision(alloc: Global, snapshot: &[Item]) -> Result<Vec<&Item>, OutOfMemo
     Ok(order)
 }
 
-// The versions that were there at the start.
-fn begin(alloc: Global, order: &[&Item], seed: Seed) -> Result<Grown, OutOfMemory>
+// The versions that were there at the start, with room for so many in all.
+fn begin(alloc: Global, order: &[&Item], room: usize, seed: Seed) -> Result<Grown, OutOfMemory>
     requires { AllPairs (λ a b. a.now.revision < b.now.revision) order.now }
     ensures { IfOk result (λ grown. grown ≡ map (λ item. snapshot_version item.now) order.now) }
 {
-    let mut grown = Grown::new(alloc, seed);
+    let mut grown = Grown::new(alloc, room, seed)?;
     for item in order {
         grown = grown.with(snapshot_version(item)?)?;
     }
@@ -241,12 +256,14 @@ fn add_group<B: Bodies>(
         × (map (λ one. one.number) more ≡ group.now.members)
         × ((h : History) → IsOfLog log.entry (B.body bodies.now) h
         → Extends h grown group.now.revision
-        → All (IsAnsweredAt log.entry.events.now group.now.revision) group.now.members
+        → All (IsAnsweredAt log.entry.events.now group.now.key group.now.revision) group.now.members
         → AreJudged h log.entry.events.now group.now.members more)
         × ((h : History) → IsOfGroup log.entry (B.body bodies.now) group.now more h
         → IsMadeVersion h (version_of version))) }
 {
-    let mut members = judge_each(alloc, log, bodies, &grown, group.members.as_slice())?;
+    let latest = grown.latest(&group.key);
+    let numbers = group.members.as_slice();
+    let mut members = judge_each(alloc, log, bodies, &grown, latest, numbers)?;
     let version = version_in(alloc, log, bodies, group, &members)?;
     let grown = grown.with(version)?;
     judged.append(&mut members)?;
@@ -264,11 +281,9 @@ pub fn write_versions<B: Bodies>(
     seed: Seed,
 ) -> Result<Written, OutOfMemory>
     requires snapshot { IsSnapshot start snapshot.now }
-    requires rising { AllPairs (λ a b. a.revision < b.revision) groups.now }
-    requires above { All (λ group. start < group.revision) groups.now }
-    requires members { All (λ group. AreWrites log.events.now group.members) groups.now }
-    ensures rising { IfOk result
-        (λ written. AllPairs (λ a b. a.revision < b.revision) written.versions) }
+    requires groups { AreGroupsBehind start log.events.now groups.now }
+    ensures traced { IfOk result (λ written. AreTraced written.versions written.firsts.items
+        written.earlier.items) }
     ensures slots { IfOk result
         (λ written. AreSlots (slots_of snapshot.now groups.now) written.versions) }
     ensures versions { IfOk result
@@ -276,8 +291,6 @@ pub fn write_versions<B: Bodies>(
         → AreGroupsOf h groups.now → h.start ≡ start
         → h.snapshot ≡ map item_of snapshot.now → h.versions ≡ map version_of written.versions
         → AreVersions h) }
-    ensures firsts { IfOk result (λ written. AreFlagged written.versions written.firsts.items) }
-    ensures earlier { IfOk result (λ written. AreLinked written.versions written.earlier.items) }
     ensures judged { IfOk result (λ written. (h : History) → IsOfLog log.entry (B.body bodies.now) h
         → AreGroupsOf h groups.now → h.start ≡ start
         → h.versions ≡ map version_of written.versions
@@ -285,8 +298,9 @@ pub fn write_versions<B: Bodies>(
         written.judged.items) }
 {
     let order = by_revision(alloc, snapshot)?;
-    let mut grown = begin(alloc, &order, seed)?;
-    let mut judged = Vec::new(alloc);
+    let room = snapshot.len() + groups.len();
+    let mut grown = begin(alloc, &order, room, seed)?;
+    let mut judged = Vec::with_capacity(alloc, groups.len())?;
     for group in groups {
         grown = add_group(alloc, log, bodies, grown, &mut judged, group)?;
     }

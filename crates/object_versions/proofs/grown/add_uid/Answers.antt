@@ -1,10 +1,7 @@
-use Rattle.std.proofs.Common.{bytes_eq, true, sym, ◌∙◌, subst}
+use Rattle.std.proofs.Common.{bytes_eq, true, subst}
 use Rattle.std.specs.HashSet as set
-use Rattle.object_versions.proofs.Keeping.{uid_added, uid_there}
+use Rattle.object_versions.proofs.Keeping.{uid_added}
 use Rattle.object_versions.proofs.grown.add_uid.Goals as goal
-
-pub returns-then-contains : goal.returns-then-contains
-returns-then-contains c = uid_there c.args.uids.now c.args.uid.now (sym c.contains.ensures ∙ c.if-contains.true)
 
 pub returns : goal.returns
 returns c = uid_added c.args.uids.now c.insert.new.self c.args.uid.now

@@ -1,19 +1,27 @@
-use Rattle.std.proofs.Common.{◌<◌, AllPairs, map, sym, ap, ◌∙◌, subst}
+use Rattle.std.proofs.Common.{map, sym, ap, ◌∙◌, subst}
 use Rattle.object_past.specs.Modelled.{version_of}
-use Rattle.object_past.specs.declared.version.Version.{Version}
 use Rattle.write_groups.specs.Members.{AreGroupsOf}
-use Rattle.write_groups.specs.declared.groups.Group.{Group}
+use Rattle.object_versions.specs.Behind.{AreGroupsBehind}
 use Rattle.object_versions.specs.Hidden.{slots_of}
 use Rattle.object_versions.specs.Removals.{AreFirstRemovals}
 use Rattle.object_versions.specs.Surrounded.{HasLog}
+use Rattle.object_versions.specs.Traced.{AreTraced}
 use Rattle.object_versions.specs.Written.{AreAllJudged, AreSlots}
 use Rattle.object_versions.proofs.log_past.ended_of.Goals as goal
 
-pub write_versions-requires-clause-rising : goal.write_versions-requires-clause-rising
-write_versions-requires-clause-rising g c = subst (AllPairs (λ (a b : Group). a.revision < b.revision)) (sym c.as_slice-groups.ensures) c.requires.rising
+pub write_versions-requires-clause-groups : goal.write_versions-requires-clause-groups
+write_versions-requires-clause-groups g c = subst (AreGroupsBehind c.args.start c.args.events.now) (sym c.as_slice-groups.ensures) c.requires.groups
 
-pub removals_of-requires-clause-rising : goal.removals_of-requires-clause-rising
-removals_of-requires-clause-rising g c = subst (AllPairs (λ (a b : Version). a.revision < b.revision)) (sym c.as_slice.ensures) c.in_ok-written.ensures.rising
+pub removals_of-requires : goal.removals_of-requires
+removals_of-requires g c =
+    let written = c.in_ok-written.written in
+    let firsts = c.deref-2.result.now in
+    let earlier = c.deref-3.result.now in
+    record {
+      traced = subst (λ l. AreTraced l firsts earlier) (sym c.as_slice.ensures)
+          (subst (λ l. AreTraced written.versions l earlier) (sym c.deref-2.ensures.value)
+          (subst (AreTraced written.versions written.firsts.items) (sym c.deref-3.ensures.value) c.in_ok-written.ensures.traced));
+    }
 
 pub returns-clause-slots : goal.returns-clause-slots
 returns-clause-slots g c = subst (λ l. AreSlots (slots_of c.args.snapshot.now l) c.in_ok-written.written.versions) c.as_slice-groups.ensures c.in_ok-written.ensures.slots

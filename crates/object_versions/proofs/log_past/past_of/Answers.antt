@@ -26,8 +26,10 @@ returns-clause-past g c =
     let ended = c.in_ok-ended.ensures.ended h times found.all found.order timed.0 judged timed.1 found.begins found.listed found.versions found.removals in
     record { order = timed.0; spans = timed.2; clouds = clouds; groups = timed.1; versions = ended.0; judged = ended.1; removals = ended.2 })
 
-pub returns-clause-few_versions : goal.returns-clause-few_versions
-returns-clause-few_versions g c = few_versions c.args.start c.args.snapshot.now c.args.events.now (g.B.Bodies.body c.args.bodies.now) c.joined.result (returns-clause-past g c)
-
-pub returns-clause-few_removals : goal.returns-clause-few_removals
-returns-clause-few_removals g c = few_removals c.args.start c.args.snapshot.now c.args.events.now (g.B.Bodies.body c.args.bodies.now) c.joined.result (returns-clause-past g c)
+pub returns-clause-few_found : goal.returns-clause-few_found
+returns-clause-few_found g c =
+    let body = g.B.Bodies.body c.args.bodies.now in
+    let right = returns-clause-past g c in record {
+      versions = few_versions c.args.start c.args.snapshot.now c.args.events.now body c.joined.result right;
+      removals = few_removals c.args.start c.args.snapshot.now c.args.events.now body c.joined.result right;
+    }

@@ -5,7 +5,7 @@ use Rattle.object_versions.specs.Ended.{IsFoundAfter}
 use Rattle.object_versions.proofs.removals.find_removals.Goals as goal
 
 pub nexts_of-requires : goal.nexts_of-requires
-nexts_of-requires c = linked_before c.args.versions.now c.args.earlier.now c.requires.earlier
+nexts_of-requires c = linked_before c.args.versions.now c.args.earlier.now c.requires.traced.linked
 
 pub loop-i-preserved-in-Continue-branch-4 : goal.loop-i-preserved-in-Continue-branch-4
 loop-i-preserved-in-Continue-branch-4 c =
@@ -17,14 +17,14 @@ loop-i-preserved-in-Continue-branch-4 c =
     let at : slice_get versions i ≡ Some c.index-versions-i.result =
     slice_get-get_or versions i c.index-versions-i.result within ∙ ap Some (sym c.index-versions-i.is) in
     let more : i + 1 ≡ c.loop-i.i = omega (arith, c.loop-i-test.true) in
-    let flag = slice_get-get_or firsts i false (let long = c.requires.firsts.all in omega (arith, long, within)) in
+    let flag = slice_get-get_or firsts i false (let long = c.requires.traced.flagged.all in omega (arith, long, within)) in
     let found = c.index.result.now in
-    let next = slice_get-get_or nexts i found (let long = c.requires.earlier.all in let all = c.in_ok-nexts.ensures.all in omega (arith, all, long, within)) ∙ ap Some (sym c.index.ensures) in
+    let next = slice_get-get_or nexts i found (let long = c.requires.traced.linked.all in let all = c.in_ok-nexts.ensures.all in omega (arith, all, long, within)) ∙ ap Some (sym c.index.ensures) in
     let done = subst (λ n. AreFoundBehind c.args.log.windows.now c.args.log.events.now c.args.log.removed.now versions n c.loop-i.removals.items) (sym more) c.loop-i.invariant in
     subst (AreFoundBehind c.args.log.windows.now c.args.log.events.now c.args.log.removed.now versions i) (sym c.in_ok-push.ensures.items)
     (found_behind c.args.log.windows.now c.args.log.events.now c.args.log.removed.now versions firsts c.args.earlier.now nexts i c.index-versions-i.result (get_or firsts i false) found
     (option_map (λ v. v.now) c.version_at-after.result) c.loop-i.removals.items (Some c.in-Some.removal)
-    c.requires.rising c.requires.firsts c.requires.earlier c.in_ok-nexts.ensures at flag next c.version_at-after.ensures
+    c.requires.traced.rising c.requires.traced.flagged c.requires.traced.linked c.in_ok-nexts.ensures at flag next c.version_at-after.ensures
     (subst (IsFoundAfter c.args.log.windows.now c.args.log.events.now c.args.log.removed.now c.index-versions-i.result (get_or firsts i false) (option_map (λ v. v.now) c.version_at-after.result)) c.in-Some.is c.in_ok-removal.ensures) done)
 
 pub loop-i-preserved : goal.loop-i-preserved
@@ -37,13 +37,13 @@ loop-i-preserved c =
     let at : slice_get versions i ≡ Some c.index-versions-i.result =
     slice_get-get_or versions i c.index-versions-i.result within ∙ ap Some (sym c.index-versions-i.is) in
     let more : i + 1 ≡ c.loop-i.i = omega (arith, c.loop-i-test.true) in
-    let flag = slice_get-get_or firsts i false (let long = c.requires.firsts.all in omega (arith, long, within)) in
+    let flag = slice_get-get_or firsts i false (let long = c.requires.traced.flagged.all in omega (arith, long, within)) in
     let found = c.index.result.now in
-    let next = slice_get-get_or nexts i found (let long = c.requires.earlier.all in let all = c.in_ok-nexts.ensures.all in omega (arith, all, long, within)) ∙ ap Some (sym c.index.ensures) in
+    let next = slice_get-get_or nexts i found (let long = c.requires.traced.linked.all in let all = c.in_ok-nexts.ensures.all in omega (arith, all, long, within)) ∙ ap Some (sym c.index.ensures) in
     let done = subst (λ n. AreFoundBehind c.args.log.windows.now c.args.log.events.now c.args.log.removed.now versions n c.loop-i.removals.items) (sym more) c.loop-i.invariant in
     found_behind c.args.log.windows.now c.args.log.events.now c.args.log.removed.now versions firsts c.args.earlier.now nexts i c.index-versions-i.result (get_or firsts i false) found
     (option_map (λ v. v.now) c.version_at-after.result) c.loop-i.removals.items None
-    c.requires.rising c.requires.firsts c.requires.earlier c.in_ok-nexts.ensures at flag next c.version_at-after.ensures
+    c.requires.traced.rising c.requires.traced.flagged c.requires.traced.linked c.in_ok-nexts.ensures at flag next c.version_at-after.ensures
     (subst (IsFoundAfter c.args.log.windows.now c.args.log.events.now c.args.log.removed.now c.index-versions-i.result (get_or firsts i false) (option_map (λ v. v.now) c.version_at-after.result)) c.in_default.is c.in_ok-removal.ensures) done
 
 pub returns : goal.returns

@@ -19,8 +19,8 @@ returns g c =
       c.in_ok-append.ensures.items,
       c.in_ok-version.ensures.key,
       c.in_ok-version.ensures.revision,
-      c.in_ok-members.ensures.numbers ∙ c.as_slice.ensures,
-      (λ h of further answered. subst (λ l. AreJudged h events l more) c.as_slice.ensures
-          (c.in_ok-members.ensures.judged h group.revision of further (subst (All (IsAnsweredAt events group.revision)) (sym c.as_slice.ensures) answered))),
+      c.in_ok-members.ensures.numbers ∙ c.as_slice-numbers.ensures,
+      (λ h of further answered. subst (λ l. AreJudged h events l more) c.as_slice-numbers.ensures
+          (c.in_ok-members.ensures.judged h group.key group.revision of further c.latest-latest.ensures.latest (subst (All (IsAnsweredAt events group.key group.revision)) (sym c.as_slice-numbers.ensures) answered))),
       (λ h of. c.in_ok-version.ensures.made h (subst (λ (l : List Judged). IsOfGroup c.args.log (g.B.Bodies.body c.args.bodies.now) group l h) (sym c.deref.ensures.value) of)),
     )

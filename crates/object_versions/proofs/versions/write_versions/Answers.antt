@@ -7,6 +7,7 @@ use Rattle.object_past.specs.Modelled.{version_of}
 use Rattle.object_past.specs.declared.version.Version.{Version}
 use Rattle.object_versions.proofs.Growth.{AreGrown, grown_slots}
 use Rattle.object_versions.proofs.Writing.{AreWritten, GoesOn, answered, are_versions, before_group, begun_grown, begun_written, extends, goes_on_before, goes_on_to, grown_with, written_more}
+use Rattle.object_versions.specs.Growing.{AreFlagged, AreLinked}
 use Rattle.object_versions.specs.Written.{snapshot_version, AreAllJudged, AreJudged, IsSnapshot}
 use Rattle.object_versions.proofs.versions.write_versions.Goals as goal
 
@@ -14,7 +15,7 @@ pub loop-group-init : goal.loop-group-init
 loop-group-init g c = (
   begun_grown c.in_ok-order.order.items c.in_ok-grown.grown begun,
   λ h of grouped start on.
-      subst (AreWritten h c.args.log.events.now (map snapshot_version (map (λ item. item.now) c.in_ok-order.order.items)) [] c.in_ok-grown.grown) (sym c.new-judged.ensures.items)
+      subst (AreWritten h c.args.log.events.now (map snapshot_version (map (λ item. item.now) c.in_ok-order.order.items)) [] c.in_ok-grown.grown) (sym c.in_ok-judged.ensures.items)
       (begun_written h c.args.log.events.now c.in_ok-order.order.items c.in_ok-grown.grown begun),
 )
   where
@@ -24,7 +25,7 @@ loop-group-init g c = (
 pub add_group-requires-clause-above : goal.add_group-requires-clause-above
 add_group-requires-clause-above g c =
     before_group c.args.start c.args.snapshot.now (map (λ item. item.now) c.in_ok-order.order.items) c.args.groups.now c.loop-group.group-index c.group-item.result c.loop-group.grown c.requires.snapshot
-    c.in_ok-order.ensures.same c.requires.rising c.requires.above c.loop-group-test.true (sym c.group-item.is) c.loop-group.invariant.0
+    c.in_ok-order.ensures.same c.requires.groups.rising c.requires.groups.above c.loop-group-test.true (sym c.group-item.is) c.loop-group.invariant.0
 
 pub loop-group-preserved : goal.loop-group-preserved
 loop-group-preserved g c =
@@ -44,7 +45,7 @@ loop-group-preserved g c =
           let on_v : GoesOn h (c.loop-group.grown ++ version ∷ []) = subst (GoesOn h) pushed on in
           let is_group : IsGroupOf h group = all_at (IsGroupOf h) c.args.groups.now group grouped.sound (i, within, sym c.group-item.is) in
           let below = before_group c.args.start c.args.snapshot.now items c.args.groups.now i group c.loop-group.grown c.requires.snapshot c.in_ok-order.ensures.same
-          c.requires.rising c.requires.above within (sym c.group-item.is) c.loop-group.invariant.0 in
+          c.requires.groups.rising c.requires.groups.above within (sym c.group-item.is) c.loop-group.invariant.0 in
           let further = extends h c.loop-group.grown version group.revision on_v added.5 (let above = is_group.above in omega (arith, above)) below in
           let zipped : AreJudged h events group.members more = added.7 h of further (answered h events group of.surroundings.all is_group) in
           let made = added.8 h (record { all = of.surroundings.all; clouds = of.judged.clouds; bodies = of.judged.bodies; grouped = is_group; members = zipped }) in
@@ -55,8 +56,14 @@ loop-group-preserved g c =
           added.6))),
     )
 
-pub returns-clause-rising : goal.returns-clause-rising
-returns-clause-rising g c = subst (AllPairs (λ (a b : Version). a.revision < b.revision)) (sym c.into_parts-versions.ensures.versions) c.into_parts-versions.ensures.rising
+pub returns-clause-traced : goal.returns-clause-traced
+returns-clause-traced g c =
+    let parts = c.into_parts-versions.result in
+    let is = sym c.into_parts-versions.ensures.versions in record {
+      rising = subst (AllPairs (λ (a b : Version). a.revision < b.revision)) is c.into_parts-versions.ensures.rising;
+      flagged = subst (λ l. AreFlagged l parts.1.items) is c.into_parts-versions.ensures.firsts;
+      linked = subst (λ l. AreLinked l parts.2.items) is c.into_parts-versions.ensures.earlier;
+    }
 
 pub returns-clause-slots : goal.returns-clause-slots
 returns-clause-slots g c =

@@ -65,7 +65,7 @@ parts_of-requires-clause-ends g c =
 pub parts_of-requires-clause-few_versions : goal.parts_of-requires-clause-few_versions
 parts_of-requires-clause-few_versions g c =
     let room = few_in_log c.args.setup.now c.args.events.now c.args.pool.now.trees c.args.log.now c.requires.log c.requires.few in
-    let bound = c.in_ok-found.ensures.few_versions in
+    let bound = c.in_ok-found.ensures.few_found.versions in
     let items = ap (λ (l : List Item). length l) c.as_slice-snapshot.ensures in
     let logged = ap (λ (l : List LogEvent). length l) c.as_slice-logged.ensures in
     omega (arith, room, bound, items, logged)
@@ -73,7 +73,7 @@ parts_of-requires-clause-few_versions g c =
 pub parts_of-requires-clause-few_removals : goal.parts_of-requires-clause-few_removals
 parts_of-requires-clause-few_removals g c =
     let room = few_logged c.args.setup.now c.args.events.now c.args.pool.now.trees c.args.log.now c.requires.log c.requires.few in
-    let bound = c.in_ok-found.ensures.few_removals in
+    let bound = c.in_ok-found.ensures.few_found.removals in
     let logged = ap (λ (l : List LogEvent). length l) c.as_slice-logged.ensures in
     omega (arith, room, bound, logged)
 
