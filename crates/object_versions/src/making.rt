@@ -115,7 +115,7 @@ fn clear_fault<B: Bodies>(
 /// The least fault by which a write could not have made its revision, `before` being the object that was there before
 /// it; None where it could. `is_used` tells of a write that created its object whether an earlier version has the uid;
 /// of others it isn't asked.
-pub fn write_fault<B: Bodies>(
+pub fn making_fault<B: Bodies>(
     alloc: Global,
     windows: &Windows,
     clouds: &Clouds,
@@ -140,26 +140,6 @@ pub fn write_fault<B: Bodies>(
         return Ok(None);
     }
     clear_fault(alloc, bodies, making, is_used, before)
-}
-
-/// The least fault by which a write could not have made its revision, `before` being the object that was there before
-/// it; None where it could. `is_used` tells whether an earlier version has the uid.
-pub fn making_fault<B: Bodies>(
-    alloc: Global,
-    windows: &Windows,
-    clouds: &Clouds,
-    bodies: &B,
-    making: Making<'_>,
-    is_used: bool,
-    before: Option<&Version>,
-) -> Result<Option<Reason>, OutOfMemory>
-    ensures { IfOk result (λ found. (h : History) → HasTimes windows.now h
-        → IsJudgedBy clouds.now (B.body bodies.now) h
-        → (IsTrue is_used ↔ IsUsedUid h (making_of making.entry))
-        → IsLeastFault h (making_of making.entry) (option_map (λ v. version_of v.now) before.entry)
-        found) }
-{
-    write_fault(alloc, windows, clouds, bodies, making, is_used, before)
 }
 
 // Why a write could not have found its answer and left it as it was.

@@ -25,7 +25,7 @@ ghost use Rattle.object_versions.specs.Written.{IsSnapshot};
 use crate::bodies::Bodies;
 use crate::grown::{Grown, Latest};
 use crate::maker::{Judged, maker_among, shown_by};
-use crate::making::{Making, making_at, write_fault};
+use crate::making::{Making, making_at, making_fault};
 use crate::owner::{Owner, owned};
 use crate::removal::range_behind;
 use crate::removed::Removed;
@@ -116,7 +116,7 @@ fn judge<B: Bodies>(
     let is_used = is_reused(grown, making);
     Ok(Judged {
         number: making.number,
-        making: write_fault(
+        making: making_fault(
             alloc,
             log.windows,
             log.clouds,

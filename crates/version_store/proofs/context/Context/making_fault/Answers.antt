@@ -33,7 +33,7 @@ returns-clause-write c =
     let at : Some making ≡ making_at log c.args.event = sym (ap (λ r. option_map making_of r) c.in-Some.is) ∙ c.making_at.ensures in
     IfOk-weaker c.making_fault.result _ _
     (λ fault holds m is same. subst (λ (x : model.Making). IsLeastFault h x (option_map (λ v. version_of v.now) c.args.before) fault) (making_same h log all c.args.event m making is same at)
-    (holds h times (record { clouds = clouds; bodies = bodies }) (λ yes. used.0 (below.0 (sym c.is_used-is_used.ensures ∙ yes)), λ uses. c.is_used-is_used.ensures ∙ below.1 (used.1 uses))))
+    (holds h times (record { clouds = clouds; bodies = bodies }) (λ created. (λ yes. used.0 (below.0 (sym c.is_used-is_used.ensures ∙ yes)), λ uses. c.is_used-is_used.ensures ∙ below.1 (used.1 uses)))))
     c.making_fault.ensures
 
 pub returns-clause-other : goal.returns-clause-other
