@@ -23,6 +23,7 @@ pub mod Choosing
 pub mod Membering
 pub mod Ranging
 pub mod OneHistory
+pub mod PartsSharing
 pub mod Telling
 pub mod TimelineLemmas
 pub mod Using

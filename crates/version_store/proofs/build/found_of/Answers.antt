@@ -78,14 +78,14 @@ parts_of-requires-clause-few_removals g c =
     omega (arith, room, bound, logged)
 
 pub told_of-requires-clause-start : goal.told_of-requires-clause-start
-told_of-requires-clause-start g c = sym (ap (λ (past : LogPast). past.windows.start) (sym c.in_ok-parts.ensures.same) ∙ c.in_ok-found.ensures.start)
+told_of-requires-clause-start g c κs _ = sym (ap (λ (past : LogPast). past.windows.start) (sym c.in_ok-parts.ensures.same) ∙ c.in_ok-found.ensures.start)
 
 pub told_of-requires-clause-few : goal.told_of-requires-clause-few
-told_of-requires-clause-few g c = subst (λ (l : List LogEvent). length l < 2 ^ 32) (sym c.as_slice-logged.ensures)
+told_of-requires-clause-few g c κs _ = subst (λ (l : List LogEvent). length l < 2 ^ 32) (sym c.as_slice-logged.ensures)
     (few_logged c.args.setup.now c.args.events.now c.args.pool.now.trees c.args.log.now c.requires.log c.requires.few)
 
 pub told_of-requires-clause-nodes : goal.told_of-requires-clause-nodes
-told_of-requires-clause-nodes g c =
+told_of-requires-clause-nodes g c κs _ =
     let setup = c.args.setup.now in
     let events = c.args.events.now in
     let trees = c.args.pool.now.trees in
