@@ -9,6 +9,7 @@ pub mod ReadingLemmas
 pub mod SelectorLemmas
 pub mod ShownLemmas
 pub mod Ranked
+pub mod Assembling
 pub mod Batches
 pub mod Blaming
 pub mod Coding
@@ -22,6 +23,7 @@ pub mod Remade
 pub mod Choosing
 pub mod Membering
 pub mod Ranging
+pub mod Foreseeing
 pub mod OneHistory
 pub mod PartsSharing
 pub mod Telling

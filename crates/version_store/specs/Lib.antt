@@ -1,6 +1,9 @@
+pub mod AllLogged
 pub mod Answered
+pub mod Building
 pub mod Classified
 pub mod Contexts
+pub mod Foreseen
 pub mod Gathering
 pub mod Given
 pub mod Histories

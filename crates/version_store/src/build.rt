@@ -2,6 +2,7 @@ ghost use Rattle.std.specs.Prelude.{◌≡◌, ◌<◌, ◌≤◌, ◌+◌, ◌^
 ghost use Rattle.audit_event.specs.Events.{IsSound as IsSoundEvent};
 ghost use Rattle.object_past.specs.Past.{AreEnds};
 ghost use Rattle.setup_file.specs.Sound.{IsSound};
+ghost use Rattle.version_store.specs.Building.{IsBuildable};
 ghost use Rattle.version_store.specs.Gathering.{AreFaultsFor, IsFound, past_with};
 ghost use Rattle.version_store.specs.Log.{AreLines, IsLogOf, RiseByLine};
 ghost use Rattle.version_store.specs.LogTrees.{pooled};
@@ -215,11 +216,7 @@ fn found_of<R: Threads + Sync>(
     log: &Log,
     seed: Seed,
 ) -> Result<Found, OutOfMemory>
-    requires setup { IsSound setup.now }
-    requires events { All IsSoundEvent events.now }
-    requires lines { AreLines events.now }
-    requires few { length setup.now.snapshot + length events.now + length setup.now.checkpoints
-        < 2 ^ 32 }
+    requires buildable { IsBuildable setup.now events.now }
     requires trees { pool.now.trees ≡ pooled setup.now events.now }
     requires log { IsLogOf setup.now events.now pool.now.trees log.now }
     requires rising { RiseByLine log.now.events }
@@ -252,11 +249,7 @@ fn gather<R: Threads + Sync>(
     limit: u32,
     seed: Seed,
 ) -> Result<Gathered, BuildFault>
-    requires setup { IsSound setup.now }
-    requires events { All IsSoundEvent events.now }
-    requires lines { AreLines events.now }
-    requires few { length setup.now.snapshot + length events.now + length setup.now.checkpoints
-        < 2 ^ 32 }
+    requires { IsBuildable setup.now events.now }
     ensures found { IfOk result (λ gathered. IsFound setup.now events.now gathered.pool.trees
         gathered.log gathered.found) }
     ensures full { result ≡ Err BuildFault.PoolFull → limit < length (pooled setup.now events.now) }

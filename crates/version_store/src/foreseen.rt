@@ -1,7 +1,6 @@
-ghost use Rattle.std.specs.Prelude.{◌≡◌, ◌<◌, ◌≤◌, ◌+◌, ◌^◌, length, All, AllPairs, IfOk};
-ghost use Rattle.history_model.specs.Histories.{History};
-ghost use Rattle.object_versions.specs.Found.{HasFound, IsPastOf};
+ghost use Rattle.std.specs.Prelude.{◌<◌, ◌^◌, length, All, AllPairs, IfOk};
 ghost use Rattle.object_versions.specs.Written.{IsSnapshot};
+ghost use Rattle.version_store.specs.Foreseen.{IsFoundPast};
 ghost use Rattle.version_store.specs.Verdicts.{IsVerdict};
 
 use crate::verdicts::{Verdict, cases_of, right_among, verdicts_of};
@@ -53,12 +52,7 @@ pub fn past_foreseen<R: Threads + Sync, B: Bodies + Sync>(
     requires few { length events.now < 2 ^ 32 }
     requires lines { AllPairs (λ a b. a.line < b.line) events.now }
     requires snapshot { IsSnapshot start snapshot.now }
-    ensures start { IfOk result (λ past. past.windows.start ≡ start) }
-    ensures past { IfOk result (λ past. (h : History) → HasFound start snapshot.now events.now
-        (B.body bodies.now) past h → IsPastOf events.now past h) }
-    ensures few_versions { IfOk result (λ past. length past.versions
-        ≤ length snapshot.now + length events.now) }
-    ensures few_removals { IfOk result (λ past. length past.removals ≤ length events.now) }
+    ensures { IfOk result (IsFoundPast start snapshot.now events.now (B.body bodies.now)) }
 {
     let cases = cases_of(alloc, snapshot, events)?;
     let verdicts = verdicts_of(rt, alloc, bodies, &cases)?;
