@@ -5,8 +5,10 @@ use Rattle.audit_event.specs.declared.event.Event.{Event}
 use Rattle.base_types.specs.Meaning.{Meaning}
 use Rattle.setup_file.specs.Sound.{IsSound}
 use Rattle.setup_file.specs.declared.setup.Setup.{Setup}
+use Rattle.version_store.specs.Known.{Known}
 use Rattle.version_store.specs.Log.{AreLines, IsLogOf, RiseByLine}
 use Rattle.version_store.specs.LogTrees.{pooled}
+use Rattle.version_store.specs.Told.{IsTold}
 use Rattle.version_store.specs.declared.log.Log.{Log}
 
 -- they can be put into the terms of the model of history
@@ -28,3 +30,10 @@ pub record IsPutTogether (setup : Setup) (events : List Event) (kept : List Mean
   pub lines : AreLines events → RiseByLine found.events
   pub trees : kept ≡ pooled setup events
   pub fits : length (pooled setup events) ≤ limit
+
+-- the context was built of them, and their trees are within the limit
+pub record IsBuiltOf (of : Setup) (recorded : List Event) (limit : ℕ) (context : Known) : Type 0 where
+  pub setup : context.setup ≡ of
+  pub events : context.events ≡ recorded
+  pub told : IsTold context
+  pub fits : length (pooled of recorded) ≤ limit

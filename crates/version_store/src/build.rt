@@ -2,7 +2,7 @@ ghost use Rattle.std.specs.Prelude.{◌≡◌, ◌<◌, ◌≤◌, ◌+◌, ◌^
 ghost use Rattle.audit_event.specs.Events.{IsSound as IsSoundEvent};
 ghost use Rattle.object_past.specs.Past.{AreEnds};
 ghost use Rattle.setup_file.specs.Sound.{IsSound};
-ghost use Rattle.version_store.specs.Building.{IsBuildable};
+ghost use Rattle.version_store.specs.Building.{IsBuildable, IsBuiltOf};
 ghost use Rattle.version_store.specs.Gathering.{AreFaultsFor, IsFound, past_with};
 ghost use Rattle.version_store.specs.Log.{AreLines, IsLogOf, RiseByLine};
 ghost use Rattle.version_store.specs.LogTrees.{pooled};
@@ -324,11 +324,8 @@ impl Context {
         requires events { All IsSoundEvent events }
         requires lines { AreLines events }
         requires few { length setup.snapshot + length events + length setup.checkpoints < 2 ^ 32 }
-        ensures setup { IfOk result (λ context. context.setup ≡ setup) }
-        ensures events { IfOk result (λ context. context.events ≡ events) }
-        ensures told { IfOk result IsTold }
+        ensures built { IfOk result (IsBuiltOf setup events 50000000) }
         ensures full { result ≡ Err BuildFault.PoolFull → 50000000 < length (pooled setup events) }
-        ensures fits { IfOk result (λ context. length (pooled setup events) ≤ 50000000) }
     {
         Context::build_within(rt, alloc, setup, events, MOST_NODES, seed)
     }
@@ -346,11 +343,8 @@ impl Context {
         requires events { All IsSoundEvent events }
         requires lines { AreLines events }
         requires few { length setup.snapshot + length events + length setup.checkpoints < 2 ^ 32 }
-        ensures setup { IfOk result (λ context. context.setup ≡ setup) }
-        ensures events { IfOk result (λ context. context.events ≡ events) }
-        ensures told { IfOk result IsTold }
+        ensures built { IfOk result (IsBuiltOf setup events limit) }
         ensures full { result ≡ Err BuildFault.PoolFull → limit < length (pooled setup events) }
-        ensures fits { IfOk result (λ context. length (pooled setup events) ≤ limit) }
     {
         match gather(rt, alloc, &setup, &events, limit, seed) {
             Ok(gathered) => Ok(joined(setup, events, gathered)),

@@ -9,3 +9,6 @@ returns-in-Err-clause-full g c = λ refused. c.gather.ensures.full (c.in-Err.is 
 
 pub gather-requires : goal.gather-requires
 gather-requires g c = (search sendable depth 20, record { setup = c.requires.setup; events = c.requires.events; lines = c.requires.lines; few = c.requires.few })
+
+pub returns-in-Ok-clause-built : goal.returns-in-Ok-clause-built
+returns-in-Ok-clause-built g c = record { setup = c.joined.ensures.setup; events = c.joined.ensures.events; told = c.joined.ensures.told; fits = c.in-Ok.ensures.fits }
