@@ -9,6 +9,7 @@ pub mod ReadingLemmas
 pub mod SelectorLemmas
 pub mod ShownLemmas
 pub mod Ranked
+pub mod Assembling
 pub mod Batches
 pub mod Blaming
 pub mod Coding
@@ -23,6 +24,7 @@ pub mod Choosing
 pub mod Membering
 pub mod Ranging
 pub mod OneHistory
+pub mod PartsSharing
 pub mod Telling
 pub mod TimelineLemmas
 pub mod Using

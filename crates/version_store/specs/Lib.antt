@@ -1,4 +1,6 @@
+pub mod AllLogged
 pub mod Answered
+pub mod Building
 pub mod Classified
 pub mod Contexts
 pub mod Gathering

@@ -2,6 +2,7 @@ ghost use Rattle.std.specs.Prelude.{◌≡◌, ◌<◌, ◌≤◌, ◌+◌, ◌^
 ghost use Rattle.audit_event.specs.Events.{IsSound as IsSoundEvent};
 ghost use Rattle.object_past.specs.Past.{AreEnds};
 ghost use Rattle.setup_file.specs.Sound.{IsSound};
+ghost use Rattle.version_store.specs.Building.{IsBuildable, IsBuiltOf};
 ghost use Rattle.version_store.specs.Gathering.{AreFaultsFor, IsFound, past_with};
 ghost use Rattle.version_store.specs.Log.{AreLines, IsLogOf, RiseByLine};
 ghost use Rattle.version_store.specs.LogTrees.{pooled};
@@ -27,7 +28,7 @@ use rbac_timeline::Timeline;
 use setup_file::Setup;
 use std::alloc::Global;
 use std::marker::Sync;
-use std::thread::Threads;
+use std::thread::{Threads, join};
 use time_windows::Windows;
 use write_groups::Groups;
 
@@ -117,7 +118,65 @@ fn faults_in(
     faults_of(alloc, bodies, start, bodies.log, &parts.past, &makings)
 }
 
-fn told_of(alloc: Global, bodies: &RequestBodies<'_>, parts: &Parts) -> Result<Told, OutOfMemory>
+// The timeline of what is found of the writes.
+fn timeline_in(
+    alloc: Global,
+    bodies: &RequestBodies<'_>,
+    parts: &Parts,
+) -> Result<Timeline, OutOfMemory>
+    requires start { bodies.now.setup.now.start ≡ parts.now.windows.start }
+    requires numbered { length parts.now.past.versions < 2 ^ 32 }
+    requires nodes { All (λ v. v.node.0 < length bodies.now.pool.now.trees)
+        parts.now.past.versions }
+    ensures { IfOk result (IsTimelineOf bodies.now.setup.now bodies.now.pool.now.trees
+        parts.now.past parts.now.windows bodies.now.log.now) }
+{
+    timeline_of(
+        alloc,
+        bodies.setup,
+        &parts.windows,
+        bodies.log,
+        &parts.past,
+        bodies.pool,
+    )
+}
+
+// The uses of uids and the timeline of what is found of the writes, side by side.
+fn uses_and_timeline<R: Threads + Sync>(
+    rt: &R,
+    alloc: Global,
+    bodies: &RequestBodies<'_>,
+    parts: &Parts,
+) -> (Result<Uses, OutOfMemory>, Result<Timeline, OutOfMemory>)
+    requires start { bodies.now.setup.now.start ≡ parts.now.windows.start }
+    requires numbered { length parts.now.past.versions < 2 ^ 32 }
+    requires nodes { All (λ v. v.node.0 < length bodies.now.pool.now.trees)
+        parts.now.past.versions }
+    ensures uses { IfOk result.0 (AreUses parts.now.past.versions) }
+    ensures timeline { IfOk result.1 (IsTimelineOf bodies.now.setup.now bodies.now.pool.now.trees
+        parts.now.past parts.now.windows bodies.now.log.now) }
+{
+    let versions = parts.past.versions();
+    let find_uses = move || -> Result<Uses, OutOfMemory>
+        ensures { IfOk result (AreUses versions.entry.now) }
+    { uses_of(alloc, versions) };
+    let find_timeline = move || -> Result<Timeline, OutOfMemory>
+        requires start { bodies.now.setup.now.start ≡ parts.now.windows.start }
+        requires numbered { length parts.now.past.versions < 2 ^ 32 }
+        requires nodes { All (λ v. v.node.0 < length bodies.now.pool.now.trees)
+            parts.now.past.versions }
+    { timeline_in(alloc, bodies, parts) };
+    join(rt, find_uses, find_timeline)
+}
+
+// What is told of the events and of what is found of the writes. The faults, the uses and the timeline read the same
+// and write nothing of it, so they are found side by side.
+fn told_of<R: Threads + Sync>(
+    rt: &R,
+    alloc: Global,
+    bodies: &RequestBodies<'_>,
+    parts: &Parts,
+) -> Result<Told, OutOfMemory>
     requires start { bodies.now.setup.now.start ≡ parts.now.windows.start }
     requires few { length bodies.now.log.now < 2 ^ 32 }
     requires numbered { length parts.now.past.versions < 2 ^ 32 }
@@ -130,15 +189,20 @@ fn told_of(alloc: Global, bodies: &RequestBodies<'_>, parts: &Parts) -> Result<T
         told.timeline) }
     ensures uses { IfOk result (λ told. AreUses parts.now.past.versions told.uses) }
 {
-    let log = bodies.log;
-    let past = &parts.past;
-    let faults = faults_in(alloc, bodies, parts)?;
-    let uses = uses_of(alloc, past.versions())?;
-    let timeline = timeline_of(alloc, bodies.setup, &parts.windows, log, past, bodies.pool)?;
+    let find_faults = move || -> Result<Vec<Option<Reason>>, OutOfMemory>
+        requires { length bodies.now.log.now < 2 ^ 32 }
+    { faults_in(alloc, bodies, parts) };
+    let find_rest = move || -> (Result<Uses, OutOfMemory>, Result<Timeline, OutOfMemory>)
+        requires start { bodies.now.setup.now.start ≡ parts.now.windows.start }
+        requires numbered { length parts.now.past.versions < 2 ^ 32 }
+        requires nodes { All (λ v. v.node.0 < length bodies.now.pool.now.trees)
+            parts.now.past.versions }
+    { uses_and_timeline(rt, alloc, bodies, parts) };
+    let (faults, (uses, timeline)) = join(rt, find_faults, find_rest);
     Ok(Told {
-        faults,
-        timeline,
-        uses,
+        faults: faults?,
+        timeline: timeline?,
+        uses: uses?,
     })
 }
 
@@ -152,11 +216,7 @@ fn found_of<R: Threads + Sync>(
     log: &Log,
     seed: Seed,
 ) -> Result<Found, OutOfMemory>
-    requires setup { IsSound setup.now }
-    requires events { All IsSoundEvent events.now }
-    requires lines { AreLines events.now }
-    requires few { length setup.now.snapshot + length events.now + length setup.now.checkpoints
-        < 2 ^ 32 }
+    requires buildable { IsBuildable setup.now events.now }
     requires trees { pool.now.trees ≡ pooled setup.now events.now }
     requires log { IsLogOf setup.now events.now pool.now.trees log.now }
     requires rising { RiseByLine log.now.events }
@@ -173,7 +233,7 @@ fn found_of<R: Threads + Sync>(
     };
     let found = past_foreseen(rt, alloc, &bodies, setup.start, snapshot, logged, seed)?;
     let parts = parts_of(alloc, found)?;
-    let Ok(told) = told_of(alloc, &bodies, &parts) else {
+    let Ok(told) = told_of(rt, alloc, &bodies, &parts) else {
         drop(parts);
         return Err(OutOfMemory);
     };
@@ -189,11 +249,7 @@ fn gather<R: Threads + Sync>(
     limit: u32,
     seed: Seed,
 ) -> Result<Gathered, BuildFault>
-    requires setup { IsSound setup.now }
-    requires events { All IsSoundEvent events.now }
-    requires lines { AreLines events.now }
-    requires few { length setup.now.snapshot + length events.now + length setup.now.checkpoints
-        < 2 ^ 32 }
+    requires { IsBuildable setup.now events.now }
     ensures found { IfOk result (λ gathered. IsFound setup.now events.now gathered.pool.trees
         gathered.log gathered.found) }
     ensures full { result ≡ Err BuildFault.PoolFull → limit < length (pooled setup.now events.now) }
@@ -255,8 +311,8 @@ fn joined(setup: Setup, events: Events, gathered: Gathered) -> Context
 
 impl Context {
     /// What a setup and the events of a log say together. The objects may have 50,000,000 distinct values, lists and
-    /// members among them. Several threads classify the events and judge the bodies of writes. The hashes of what the
-    /// pool holds, and of keys and uids, begin with the seed.
+    /// members among them. Several threads classify the events, judge the bodies of writes, and find the faults, the
+    /// uses of uids and the timeline. The hashes of what the pool holds, and of keys and uids, begin with the seed.
     pub fn build<R: Threads + Sync>(
         rt: &R,
         alloc: Global,
@@ -268,11 +324,8 @@ impl Context {
         requires events { All IsSoundEvent events }
         requires lines { AreLines events }
         requires few { length setup.snapshot + length events + length setup.checkpoints < 2 ^ 32 }
-        ensures setup { IfOk result (λ context. context.setup ≡ setup) }
-        ensures events { IfOk result (λ context. context.events ≡ events) }
-        ensures told { IfOk result IsTold }
+        ensures built { IfOk result (IsBuiltOf setup events 50000000) }
         ensures full { result ≡ Err BuildFault.PoolFull → 50000000 < length (pooled setup events) }
-        ensures fits { IfOk result (λ context. length (pooled setup events) ≤ 50000000) }
     {
         Context::build_within(rt, alloc, setup, events, MOST_NODES, seed)
     }
@@ -290,11 +343,8 @@ impl Context {
         requires events { All IsSoundEvent events }
         requires lines { AreLines events }
         requires few { length setup.snapshot + length events + length setup.checkpoints < 2 ^ 32 }
-        ensures setup { IfOk result (λ context. context.setup ≡ setup) }
-        ensures events { IfOk result (λ context. context.events ≡ events) }
-        ensures told { IfOk result IsTold }
+        ensures built { IfOk result (IsBuiltOf setup events limit) }
         ensures full { result ≡ Err BuildFault.PoolFull → limit < length (pooled setup events) }
-        ensures fits { IfOk result (λ context. length (pooled setup events) ≤ limit) }
     {
         match gather(rt, alloc, &setup, &events, limit, seed) {
             Ok(gathered) => Ok(joined(setup, events, gathered)),

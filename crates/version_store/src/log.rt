@@ -1,7 +1,5 @@
-ghost use Rattle.std.specs.Prelude.{◌≡◌, ◌+◌, ◌<◌, ◌≤◌, ◌^◌, ◌++◌, [], Err, length, All, IfOk, OnOk};
-ghost use Rattle.audit_event.specs.Events.{IsSound as IsSoundEvent};
-ghost use Rattle.setup_file.specs.Sound.{IsSound};
-ghost use Rattle.version_store.specs.Log.{IsLogOf, AreLines, RiseByLine};
+ghost use Rattle.std.specs.Prelude.{◌≡◌, ◌<◌, ◌++◌, [], Err, length, IfOk};
+ghost use Rattle.version_store.specs.Building.{IsLoggable, IsPutTogether};
 ghost use Rattle.version_store.specs.LogTrees.{pooled};
 
 mod checkpoint;
@@ -70,14 +68,9 @@ pub fn log_of<R: Threads + Sync>(
     setup: &Setup,
     events: &Events,
 ) -> Result<Log, BuildFault>
-    requires setup { IsSound setup.now }
-    requires events { All IsSoundEvent events.now }
-    requires few { length events.now + length setup.now.checkpoints < 2 ^ 32 }
+    requires loggable { IsLoggable setup.now events.now }
     requires anew { pool.old.trees ≡ [] }
-    ensures log { IfOk result (IsLogOf setup.now events.now pool.new.trees) }
-    ensures lines { AreLines events.now → IfOk result (λ log. RiseByLine log.events) }
-    ensures pooled { OnOk result (pool.new.trees ≡ pooled setup.now events.now) }
-    ensures fits { OnOk result (length (pooled setup.now events.now) ≤ pool.old.limit) }
+    ensures built { IfOk result (IsPutTogether setup.now events.now pool.new.trees pool.old.limit) }
     ensures full { result ≡ Err BuildFault.PoolFull
         → pool.old.limit < length (pooled setup.now events.now) }
     ensures limit { pool.new.limit ≡ pool.old.limit }

@@ -1,9 +1,9 @@
 ghost use Rattle.std.specs.Prelude.{◌≡◌, ◌<◌, ◌≤◌, ◌+◌, ◌^◌, ◌++◌, [], ◌∷◌, Err, length, All, IfOk, OnOk};
 ghost use Rattle.audit_event.specs.Events.{IsSound};
+ghost use Rattle.version_store.specs.AllLogged.{AreAllLogged};
 ghost use Rattle.version_store.specs.Classified.{AddsLogged, AddsSelectors, AreClassified, IsLoggedAs, classified_trees};
-ghost use Rattle.version_store.specs.LogSelectors.{selector_in, AddsSelector, AreSelectorsOf};
+ghost use Rattle.version_store.specs.LogSelectors.{selector_in, AddsSelector};
 ghost use Rattle.version_store.specs.LogTrees.{answer_trees, event_trees, with_trees};
-ghost use Rattle.version_store.specs.Logged.{AreLoggedEvents};
 
 use crate::log::classifying::{Classified, classify_all};
 use crate::log::fault::BuildFault;
@@ -166,11 +166,8 @@ pub fn events_of<R: Threads + Sync>(
     requires slack { setup.now.slack ≤ 10 ^ 18 }
     requires sound { All IsSound events.now }
     requires few { length events.now < 2 ^ 32 }
-    ensures logged { IfOk result (λ all. AreLoggedEvents setup.now pool.new.trees events.now
-        all.events) }
-    ensures selectors { IfOk result (λ all. AreSelectorsOf setup.now events.now all.selectors) }
-    ensures added { OnOk result
-        (pool.new.trees ≡ with_trees pool.old.trees (event_trees setup.now events.now)) }
+    ensures logged { IfOk result (AreAllLogged setup.now events.now pool.old.trees
+        pool.new.trees) }
     ensures full { result ≡ Err BuildFault.PoolFull
         → pool.old.limit < length (with_trees pool.old.trees (event_trees setup.now events.now)) }
     ensures limit { pool.new.limit ≡ pool.old.limit }

@@ -26,7 +26,7 @@ past_foreseen-requires-sync-B g c = λ κs lives. search (setup_shared, event_sh
 
 pub past_foreseen-requires-clause-few : goal.past_foreseen-requires-clause-few
 past_foreseen-requires-clause-few g c κs _ = subst (λ (l : List LogEvent). length l < 2 ^ 32) (sym c.as_slice-logged.ensures)
-    (few_logged c.args.setup.now c.args.events.now c.args.pool.now.trees c.args.log.now c.requires.log c.requires.few)
+    (few_logged c.args.setup.now c.args.events.now c.args.pool.now.trees c.args.log.now c.requires.log c.requires.buildable.few)
 
 pub past_foreseen-requires-clause-lines : goal.past_foreseen-requires-clause-lines
 past_foreseen-requires-clause-lines g c κs _ = subst (λ (l : List LogEvent). AllPairs (λ (a b : LogEvent). a.line < b.line) l) (sym c.as_slice-logged.ensures) c.requires.rising.rising
@@ -34,7 +34,7 @@ past_foreseen-requires-clause-lines g c κs _ = subst (λ (l : List LogEvent). A
 pub past_foreseen-requires-clause-snapshot : goal.past_foreseen-requires-clause-snapshot
 past_foreseen-requires-clause-snapshot g c κs _ =
     let setup = c.args.setup.now in
-    let start = c.requires.setup.snapshot in
+    let start = c.requires.buildable.setup.snapshot in
     subst (IsSnapshot setup.start) (sym c.as_slice-snapshot.ensures)
     (is_snapshot setup.start c.args.pool.now.trees setup.snapshot c.args.log.now.snapshot c.requires.log.snapshot start.revisions start.begun)
 
@@ -64,7 +64,7 @@ parts_of-requires-clause-ends g c =
 
 pub parts_of-requires-clause-few_versions : goal.parts_of-requires-clause-few_versions
 parts_of-requires-clause-few_versions g c =
-    let room = few_in_log c.args.setup.now c.args.events.now c.args.pool.now.trees c.args.log.now c.requires.log c.requires.few in
+    let room = few_in_log c.args.setup.now c.args.events.now c.args.pool.now.trees c.args.log.now c.requires.log c.requires.buildable.few in
     let bound = c.in_ok-found.ensures.few_found.versions in
     let items = ap (λ (l : List Item). length l) c.as_slice-snapshot.ensures in
     let logged = ap (λ (l : List LogEvent). length l) c.as_slice-logged.ensures in
@@ -72,20 +72,20 @@ parts_of-requires-clause-few_versions g c =
 
 pub parts_of-requires-clause-few_removals : goal.parts_of-requires-clause-few_removals
 parts_of-requires-clause-few_removals g c =
-    let room = few_logged c.args.setup.now c.args.events.now c.args.pool.now.trees c.args.log.now c.requires.log c.requires.few in
+    let room = few_logged c.args.setup.now c.args.events.now c.args.pool.now.trees c.args.log.now c.requires.log c.requires.buildable.few in
     let bound = c.in_ok-found.ensures.few_found.removals in
     let logged = ap (λ (l : List LogEvent). length l) c.as_slice-logged.ensures in
     omega (arith, room, bound, logged)
 
 pub told_of-requires-clause-start : goal.told_of-requires-clause-start
-told_of-requires-clause-start g c = sym (ap (λ (past : LogPast). past.windows.start) (sym c.in_ok-parts.ensures.same) ∙ c.in_ok-found.ensures.start)
+told_of-requires-clause-start g c κs _ = sym (ap (λ (past : LogPast). past.windows.start) (sym c.in_ok-parts.ensures.same) ∙ c.in_ok-found.ensures.start)
 
 pub told_of-requires-clause-few : goal.told_of-requires-clause-few
-told_of-requires-clause-few g c = subst (λ (l : List LogEvent). length l < 2 ^ 32) (sym c.as_slice-logged.ensures)
-    (few_logged c.args.setup.now c.args.events.now c.args.pool.now.trees c.args.log.now c.requires.log c.requires.few)
+told_of-requires-clause-few g c κs _ = subst (λ (l : List LogEvent). length l < 2 ^ 32) (sym c.as_slice-logged.ensures)
+    (few_logged c.args.setup.now c.args.events.now c.args.pool.now.trees c.args.log.now c.requires.log c.requires.buildable.few)
 
 pub told_of-requires-clause-nodes : goal.told_of-requires-clause-nodes
-told_of-requires-clause-nodes g c =
+told_of-requires-clause-nodes g c κs _ =
     let setup = c.args.setup.now in
     let events = c.args.events.now in
     let trees = c.args.pool.now.trees in
@@ -123,15 +123,15 @@ returns g c =
     let found_of = c.in-Ok.ensures in
     let timed = found_of.timeline in
     record {
-      setup = c.requires.setup;
-      events = c.requires.events;
-      event_lines = c.requires.lines;
+      setup = c.requires.buildable.setup;
+      events = c.requires.buildable.events;
+      event_lines = c.requires.buildable.lines;
       trees = c.requires.trees;
-      numbers = subst (λ (l : List Meaning). All InRange l) (sym c.requires.trees) (numbers_are setup events c.requires.setup c.requires.events);
+      numbers = subst (λ (l : List Meaning). All InRange l) (sym c.requires.trees) (numbers_are setup events c.requires.buildable.setup c.requires.buildable.events);
       logged = c.requires.log;
       lines = c.requires.rising;
-      count = few_logged setup events trees log c.requires.log c.requires.few;
-      moments = moments_are setup events trees log.events h c.requires.setup c.requires.events c.requires.log.logged refl;
+      count = few_logged setup events trees log c.requires.log c.requires.buildable.few;
+      moments = moments_are setup events trees log.events h c.requires.buildable.setup c.requires.buildable.events c.requires.log.logged refl;
       readable = readable;
       groups = right.groups;
       start = start;

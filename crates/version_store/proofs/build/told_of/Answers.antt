@@ -1,7 +1,7 @@
-use Rattle.std.proofs.Common.{List, subst}
-use Rattle.object_past.specs.declared.version.Version.{Version}
-use Rattle.version_store.specs.Uses.{AreUses}
+use Rattle.std.proofs.Crossing as owned
+use Rattle.version_store.proofs.PartsSharing.{bodies_shared, parts_shared}
 use Rattle.version_store.proofs.build.told_of.Goals as goal
+use denote.Param.Send.{sendable}
 
-pub returns-clause-uses : goal.returns-clause-uses
-returns-clause-uses c = subst (λ (vs : List Version). AreUses vs c.in_ok-uses.uses) c.versions.ensures.versions c.in_ok-uses.ensures
+pub join-faults-requires-send-F : goal.join-faults-requires-send-F
+join-faults-requires-send-F g c κs within = search (bodies_shared, parts_shared, owned.send, sendable) depth 20

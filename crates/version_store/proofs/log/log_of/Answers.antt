@@ -5,6 +5,7 @@ use Rattle.version_store.specs.Logged.{AreLoggedEvents, AreLoggedCheckpoints, Ar
 use Rattle.version_store.specs.LogTrees.{object_trees, event_trees, checkpoint_trees, stored_trees, with_trees}
 use Rattle.version_store.specs.Shown.{AreItemsOf}
 use Rattle.version_store.specs.declared.log.fault.BuildFault.TheVariants.{PoolFull}
+use Rattle.version_store.proofs.Assembling.{all_grown, fits_within, pooled_from}
 use Rattle.version_store.proofs.LineLemmas.{lines_rise}
 use Rattle.version_store.proofs.LoggedLemmas.{logged_stay}
 use Rattle.version_store.proofs.PoolLemmas.{IsGrown, grown_none, grown_full, grown_begins, passed_on}
@@ -36,30 +37,40 @@ returns-in_err-events-clause-full g c = λ refused.
     subst (λ ts. pool.limit < length (with_trees ts (stored_trees setup c.args.events.now))) c.requires.anew
     (grown_full pool now (object_trees setup.snapshot) (event_trees setup c.args.events.now) (checkpoint_trees setup.checkpoints) grown full)
 
-pub returns-clause-log : goal.returns-clause-log
-returns-clause-log g c =
+pub returns-clause-built : goal.returns-clause-built
+returns-clause-built g c =
+    let pool = c.args.pool.now in
     let setup = c.args.setup.now in
+    let events = c.args.events.now in
     let first = c.items_of.new.pool in
     let second = c.events_of.new.pool in
     let last = c.checkpoints_of.new.pool in
-    let of_events : IsGrown first second (event_trees setup c.as_slice-2.result.now) = record { holds = c.in_ok-events.ensures.added; limit = c.in_ok-events.ensures.limit } in
-    let of_checkpoints : IsGrown second last (checkpoint_trees c.as_slice-3.result.now) = record { holds = c.in_ok-checkpoints.ensures.added; limit = c.in_ok-checkpoints.ensures.limit } in
-    let begins = grown_begins second last (checkpoint_trees c.as_slice-3.result.now) of_checkpoints in
-    let begins_first = Begins-trans first.trees second.trees last.trees (grown_begins first second (event_trees setup c.as_slice-2.result.now) of_events) begins in
-    let logged : AreLogged setup last.trees c.args.events.now c.in_ok-joined.field-0 = record {
+    let of_objects : IsGrown pool first (object_trees setup.snapshot) =
+    subst (λ l. IsGrown pool first (object_trees l)) c.as_slice.ensures (record { holds = c.in_ok-snapshot.ensures.added; limit = c.in_ok-snapshot.ensures.limit }) in
+    let of_events : IsGrown first second (event_trees setup events) =
+    subst (λ l. IsGrown first second (event_trees setup l)) c.as_slice-2.ensures (record { holds = c.in_ok-events.ensures.logged.added; limit = c.in_ok-events.ensures.limit }) in
+    let of_checkpoints : IsGrown second last (checkpoint_trees setup.checkpoints) =
+    subst (λ l. IsGrown second last (checkpoint_trees l)) c.as_slice-3.ensures (record { holds = c.in_ok-checkpoints.ensures.added; limit = c.in_ok-checkpoints.ensures.limit }) in
+    let grown = all_grown setup events pool first second last of_objects of_events of_checkpoints in
+    let trees = pooled_from setup events pool last c.requires.anew grown in
+    let begins = grown_begins second last (checkpoint_trees setup.checkpoints) of_checkpoints in
+    let begins_first = Begins-trans first.trees second.trees last.trees (grown_begins first second (event_trees setup events) of_events) begins in
+    let logged : AreLogged setup last.trees events c.in_ok-joined.field-0 = record {
       of_log = c.in_ok-events.field-0.events;
       of_setup = c.in_ok-checkpoints.checkpoints;
       joined = c.in_ok-joined.ensures;
-      in_log = logged_stay setup second.trees last.trees begins c.args.events.now c.in_ok-events.field-0.events (subst (λ l. AreLoggedEvents setup second.trees l c.in_ok-events.field-0.events) c.as_slice-2.ensures c.in_ok-events.ensures.logged);
+      in_log = logged_stay setup second.trees last.trees begins events c.in_ok-events.field-0.events (subst (λ l. AreLoggedEvents setup second.trees l c.in_ok-events.field-0.events) c.as_slice-2.ensures c.in_ok-events.ensures.logged.logged);
       behind = subst (λ l. AreLoggedCheckpoints last.trees l c.in_ok-checkpoints.checkpoints) c.as_slice-3.ensures c.in_ok-checkpoints.ensures.logged;
     } in
     record {
-      snapshot = items_stay first.trees last.trees begins_first setup.snapshot c.snapshot.inside.items.items
-          (subst (AreItemsOf first.trees setup.snapshot) (sym c.snapshot.view_is) (subst (λ l. AreItemsOf first.trees l c.in_ok-snapshot.snapshot) c.as_slice.ensures c.in_ok-snapshot.ensures.items));
-      logged = logged;
-      selectors = subst (λ l. AreSelectorsOf setup l c.in_ok-events.field-0.selectors) c.as_slice-2.ensures c.in_ok-events.ensures.selectors;
-      checkpoints = are_not_older setup last.trees c.args.events.now c.in_ok-joined.field-0 c.requires.setup logged;
+      log = record {
+        snapshot = items_stay first.trees last.trees begins_first setup.snapshot c.snapshot.inside.items.items
+            (subst (AreItemsOf first.trees setup.snapshot) (sym c.snapshot.view_is) (subst (λ l. AreItemsOf first.trees l c.in_ok-snapshot.snapshot) c.as_slice.ensures c.in_ok-snapshot.ensures.items));
+        logged = logged;
+        selectors = subst (λ l. AreSelectorsOf setup l c.in_ok-events.field-0.selectors) c.as_slice-2.ensures c.in_ok-events.ensures.logged.selectors;
+        checkpoints = are_not_older setup last.trees events c.in_ok-joined.field-0 c.requires.loggable.setup logged;
+      };
+      lines = λ lines. lines_rise setup last.trees events c.in_ok-joined.field-0 logged lines;
+      trees = trees;
+      fits = fits_within setup events pool last grown trees c.len-len.ensures.room;
     }
-
-pub returns-clause-lines : goal.returns-clause-lines
-returns-clause-lines g c = λ lines. lines_rise c.args.setup.now c.checkpoints_of.new.pool.trees c.args.events.now c.in_ok-joined.field-0 (returns-clause-log g c).logged lines

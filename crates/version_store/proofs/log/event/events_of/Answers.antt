@@ -61,22 +61,4 @@ returns-clause-logged g c =
     let all = c.add_all.new.all in
     let added = last_added c.args.setup.now c.args.pool.now l.pool c.add_all.new.pool (all_of l.yielded) (chunks_rest l.batch-iterator) c.args.events.now l.all.events all.events l.all.selectors all.selectors l.ahead.items
     l.invariant.ahead l.invariant.split c.in-None.ensures.steps.1.0 e.logged e.selectors (record { holds = e.added; limit = e.limit }) in
-    added.logged
-
-pub returns-clause-selectors : goal.returns-clause-selectors
-returns-clause-selectors g c =
-    let l = c.loop-batch in
-    let e = c.in_ok-add_all.ensures in
-    let all = c.add_all.new.all in
-    let added = last_added c.args.setup.now c.args.pool.now l.pool c.add_all.new.pool (all_of l.yielded) (chunks_rest l.batch-iterator) c.args.events.now l.all.events all.events l.all.selectors all.selectors l.ahead.items
-    l.invariant.ahead l.invariant.split c.in-None.ensures.steps.1.0 e.logged e.selectors (record { holds = e.added; limit = e.limit }) in
-    added.selectors
-
-pub returns-clause-added : goal.returns-clause-added
-returns-clause-added g c =
-    let l = c.loop-batch in
-    let e = c.in_ok-add_all.ensures in
-    let all = c.add_all.new.all in
-    let added = last_added c.args.setup.now c.args.pool.now l.pool c.add_all.new.pool (all_of l.yielded) (chunks_rest l.batch-iterator) c.args.events.now l.all.events all.events l.all.selectors all.selectors l.ahead.items
-    l.invariant.ahead l.invariant.split c.in-None.ensures.steps.1.0 e.logged e.selectors (record { holds = e.added; limit = e.limit }) in
-    added.grown.holds
+    record { logged = added.logged; selectors = added.selectors; added = added.grown.holds }
