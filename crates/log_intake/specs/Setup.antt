@@ -5,9 +5,11 @@ use Rattle.edge_io.specs.Faults.{Rose}
 use Rattle.edge_io.specs.Whole.{TakesWhole}
 use Rattle.edge_io.specs.declared.whole.WholeStop.{WholeStop}
 use Rattle.edge_io.specs.declared.whole.WholeStop.TheVariants as whole
+use Rattle.hash_seed.specs.declared.seed.Seed.{Seed}
 use Rattle.setup_file.specs.declared.setup.Setup.{Setup}
 use Rattle.setup_file.specs.Reading.{ReadsAs}
 use Rattle.setup_file.specs.Sound.{IsSound}
+use Rattle.sha2.specs.Sha256.{sha256}
 use Rattle.log_intake.specs.declared.stop.SetupStop.{SetupStop}
 use Rattle.log_intake.specs.declared.stop.SetupStop.TheVariants.{Rule, TooLong, ReadFault, OutOfMemory}
 
@@ -70,3 +72,7 @@ pub record ReadsSetup (old now : Option (List ℕ)) (faults_before faults_now : 
   pub fault : IsErrOf answer ReadFault → Rose faults_before faults_now
   pub counted : faults_before ≤ faults_now
   pub taken : TakesSetup old now (StaysWithin answer)
+
+-- the seed is that of the bytes, where they are told
+abbrev pub IsSeedOf : Option (List ℕ) → Seed → Type 0
+IsSeedOf told seed = (bytes : List ℕ) → told ≡ Some bytes → seed.digest ≡ sha256 bytes

@@ -1,7 +1,7 @@
 ghost use Rattle.std.specs.Prelude.{◌≡◌, ◌≢◌, ℕ, ◌<◌, ◌≤◌, List, length, Err, IfOk};
 ghost use Rattle.std.specs.Result.{result_map_both};
 ghost use Rattle.setup_file.specs.Sound.{IsSound};
-ghost use Rattle.log_intake.specs.Setup.{AnswersSetup, ReadsSetup, most_checkpoints, stop_of};
+ghost use Rattle.log_intake.specs.Setup.{AnswersSetup, IsSeedOf, ReadsSetup, most_checkpoints, stop_of};
 
 use crate::stop::SetupStop;
 use edge_io::{Desk, WholeStop, read_whole};
@@ -32,6 +32,7 @@ pub fn read_setup_named<D: Desk>(
     ensures reads { ReadsSetup (D.left desk.old name.now) (D.left desk.new name.now)
         (D.faults desk.old)
         (D.faults desk.new) (result_map_both (λ read. read.setup) (λ stop. stop) result) }
+    ensures seed { IfOk result (λ read. IsSeedOf (D.left desk.old name.now) read.seed) }
     ensures others { (other : List ℕ) → other ≢ name.now
         → D.left desk.new other ≡ D.left desk.old other }
 {
@@ -57,7 +58,8 @@ fn stop_of(stop: WholeStop) -> SetupStop
 
 // What was read of a setup, with the seed of its bytes.
 fn with_seed(setup: Result<Setup, SetupStop>, seed: Seed) -> Result<SetupRead, SetupStop>
-    ensures { result_map_both (λ read. read.setup) (λ stop. stop) result ≡ setup }
+    ensures setup { result_map_both (λ read. read.setup) (λ stop. stop) result ≡ setup }
+    ensures seed { IfOk result (λ read. read.seed ≡ seed) }
 {
     match setup {
         Ok(setup) => Ok(SetupRead { setup, seed }),
