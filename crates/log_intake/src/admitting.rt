@@ -42,15 +42,6 @@ pub struct DecodedBatch {
     pub decoded: DecodedList,
 }
 
-impl DecodedBatch {
-    pub fn of(lines: Vec<Line>, decoded: DecodedList) -> DecodedBatch
-        ensures lines { result.lines.items ≡ lines.items }
-        ensures decoded { result.decoded ≡ decoded }
-    {
-        DecodedBatch { lines, decoded }
-    }
-}
-
 /// What goes on behind lines that were admitted.
 #[derive(Drop)]
 pub struct Step<T> {

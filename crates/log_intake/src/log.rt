@@ -92,7 +92,10 @@ fn read_batches<R: Threads + Sync, D: Desk, G: Gate>(
         Err(OutOfMemory) => return Err(LogStop::OutOfMemory),
     };
     let mut place = Place { line: 0, extra: 0 };
-    let mut front = DecodedBatch::of(Vec::new(alloc), DecodedList::new(alloc));
+    let mut front = DecodedBatch {
+        lines: Vec::new(alloc),
+        decoded: DecodedList::new(alloc),
+    };
     'batches: while next.end.goes_on() {
         let (admitted, decoded, gathered) = advance(
             rt,
@@ -110,7 +113,10 @@ fn read_batches<R: Threads + Sync, D: Desk, G: Gate>(
         match all_three(admitted, decoded, gathered) {
             Ok(after) => {
                 place = after.place;
-                front = DecodedBatch::of(next.lines, after.decoded);
+                front = DecodedBatch {
+                    lines: next.lines,
+                    decoded: after.decoded,
+                };
                 next = after.gathered;
             }
             Err(stop) => return Err(stop),

@@ -16,8 +16,8 @@ returns-in-Err-gather-clause-stopped g c =
 
 pub batches-init : goal.batches-init
 batches-init g c = record {
-  read = decoded_first (g.D.Desk.left c.args.desk.now) (g.D.Desk.left c.gather.new.desk) c.args.name.now _ _ c.in-Ok.reader c.gather.new.reader c.args.seen.now record { line = 0; extra = 0 } c.of-front.result c.in-Ok-gather.batch
-      (nothing_read_from _ c.in-Ok.reader c.args.seen.now record { line = 0; extra = 0 } c.in-Ok.ensures c.requires.none refl refl) c.in-Ok-gather.ensures (c.of-front.ensures.lines ∙ c.new-2.ensures.items) (c.of-front.ensures.decoded ∙ c.new-3.ensures);
+  read = decoded_first (g.D.Desk.left c.args.desk.now) (g.D.Desk.left c.gather.new.desk) c.args.name.now _ _ c.in-Ok.reader c.gather.new.reader c.args.seen.now record { line = 0; extra = 0 } record { lines = c.new-2.result; decoded = c.new-3.result } c.in-Ok-gather.batch
+      (nothing_read_from _ c.in-Ok.reader c.args.seen.now record { line = 0; extra = 0 } c.in-Ok.ensures c.requires.none refl refl) c.in-Ok-gather.ensures c.new-2.ensures.items c.new-3.ensures;
   others = c.in-Ok-gather.ensures.others;
 }
 
@@ -47,8 +47,8 @@ batches-smaller g c =
 
 pub batches-preserved : goal.batches-preserved
 batches-preserved g c = record {
-  read = decoded_on _ (g.D.Desk.left c.batches.desk) (g.D.Desk.left c.advance-admitted.new.desk) c.args.name.now _ _ _ c.batches.reader c.advance-admitted.new.reader c.batches.seen c.advance-admitted.new.seen c.batches.place c.in-Ok-all_three.after.place c.batches.front c.of-front-in-Ok-all_three.result c.batches.next c.in-Ok-all_three.after.gathered c.in-Ok-all_three.after.decoded _ _ _
-      (c.goes_on.ensures.0 c.batches-test.true) c.batches.invariant.read c.advance-admitted.ensures.admits c.advance-admitted.ensures.gathers c.of-front-in-Ok-all_three.ensures.lines c.of-front-in-Ok-all_three.ensures.decoded c.in-Ok-all_three.ensures.ok;
+  read = decoded_on _ (g.D.Desk.left c.batches.desk) (g.D.Desk.left c.advance-admitted.new.desk) c.args.name.now _ _ _ c.batches.reader c.advance-admitted.new.reader c.batches.seen c.advance-admitted.new.seen c.batches.place c.in-Ok-all_three.after.place c.batches.front record { lines = c.batches.next.lines; decoded = c.in-Ok-all_three.after.decoded } c.batches.next c.in-Ok-all_three.after.gathered c.in-Ok-all_three.after.decoded _ _ _
+      (c.goes_on.ensures.0 c.batches-test.true) c.batches.invariant.read c.advance-admitted.ensures.admits c.advance-admitted.ensures.gathers refl refl c.in-Ok-all_three.ensures.ok;
   others = λ other differs. c.advance-admitted.ensures.gathers.others other differs ∙ c.batches.invariant.others other differs;
 }
 
