@@ -2,6 +2,7 @@ ghost use Rattle.std.specs.Prelude.{◌≡◌, ◌≢◌, ◌≤◌, ℕ, List, 
 ghost use Rattle.std.specs.Io.KnownBytes.{Appends, IsAtEnd};
 ghost use Rattle.edge_io.specs.Endings.{AppendsPart};
 ghost use Rattle.edge_io.specs.Faults.{HasCause, Rose};
+ghost use Rattle.edge_io.specs.Whole.{TakesWhole};
 ghost use Rattle.log_sift.specs.Named.{AnswersSift, AreStretchesWithin, IsSiftText, most_log, shown_text};
 ghost use Rattle.log_sift.specs.Sifted.{LiesInLog, stretches_text};
 
@@ -9,7 +10,7 @@ use crate::answer::{Stretch, Stretches};
 use crate::telling::left_text;
 use crate::whole::sift;
 use base_types::{Bytes, OutOfMemory};
-use edge_io::{Desk, Sink, SinkFailed, WholeStop, read_input, write_whole};
+use edge_io::{Desk, Sink, SinkFailed, WholeStop, piece_buffer, read_whole, write_whole};
 use std::alloc::Global;
 
 /// A log may have so many bytes.
@@ -37,10 +38,15 @@ pub fn sift_named<D: Desk>(
     ensures whole { OnOk result (IsAtEnd (D.left desk.new log.now)) }
     ensures fault { IsErrOf result WholeStop.ReadFault
         → Rose (D.faults desk.old) (D.faults desk.new) }
+    ensures taken { TakesWhole most_log (D.left desk.old log.now) (D.left desk.new log.now)
+        (IsErrOf result WholeStop.ReadFault) }
     ensures others { (other : List ℕ) → other ≢ log.now
         → D.left desk.new other ≡ D.left desk.old other }
 {
-    match read_input(alloc, desk, log, MOST_LOG) {
+    let Ok(mut buffer) = piece_buffer(alloc) else {
+        return Err(WholeStop::OutOfMemory);
+    };
+    match read_whole(alloc, desk, log, MOST_LOG, &mut buffer) {
         Ok(bytes) => match sift_text(alloc, bytes, left) {
             Ok(text) => Ok(text),
             Err(OutOfMemory) => Err(WholeStop::OutOfMemory),
