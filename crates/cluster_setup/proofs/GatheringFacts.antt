@@ -1,42 +1,16 @@
 -- Files that are read one after another.
-use Rattle.std.proofs.Common.{◌≡◌, ◌≢◌, ℕ, suc, zero, ◌<◌, ◌≤◌, List, [], ◌∷◌, ◌++◌, length, map, Bool, true, false, Contains, Option, Some, Result, Ok, Err, OnOk, IsErrOf, bytes_eq, if◌then◌else◌, get_or, ◌⊎◌, inl, inr, refl, sym, ◌∙◌, ap, subst, arith, append_assoc}
+use Rattle.std.proofs.Common.{◌≡◌, ◌≢◌, ℕ, ◌<◌, ◌≤◌, List, [], ◌∷◌, ◌++◌, length, map, true, Contains, Option, Some, Result, Ok, Err, OnOk, IsErrOf, ◌⊎◌, inl, inr, refl, sym, ◌∙◌, ap, subst, arith, append_assoc}
+use Rattle.std.specs.Prelude.{⊤}
 use Rattle.std.specs.Io.KnownBytes.{IsAtEnd}
-use Rattle.std.specs.List.{list_any}
-use Rattle.std.proofs.lemmas.Cmp.{nat_list_eq_equiv}
 use Rattle.std.proofs.lemmas.List.{append-nil}
-use Rattle.std.proofs.lemmas.List.Elements.{Contains-append_right}
-use Rattle.std.proofs.lemmas.Map.Views.{list_any-from_Contains}
 use Rattle.edge_io.specs.Faults.{Rose}
-use Rattle.edge_io.specs.Whole.{AnswersWhole}
+use Rattle.edge_io.specs.Whole.{AnswersWhole, StaysWithin, TakesWhole}
 use Rattle.edge_io.specs.declared.whole.WholeStop.{WholeStop}
 use Rattle.edge_io.specs.declared.whole.WholeStop.TheVariants.{TooLong, ReadFault, OutOfMemory}
 use Rattle.process_words.specs.Names.{are_distinct}
-use Rattle.cluster_setup.specs.Gathering.{AreAtEnd, AreGathered, AreGiven, LeavesOthers, SomeLong, TellsAll, most_file}
+use Rattle.cluster_setup.specs.Gathering.{AreAtEnd, AreGathered, AreGiven, IsReadWhole, LeavesOthers, SomeLong, TakesFiles, TellsAll, most_file}
 use Rattle.cluster_setup.specs.declared.gathering.GivenFiles.{GivenFiles}
-
-first_of : (name : List ℕ) (names : List (List ℕ)) → Contains (name ∷ names) name
-first_of name names = (zero, omega arith, refl)
-
-later_of : (name : List ℕ) (names : List (List ℕ)) (other : List ℕ) → Contains names other → Contains (name ∷ names) other
-later_of name names other among = Contains-append_right (name ∷ []) names other among
-
-distinct_parts : (among rest : Bool) → (if among then false else rest) ≡ true → (among ≡ false) × (rest ≡ true)
-distinct_parts true rest is = absurd (let no : false ≡ true = is in cc)
-distinct_parts false rest is = (refl, is)
-
-distinct_rest : (name : List ℕ) (names : List (List ℕ)) → are_distinct (name ∷ names) ≡ true → are_distinct names ≡ true
-distinct_rest name names differ = (distinct_parts (list_any (bytes_eq name) names) (are_distinct names) differ).1
-
-apart : (name : List ℕ) (names : List (List ℕ)) → are_distinct (name ∷ names) ≡ true → (other : List ℕ) → Contains names other → other ≢ name
-apart name names differ other among same =
-    let found : list_any (bytes_eq name) names ≡ true = list_any-from_Contains nat_list_eq_equiv name names (subst (Contains names) same among) in
-    let none = (distinct_parts (list_any (bytes_eq name) names) (are_distinct names) differ).0 in
-    let no : true ≡ false = sym found ∙ none in cc
-
--- one of some names is the first, or one behind it
-first_or_later : (name : List ℕ) (names : List (List ℕ)) (other : List ℕ) (at : ℕ) → at < length (name ∷ names) → get_or (name ∷ names) at other ≡ other → (other ≡ name) ⊎ Contains names other
-first_or_later name names other zero within is = inl (sym is)
-first_or_later name names other (suc at) within is = inr (at, omega (arith, within), is)
+use Rattle.cluster_setup.proofs.TakingFacts.{apart, distinct_rest, files_taken, files_where, first_of, first_or_later, first_taken, later_of, none_taken, stays_within, whole_where}
 
 one_at_end : (name : List ℕ) (names : List (List ℕ)) (left : List ℕ → Option (List ℕ)) (other : List ℕ) → IsAtEnd (left name) → AreAtEnd names left → (other ≡ name) ⊎ Contains names other → IsAtEnd (left other)
 one_at_end name names left other done behind (inl same) = subst (λ n. IsAtEnd (left n)) (sym same) done
@@ -101,38 +75,44 @@ stop_long ReadFault bytes answers is = absurd (cc)
 stop_long OutOfMemory bytes answers is = absurd (cc)
 
 -- the first of the names, what the desk had before and what it has now, and the counts of its faults
-module _ (name : List ℕ) (names : List (List ℕ)) (old mid : List ℕ → Option (List ℕ)) (faults_before faults_mid : ℕ) where
+module _ (name : List ℕ) (names : List (List ℕ)) (old mid : List ℕ → Option (List ℕ)) (faults_before faults_mid : ℕ) (differ : are_distinct (name ∷ names) ≡ true) where
   stopped : {A : Type 0} (before now : List (List ℕ)) (stop : WholeStop) → ((bytes : List ℕ) → old name ≡ Some bytes → AnswersWhole most_file bytes (Err stop))
-      → (◌≡◌ {A = Result (List ℕ) WholeStop} (Err stop) (Err ReadFault) → Rose faults_before faults_mid) → faults_before ≤ faults_mid → ((other : List ℕ) → other ≢ name → mid other ≡ old other)
-      → AreGathered {A = A} (name ∷ names) before now old mid faults_before faults_mid (Err stop)
-  stopped before now stop answers fault counted others = record {
+      → (◌≡◌ {A = Result (List ℕ) WholeStop} (Err stop) (Err ReadFault) → Rose faults_before faults_mid) → faults_before ≤ faults_mid → TakesWhole most_file (old name) (mid name) (StaysWithin (Err stop))
+      → ((other : List ℕ) → other ≢ name → mid other ≡ old other) → AreGathered {A = A} (name ∷ names) before now old mid faults_before faults_mid (Err stop)
+  stopped before now stop answers fault counted taken others = record {
     read = tt;
     whole = tt;
     long = λ is told tells. inl (stop_long stop (told name) (answers (told name) (tells name (first_of name names))) (same_stop stop TooLong is));
     fault = λ is. fault (as_stop stop ReadFault is);
     counted = counted;
+    taken = first_taken name names old mid _ differ others (whole_where (old name) (mid name) _ _ (stays_within stop) taken);
     others = left_first name names old mid others;
   }
 
-  gave_up : {A : Type 0} (before now : List (List ℕ)) → faults_before ≤ faults_mid → ((other : List ℕ) → other ≢ name → mid other ≡ old other)
+  gave_up : {A : Type 0} (before now : List (List ℕ)) → faults_before ≤ faults_mid → TakesWhole most_file (old name) (mid name) ⊤ → ((other : List ℕ) → other ≢ name → mid other ≡ old other)
       → AreGathered {A = A} (name ∷ names) before now old mid faults_before faults_mid (Err OutOfMemory)
-  gave_up before now counted others = record {
+  gave_up before now counted taken others = record {
     read = tt;
     whole = tt;
     long = λ is. absurd (memory_apart TooLong no_long is);
     fault = λ is. absurd (memory_apart ReadFault no_fault is);
     counted = counted;
+    taken = first_taken name names old mid _ differ others (whole_where (old name) (mid name) _ _ (λ _. tt) taken);
     others = left_first name names old mid others;
   }
 
-  module _ (bytes : List ℕ) (differ : are_distinct (name ∷ names) ≡ true) (answers : (all : List ℕ) → old name ≡ Some all → AnswersWhole most_file all (Ok bytes))
-      (short : length bytes ≤ most_file) (done : IsAtEnd (mid name)) (counted : faults_before ≤ faults_mid) (others : (other : List ℕ) → other ≢ name → mid other ≡ old other) where
+  module _ (bytes : List ℕ) (answers : (all : List ℕ) → old name ≡ Some all → AnswersWhole most_file all (Ok bytes))
+      (short : length bytes ≤ most_file) (done : IsAtEnd (mid name)) (counted : faults_before ≤ faults_mid) (taken : TakesWhole most_file (old name) (mid name) ⊤)
+      (others : (other : List ℕ) → other ≢ name → mid other ≡ old other) where
     -- the first name's bytes, where all are told
     is_told : (told : List ℕ → List ℕ) → TellsAll (name ∷ names) old told → bytes ≡ told name
     is_told told tells = answers (told name) (tells name (first_of name names))
 
     short_told : (told : List ℕ → List ℕ) → TellsAll (name ∷ names) old told → length (told name) ≤ most_file
     short_told told tells = subst (λ b. length b ≤ most_file) (is_told told tells) short
+
+    read_whole : IsReadWhole (old name) (mid name)
+    read_whole = record { whole = done; short = λ all told. subst (λ b. length b ≤ most_file) (answers all told) short }
 
     -- what was read of the names behind it
     module _ (between now : List (List ℕ)) (left : List ℕ → Option (List ℕ)) (faults_now : ℕ) where
@@ -151,6 +131,10 @@ module _ (name : List ℕ) (names : List (List ℕ)) (old mid : List ℕ → Opt
       whole_behind (Ok value) rest = all_at_end name names mid left differ rest.others done rest.whole
       whole_behind (Err stop) rest = tt
 
+      taken_behind : {A : Type 0} (found : Result A WholeStop) → AreGathered names between now mid left faults_mid faults_now found → TakesFiles (name ∷ names) old left (IsErrOf found ReadFault)
+      taken_behind found rest =
+          files_taken name names old mid left differ others rest.others _ (whole_where (old name) (mid name) _ _ (λ _. tt) taken) read_whole rest.taken
+
       more : {A : Type 0} (before : List (List ℕ)) (found : Result A WholeStop) → between ≡ before ++ bytes ∷ [] → AreGathered names between now mid left faults_mid faults_now found
           → AreGathered (name ∷ names) before now old left faults_before faults_now found
       more before found pushed rest =
@@ -161,6 +145,7 @@ module _ (name : List ℕ) (names : List (List ℕ)) (old mid : List ℕ → Opt
             long = long_behind found rest;
             fault = λ is. rose_later faults_before faults_mid faults_now counted (rest.fault is);
             counted = omega (arith, counted, later);
+            taken = taken_behind found rest;
             others = left_behind name names old mid left others rest.others;
           }
 
@@ -178,6 +163,7 @@ module _ (name : List ℕ) (names : List (List ℕ)) (old mid : List ℕ → Opt
         whole = whole_behind (Ok value) rest;
         long = λ is. absurd (no_stop given TooLong is);
         fault = λ is. absurd (no_stop given ReadFault is);
+        taken = files_where (name ∷ names) old left _ _ (λ is. absurd (no_stop given ReadFault is)) (taken_behind (Ok value) rest);
         others = left_behind name names old mid left others rest.others;
       }
 
@@ -187,6 +173,7 @@ module _ (name : List ℕ) (names : List (List ℕ)) (old mid : List ℕ → Opt
         whole = tt;
         long = λ is. long_behind (Err stop) rest (as_stop stop TooLong is);
         fault = λ is. rose_later faults_before faults_mid faults_now counted (rest.fault (as_stop stop ReadFault is));
+        taken = files_where (name ∷ names) old left _ _ (as_stop stop ReadFault) (taken_behind (Err stop) rest);
         others = left_behind name names old mid left others rest.others;
       }
 
@@ -197,20 +184,46 @@ nothing_gathered items old faults value = record {
   long = λ is. absurd (no_stop value TooLong is);
   fault = λ is. absurd (no_stop value ReadFault is);
   counted = omega arith;
+  taken = none_taken [] old _;
+  others = λ other none. refl;
+}
+
+-- nothing was read
+pub nothing_given : (policy : List ℕ) (names : List (List ℕ)) (old : List ℕ → Option (List ℕ)) (faults : ℕ) → AreGiven policy names old old faults faults (Err OutOfMemory)
+nothing_given policy names old faults = record {
+  read = tt;
+  whole = tt;
+  long = λ is. absurd (memory_apart TooLong no_long is);
+  fault = λ is. absurd (memory_apart ReadFault no_fault is);
+  taken = none_taken (policy ∷ names) old _;
   others = λ other none. refl;
 }
 
 -- a policy that wasn't read
-pub policy_stopped : (policy : List ℕ) (names : List (List ℕ)) (old mid : List ℕ → Option (List ℕ)) (faults_before faults_mid : ℕ) (stop : WholeStop)
+pub policy_stopped : (policy : List ℕ) (names : List (List ℕ)) (old mid : List ℕ → Option (List ℕ)) (faults_before faults_mid : ℕ) (stop : WholeStop) → are_distinct (policy ∷ names) ≡ true
     → ((bytes : List ℕ) → old policy ≡ Some bytes → AnswersWhole most_file bytes (Err stop)) → (◌≡◌ {A = Result (List ℕ) WholeStop} (Err stop) (Err ReadFault) → Rose faults_before faults_mid)
-    → ((other : List ℕ) → other ≢ policy → mid other ≡ old other) → AreGiven policy names old mid faults_before faults_mid (Err stop)
-policy_stopped policy names old mid faults_before faults_mid stop answers fault others = record {
+    → TakesWhole most_file (old policy) (mid policy) (StaysWithin (Err stop)) → ((other : List ℕ) → other ≢ policy → mid other ≡ old other)
+    → AreGiven policy names old mid faults_before faults_mid (Err stop)
+policy_stopped policy names old mid faults_before faults_mid stop differ answers fault taken others = record {
   read = tt;
   whole = tt;
   long = λ is told tells. inl (stop_long stop (told policy) (answers (told policy) (tells policy (first_of policy names))) (same_stop stop TooLong is));
   fault = λ is. fault (as_stop stop ReadFault is);
+  taken = first_taken policy names old mid _ differ others (whole_where (old policy) (mid policy) _ _ (stays_within stop) taken);
   others = left_first policy names old mid others;
 }
+
+-- what was taken, where a value is told, or want of memory, or why nothing more is read
+module _ {B : Type 0} (names : List (List ℕ)) (old left : List ℕ → Option (List ℕ)) where
+  pub taken_to_tell : (fine : Type 0) (value : B) → TakesFiles names old left fine → TakesFiles names old left (◌≡◌ {A = Result B WholeStop} (Ok value) (Err ReadFault))
+  taken_to_tell fine value t = files_where names old left fine _ (λ is. absurd (no_stop value ReadFault is)) t
+
+  pub taken_in_vain : (fine : Type 0) → TakesFiles names old left fine → TakesFiles names old left (◌≡◌ {A = Result B WholeStop} (Err OutOfMemory) (Err ReadFault))
+  taken_in_vain fine t = files_where names old left fine _ (λ is. absurd (memory_apart ReadFault no_fault is)) t
+
+  pub taken_up_to : {A : Type 0} (stop : WholeStop) → TakesFiles names old left (◌≡◌ {A = Result A WholeStop} (Err stop) (Err ReadFault))
+      → TakesFiles names old left (◌≡◌ {A = Result B WholeStop} (Err stop) (Err ReadFault))
+  taken_up_to stop t = files_where names old left _ _ (as_stop stop ReadFault) t
 
 -- some names were read, and what is made of those behind is made of all
 pub record IsUnderWay (names behind before between : List (List ℕ)) (old mid : List ℕ → Option (List ℕ)) (faults_before faults_mid : ℕ) : Type 0 where
@@ -235,18 +248,19 @@ module _ (names behind later : List (List ℕ)) (name : List ℕ) (before betwee
   here = subst (λ b. IsUnderWay names b before between old mid faults_before faults_mid) front under
 
   pub read_on : (bytes : List ℕ) (items : List (List ℕ)) → ((all : List ℕ) → mid name ≡ Some all → AnswersWhole most_file all (Ok bytes)) → length bytes ≤ most_file → IsAtEnd (left name)
-      → items ≡ between ++ bytes ∷ [] → IsUnderWay names later before items old left faults_before faults_left
-  read_on bytes items answers short done pushed = record {
+      → TakesWhole most_file (mid name) (left name) ⊤ → items ≡ between ++ bytes ∷ [] → IsUnderWay names later before items old left faults_before faults_left
+  read_on bytes items answers short done taken pushed = record {
     differ = distinct_rest name later here.differ;
     whole = λ now end faults_now found rest.
         here.whole now end faults_now found
-        (more name later mid left faults_mid faults_left bytes here.differ answers short done counted others items now end faults_now between found pushed rest);
+        (more name later mid left faults_mid faults_left here.differ bytes answers short done counted taken others items now end faults_now between found pushed rest);
   }
 
   pub ended : (stop : WholeStop) → ((bytes : List ℕ) → mid name ≡ Some bytes → AnswersWhole most_file bytes (Err stop))
-      → (◌≡◌ {A = Result (List ℕ) WholeStop} (Err stop) (Err ReadFault) → Rose faults_mid faults_left)
+      → (◌≡◌ {A = Result (List ℕ) WholeStop} (Err stop) (Err ReadFault) → Rose faults_mid faults_left) → TakesWhole most_file (mid name) (left name) (StaysWithin (Err stop))
       → AreGathered {A = Unit {0}} names before between old left faults_before faults_left (Err stop)
-  ended stop answers fault = here.whole between left faults_left (Err stop) (stopped name later mid left faults_mid faults_left between between stop answers fault counted others)
+  ended stop answers fault taken =
+      here.whole between left faults_left (Err stop) (stopped name later mid left faults_mid faults_left here.differ between between stop answers fault counted taken others)
 
-  pub ended_for_memory : (now : List (List ℕ)) → AreGathered {A = Unit {0}} names before now old left faults_before faults_left (Err OutOfMemory)
-  ended_for_memory now = here.whole now left faults_left (Err OutOfMemory) (gave_up name later mid left faults_mid faults_left between now counted others)
+  pub ended_for_memory : (now : List (List ℕ)) → TakesWhole most_file (mid name) (left name) ⊤ → AreGathered {A = Unit {0}} names before now old left faults_before faults_left (Err OutOfMemory)
+  ended_for_memory now taken = here.whole now left faults_left (Err OutOfMemory) (gave_up name later mid left faults_mid faults_left here.differ between now counted taken others)

@@ -18,6 +18,7 @@ pub mod Ranges
 pub mod Ruled
 pub mod Same
 pub mod SourceFacts
+pub mod TakingFacts
 pub mod ToldFacts
 pub mod TreeLines
 pub mod Zips

@@ -1,7 +1,7 @@
 ghost use Rattle.std.specs.Prelude.{◌≡◌, ◌≢◌, ◌∷◌, ℕ, List, true, IfOk, IsErrOf, IsOk, OnOk, map, string_bytes};
 ghost use Rattle.edge_io.specs.Faults.{Rose};
 ghost use Rattle.cluster_setup.specs.Answering.{AnswersMade, IsMadeText};
-ghost use Rattle.cluster_setup.specs.Gathering.{AreAtEnd, LeavesOthers, TellsAll};
+ghost use Rattle.cluster_setup.specs.Gathering.{AreAtEnd, LeavesOthers, TakesFiles, TellsAll};
 ghost use Rattle.process_words.specs.Names.{are_distinct};
 ghost use Rattle.cluster_setup.specs.Telling.{refusal_words};
 ghost use Rattle.verdict_text.specs.Words.{ended};
@@ -41,6 +41,8 @@ pub fn make_named<D: Desk>(
         (D.left desk.new)) }
     ensures fault { IsErrOf result WholeStop.ReadFault
         → Rose (D.faults desk.old) (D.faults desk.new) }
+    ensures taken { TakesFiles (policy.now ∷ map string_bytes files.now) (D.left desk.old)
+        (D.left desk.new) (IsErrOf result WholeStop.ReadFault) }
     ensures others { LeavesOthers (policy.now ∷ map string_bytes files.now)
         (D.left desk.old) (D.left desk.new) }
 {

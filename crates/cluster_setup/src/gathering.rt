@@ -1,9 +1,10 @@
-ghost use Rattle.std.specs.Prelude.{◌≡◌, ◌∷◌, true, map, string_bytes};
+ghost use Rattle.std.specs.Prelude.{◌≡◌, ◌∷◌, ◌<◌, ◌≤◌, true, length, map, string_bytes};
+ghost use Rattle.edge_io.specs.Whole.{most_piece};
 ghost use Rattle.cluster_setup.specs.Gathering.{AreGathered, AreGiven};
 ghost use Rattle.process_words.specs.Names.{are_distinct};
 
 use base_types::Bytes;
-use edge_io::{Desk, WholeStop, read_input};
+use edge_io::{Desk, WholeStop, piece_buffer, read_whole};
 use std::alloc::Global;
 
 /// A policy, and each file, may have so many bytes.
@@ -27,10 +28,13 @@ pub fn read_given<D: Desk>(
     ensures { AreGiven policy.now (map string_bytes names.now) (D.left desk.old) (D.left desk.new)
         (D.faults desk.old) (D.faults desk.new) result }
 {
-    match read_input(alloc, desk, policy, MOST_FILE) {
+    let Ok(mut buffer) = piece_buffer(alloc) else {
+        return Err(WholeStop::OutOfMemory);
+    };
+    match read_whole(alloc, desk, policy, MOST_FILE, &mut buffer) {
         Ok(bytes) => {
             let mut files = Vec::new(alloc);
-            match read_files(alloc, desk, names, &mut files) {
+            match read_files(alloc, desk, names, &mut buffer, &mut files) {
                 Ok(()) => Ok(GivenFiles {
                     policy: bytes,
                     files,
@@ -47,14 +51,17 @@ fn read_files<D: Desk>(
     alloc: Global,
     desk: &mut D,
     names: &[String],
+    buffer: &mut [u8],
     given: &mut Vec<Bytes>,
 ) -> Result<(), WholeStop>
-    requires { are_distinct (map string_bytes names.now) ≡ true }
+    requires differ { are_distinct (map string_bytes names.now) ≡ true }
+    requires some { 0 < length buffer.old }
+    requires piece { length buffer.old ≤ most_piece }
     ensures { AreGathered (map string_bytes names.now) given.old.items given.new.items
         (D.left desk.old) (D.left desk.new) (D.faults desk.old) (D.faults desk.new) result }
 {
     for name in names {
-        match read_input(alloc, desk, name, MOST_FILE) {
+        match read_whole(alloc, desk, name, MOST_FILE, buffer) {
             Ok(bytes) => match given.push(bytes) {
                 Ok(()) => {}
                 Err(_) => return Err(WholeStop::OutOfMemory),

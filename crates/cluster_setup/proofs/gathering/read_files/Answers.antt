@@ -5,7 +5,7 @@ use Rattle.process_words.proofs.NameFacts.{item_in_front}
 use Rattle.cluster_setup.proofs.gathering.read_files.Goals as goal
 
 pub loop-name-init : goal.loop-name-init
-loop-name-init g c = none_read (map (string_bytes {Z = Global}) c.args.names.now) c.args.given.now.items (g.D.Desk.left c.args.desk.now) (g.D.Desk.faults c.args.desk.now) c.requires
+loop-name-init g c = none_read (map (string_bytes {Z = Global}) c.args.names.now) c.args.given.now.items (g.D.Desk.left c.args.desk.now) (g.D.Desk.faults c.args.desk.now) c.requires.differ
 
 pub loop-name-preserved : goal.loop-name-preserved
 loop-name-preserved g c =
@@ -15,12 +15,12 @@ loop-name-preserved g c =
     let named : string_bytes {Z = Global} c.name-item.result ≡ name = search (rules, c.deref.ensures) in
     let left = g.D.Desk.left in
     let faults = g.D.Desk.faults in
-    let first = c.in-Ok.ensures in
+    let first = c.in-Ok.ensures.reads in
     read_on (map (string_bytes {Z = Global}) names) (map (string_bytes {Z = Global}) (drop at names)) (map (string_bytes {Z = Global}) (drop (at + 1) names)) name
-    c.args.given.now.items c.loop-name.given.items (left c.args.desk.now) (left c.loop-name.desk) (left c.read_input.new.desk)
-    (faults c.args.desk.now) (faults c.loop-name.desk) (faults c.read_input.new.desk)
-    (item_in_front (string_bytes {Z = Global}) names at c.name-item.result name c.loop-name-test.true c.name-item.is named) c.loop-name.invariant first.counted first.others
-    c.in-Ok.bytes c.push.new.self.items first.answers first.within first.whole c.in-Ok-push.ensures.items
+    c.args.given.now.items c.loop-name.given.items (left c.args.desk.now) (left c.loop-name.desk) (left c.read_whole.new.desk)
+    (faults c.args.desk.now) (faults c.loop-name.desk) (faults c.read_whole.new.desk)
+    (item_in_front (string_bytes {Z = Global}) names at c.name-item.result name c.loop-name-test.true c.name-item.is named) c.loop-name.invariant first.counted c.in-Ok.ensures.others
+    c.in-Ok.bytes c.push.new.self.items first.answers first.within first.whole first.taken c.in-Ok-push.ensures.items
 
 pub returns-in-Err-push : goal.returns-in-Err-push
 returns-in-Err-push g c =
@@ -30,12 +30,12 @@ returns-in-Err-push g c =
     let named : string_bytes {Z = Global} c.name-item.result ≡ name = search (rules, c.deref.ensures) in
     let left = g.D.Desk.left in
     let faults = g.D.Desk.faults in
-    let first = c.in-Ok.ensures in
+    let first = c.in-Ok.ensures.reads in
     ended_for_memory (map (string_bytes {Z = Global}) names) (map (string_bytes {Z = Global}) (drop at names)) (map (string_bytes {Z = Global}) (drop (at + 1) names)) name
-    c.args.given.now.items c.loop-name.given.items (left c.args.desk.now) (left c.loop-name.desk) (left c.read_input.new.desk)
-    (faults c.args.desk.now) (faults c.loop-name.desk) (faults c.read_input.new.desk)
-    (item_in_front (string_bytes {Z = Global}) names at c.name-item.result name c.loop-name-test.true c.name-item.is named) c.loop-name.invariant first.counted first.others
-    c.push.new.self.items
+    c.args.given.now.items c.loop-name.given.items (left c.args.desk.now) (left c.loop-name.desk) (left c.read_whole.new.desk)
+    (faults c.args.desk.now) (faults c.loop-name.desk) (faults c.read_whole.new.desk)
+    (item_in_front (string_bytes {Z = Global}) names at c.name-item.result name c.loop-name-test.true c.name-item.is named) c.loop-name.invariant first.counted c.in-Ok.ensures.others
+    c.push.new.self.items first.taken
 
 pub returns-in-Err : goal.returns-in-Err
 returns-in-Err g c =
@@ -45,12 +45,12 @@ returns-in-Err g c =
     let named : string_bytes {Z = Global} c.name-item.result ≡ name = search (rules, c.deref.ensures) in
     let left = g.D.Desk.left in
     let faults = g.D.Desk.faults in
-    let first = c.in-Err.ensures in
+    let first = c.in-Err.ensures.reads in
     ended (map (string_bytes {Z = Global}) names) (map (string_bytes {Z = Global}) (drop at names)) (map (string_bytes {Z = Global}) (drop (at + 1) names)) name
-    c.args.given.now.items c.loop-name.given.items (left c.args.desk.now) (left c.loop-name.desk) (left c.read_input.new.desk)
-    (faults c.args.desk.now) (faults c.loop-name.desk) (faults c.read_input.new.desk)
-    (item_in_front (string_bytes {Z = Global}) names at c.name-item.result name c.loop-name-test.true c.name-item.is named) c.loop-name.invariant first.counted first.others
-    c.in-Err.stop first.answers first.fault
+    c.args.given.now.items c.loop-name.given.items (left c.args.desk.now) (left c.loop-name.desk) (left c.read_whole.new.desk)
+    (faults c.args.desk.now) (faults c.loop-name.desk) (faults c.read_whole.new.desk)
+    (item_in_front (string_bytes {Z = Global}) names at c.name-item.result name c.loop-name-test.true c.name-item.is named) c.loop-name.invariant first.counted c.in-Err.ensures.others
+    c.in-Err.stop first.answers first.fault first.taken
 
 pub returns : goal.returns
 returns g c =
