@@ -2,7 +2,8 @@
 use Rattle.std.proofs.Common.{◌≡◌, ◌≢◌, ℕ, zero, ◌∷◌, Bool, Contains, map, List, Option, Some, Result, Ok, Err, IfOk, IsErrOf, ◌⊎◌, codes, inl, inr, refl, sym, ap, subst, arith}
 use Rattle.std.specs.Io.KnownBytes.{IsAtEnd}
 use Rattle.cluster_setup.specs.Answering.{AnswersMade}
-use Rattle.cluster_setup.specs.Gathering.{AreAtEnd, TellsAll}
+use Rattle.cluster_setup.proofs.TakingFacts.{files_where}
+use Rattle.cluster_setup.specs.Gathering.{AreAtEnd, TakesFiles, TellsAll}
 use Rattle.cluster_setup.specs.declared.answering.MadeText.{MadeText}
 use Rattle.cluster_setup.specs.declared.answering.MadeText.TheVariants as made
 use Rattle.context_intake.proofs.ReadingFacts.{taken_upto}
@@ -10,9 +11,11 @@ use Rattle.context_intake.specs.Taking.{ReadsSetupAndLog}
 use Rattle.context_intake.specs.declared.stop.Stop.{Stop}
 use Rattle.context_intake.specs.declared.stop.Stop.TheVariants.{OutOfMemory, ReadFault}
 use Rattle.edge_io.specs.Faults.{Rose}
+use Rattle.edge_io.specs.Whole.{TakesWhole}
 use Rattle.edge_io.specs.declared.whole.WholeStop.{WholeStop}
 use Rattle.edge_io.specs.declared.whole.WholeStop.TheVariants as whole
-use Rattle.log_sift.specs.Named.{AnswersSift, shown_text}
+use Rattle.log_sift.proofs.NamedFacts.{taken_where}
+use Rattle.log_sift.specs.Named.{AnswersSift, most_log, shown_text}
 use Rattle.log_sift.specs.declared.named.SiftText.{SiftText}
 use Rattle.log_verdict.specs.Answers.{Answer, answer, report_answer as verdict_answer}
 use Rattle.log_verdict.specs.Endings.{IsBrokenStatus, IsVerdictStatus}
@@ -47,6 +50,17 @@ never_memory report same = cc
 
 told_status : (report : CommandReport) (status : ℕ) (text : List ℕ) → report_answer report ≡ answer status text → status_number report.status ≡ status
 told_status report status text told = ap (λ (a : Answer). a.status) told
+
+-- a read fault is told where there was one
+fault_told : (limit : List ℕ) (stop : WholeStop) (shown : Result CommandReport Stop) → TellsStop stop limit shown → IsErrOf shown ReadFault → stop ≡ whole.ReadFault
+fault_told limit whole.TooLong (Ok report) tells is = absurd (never_both report is)
+fault_told limit whole.TooLong (Err other) tells is = absurd tells
+fault_told limit whole.ReadFault shown tells is = refl
+fault_told limit whole.OutOfMemory shown tells is = absurd (never_fault shown tells is)
+
+stop_told : {A : Type 0} (limit : List ℕ) (stop : WholeStop) (shown : Result CommandReport Stop) → TellsStop stop limit shown → IsErrOf shown ReadFault
+    → ◌≡◌ {A = Result A WholeStop} (Err stop) (Err whole.ReadFault)
+stop_told limit stop shown tells is = ap (λ (s : WholeStop). Err s) (fault_told limit stop shown tells is)
 
 -- the status of a page, or of a refusal
 picture_status : (status : ExitStatus) → IsVerdictStatus (status_number status) ⊎ IsBrokenStatus (status_number status) ⊎ (status_number status ≡ 7)
@@ -116,14 +130,15 @@ module _ (old now : List ℕ → Option (List ℕ)) (untouched : Type 0) (faults
   sift_answer bytes text is = inr (is.0, (is.1.0, is.1.1, is.1.2, ap (answer 0) is.1.3))
 
   pub sift_reported : (text : SiftText) (report : CommandReport) → report_answer report ≡ answer 0 (shown_text text) → HasStretchesWithin report.body
-      → ((bytes : List ℕ) → old log ≡ Some bytes → AnswersSift left bytes (Ok text)) → IsAtEnd (now log) → ((other : List ℕ) → other ≢ log → now other ≡ old other)
+      → ((bytes : List ℕ) → old log ≡ Some bytes → AnswersSift left bytes (Ok text)) → IsAtEnd (now log)
+      → TakesWhole most_log (old log) (now log) (◌≡◌ {A = Result SiftText WholeStop} (Ok text) (Err whole.ReadFault)) → ((other : List ℕ) → other ≢ log → now other ≡ old other)
       → IsReported (Sift left log) old now untouched faults_before faults_now (Ok report)
-  sift_reported text report same within right end others = record {
+  sift_reported text report same within right end taken others = record {
     answered = λ files tells. subst (IsSiftAnswer left (files log)) (sym same) (sift_answer (files log) text (right (files log) (tells log refl)));
     status = inl (told_status report 0 (shown_text text) same);
     within = within;
     fault = λ no. absurd (never_both report no);
-    taken = tt;
+    taken = taken_where most_log (old log) (now log) _ (IsErrOf (ok report) ReadFault) (λ no. absurd (never_both report no)) taken;
     ends = λ _ name is. subst (λ n. IsAtEnd (now n)) (sym is) end;
     left = λ none. absurd (none log refl);
     others = others;
@@ -131,11 +146,13 @@ module _ (old now : List ℕ → Option (List ℕ)) (untouched : Type 0) (faults
 
   pub sift_stopped : (stop : WholeStop) (shown : Result CommandReport Stop) → TellsStop stop (ended (codes "limit input")) shown
       → ((bytes : List ℕ) → old log ≡ Some bytes → AnswersSift left bytes (Err stop)) → (stop ≡ whole.ReadFault → Rose faults_before faults_now)
+      → TakesWhole most_log (old log) (now log) (◌≡◌ {A = Result SiftText WholeStop} (Err stop) (Err whole.ReadFault))
       → ((other : List ℕ) → other ≢ log → now other ≡ old other) → IsReported (Sift left log) old now untouched faults_before faults_now shown
-  sift_stopped stop shown tells right fault others =
+  sift_stopped stop shown tells right fault taken others =
       stop_shown old now untouched faults_before faults_now (Sift left log) (ended (codes "limit input")) stop shown tells
       (λ is files told. inl (subst (λ (s : WholeStop). AnswersSift left (files log) (Err s)) is (right (files log) (told log refl)), refl))
-      (λ status is. inr is) no_sifting fault tt (λ none. absurd (none log refl)) others
+      (λ status is. inr is) no_sifting fault (taken_where most_log (old log) (now log) _ (IsErrOf shown ReadFault) (stop_told (ended (codes "limit input")) stop shown tells) taken)
+      (λ none. absurd (none log refl)) others
 
 -- the setup of a policy and files
 module _ (old now : List ℕ → Option (List ℕ)) (untouched : Type 0) (faults_before faults_now : ℕ) (authorize : Bool) (time policy : List ℕ) (names : List (List ℕ)) where
@@ -153,15 +170,15 @@ module _ (old now : List ℕ → Option (List ℕ)) (untouched : Type 0) (faults
 
   pub setup_reported : (found : MadeText) (report : CommandReport) → report_answer report ≡ made_answer found → HasStretchesWithin report.body
       → ((told : List ℕ → List ℕ) → TellsAll (policy ∷ names) old told → AnswersMade authorize time (told policy) names (map told names) (Ok found))
-      → AreAtEnd (policy ∷ names) now → ((other : List ℕ) → (Contains (policy ∷ names) other → ⊥) → now other ≡ old other)
+      → AreAtEnd (policy ∷ names) now → TakesFiles (policy ∷ names) old now (◌≡◌ {A = Result MadeText WholeStop} (Ok found) (Err whole.ReadFault)) → ((other : List ℕ) → (Contains (policy ∷ names) other → ⊥) → now other ≡ old other)
       → IsReported (Setup authorize time policy names) old now untouched faults_before faults_now (Ok report)
-  setup_reported found report same within right end others = record {
+  setup_reported found report same within right end taken others = record {
     answered = λ files tells.
         subst (IsSetupAnswer authorize time (files policy) names (map files names)) (sym same) (setup_answer (files policy) (map files names) found (right files tells));
     status = setup_status found report same;
     within = within;
     fault = λ no. absurd (never_both report no);
-    taken = tt;
+    taken = files_where (policy ∷ names) old now _ (IsErrOf (ok report) ReadFault) (λ no. absurd (never_both report no)) taken;
     ends = λ _. end;
     left = untold;
     others = others;
@@ -169,12 +186,13 @@ module _ (old now : List ℕ → Option (List ℕ)) (untouched : Type 0) (faults
 
   pub setup_stopped : (stop : WholeStop) (shown : Result CommandReport Stop) → TellsStop stop (ended (codes "limit file")) shown
       → ((told : List ℕ → List ℕ) → TellsAll (policy ∷ names) old told → AnswersMade authorize time (told policy) names (map told names) (Err stop))
-      → (stop ≡ whole.ReadFault → Rose faults_before faults_now) → ((other : List ℕ) → (Contains (policy ∷ names) other → ⊥) → now other ≡ old other)
+      → (stop ≡ whole.ReadFault → Rose faults_before faults_now) → TakesFiles (policy ∷ names) old now (◌≡◌ {A = Result MadeText WholeStop} (Err stop) (Err whole.ReadFault))
+      → ((other : List ℕ) → (Contains (policy ∷ names) other → ⊥) → now other ≡ old other)
       → IsReported (Setup authorize time policy names) old now untouched faults_before faults_now shown
-  setup_stopped stop shown tells right fault others =
+  setup_stopped stop shown tells right fault taken others =
       stop_shown old now untouched faults_before faults_now (Setup authorize time policy names) (ended (codes "limit file")) stop shown tells
       (λ is files told. inl (subst (λ (s : WholeStop). AnswersMade authorize time (files policy) names (map files names) (Err s)) is (right files told), refl))
-      (λ status is. inr (inr is)) no_making fault tt untold others
+      (λ status is. inr (inr is)) no_making fault (files_where (policy ∷ names) old now _ (IsErrOf shown ReadFault) (stop_told (ended (codes "limit file")) stop shown tells) taken) untold others
 
 -- the page of a verdict, or why there is none
 module _ (old now : List ℕ → Option (List ℕ)) (untouched : Type 0) (faults_before faults_now : ℕ) (setup log : List ℕ) where

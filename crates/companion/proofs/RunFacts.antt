@@ -1,11 +1,16 @@
 -- Answers that are passed on.
-use Rattle.std.proofs.Common.{◌≡◌, ◌<◌, ℕ, List, Option, Some, None, Result, Ok, Err, IfOk, IsErrOf, inl, inr, refl, sym, ◌∙◌, subst, arith}
+use Rattle.std.proofs.Common.{◌≡◌, ◌<◌, ℕ, Bool, List, ◌∷◌, Option, Some, None, Result, Ok, Err, IfOk, IsErrOf, inl, inr, refl, sym, ◌∙◌, subst, arith}
 use Rattle.std.specs.Io.KnownBytes.{IsAtEnd, Keeps}
+use Rattle.cluster_setup.proofs.TakingFacts.{files_where}
+use Rattle.cluster_setup.specs.Gathering.{TakesFiles}
 use Rattle.context_intake.proofs.ReadingFacts.{taken_upto}
 use Rattle.context_intake.specs.declared.stop.Stop.{Stop}
 use Rattle.context_intake.specs.declared.stop.Stop.TheVariants.{OutOfMemory, ReadFault}
 use Rattle.edge_io.specs.Endings.{Ends}
 use Rattle.edge_io.specs.Faults.{Rose}
+use Rattle.edge_io.specs.Whole.{TakesWhole}
+use Rattle.log_sift.proofs.NamedFacts.{taken_where}
+use Rattle.log_sift.specs.Named.{most_log}
 use Rattle.log_verdict.specs.Answers.{Answer}
 use Rattle.log_verdict.specs.Endings.{IsAnswered, IsBrokenStatus, IsVerdictStatus, ReadsNames}
 use Rattle.companion_words.specs.Command.{Asked, Explain, IsAsked, Picture, Reads, Setup, Sift, Spells, Tells, TellsWords}
@@ -153,10 +158,21 @@ module _ {words : List (List ℕ)} {asked : Asked} {old now : List ℕ → Optio
     memory = λ is. concluded_eight sink_before sink_now before written result found r.concluded is;
   }
 
+  takes_of : (other : Asked) → IsAsked words (Some other) → Takes other old now found
+  takes_of other asks = subst (λ a. Takes a old now found) (one_command words asked other r.spelled asks) r.reported.taken
+
+  read_failed : result ≡ 5 → IsErrOf found ReadFault
+  read_failed is = concluded_five sink_before sink_now before written result found r.concluded is
+
+  takes_log : (left : Bool) (log : List ℕ) → IsAsked words (Some (Sift left log)) → TakesWhole most_log (old log) (now log) (result ≡ 5)
+  takes_log left log asks = taken_where most_log (old log) (now log) (IsErrOf found ReadFault) (result ≡ 5) read_failed (takes_of (Sift left log) asks)
+
+  takes_given : (authorize : Bool) (time policy : List ℕ) (files : List (List ℕ)) → IsAsked words (Some (Setup authorize time policy files)) → TakesFiles (policy ∷ files) old now (result ≡ 5)
+  takes_given authorize time policy files asks =
+      files_where (policy ∷ files) old now (IsErrOf found ReadFault) (result ≡ 5) read_failed (takes_of (Setup authorize time policy files) asks)
+
   takes_names : (setup log : List ℕ) → IsAsked words (Some (Picture setup log)) → TakesNames setup log old now found
-  takes_names setup log asks =
-      let takes : Takes (Picture setup log) old now found = subst (λ a. Takes a old now found) (one_command words asked (Picture setup log) r.spelled asks) r.reported.taken in
-      takes
+  takes_names setup log asks = takes_of (Picture setup log) asks
 
   ends_names : (other : Asked) → IsAsked words (Some other) → EndsNames other now found
   ends_names other asks = subst (λ a. EndsNames a now found) (one_command words asked other r.spelled asks) r.reported.ends
@@ -169,6 +185,8 @@ module _ {words : List (List ℕ)} {asked : Asked} {old now : List ℕ → Optio
   pub run_read : ReadsDesk words old now untouched result
   run_read = record {
     names = λ setup log asks. concluded_names sink_before sink_now before written result found setup log old now (takes_names setup log asks) r.concluded;
+    sifted = takes_log;
+    given = takes_given;
     ends = λ other name asks reads all. names_end other asks all name reads;
     desk_left = λ none. r.reported.left (λ name reads. none name (asked, r.spelled, reads));
     others_left = λ name none. r.reported.others name (λ reads. none (asked, r.spelled, reads));
@@ -204,6 +222,8 @@ module _ {words : List (List ℕ)} {left : List ℕ → Option (List ℕ)} {unto
   pub usage_read : ReadsDesk words left left untouched status
   usage_read = record {
     names = λ setup log asks. absurd (none (Picture setup log) asks);
+    sifted = λ left log asks. absurd (none (Sift left log) asks);
+    given = λ authorize time policy files asks. absurd (none (Setup authorize time policy files) asks);
     ends = λ asked name asks reads all. absurd (none asked asks);
     desk_left = λ unasked. same;
     others_left = λ name unread. refl;

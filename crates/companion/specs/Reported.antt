@@ -1,13 +1,15 @@
 -- What a command comes to before it is written: its report, and what was done to the desk.
-use Rattle.std.specs.Prelude.{◌≡◌, ⊤, ℕ, List, Option, Some, Result, Ok, Err, IfOk, IsErrOf, codes}
+use Rattle.std.specs.Prelude.{◌≡◌, ⊤, ℕ, List, ◌∷◌, Option, Some, Result, Ok, Err, IfOk, IsErrOf, codes}
 use Rattle.std.specs.Io.KnownBytes.{IsAtEnd, Keeps}
 use Rattle.context_intake.specs.Taking.{TakesSetupAndLog}
 use Rattle.context_intake.specs.declared.stop.Stop.{Stop}
 use Rattle.context_intake.specs.declared.stop.Stop.TheVariants.{OutOfMemory, ReadFault}
 use Rattle.edge_io.specs.Endings.{Ends}
 use Rattle.edge_io.specs.Faults.{Rose}
+use Rattle.edge_io.specs.Whole.{TakesWhole}
 use Rattle.edge_io.specs.declared.whole.WholeStop.{WholeStop}
 use Rattle.edge_io.specs.declared.whole.WholeStop.TheVariants as whole
+use Rattle.cluster_setup.specs.Gathering.{TakesFiles}
 use Rattle.cluster_setup.specs.declared.answering.MadeText.{MadeText}
 use Rattle.cluster_setup.specs.declared.answering.MadeText.TheVariants as made
 use Rattle.log_sift.specs.Named as sift
@@ -66,11 +68,12 @@ pub record TakesNames (setup log : List ℕ) (old now : List ℕ → Option (Lis
   pub setup_whole : IfOk found (λ report. HasBrokenRule (report_answer report) → IsAtEnd (now setup))
   pub taken : TakesSetupAndLog setup log old now (IsErrOf found ReadFault)
 
--- of a setup and a log alone it is said what is taken of them
+-- what was taken of the names of a command at most, and less where a read failed; of a setup's policy and files, one
+-- behind another, nothing behind one that wasn't read whole
 abbrev pub Takes : Asked → (old now : List ℕ → Option (List ℕ)) → Result CommandReport Stop → Type 0
 Takes (Explain text) old now found = ⊤
-Takes (Sift left log) old now found = ⊤
-Takes (Setup authorize time policy files) old now found = ⊤
+Takes (Sift left log) old now found = TakesWhole sift.most_log (old log) (now log) (IsErrOf found ReadFault)
+Takes (Setup authorize time policy files) old now found = TakesFiles (policy ∷ files) old now (IsErrOf found ReadFault)
 Takes (Picture setup log) old now found = TakesNames setup log old now found
 
 -- the report is that of the command; the faults are those of the desk

@@ -9,10 +9,10 @@ pub returns-in-Ok : goal.returns-in-Ok
 returns-in-Ok g c =
     let w = c.in-Ok.ensures in
     sift_reported (g.D.Desk.left c.args.desk.now) (g.D.Desk.left c.sift_named.new.desk) _ (g.D.Desk.faults c.args.desk.now) (g.D.Desk.faults c.sift_named.new.desk) c.args.left c.args.log.now
-    c.in-Ok.text (record { status = Done; body = Sifted c.in-Ok.text }) refl w.within w.answered w.whole w.others
+    c.in-Ok.text (record { status = Done; body = Sifted c.in-Ok.text }) refl w.within w.answered w.whole w.taken w.others
 
 pub returns-in-Err : goal.returns-in-Err
 returns-in-Err g c =
     let w = c.in-Err.ensures in
     sift_stopped (g.D.Desk.left c.args.desk.now) (g.D.Desk.left c.sift_named.new.desk) _ (g.D.Desk.faults c.args.desk.now) (g.D.Desk.faults c.sift_named.new.desk) c.args.left c.args.log.now
-    c.in-Err.stop c.stop_report.result c.stop_report.ensures w.answered (λ is. w.fault (ap (λ (s : WholeStop). Err s) is)) w.others
+    c.in-Err.stop c.stop_report.result c.stop_report.ensures w.answered (λ is. w.fault (ap (λ (s : WholeStop). Err s) is)) w.taken w.others
