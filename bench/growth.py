@@ -31,6 +31,7 @@ two kinds are sifted by the companion (`sift --left`), where it is given.
   sift_lists EventLists of up to 20,000 events each, delivered twice
 """
 import argparse
+import multiprocessing
 import os
 import shutil
 import subprocess
@@ -335,6 +336,14 @@ def answered(words, folder):
     return used.ru_utime + used.ru_stime, used.ru_maxrss, text.decode("utf-8", "replace").split("\n")[0]
 
 
+def write(kind, size, folder):
+    log = Log()
+    (KINDS | SIFTED)[kind](log, size)
+    for name, text in (("setup.json", compact(log.setup) + "\n"), ("log.json", "\n".join(log.lines) + "\n")):
+        with open(os.path.join(folder, name), "w") as file:
+            file.write(text)
+
+
 def main():
     words = argparse.ArgumentParser(description=__doc__, formatter_class=argparse.RawDescriptionHelpFormatter)
     words.add_argument("program")
@@ -351,11 +360,10 @@ def main():
         for size in map(int, asked.sizes.split(",")):
             folder = os.path.join(asked.keep, f"{kind}-{size}") if asked.keep else tempfile.mkdtemp()
             os.makedirs(folder, exist_ok=True)
-            log = Log()
-            (KINDS | SIFTED)[kind](log, size)
-            for name, text in (("setup.json", compact(log.setup) + "\n"), ("log.json", "\n".join(log.lines) + "\n")):
-                with open(os.path.join(folder, name), "w") as file:
-                    file.write(text)
+            # By a process of its own: what is forked here begins with the peak of this one's memory.
+            maker = multiprocessing.Process(target=write, args=(kind, size, folder))
+            maker.start()
+            maker.join()
             length = os.path.getsize(os.path.join(folder, "log.json"))
             taken, peak, answer = answered(sift if kind in SIFTED else judge, folder)
             grown = "" if before is None else f", {taken / before:.1f} times"
