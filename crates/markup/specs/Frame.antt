@@ -1,5 +1,5 @@
 -- What stands in front of a page's sections and behind them.
-use Rattle.std.specs.Prelude.{◌≡◌, refl, ℕ, Bool, true, ◌++◌, ◌+◌, ◌&&◌, ◌||◌, not, nat_eq, nat_le, List, [], ◌∷◌, codes, map, if◌then◌else◌}
+use Rattle.std.specs.Prelude.{◌≡◌, refl, ℕ, Bool, true, ◌++◌, ◌+◌, ◌&&◌, not, nat_eq, nat_le, List, [], ◌∷◌, codes, map, if◌then◌else◌}
 use Rattle.std.specs.List.{list_any, starts_with}
 use Rattle.markup.specs.Pieces.{Piece, shown}
 use Rattle.markup.specs.declared.frame.TheConstants.{BEFORE_TITLE, BEHIND_TITLE, PAGE_END}
