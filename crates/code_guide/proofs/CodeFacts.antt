@@ -7,11 +7,12 @@ use Rattle.code_guide.specs.LimitGuides.{limit_guides}
 use Rattle.code_guide.specs.LogGuides.{log_guides}
 use Rattle.code_guide.specs.MakingGuides.{making_guides}
 use Rattle.code_guide.specs.Names.{IsCode, file_names, limit_names, making_names, names_of, status_names, word_names}
+use Rattle.code_guide.specs.Paragraphs.{IsWhole, TellsLimit, is_whole, tells_most}
 use Rattle.code_guide.specs.SetupGuides.{setup_guides}
 use Rattle.code_guide.specs.StatusGuides.{status_guides}
 use Rattle.code_guide.specs.Texts.{Begins, Guide, text_in}
 use Rattle.code_guide.specs.VerdictGuides.{verdict_guides}
-use Rattle.code_guide.proofs.FoundTexts.{are_begun, begun, found, named, names_in}
+use Rattle.code_guide.proofs.FoundTexts.{all_pass, are_begun, begun, found, named, names_in, passed}
 
 word_names_are : names_in word_guides ≡ word_names
 unfolding log_guides setup_guides verdict_guides
@@ -104,6 +105,58 @@ begins_of (family ∷ code ∷ []) text is =
     family_begins family code text (bytes_eq family (codes "status")) (bytes_eq family (codes "limit")) (bytes_eq family (codes "setup")) (bytes_eq family (codes "file")) refl refl refl refl is
 begins_of (family ∷ code ∷ other ∷ others) text is = absurd (let no : None ≡ Some text = is in cc)
 
+-- each text has its paragraphs
+abbrev whole_of : List ℕ → List ℕ → Bool
+whole_of name text = is_whole text
+
+words_whole : all_pass whole_of word_guides ≡ true
+unfolding log_guides setup_guides verdict_guides
+words_whole = refl
+
+statuses_whole : all_pass whole_of status_guides ≡ true
+unfolding status_guides
+statuses_whole = refl
+
+limits_whole : all_pass whole_of limit_guides ≡ true
+unfolding limit_guides
+limits_whole = refl
+
+makings_whole : all_pass whole_of making_guides ≡ true
+unfolding making_guides
+makings_whole = refl
+
+files_whole : all_pass whole_of file_guides ≡ true
+unfolding file_guides
+files_whole = refl
+
+family_whole_in : (is_status is_limit is_making is_file : Bool)
+    → all_pass whole_of (if is_status then status_guides else if is_limit then limit_guides else if is_making then making_guides else if is_file then file_guides else []) ≡ true
+family_whole_in true is_limit is_making is_file = statuses_whole
+family_whole_in false true is_making is_file = limits_whole
+family_whole_in false false true is_file = makings_whole
+family_whole_in false false false true = files_whole
+family_whole_in false false false false = refl
+
+family_whole : (family : List ℕ) → all_pass whole_of (guides_of family) ≡ true
+family_whole family =
+    family_whole_in (bytes_eq family (codes "status")) (bytes_eq family (codes "limit")) (bytes_eq family (codes "setup")) (bytes_eq family (codes "file"))
+
+whole_text : (words : List (List ℕ)) (text : List ℕ) → text_of words ≡ Some text → IsWhole text
+whole_text [] text is = absurd (let no : None ≡ Some text = is in cc)
+whole_text (code ∷ []) text is = passed whole_of word_guides code text words_whole is
+whole_text (family ∷ code ∷ []) text is = passed whole_of (guides_of family) code text (family_whole family) is
+whole_text (family ∷ code ∷ other ∷ others) text is = absurd (let no : None ≡ Some text = is in cc)
+
+-- each text of a limit has its number
+limits_told : all_pass tells_most limit_guides ≡ true
+unfolding limit_guides
+limits_told = refl
+
+limit_text : (words : List (List ℕ)) (text : List ℕ) → text_of words ≡ Some text → TellsLimit words text
+limit_text words text is name spelled =
+    let found : text_in limit_guides name ≡ Some text = subst (λ ws. text_of ws ≡ Some text) spelled is in
+    passed tells_most limit_guides name text limits_told found
+
 -- the same of what a call answers
 module _ {X : Type 0} (value : X → List ℕ) (words : List (List ℕ)) where
   pub explained_some : (found : Option X) → option_map value found ≡ text_of words → IsSome found ↔ IsCode words
@@ -113,3 +166,11 @@ module _ {X : Type 0} (value : X → List ℕ) (words : List (List ℕ)) where
   pub explained_begins : (found : Option X) → option_map value found ≡ text_of words → IfSome found (λ text. Begins words (value text))
   explained_begins None is = tt
   explained_begins (Some x) is = begins_of words (value x) (sym is)
+
+  pub explained_whole : (found : Option X) → option_map value found ≡ text_of words → IfSome found (λ text. IsWhole (value text))
+  explained_whole None is = tt
+  explained_whole (Some x) is = whole_text words (value x) (sym is)
+
+  pub explained_limit : (found : Option X) → option_map value found ≡ text_of words → IfSome found (λ text. TellsLimit words (value text))
+  explained_limit None is = tt
+  explained_limit (Some x) is = limit_text words (value x) (sym is)

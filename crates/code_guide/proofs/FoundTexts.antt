@@ -101,3 +101,22 @@ pub begun : (front : List ℕ) (guides : List Guide) (name text : List ℕ) → 
     → (rest : List ℕ) × (text ≡ (front ++ (name ++ codes ": ")) ++ rest)
 begun front [] name text all is = absurd (let no : None ≡ Some text = is in cc)
 begun front (first ∷ others) name text all is = begun_here front first others name text (is_begun front first) (bytes_eq name first.name) refl refl (begun front others name text) all is
+
+-- each name and text passes a test
+abbrev pub all_pass : (List ℕ → List ℕ → Bool) → List Guide → Bool
+all_pass test [] = true
+all_pass test (first ∷ others) = if test first.name first.text then all_pass test others else false
+
+passed_here : (test : List ℕ → List ℕ → Bool) (first : Guide) (others : List Guide) (name text : List ℕ) (passes same : Bool) → test first.name first.text ≡ passes → bytes_eq name first.name ≡ same
+    → (all_pass test others ≡ true → text_in others name ≡ Some text → test name text ≡ true)
+    → (if passes then all_pass test others else false) ≡ true → (if same then Some first.text else text_in others name) ≡ Some text → test name text ≡ true
+passed_here test first others name text false same fails is_same below all is = absurd (let no : false ≡ true = all in cc)
+passed_here test first others name text true false passes differs below all is = below all is
+passed_here test first others name text true true passes same below all is =
+    ap (λ n. test n text) ((bytes_eq-Decides name first.name).0 same) ∙ ap (test first.name) (sym (same_Some first.text text is)) ∙ passes
+
+-- so does a text that is found
+pub passed : (test : List ℕ → List ℕ → Bool) (guides : List Guide) (name text : List ℕ) → all_pass test guides ≡ true → text_in guides name ≡ Some text → test name text ≡ true
+passed test [] name text all is = absurd (let no : None ≡ Some text = is in cc)
+passed test (first ∷ others) name text all is =
+    passed_here test first others name text (test first.name first.text) (bytes_eq name first.name) refl refl (passed test others name text) all is

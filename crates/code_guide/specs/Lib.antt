@@ -1,5 +1,6 @@
 pub mod Listed
 pub mod Texts
+pub mod Paragraphs
 pub mod LogGuides
 pub mod SetupGuides
 pub mod VerdictGuides

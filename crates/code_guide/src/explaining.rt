@@ -1,6 +1,7 @@
 ghost use Rattle.std.specs.Prelude.{◌≡◌, ◌↔◌, IfSome, IsSome, map, option_map, string_bytes};
 ghost use Rattle.code_guide.specs.Guides.{guides_of, text_of, word_guides};
 ghost use Rattle.code_guide.specs.Names.{IsCode};
+ghost use Rattle.code_guide.specs.Paragraphs.{IsWhole, TellsLimit};
 ghost use Rattle.code_guide.specs.Texts.{Begins, text_in};
 
 use crate::file_codes::file_text;
@@ -17,6 +18,8 @@ pub fn explain(words: &[String]) -> Option<&'static str>
     ensures text { option_map (λ text. text.now) result ≡ text_of (map string_bytes words.now) }
     ensures some { IsSome result ↔ IsCode (map string_bytes words.now) }
     ensures begins { IfSome result (λ text. Begins (map string_bytes words.now) text.now) }
+    ensures whole { IfSome result (λ text. IsWhole text.now) }
+    ensures limit { IfSome result (λ text. TellsLimit (map string_bytes words.now) text.now) }
 {
     find_text(words)
 }

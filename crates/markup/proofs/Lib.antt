@@ -1,1 +1,2 @@
 pub mod EscapingFacts
+pub mod Positions

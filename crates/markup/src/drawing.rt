@@ -1,4 +1,5 @@
 ghost use Rattle.std.specs.Prelude.{◌≡◌, ◌+◌, ◌≤◌};
+ghost use Rattle.markup.specs.Drawing.{FirstIsLeft, LastIsRight, PlacesRise};
 
 /// A line of a drawing that stands for the numbers from `low` to `high`: revisions, or nanoseconds.
 #[derive(Clone, Copy, PartialEq, Eq)]
@@ -25,3 +26,10 @@ impl Axis {
         u64::from(self.left) + right as u64
     }
 }
+
+/// Places rise along a line, from its begin to its end.
+pub fn position_law()
+    ensures rise { PlacesRise }
+    ensures first { FirstIsLeft }
+    ensures last { LastIsRight }
+{}

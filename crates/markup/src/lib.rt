@@ -9,7 +9,7 @@ mod frame;
 mod limits;
 mod moments;
 
-pub use drawing::Axis;
+pub use drawing::{Axis, position_law};
 pub use escaping::{Told, escaped_law, push_escaped};
 pub use frame::{push_begin, push_end};
 pub use limits::{first_of, push_rest};
