@@ -13,7 +13,7 @@ use Rattle.write_groups.specs.Lines.{line_at}
 use Rattle.write_groups.specs.declared.event.LogEvent.{LogEvent}
 use Rattle.finding_picture.specs.Limits.{most_rows}
 use Rattle.finding_picture.specs.Objects.{maker_text}
-use Rattle.finding_picture.specs.declared.caches.TheConstants.{BEFORE_CACHES, BEHIND_RANGE}
+use Rattle.finding_picture.specs.Texts.{before_caches, behind_range}
 use Rattle.finding_picture.specs.declared.finding.Finding.{Finding}
 
 -- a role or binding that came into the caches there
@@ -52,7 +52,7 @@ caches_rows log come gone =
 unfoldable pub caches_section : Known → ℕ → ℕ → List ℕ
 caches_section known low high =
     shown (
-    fixed BEFORE_CACHES.now ∷ number low ∷ fixed (codes " to ") ∷ number high ∷ fixed BEHIND_RANGE.now ∷ [])
+    fixed before_caches ∷ number low ∷ fixed (codes " to ") ∷ number high ∷ fixed behind_range ∷ [])
     ++ caches_rows known.log (filter (has_come low high) known.versions) (filter (may_have_gone low high) known.removals)
 
 -- only decisions have caches

@@ -1,4 +1,5 @@
 -- The unrecorded writes, and from where on they hide which objects.
+use Rattle.finding_picture.specs.Texts.{before_hiding, before_own, hiding_columns}
 use Rattle.std.specs.Prelude.{ℕ, Bool, true, false, List, [], ◌∷◌, ◌++◌, Option, Some, None, codes, filter, length, take}
 use Rattle.std.specs.List.{flat_map}
 use Rattle.base_types.specs.declared.key.Cover.{Cover}
@@ -18,7 +19,6 @@ use Rattle.write_groups.specs.declared.event.Shown.{Shown}
 use Rattle.write_groups.specs.declared.event.Shown.TheVariants.{Made, Removed, Opaque, Saw, SawNone, SawSome, SawOther, Listed, Free, Aside}
 use Rattle.finding_picture.specs.Limits.{most_rows}
 use Rattle.finding_picture.specs.Objects.{key_on}
-use Rattle.finding_picture.specs.declared.hiding.TheConstants.{BEFORE_HIDING, BEFORE_OWN, HIDING_COLUMNS}
 
 unfoldable pub namespace_text : Option (List ℕ) → List ℕ
 namespace_text None = shown (fixed (codes "any") ∷ [])
@@ -107,14 +107,14 @@ hiding_rows h writes =
 -- those that may have changed the event's object, and how many others there are in the log
 unfoldable pub own_rows : History → List LogEvent → List LogEvent → List ℕ
 own_rows h own all =
-    shown (fixed BEFORE_OWN.now ∷ fixed HIDING_COLUMNS.now ∷ [])
+    shown (fixed before_own ∷ fixed hiding_columns ∷ [])
     ++ (hiding_rows h own
     ++ rest_text (length own) (length all) (codes "Other unrecorded writes, of other objects alone"))
 
 -- Where the event isn't about a single object, all of the log.
 unfoldable pub hiding_text : Known → Option ObjectKey → List ℕ
 hiding_text known None =
-    shown (fixed BEFORE_HIDING.now ∷ fixed HIDING_COLUMNS.now ∷ [])
+    shown (fixed before_hiding ∷ fixed hiding_columns ∷ [])
     ++ hiding_rows (history_of known) (unrecorded_in known.log)
 hiding_text known (Some key) = own_rows (history_of known) (hiding_in key known.log) (unrecorded_in known.log)
 

@@ -12,4 +12,5 @@ pub mod Requests
 pub mod Rows
 pub mod Segments
 pub mod Showing
+pub mod Texts
 pub mod Times

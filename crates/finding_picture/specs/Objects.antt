@@ -1,4 +1,5 @@
 -- What an answer about the event's object would have been, place by place: the object's versions and its removals.
+use Rattle.finding_picture.specs.Texts.{before_object, behind_object, no_object}
 use Rattle.std.specs.Prelude.{ℕ, ◌==◌, List, [], ◌∷◌, ◌++◌, Option, Some, None, codes, filter, find, length, option_and_then, take}
 use Rattle.std.specs.List.{flat_map}
 use Rattle.base_types.specs.Keys.{key_spelling, same_key}
@@ -16,7 +17,6 @@ use Rattle.write_groups.specs.declared.event.Shown.{Shown}
 use Rattle.write_groups.specs.declared.event.Shown.TheVariants.{Made, Removed, Opaque, Saw, SawNone, SawSome, SawOther, Listed, Free, Aside}
 use Rattle.finding_picture.specs.Limits.{most_rows, most_versions}
 use Rattle.finding_picture.specs.Lasting.{since}
-use Rattle.finding_picture.specs.declared.objects.TheConstants.{BEFORE_OBJECT, BEHIND_OBJECT, NO_OBJECT}
 
 -- the object that an answer speaks of, where it is one
 abbrev pub answer_key : Shown → Option ObjectKey
@@ -77,10 +77,10 @@ object_rows log low versions removals =
 
 -- the object's key, before the rows
 unfoldable pub object_name : ObjectKey → List ℕ
-object_name key = shown (fixed BEFORE_OBJECT.now ∷ told (key_spelling key) ∷ fixed BEHIND_OBJECT.now ∷ [])
+object_name key = shown (fixed before_object ∷ told (key_spelling key) ∷ fixed behind_object ∷ [])
 
 unfoldable pub object_text : Known → Option ObjectKey → ℕ → List ℕ
-object_text known None low = shown (fixed NO_OBJECT.now ∷ [])
+object_text known None low = shown (fixed no_object ∷ [])
 object_text known (Some key) low =
     object_name key
     ++ object_rows known.log low (versions_of known key) (removals_of known key)

@@ -14,15 +14,16 @@ use Rattle.finding_picture.specs.Marks.{mark_text, places_axis}
 use Rattle.finding_picture.specs.Objects.{key_on}
 use Rattle.finding_picture.specs.Segments.{segments_text, versions_on}
 use Rattle.finding_picture.specs.Lasting.{since}
+use Rattle.finding_picture.specs.Texts.{band_and_axis, before_places}
 use Rattle.finding_picture.specs.declared.finding.Finding.{Finding}
-use Rattle.finding_picture.specs.declared.places.TheConstants.{BEFORE_PLACES, BAND_AND_AXIS, BEHIND_PLACES}
+use Rattle.finding_picture.specs.declared.places.TheConstants.{BEHIND_PLACES}
 
 unfoldable pub band_text : Finding → List ℕ
 band_text finding = shown (
-    fixed BEFORE_PLACES.now ∷ number (length finding.writes.now)
+    fixed before_places ∷ number (length finding.writes.now)
     ∷ fixed (codes " writes, from place ") ∷ number finding.low
     ∷ fixed (codes " to place ") ∷ number finding.high
-    ∷ fixed BAND_AND_AXIS.now ∷ number finding.low
+    ∷ fixed band_and_axis ∷ number finding.low
     ∷ fixed (codes "</text>\n<text x=\"920\" y=\"22\" text-anchor=\"end\">") ∷ number finding.high
     ∷ fixed (codes "</text>\n") ∷ [])
 

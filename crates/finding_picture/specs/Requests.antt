@@ -1,4 +1,5 @@
 -- What the event asked, what it was answered, and what the answer shows.
+use Rattle.finding_picture.specs.Texts.{checkpoint}
 use Rattle.std.specs.Prelude.{ℕ, List, [], ◌∷◌, ◌++◌, Option, Some, None, codes}
 use Rattle.std.specs.List.{flat_map}
 use Rattle.audit_event.specs.declared.event.Event.{Event}
@@ -12,7 +13,6 @@ use Rattle.markup.specs.Moments.{moment_text}
 use Rattle.markup.specs.Pieces.{fixed, number, told, shown}
 use Rattle.write_groups.specs.declared.event.LogEvent.{LogEvent}
 use Rattle.finding_picture.specs.Showing.{showing_text}
-use Rattle.finding_picture.specs.declared.request.TheConstants.{CHECKPOINT}
 
 -- a name of the program's own, and a text of the input
 unfoldable pub entry_text : List ℕ → List ℕ → List ℕ
@@ -66,7 +66,7 @@ answered_text event =
 
 -- the event itself, of the log; of a checkpoint, that it is one
 unfoldable pub event_text : Option Event → List ℕ
-event_text None = shown (fixed CHECKPOINT.now ∷ [])
+event_text None = shown (fixed checkpoint ∷ [])
 event_text (Some event) =
     shown (fixed (codes "<h2>The event</h2>\n<dl>\n") ∷ [])
     ++ (asked_text event

@@ -13,7 +13,8 @@ use Rattle.markup.specs.declared.drawing.Axis.{Axis}
 use Rattle.finding_picture.specs.Limits.{most_bars}
 use Rattle.finding_picture.specs.Looking.{event_on}
 use Rattle.finding_picture.specs.Marks.{bar_width}
-use Rattle.finding_picture.specs.declared.times.TheConstants.{BEFORE_TIMES, BEHIND_TIMES, TIMES_AXIS}
+use Rattle.finding_picture.specs.Texts.{before_times}
+use Rattle.finding_picture.specs.declared.times.TheConstants.{BEHIND_TIMES, TIMES_AXIS}
 
 -- in nanoseconds since 1970, as an axis has them
 abbrev pub instant : Moment → ℕ
@@ -70,7 +71,7 @@ write_bar events axis write = bar_text axis (line_of write) (event_on events (li
 
 unfoldable pub times_band : Axis → Event → List ℕ
 times_band axis event =
-    shown (fixed BEFORE_TIMES.now ∷ [])
+    shown (fixed before_times ∷ [])
     ++ (span_text event
     ++ shown (
     fixed (codes "</desc>\n<rect class=\"band\" x=\"") ∷ number (position axis (instant event.received))

@@ -34,7 +34,7 @@ pub fn push_request(
     Ok(())
 }
 
-#[tactic(auto, unfolding(crate::specs::Requests::event_text))]
+#[tactic(auto, unfolding(crate::specs::Requests::event_text, crate::specs::Texts::checkpoint))]
 fn push_event(text: &mut String, event: Option<&Event>) -> Result<(), OutOfMemory>
     ensures { OnOk result (string_bytes text.new ≡ string_bytes text.old ++ event_text
         (option_map (λ event. event.now) event.entry)) }

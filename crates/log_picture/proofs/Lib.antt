@@ -1,3 +1,4 @@
+mod Adding
 mod Joining
 mod Keeping
 mod Pairs

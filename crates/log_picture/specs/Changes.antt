@@ -5,8 +5,8 @@ use Rattle.base_types.specs.Keys.{key_spelling, same_key}
 use Rattle.base_types.specs.declared.key.ObjectKey.{ObjectKey}
 use Rattle.clouds.specs.Kept.{key_order}
 use Rattle.log_picture.specs.Limits.{change_limit}
+use Rattle.log_picture.specs.Texts.{changes_head}
 use Rattle.log_picture.specs.declared.changed.Changed.{Changed}
-use Rattle.log_picture.specs.declared.changed.TheConstants.{CHANGES_HEAD}
 use Rattle.log_picture.specs.declared.gone.TheConstants.{TABLE_END}
 use Rattle.log_picture.specs.declared.tallies.Tally.{Tally}
 use Rattle.markup.specs.Limits.{rest_text}
@@ -61,5 +61,5 @@ change_row c = change_text (key_spelling c.key) c.count.0 c.first c.last
 -- the first of them as a table, and how many others there are
 unfoldable pub changes_text : List Changed → List ℕ
 changes_text changes =
-    CHANGES_HEAD.now ++ flat_map change_row (take change_limit changes) ++ TABLE_END.now
+    changes_head ++ flat_map change_row (take change_limit changes) ++ TABLE_END.now
     ++ rest_text change_limit (length changes) (codes "Other objects that changed")

@@ -1,11 +1,10 @@
 -- The table of how many events were judged how.
-use Rattle.std.specs.Prelude.{ℕ, Bool, true, false, List, [], ◌∷◌, ◌++◌, Option, Some, None, length, codes, count_by, flat_map}
+use Rattle.std.specs.Prelude.{◌≡◌, ℕ, Bool, true, false, List, [], ◌∷◌, ◌++◌, Option, Some, None, length, codes, count_by, flat_map, sum_by}
 use Rattle.base_types.specs.declared.request.Decision.{Decision}
 use Rattle.base_types.specs.declared.request.Decision.TheVariants.{Allow, Forbid}
-use Rattle.log_picture.specs.Kinds.{is_of, kind_words}
-use Rattle.log_picture.specs.declared.counting.TheConstants.{COUNTS_HEAD}
+use Rattle.log_picture.specs.Kinds.{is_of, kind_words, kinds}
+use Rattle.log_picture.specs.Texts.{counts_head}
 use Rattle.log_picture.specs.declared.kind.AnswerKind.{AnswerKind}
-use Rattle.log_picture.specs.declared.kind.TheConstants.{KINDS}
 use Rattle.markup.specs.Pieces.{fixed, number, shown}
 use Rattle.write_groups.specs.declared.event.LogEvent.{LogEvent}
 
@@ -45,4 +44,8 @@ totals_text log =
 
 -- a row for each kind, and then for all
 unfoldable pub counts_text : List LogEvent → List ℕ
-counts_text log = COUNTS_HEAD.now ++ (flat_map (kind_row log) KINDS ++ totals_text log)
+counts_text log = counts_head ++ (flat_map (kind_row log) kinds ++ totals_text log)
+
+-- each event and each checkpoint is in the count of one kind
+abbrev pub KindsAddUp : Type 0
+KindsAddUp = (log : List LogEvent) → sum_by (λ kind. count_by (is_of kind) log) kinds ≡ length log

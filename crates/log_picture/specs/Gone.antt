@@ -5,7 +5,8 @@ use Rattle.base_types.specs.declared.placed.PlacedAnswer.{PlacedAnswer}
 use Rattle.base_types.specs.declared.placed.PlacedAnswer.TheVariants.{Made, Removed, At, Nowhere}
 use Rattle.base_types.specs.declared.placed.PlacedLine.{PlacedLine}
 use Rattle.log_picture.specs.Limits.{removal_limit, rest_of, spread}
-use Rattle.log_picture.specs.declared.gone.TheConstants.{REMOVALS_HEAD, TABLE_END}
+use Rattle.log_picture.specs.Texts.{removals_head}
+use Rattle.log_picture.specs.declared.gone.TheConstants.{TABLE_END}
 use Rattle.markup.specs.Pieces.{fixed, number, told, shown}
 use Rattle.object_past.specs.declared.removal.Removal.{Removal}
 use Rattle.write_groups.specs.Lines.{line_at}
@@ -48,7 +49,7 @@ removal_row log lines removal = removed_text log removal ++ (place_text (place_o
 -- the table of those that are drawn
 unfoldable pub removals_table : List LogEvent → List PlacedLine → List Removal → List ℕ
 removals_table log lines removals =
-    REMOVALS_HEAD.now ++ flat_map (removal_row log lines) (spread removal_limit removals) ++ TABLE_END.now
+    removals_head ++ flat_map (removal_row log lines) (spread removal_limit removals) ++ TABLE_END.now
 
 -- the same, and how many others there are
 unfoldable pub removals_text : List LogEvent → List PlacedLine → List Removal → List ℕ

@@ -1,5 +1,5 @@
 -- What an event's answer says of the cluster, without the objects.
-use Rattle.std.specs.Prelude.{ℕ, Bool, true, false, List, codes}
+use Rattle.std.specs.Prelude.{ℕ, Bool, true, false, List, [], ◌∷◌, codes}
 use Rattle.log_picture.specs.contracts.kind.AnswerKindPartialEq.TheImpl as same
 use Rattle.log_picture.specs.declared.kind.AnswerKind.{AnswerKind}
 use Rattle.log_picture.specs.declared.kind.AnswerKind.TheVariants as kind
@@ -19,6 +19,12 @@ kind_of (SawOther key) = kind.Conflict
 kind_of (Listed listing) = kind.Listed
 kind_of Free = kind.Free
 kind_of Aside = kind.Aside
+
+-- all kinds, as the page lists them
+unfoldable pub kinds : List AnswerKind
+kinds =
+    kind.Created ∷ kind.Changed ∷ kind.Removed ∷ kind.Unrecorded ∷ kind.Saw ∷ kind.NotFound ∷ kind.AlreadyExists ∷ kind.Conflict
+    ∷ kind.Listed ∷ kind.Free ∷ kind.Aside ∷ []
 
 abbrev pub kind_words : AnswerKind → List ℕ
 kind_words kind.Created = codes "write that created an object"

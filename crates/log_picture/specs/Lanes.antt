@@ -6,13 +6,13 @@ use Rattle.base_types.specs.declared.request.Decision.TheVariants.{Allow, Forbid
 use Rattle.log_picture.specs.Kinds.{kind_of, kind_words}
 use Rattle.log_picture.specs.Limits.{event_limit, rest_of, spread}
 use Rattle.log_picture.specs.Overview.{receipt}
+use Rattle.log_picture.specs.Texts.{events_head, no_events, time_head}
 use Rattle.log_picture.specs.declared.kind.AnswerKind.{AnswerKind}
 use Rattle.log_picture.specs.declared.kind.AnswerKind.TheVariants as kind
 use Rattle.log_picture.specs.declared.lanes.MarkForm.{MarkForm}
 use Rattle.log_picture.specs.declared.lanes.MarkForm.TheVariants as form
 use Rattle.log_picture.specs.declared.lanes.Marked.{Marked}
-use Rattle.log_picture.specs.declared.lanes.TheConstants.{NO_EVENTS, TIME_HEAD}
-use Rattle.log_picture.specs.declared.tables.TheConstants.{EVENTS_END, EVENTS_HEAD}
+use Rattle.log_picture.specs.declared.tables.TheConstants.{EVENTS_END}
 use Rattle.markup.specs.Drawing.{position}
 use Rattle.markup.specs.Moments.{moment_at, moment_text}
 use Rattle.markup.specs.Pieces.{fixed, number, told, shown}
@@ -134,10 +134,10 @@ unfoldable pub time_axis_text : Axis → List ℕ
 time_axis_text axis = axis_low_text axis ++ axis_high_text axis
 
 unfoldable pub time_drawing : Axis → List (Event × LogEvent) → List ℕ
-time_drawing axis drawn = TIME_HEAD.now ++ flat_map (marks_text axis) drawn ++ time_axis_text axis
+time_drawing axis drawn = time_head ++ flat_map (marks_text axis) drawn ++ time_axis_text axis
 
 unfoldable pub events_table : List (Event × LogEvent) → List ℕ
-events_table drawn = EVENTS_HEAD.now ++ flat_map event_row drawn ++ EVENTS_END.now
+events_table drawn = events_head ++ flat_map event_row drawn ++ EVENTS_END.now
 
 unfoldable pub drawn_text : Axis → List (Event × LogEvent) → List ℕ
 drawn_text axis marked =
@@ -145,7 +145,7 @@ drawn_text axis marked =
     ++ events_table (spread event_limit marked)
 
 unfoldable pub marked_text : Axis → List (Event × LogEvent) → List ℕ
-marked_text axis marked = if length marked == 0 then NO_EVENTS.now else drawn_text axis marked
+marked_text axis marked = if length marked == 0 then no_events else drawn_text axis marked
 
 -- a drawing with a lane for each of what events do, and the same as a table
 abbrev pub time_text : Axis → List Event → List LogEvent → List ℕ

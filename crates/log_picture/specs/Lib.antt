@@ -8,3 +8,4 @@ pub mod Overview
 pub mod Page
 pub mod Revised
 pub mod Tallied
+pub mod Texts

@@ -1,8 +1,8 @@
 -- What the page says of a log as a whole.
 use Rattle.std.specs.Prelude.{◌==◌, ℕ, pos, min, max, int_lt, unsigned_abs, if◌then◌else◌, List, [], ◌∷◌, ◌++◌, fold, codes}
 use Rattle.audit_event.specs.declared.event.Event.{Event}
+use Rattle.log_picture.specs.Texts.{overview_head}
 use Rattle.log_picture.specs.declared.overview.Overview.{Overview}
-use Rattle.log_picture.specs.declared.overview.TheConstants.{OVERVIEW_HEAD}
 use Rattle.markup.specs.Moments.{moment_at, moment_text}
 use Rattle.markup.specs.Pieces.{fixed, number, shown}
 use Rattle.object_past.specs.declared.version.Version.{Version}
@@ -33,7 +33,7 @@ abbrev pub greatest_revision : ℕ → List Version → ℕ
 greatest_revision start versions = fold greater start versions
 
 unfoldable pub first_text : Overview → List ℕ
-first_text overview = OVERVIEW_HEAD.now ++ shown (
+first_text overview = overview_head ++ shown (
     fixed (codes "<dt>Events</dt><dd>") ∷ number overview.events
     ∷ fixed (codes "</dd>\n<dt>Checkpoints</dt><dd>") ∷ number overview.checkpoints
     ∷ fixed (codes "</dd>\n<dt>First receipt</dt><dd>") ∷ [])

@@ -3,10 +3,9 @@ use Rattle.std.specs.Prelude.{ℕ, ◌+◌, ◌-◌, ◌*◌, ◌%◌, max, Bool
 use Rattle.base_types.specs.Keys.{key_spelling}
 use Rattle.base_types.specs.declared.claim.Range.{Range}
 use Rattle.log_picture.specs.Limits.{unrecorded_limit, removal_limit, rest_of, spread, version_limit}
+use Rattle.log_picture.specs.Texts.{history_head, unrecorded_head, versions_head}
 use Rattle.log_picture.specs.declared.gone.TheConstants.{TABLE_END}
 use Rattle.log_picture.specs.declared.revised.UnrecordedWrite.{UnrecordedWrite}
-use Rattle.log_picture.specs.declared.revised.TheConstants.{HISTORY_HEAD}
-use Rattle.log_picture.specs.declared.tables.TheConstants.{UNRECORDED_HEAD, VERSIONS_HEAD}
 use Rattle.markup.specs.Drawing.{position}
 use Rattle.markup.specs.Pieces.{fixed, number, told, shown}
 use Rattle.markup.specs.declared.drawing.Axis.{Axis}
@@ -86,7 +85,7 @@ history_marks axis log versions removals unrecorded_writes =
     ++ flat_map (unrecorded_mark axis) (spread unrecorded_limit unrecorded_writes)
 
 unfoldable pub history_drawing : Axis → List LogEvent → List Version → List Removal → List UnrecordedWrite → List ℕ
-history_drawing axis log versions removals unrecorded_writes = HISTORY_HEAD.now ++ history_marks axis log versions removals unrecorded_writes ++ axis_text axis
+history_drawing axis log versions removals unrecorded_writes = history_head ++ history_marks axis log versions removals unrecorded_writes ++ axis_text axis
 
 -- how many aren't drawn
 unfoldable pub left_out_text : List Version → List Removal → List UnrecordedWrite → List ℕ
@@ -116,10 +115,10 @@ unrecorded_row unrecorded = shown (
 
 -- the versions and unrecorded writes that are drawn
 unfoldable pub versions_table : List LogEvent → List Version → List ℕ
-versions_table log versions = VERSIONS_HEAD.now ++ flat_map (version_row log) (spread version_limit versions) ++ TABLE_END.now
+versions_table log versions = versions_head ++ flat_map (version_row log) (spread version_limit versions) ++ TABLE_END.now
 
 unfoldable pub unrecorded_table : List UnrecordedWrite → List ℕ
-unrecorded_table unrecorded_writes = UNRECORDED_HEAD.now ++ flat_map unrecorded_row (spread unrecorded_limit unrecorded_writes) ++ TABLE_END.now
+unrecorded_table unrecorded_writes = unrecorded_head ++ flat_map unrecorded_row (spread unrecorded_limit unrecorded_writes) ++ TABLE_END.now
 
 unfoldable pub history_text : Axis → List LogEvent → List Version → List Removal → List UnrecordedWrite → List ℕ
 history_text axis log versions removals unrecorded_writes =

@@ -1,6 +1,6 @@
 ghost use Rattle.std.specs.Prelude.{◌≡◌, ◌++◌, OnOk, count_by, flat_map, string_bytes};
-ghost use Rattle.log_picture.specs.Counts.{counts_text, decisions_text, has_decision, kind_row, row_text};
-ghost use Rattle.log_picture.specs.Counts.{same_decision, totals_text};
+ghost use Rattle.log_picture.specs.Counts.{KindsAddUp, counts_text, decisions_text, has_decision, kind_row};
+ghost use Rattle.log_picture.specs.Counts.{row_text, same_decision, totals_text};
 
 use crate::kind::{AnswerKind, KINDS, count_of, kind_words};
 use base_types::{Decision, OutOfMemory};
@@ -49,6 +49,11 @@ pub fn append_counts(text: &mut String, log: &[LogEvent]) -> Result<(), OutOfMem
     append_kinds(text, log, &KINDS)?;
     append_totals(text, log)
 }
+
+/// The counts of the kinds add up to that of all events and checkpoints.
+pub fn counts_law()
+    ensures { KindsAddUp }
+{}
 
 #[tactic(auto, unfolding(crate::specs::Counts::totals_text))]
 fn append_totals(text: &mut String, log: &[LogEvent]) -> Result<(), OutOfMemory>

@@ -178,7 +178,7 @@ pub fn append_time(
     append_marked(alloc, text, axis, marked.as_slice())
 }
 
-#[tactic(auto, unfolding(crate::specs::Lanes::marked_text))]
+#[tactic(auto, unfolding(crate::specs::Lanes::marked_text, crate::specs::Texts::no_events))]
 fn append_marked(
     alloc: Global,
     text: &mut String,

@@ -14,5 +14,6 @@ mod spreading;
 mod tables;
 mod tallies;
 
+pub use counting::counts_law;
 pub use page::{log_page, one_page_law};
 pub use spreading::spread_law;

@@ -11,3 +11,6 @@ pub const UNRECORDED_LIMIT: usize = 200;
 
 /// How many objects that changed are listed at most.
 pub const CHANGE_LIMIT: usize = 20;
+
+// Of all drawings of a page.
+const _: () = prove!(2 * EVENT_LIMIT + VERSION_LIMIT + REMOVAL_LIMIT + UNRECORDED_LIMIT <= 2_000);

@@ -111,7 +111,7 @@ fn append_receipts(text: &mut String, overview: Overview) -> Result<(), OutOfMem
     push_moment(text, moment_at(overview.last))
 }
 
-#[tactic(auto, unfolding(crate::specs::Overview::first_text))]
+#[tactic(auto, unfolding(crate::specs::Overview::first_text, crate::specs::Texts::overview_head))]
 fn append_first(text: &mut String, overview: Overview) -> Result<(), OutOfMemory>
     ensures { OnOk result (string_bytes text.new ≡ string_bytes text.old ++ first_text overview) }
 {

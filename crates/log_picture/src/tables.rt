@@ -165,7 +165,7 @@ fn append_unrecorded_row(text: &mut String, unrecorded: UnrecordedWrite) -> Resu
 }
 
 /// Appends the table of the drawn events.
-#[tactic(auto, unfolding(crate::specs::Lanes::events_table))]
+#[tactic(auto, unfolding(crate::specs::Lanes::events_table, crate::specs::Texts::events_head))]
 pub fn append_events(text: &mut String, drawn: &[Marked<'_>]) -> Result<(), OutOfMemory>
     ensures { OnOk result (string_bytes text.new ≡ string_bytes text.old
         ++ events_table (map pair_of drawn.now)) }
