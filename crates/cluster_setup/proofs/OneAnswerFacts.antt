@@ -1,11 +1,9 @@
 -- The same bytes come to one setup, and no setup is made of them for one reason.
-use Rattle.std.proofs.Common.{◌≡◌, ℕ, zero, suc, ◌+◌, ◌<◌, ◌⊎◌, inl, inr, Bool, true, List, [], ◌∷◌, length, take, slice_get, Option, Some, None, Result, Ok, Err, is_some, refl, sym, ap, subst, ◌∙◌, arith}
-use Rattle.std.specs.List.{AllZip}
+use Rattle.std.proofs.Common.{◌≡◌, ℕ, zero, suc, ◌+◌, ◌<◌, ◌⊎◌, inl, inr, Bool, true, List, [], ◌∷◌, length, take, slice_get, Option, Some, None, is_some, refl, sym, ap, subst, ◌∙◌, arith}
 use Rattle.base_types.specs.Meaning.{Meaning}
 use Rattle.base_types.proofs.Found.{same_some}
 use Rattle.setup_file.specs.declared.fault.SetupRule.{SetupRule}
-use Rattle.setup_file.specs.declared.setup.Setup.{Setup}
-use Rattle.setup_file.specs.Reading.{IsTreeOf, setup_of}
+use Rattle.setup_file.specs.Reading.{IsTreeOf}
 use Rattle.timestamps.specs.Timestamps.{moment_of}
 use Rattle.cluster_setup.specs.declared.fault.FileFault.TheVariants.{Json}
 use Rattle.cluster_setup.specs.declared.fault.SetupRefusal.{SetupRefusal}
@@ -80,9 +78,6 @@ broken_once tree r s (inr x) (inl y) = absurd (x.0 y.0)
 broken_once tree r s (inr x) (inr y) = x.1 ∙ sym y.1
 
 module _ (revision time : List ℕ) (policy : Meaning) (trees : List Meaning) (authorize : Bool) where
-  up_to : ℕ → Meaning
-  up_to number = setup_tree revision time policy trees (take number trees) authorize
-
   blamed_once : (x y : SetupRefusal) → IsBlamed revision time policy trees authorize x → IsBlamed revision time policy trees authorize y → x ≡ y
   blamed_once x y a b = go (numbers a.number b.number)
     where
@@ -91,7 +86,7 @@ module _ (revision time : List ℕ) (policy : Meaning) (trees : List Meaning) (a
       go (inr (inl less)) = absurd (broken_apart (setup_tree revision time policy trees (take b.number trees) authorize) b.rule b.broken (a.before b.number less))
       go (inr (inr same)) =
           let moved : Breaks (setup_tree revision time policy trees (take b.number trees) authorize) a.rule =
-              subst (λ n. Breaks (setup_tree revision time policy trees (take n trees) authorize) a.rule) same a.broken in
+          subst (λ n. Breaks (setup_tree revision time policy trees (take n trees) authorize) a.rule) same a.broken in
           let rules : a.rule ≡ b.rule = broken_once (setup_tree revision time policy trees (take b.number trees) authorize) a.rule b.rule moved b.broken in
           a.is ∙ ap (λ n. blamed n a.rule) same ∙ ap (blamed b.number) rules ∙ sym b.is
 
