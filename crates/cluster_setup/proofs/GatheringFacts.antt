@@ -163,6 +163,7 @@ module _ (name : List ℕ) (names : List (List ℕ)) (old mid : List ℕ → Opt
         whole = whole_behind (Ok value) rest;
         long = λ is. absurd (no_stop given TooLong is);
         fault = λ is. absurd (no_stop given ReadFault is);
+        counted = let later = rest.counted in omega (arith, counted, later);
         taken = files_where (name ∷ names) old left _ _ (λ is. absurd (no_stop given ReadFault is)) (taken_behind (Ok value) rest);
         others = left_behind name names old mid left others rest.others;
       }
@@ -173,6 +174,7 @@ module _ (name : List ℕ) (names : List (List ℕ)) (old mid : List ℕ → Opt
         whole = tt;
         long = λ is. long_behind (Err stop) rest (as_stop stop TooLong is);
         fault = λ is. rose_later faults_before faults_mid faults_now counted (rest.fault (as_stop stop ReadFault is));
+        counted = let later = rest.counted in omega (arith, counted, later);
         taken = files_where (name ∷ names) old left _ _ (as_stop stop ReadFault) (taken_behind (Err stop) rest);
         others = left_behind name names old mid left others rest.others;
       }
@@ -195,6 +197,7 @@ nothing_given policy names old faults = record {
   whole = tt;
   long = λ is. absurd (memory_apart TooLong no_long is);
   fault = λ is. absurd (memory_apart ReadFault no_fault is);
+  counted = omega arith;
   taken = none_taken (policy ∷ names) old _;
   others = λ other none. refl;
 }
@@ -202,13 +205,14 @@ nothing_given policy names old faults = record {
 -- a policy that wasn't read
 pub policy_stopped : (policy : List ℕ) (names : List (List ℕ)) (old mid : List ℕ → Option (List ℕ)) (faults_before faults_mid : ℕ) (stop : WholeStop) → are_distinct (policy ∷ names) ≡ true
     → ((bytes : List ℕ) → old policy ≡ Some bytes → AnswersWhole most_file bytes (Err stop)) → (◌≡◌ {A = Result (List ℕ) WholeStop} (Err stop) (Err ReadFault) → Rose faults_before faults_mid)
-    → TakesWhole most_file (old policy) (mid policy) (StaysWithin (Err stop)) → ((other : List ℕ) → other ≢ policy → mid other ≡ old other)
+    → faults_before ≤ faults_mid → TakesWhole most_file (old policy) (mid policy) (StaysWithin (Err stop)) → ((other : List ℕ) → other ≢ policy → mid other ≡ old other)
     → AreGiven policy names old mid faults_before faults_mid (Err stop)
-policy_stopped policy names old mid faults_before faults_mid stop differ answers fault taken others = record {
+policy_stopped policy names old mid faults_before faults_mid stop differ answers fault counted taken others = record {
   read = tt;
   whole = tt;
   long = λ is told tells. inl (stop_long stop (told policy) (answers (told policy) (tells policy (first_of policy names))) (same_stop stop TooLong is));
   fault = λ is. fault (as_stop stop ReadFault is);
+  counted = counted;
   taken = first_taken policy names old mid _ differ others (whole_where (old policy) (mid policy) _ _ (stays_within stop) taken);
   others = left_first policy names old mid others;
 }

@@ -14,6 +14,7 @@ pub mod ListedFacts
 pub mod Named
 pub mod NoFloats
 pub mod NoMembers
+pub mod OneAnswerFacts
 pub mod Ranges
 pub mod Ruled
 pub mod Same

@@ -19,9 +19,9 @@ same_of d e t u same p q = same_some t u (sym p ∙ ap of_data same ∙ q)
 pub same_tree : (bytes : List ℕ) (t u : Meaning) → IsTreeOf bytes t → IsTreeOf bytes u → t ≡ u
 same_tree bytes t u p q = same_of p.1.0 q.1.0 t u (same_data bytes p.1.0 q.1.0 p.1.1 q.1.1) p.1.2 q.1.2
 
-pub broken_from : (bytes : List ℕ) (tree : Meaning) (rule : SetupRule) → IsTreeOf bytes tree → ReadsAs bytes (Err rule) → Breaks tree rule
-broken_from bytes tree rule own (inl found) = inl (ap setup_of (same_tree bytes tree found.0 own found.1) ∙ found.2)
-broken_from bytes tree rule own (inr none) = absurd (none.0 tree own)
+pub broken_from : (bytes : List ℕ) (tree : Meaning) (rule : SetupRule) → bytes ≡ json_line tree → IsTreeOf bytes tree → ReadsAs bytes (Err rule) → Breaks tree rule
+broken_from bytes tree rule line own (inl found) = inl (subst (λ b. IsTreeOf b tree) line own, ap setup_of (same_tree bytes tree found.0 own found.1) ∙ found.2)
+broken_from bytes tree rule line own (inr none) = absurd (none.0 tree own)
 
 pub reads_as : (tree : Meaning) → (accepted : IsAccepted tree) → ReadsAs (json_line tree) (Ok accepted.setup)
 reads_as tree accepted = inl (tree, accepted.read, accepted.is)

@@ -33,9 +33,9 @@ pub record IsTextOf (tree : Meaning) (text : List ℕ) : Type 0 where
   pub is : text ≡ json_line tree
   pub accepted : IsAccepted tree
 
--- the rule that the tree of a setup breaks; what is deeper than JSON that is read breaks the first
+-- the rule that the tree of a setup breaks, read again from its line; what is too deep to be read again breaks the first, and no other
 abbrev pub Breaks : Meaning → SetupRule → Type 0
-Breaks tree rule = (setup_of tree ≡ Err rule) ⊎ ((IsTreeOf (json_line tree) tree → ⊥) × (rule ≡ S1))
+Breaks tree rule = (IsTreeOf (json_line tree) tree × (setup_of tree ≡ Err rule)) ⊎ ((IsTreeOf (json_line tree) tree → ⊥) × (rule ≡ S1))
 
 -- the bytes are an audit policy as JSON
 abbrev pub IsPolicy : List ℕ → Meaning → Type 0

@@ -64,5 +64,6 @@ pub record AreGiven (policy : List ℕ) (names : List (List ℕ)) (old left : Li
   pub whole : OnOk found (AreAtEnd (policy ∷ names) left)
   pub long : IsErrOf found TooLong → (told : List ℕ → List ℕ) → TellsAll (policy ∷ names) old told → SomeLong (map told (policy ∷ names))
   pub fault : IsErrOf found ReadFault → Rose faults_before faults_now
+  pub counted : faults_before ≤ faults_now
   pub taken : TakesFiles (policy ∷ names) old left (IsErrOf found ReadFault)
   pub others : LeavesOthers (policy ∷ names) old left

@@ -7,6 +7,7 @@ pub mod Found
 pub mod Gathering
 pub mod Indexed
 pub mod Making
+pub mod OneSetupAnswer
 pub mod Parts
 pub mod Refusing
 pub mod Shown

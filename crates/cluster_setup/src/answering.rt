@@ -1,4 +1,4 @@
-ghost use Rattle.std.specs.Prelude.{◌≡◌, ◌≢◌, ◌∷◌, ℕ, List, true, IfOk, IsErrOf, IsOk, OnOk, map, string_bytes};
+ghost use Rattle.std.specs.Prelude.{◌≡◌, ◌≢◌, ◌≤◌, ◌∷◌, ℕ, List, true, IfOk, IsErrOf, IsOk, OnOk, map, string_bytes};
 ghost use Rattle.edge_io.specs.Faults.{Rose};
 ghost use Rattle.cluster_setup.specs.Answering.{AnswersMade, IsMadeText};
 ghost use Rattle.cluster_setup.specs.Gathering.{AreAtEnd, LeavesOthers, TakesFiles, TellsAll};
@@ -41,6 +41,7 @@ pub fn make_named<D: Desk>(
         (D.left desk.new)) }
     ensures fault { IsErrOf result WholeStop.ReadFault
         → Rose (D.faults desk.old) (D.faults desk.new) }
+    ensures counted { D.faults desk.old ≤ D.faults desk.new }
     ensures taken { TakesFiles (policy.now ∷ map string_bytes files.now) (D.left desk.old)
         (D.left desk.new) (IsErrOf result WholeStop.ReadFault) }
     ensures others { LeavesOthers (policy.now ∷ map string_bytes files.now)

@@ -12,6 +12,7 @@ mod files;
 mod finding;
 mod gathering;
 mod judging;
+mod law;
 mod making;
 mod objects;
 mod refusing;
@@ -23,5 +24,6 @@ mod words;
 
 pub use answering::{MadeText, make_named};
 pub use fault::{FileFault, SetupRefusal};
+pub use law::one_setup_answer_law;
 pub use making::make_setup;
 pub use telling::refusal_words;

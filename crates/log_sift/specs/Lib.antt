@@ -3,6 +3,7 @@ pub mod Named
 pub mod NothingLeft
 pub mod OneSifting
 pub mod Recalling
+pub mod Seeding
 pub mod Sift
 pub mod Sifted
 pub mod Taken

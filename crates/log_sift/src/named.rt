@@ -38,6 +38,7 @@ pub fn sift_named<D: Desk>(
     ensures whole { OnOk result (IsAtEnd (D.left desk.new log.now)) }
     ensures fault { IsErrOf result WholeStop.ReadFault
         → Rose (D.faults desk.old) (D.faults desk.new) }
+    ensures counted { D.faults desk.old ≤ D.faults desk.new }
     ensures taken { TakesWhole most_log (D.left desk.old log.now) (D.left desk.new log.now)
         (IsErrOf result WholeStop.ReadFault) }
     ensures others { (other : List ℕ) → other ≢ log.now

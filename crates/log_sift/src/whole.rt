@@ -1,5 +1,7 @@
 ghost use Rattle.std.specs.Prelude.{◌≡◌, ◌<◌, ◌+◌, [], IfOk, OnOk, List};
+ghost use Rattle.indexmap.specs.IndexMap.{hasher_of};
 ghost use Rattle.log_sift.specs.declared.answer.Fate.{Fate as Became};
+ghost use Rattle.log_sift.specs.Seeding.{AreSeeded, seed_of};
 ghost use Rattle.log_sift.specs.Sifted.{IsSifting, noted, stays_from, with_stretch};
 
 use crate::answer::{Fate, LeftLine, LeftLines, Sifting, Stretch, Stretches};
@@ -58,7 +60,8 @@ fn stays_from(from: usize, next: usize, fate: Fate) -> usize
     }
 }
 
-// Sifts a log's lines, behind no kept event.
+// Sifts a log's lines, behind no kept event. The hashes of their identities begin with the seed of the log's first
+// bytes.
 fn sift_lines(
     alloc: Global,
     log: &[u8],
@@ -66,6 +69,7 @@ fn sift_lines(
     sifting: &mut Sifting,
 ) -> Result<(), OutOfMemory>
     requires events { events.old.entries ≡ [] }
+    requires seed { AreSeeded log.now (hasher_of events.old) }
     requires sifting { sifting.old ≡ record { stays = []; left = []; kept = 0 } }
     ensures { OnOk result ((fates : List Became) × IsSifting log.now fates sifting.new) }
 {
@@ -86,7 +90,9 @@ fn sift_lines(
 
 // The seed of the log's first bytes: there is no setup here. The times and audit IDs in them aren't chosen by whoever
 // wants other audit IDs to collide.
-fn seed_of(log: &[u8]) -> Seed {
+fn seed_of(log: &[u8]) -> Seed
+    ensures { result.digest ≡ seed_of log.now }
+{
     Seed::of(&log[..log.len().min(SEED_BYTES)])
 }
 

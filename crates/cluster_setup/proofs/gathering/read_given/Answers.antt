@@ -28,4 +28,4 @@ pub returns : goal.returns
 returns g c =
     let first = c.in-Err.ensures.reads in
     policy_stopped c.args.policy.now (map (string_bytes {Z = Global}) c.args.names.now) (g.D.Desk.left c.args.desk.now) (g.D.Desk.left c.read_whole.new.desk)
-    (g.D.Desk.faults c.args.desk.now) (g.D.Desk.faults c.read_whole.new.desk) c.in-Err.stop c.requires first.answers first.fault first.taken c.in-Err.ensures.others
+    (g.D.Desk.faults c.args.desk.now) (g.D.Desk.faults c.read_whole.new.desk) c.in-Err.stop c.requires first.answers first.fault first.counted first.taken c.in-Err.ensures.others
