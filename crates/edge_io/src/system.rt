@@ -1,4 +1,5 @@
-ghost use Rattle.std.specs.Prelude.{◌≡◌, ◌≢◌, ℕ, ◌<◌, ◌≤◌, List, None, length, IfOk, OnOk, OnErr};
+ghost use Rattle.std.specs.Prelude.{◌≡◌, ◌≢◌, ℕ, ◌<◌, ◌≤◌, List, None, length, IfOk, IsErr, OnOk, OnErr};
+ghost use Rattle.std.specs.BTreeMap.{get_by_text};
 ghost use Rattle.std.specs.Io.{ReadsAtMost};
 ghost use Rattle.std.specs.Io.KnownBytes.{ReadConsumes, WriteAppends};
 ghost use Rattle.edge_io.specs.Sources.{left_of_source, left_of_name, IsOpened};
@@ -111,6 +112,7 @@ fn read_source<R: Files + Input>(
     ensures bound { ReadsAtMost result into.new }
     ensures bytes { ReadConsumes (left_of_source R.File.remaining R.Reader.remaining source.old)
         (left_of_source R.File.remaining R.Reader.remaining source.new) result into.new }
+    ensures ended { IfOk result (λ n. n ≡ 0 → 0 < length into.new → source.new ≡ Source.Ended) }
 {
     open_unopened(rt, source, name)?;
     let count = read_opened(source, into)?;
@@ -133,6 +135,7 @@ fn read_named<R: Files + Input>(
     ensures others { (other : List ℕ) → other ≢ name.now → left_of_name R.File.remaining
         R.Reader.remaining sources.new other ≡ left_of_name R.File.remaining R.Reader.remaining
         sources.old other }
+    ensures unknown { get_by_text sources.old name.now ≡ None → IsErr result }
 {
     match sources.get_mut(name) {
         Some(source) => read_source(rt, source, name, into),
