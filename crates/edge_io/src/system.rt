@@ -62,7 +62,7 @@ fn read_reader<S: Read>(reader: &mut S, into: &mut [u8]) -> Result<usize, DeskFa
 }
 
 fn open_source<R: Files + Input>(rt: &R, name: &str) -> io::Result<Source<R::File, R::Reader>>
-    ensures { IfOk result (IsOpened Source.Unopened) }
+    ensures { IfOk result (IsOpened name.now Source.Unopened) }
 {
     if name == STANDARD_INPUT {
         return Ok(Source::Input(rt.reader()));
@@ -76,7 +76,7 @@ fn open_unopened<R: Files + Input>(
     source: &mut Source<R::File, R::Reader>,
     name: &str,
 ) -> Result<(), DeskFailed>
-    ensures opened { OnOk result (IsOpened source.old source.new) }
+    ensures opened { OnOk result (IsOpened name.now source.old source.new) }
     ensures failed { OnErr result (source.new ≡ source.old) }
 {
     if let Source::Unopened = source {
