@@ -1,5 +1,5 @@
 -- What is left of the files and the standard input that a desk of files reads.
-use Rattle.std.specs.Prelude.{◌≡◌, ◌≢◌, ℕ, List, [], String, codes, Option, Some, None, option_and_then}
+use Rattle.std.specs.Prelude.{◌≡◌, ◌≢◌, ℕ, List, [], String, string_bytes, codes, map, Contains, Option, Some, None, option_and_then}
 use Rattle.std.specs.BTreeMap.{BTreeMap, get_by_text}
 use Rattle.edge_io.specs.declared.system.Source.{Source}
 use Rattle.edge_io.specs.declared.system.Source.TheVariants.{Unopened, File, Input, Ended}
@@ -24,3 +24,7 @@ IsOpened name Unopened Ended = ⊥
 IsOpened name (File f) now = now ≡ File f
 IsOpened name (Input i) now = now ≡ Input i
 IsOpened name Ended now = now ≡ Ended
+
+-- each of the names stands as not open yet, and no other name stands there
+abbrev pub HoldsNames : {Y F I : Type 0} → List (String Y) → BTreeMap (String Y) (Source F I) → Type 0
+HoldsNames names sources = (name : List ℕ) → (Contains (map string_bytes names) name → get_by_text sources name ≡ Some Unopened) × ((Contains (map string_bytes names) name → ⊥) → get_by_text sources name ≡ None)

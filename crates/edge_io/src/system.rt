@@ -2,7 +2,7 @@ ghost use Rattle.std.specs.Prelude.{◌≡◌, ◌≢◌, ℕ, ◌<◌, ◌≤�
 ghost use Rattle.std.specs.BTreeMap.{get_by_text};
 ghost use Rattle.std.specs.Io.{ReadsAtMost};
 ghost use Rattle.std.specs.Io.KnownBytes.{ReadConsumes, WriteAppends};
-ghost use Rattle.edge_io.specs.Sources.{left_of_source, left_of_name, IsOpened};
+ghost use Rattle.edge_io.specs.Sources.{left_of_source, left_of_name, IsOpened, HoldsNames};
 
 use crate::edge::{Desk, DeskFailed, Sink, SinkFailed};
 use base_types::OutOfMemory;
@@ -36,7 +36,8 @@ pub struct FileDesk<'a, R: Files + Input> {
 impl<'a, R: Files + Input> FileDesk<'a, R> {
     /// A desk of these names, each of which is opened at its first read, and closed at its end.
     pub fn new(alloc: Global, rt: &'a R, names: &[String]) -> Result<FileDesk<'a, R>, OutOfMemory>
-        ensures { IfOk result (λ desk. desk.faults ≡ 0) }
+        ensures faults { IfOk result (λ desk. desk.faults ≡ 0) }
+        ensures names { IfOk result (λ desk. HoldsNames names.now desk.sources) }
     {
         let mut sources = BTreeMap::new(alloc);
         for name in names {
