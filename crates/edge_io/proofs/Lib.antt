@@ -1,3 +1,4 @@
+mod HeldNames
 mod NamedFiles
 mod SourceFacts
 pub mod TakenFacts

@@ -1,5 +1,5 @@
 -- What is left of the files and the standard input that a desk of files reads.
-use Rattle.std.specs.Prelude.{◌≡◌, ℕ, List, [], String, Option, Some, None, option_and_then}
+use Rattle.std.specs.Prelude.{◌≡◌, ◌≢◌, ℕ, List, [], String, string_bytes, codes, map, Contains, Option, Some, None, option_and_then}
 use Rattle.std.specs.BTreeMap.{BTreeMap, get_by_text}
 use Rattle.edge_io.specs.declared.system.Source.{Source}
 use Rattle.edge_io.specs.declared.system.Source.TheVariants.{Unopened, File, Input, Ended}
@@ -15,12 +15,16 @@ left_of_source file input Ended = Some []
 abbrev pub left_of_name : {Y F I : Type 0} → (F → Option (List ℕ)) → (I → Option (List ℕ)) → BTreeMap (String Y) (Source F I) → List ℕ → Option (List ℕ)
 left_of_name file input sources name = option_and_then (left_of_source file input) (get_by_text sources name)
 
--- what wasn't open yet is open, and all else stays
-abbrev pub IsOpened : {F I : Type 0} → Source F I → Source F I → Type 0
-IsOpened Unopened Unopened = ⊥
-IsOpened Unopened (File f) = Unit {0}
-IsOpened Unopened (Input i) = Unit {0}
-IsOpened Unopened Ended = ⊥
-IsOpened (File f) now = now ≡ File f
-IsOpened (Input i) now = now ≡ Input i
-IsOpened Ended now = now ≡ Ended
+-- what wasn't open yet is open, the standard input under the name - alone, and all else stays
+abbrev pub IsOpened : {F I : Type 0} → List ℕ → Source F I → Source F I → Type 0
+IsOpened name Unopened Unopened = ⊥
+IsOpened name Unopened (File f) = name ≢ codes "-"
+IsOpened name Unopened (Input i) = name ≡ codes "-"
+IsOpened name Unopened Ended = ⊥
+IsOpened name (File f) now = now ≡ File f
+IsOpened name (Input i) now = now ≡ Input i
+IsOpened name Ended now = now ≡ Ended
+
+-- each of the names stands as not open yet, and no other name stands there
+abbrev pub HoldsNames : {Y F I : Type 0} → List (String Y) → BTreeMap (String Y) (Source F I) → Type 0
+HoldsNames names sources = (name : List ℕ) → (Contains (map string_bytes names) name → get_by_text sources name ≡ Some Unopened) × ((Contains (map string_bytes names) name → ⊥) → get_by_text sources name ≡ None)

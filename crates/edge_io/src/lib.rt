@@ -12,5 +12,5 @@ pub use edge::{Desk, DeskFailed, Sink, SinkFailed};
 pub use files::{InputFile, InputFiles};
 pub use memory::{MemoryDesk, MemorySink, SINK_ROOM, SteadyDesk};
 pub use system::{FileDesk, STANDARD_INPUT, StdSink};
-pub use whole::{WholeStop, piece_buffer, read_input, read_whole};
+pub use whole::{WholeStop, piece_buffer, read_whole};
 pub use writing::{end_with, write_whole};

@@ -1,7 +1,8 @@
-ghost use Rattle.std.specs.Prelude.{◌≡◌, ◌≢◌, ℕ, ◌<◌, ◌≤◌, List, None, length, IfOk, OnOk, OnErr};
+ghost use Rattle.std.specs.Prelude.{◌≡◌, ◌≢◌, ℕ, ◌<◌, ◌≤◌, List, None, length, IfOk, IsErr, OnOk, OnErr};
+ghost use Rattle.std.specs.BTreeMap.{get_by_text};
 ghost use Rattle.std.specs.Io.{ReadsAtMost};
 ghost use Rattle.std.specs.Io.KnownBytes.{ReadConsumes, WriteAppends};
-ghost use Rattle.edge_io.specs.Sources.{left_of_source, left_of_name, IsOpened};
+ghost use Rattle.edge_io.specs.Sources.{left_of_source, left_of_name, IsOpened, HoldsNames};
 
 use crate::edge::{Desk, DeskFailed, Sink, SinkFailed};
 use base_types::OutOfMemory;
@@ -35,7 +36,8 @@ pub struct FileDesk<'a, R: Files + Input> {
 impl<'a, R: Files + Input> FileDesk<'a, R> {
     /// A desk of these names, each of which is opened at its first read, and closed at its end.
     pub fn new(alloc: Global, rt: &'a R, names: &[String]) -> Result<FileDesk<'a, R>, OutOfMemory>
-        ensures { IfOk result (λ desk. desk.faults ≡ 0) }
+        ensures faults { IfOk result (λ desk. desk.faults ≡ 0) }
+        ensures names { IfOk result (λ desk. HoldsNames names.now desk.sources) }
     {
         let mut sources = BTreeMap::new(alloc);
         for name in names {
@@ -61,7 +63,7 @@ fn read_reader<S: Read>(reader: &mut S, into: &mut [u8]) -> Result<usize, DeskFa
 }
 
 fn open_source<R: Files + Input>(rt: &R, name: &str) -> io::Result<Source<R::File, R::Reader>>
-    ensures { IfOk result (IsOpened Source.Unopened) }
+    ensures { IfOk result (IsOpened name.now Source.Unopened) }
 {
     if name == STANDARD_INPUT {
         return Ok(Source::Input(rt.reader()));
@@ -75,7 +77,7 @@ fn open_unopened<R: Files + Input>(
     source: &mut Source<R::File, R::Reader>,
     name: &str,
 ) -> Result<(), DeskFailed>
-    ensures opened { OnOk result (IsOpened source.old source.new) }
+    ensures opened { OnOk result (IsOpened name.now source.old source.new) }
     ensures failed { OnErr result (source.new ≡ source.old) }
 {
     if let Source::Unopened = source {
@@ -111,6 +113,7 @@ fn read_source<R: Files + Input>(
     ensures bound { ReadsAtMost result into.new }
     ensures bytes { ReadConsumes (left_of_source R.File.remaining R.Reader.remaining source.old)
         (left_of_source R.File.remaining R.Reader.remaining source.new) result into.new }
+    ensures ended { IfOk result (λ n. n ≡ 0 → 0 < length into.new → source.new ≡ Source.Ended) }
 {
     open_unopened(rt, source, name)?;
     let count = read_opened(source, into)?;
@@ -133,6 +136,7 @@ fn read_named<R: Files + Input>(
     ensures others { (other : List ℕ) → other ≢ name.now → left_of_name R.File.remaining
         R.Reader.remaining sources.new other ≡ left_of_name R.File.remaining R.Reader.remaining
         sources.old other }
+    ensures unknown { get_by_text sources.old name.now ≡ None → IsErr result }
 {
     match sources.get_mut(name) {
         Some(source) => read_source(rt, source, name, into),
