@@ -41,7 +41,7 @@ no_plain : (first : List ℕ) (rest : List (List ℕ)) → first ≢ codes "--au
     → (asked : Asked) → Spells asked (codes "setup" ∷ first ∷ rest) → ⊥
 no_plain first rest apart none (Explain text) (code, same, is) = no_explain (first ∷ rest) code same
 no_plain first rest apart none (Sift left log) same = no_sift left log (first ∷ rest) same
-no_plain first rest apart none (Picture setup log) (same, differ) = no_picture setup log (first ∷ rest) same
+no_plain first rest apart none (Picture setup log) (same, differ, named) = no_picture setup log (first ∷ rest) same
 no_plain first rest apart none (Setup true time policy files) (same, inputs) =
     apart (same_head first (codes "--authorize") rest (time ∷ policy ∷ files) (same_rest (codes "setup") (codes "setup") (first ∷ rest) (codes "--authorize" ∷ time ∷ policy ∷ files) same))
 no_plain first rest apart none (Setup false time policy files) (same, inputs) =
@@ -56,7 +56,7 @@ no_authorized : (rest : List (List ℕ)) → ((time policy : List ℕ) (files : 
     → (asked : Asked) → Spells asked (codes "setup" ∷ codes "--authorize" ∷ rest) → ⊥
 no_authorized rest none (Explain text) (code, same, is) = no_explain (codes "--authorize" ∷ rest) code same
 no_authorized rest none (Sift left log) same = no_sift left log (codes "--authorize" ∷ rest) same
-no_authorized rest none (Picture setup log) (same, differ) = no_picture setup log (codes "--authorize" ∷ rest) same
+no_authorized rest none (Picture setup log) (same, differ, named) = no_picture setup log (codes "--authorize" ∷ rest) same
 no_authorized rest none (Setup true time policy files) (same, inputs) =
     none time policy files
     (same_rest (codes "--authorize") (codes "--authorize") rest (time ∷ policy ∷ files)

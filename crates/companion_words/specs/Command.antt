@@ -36,7 +36,7 @@ abbrev pub Spells : Asked → List (List ℕ) → Type 0
 Spells (Explain text) words = (code : List (List ℕ)) × (words ≡ codes "explain" ∷ code) × (text_of code ≡ Some text)
 Spells (Sift left log) words = words ≡ sift_words left log
 Spells (Setup authorize time policy files) words = (words ≡ setup_words authorize (time ∷ policy ∷ files)) × AreInputs time policy files
-Spells (Picture setup log) words = (words ≡ codes "picture" ∷ setup ∷ log ∷ []) × (setup ≢ log)
+Spells (Picture setup log) words = (words ≡ codes "picture" ∷ setup ∷ log ∷ []) × (setup ≢ log) × (setup ≢ codes "-")
 
 -- the words spell this command, or none
 abbrev pub IsAsked : List (List ℕ) → Option Asked → Type 0

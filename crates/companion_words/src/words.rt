@@ -165,5 +165,8 @@ fn pictured_words<'a>(setup: &'a str, log: &'a str) -> Option<Command<'a>>
     if setup == log {
         return None;
     }
+    if setup == "-" {
+        return None;
+    }
     Some(Command::Picture { setup, log })
 }

@@ -70,6 +70,7 @@ picture made sifted|1 <!DOCTYPE html>..
 picture odd sifted|3 setup S1
 picture made log|4 malformed 2 M1
 picture made made|2 usage
+picture - sifted|2 usage
 picture made|2 usage
 explain status 8|0 status 8: no memory was found; ..
 explain status 9|2 usage
