@@ -37,6 +37,9 @@ impl Model for Packed {
     ghost invariant = { λ p. IsPacked p.bytes.items };
 }
 
+// So many bytes are asked for at once: most objects are packed into fewer, and what is left is given back.
+const ROOM: usize = 1024;
+
 /// The packed form of a JSON value. As with `base_types::json::from_value`, numbers that `serde_json` reads as
 /// floating point, as `1.0`, `-0` and `1e2`, are refused.
 pub fn pack(alloc: Global, value: &Value) -> Result<Packed, TreeFault>
@@ -44,7 +47,7 @@ pub fn pack(alloc: Global, value: &Value) -> Result<Packed, TreeFault>
     ensures range { IfOk result InRange }
     ensures fraction { result ≡ Err TreeFault.Fraction → of_data (view value.now) ≡ None }
 {
-    let mut bytes = Vec::new(alloc);
+    let mut bytes = Vec::with_capacity(alloc, ROOM)?;
     push_value(&mut bytes, value)?;
     bytes.shrink_to_fit();
     Ok(Packed { bytes })
@@ -56,7 +59,7 @@ pub fn pack_borrowed(alloc: Global, value: &JsonValue<'_>) -> Result<Packed, Tre
     ensures range { IfOk result InRange }
     ensures fraction { result ≡ Err TreeFault.Fraction → of_data (borrowed_view value.now) ≡ None }
 {
-    let mut bytes = Vec::new(alloc);
+    let mut bytes = Vec::with_capacity(alloc, ROOM)?;
     push_borrowed(&mut bytes, value)?;
     bytes.shrink_to_fit();
     Ok(Packed { bytes })
