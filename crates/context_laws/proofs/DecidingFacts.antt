@@ -54,7 +54,7 @@ decides_at known number event decision places told at judged =
     ∙ ap (decides_by known.rbac places (Some event)) (decision_at known number event told at ∙ judged)
 
 pub decides_by_choice : DecidesSound → DecidesByChoice
-decides_by_choice law setup log known number event decision places is at judged =
-    let same = decides_at known number event decision places is.told at judged in
-    let both = law known.rbac places (judged_user event) event.attrs decision (roles_are known is.told) in
+decides_by_choice law known number event decision places told at judged =
+    let same = decides_at known number event decision places told at judged in
+    let both = law known.rbac places (judged_user event) event.attrs decision (roles_are known told) in
     (λ right. both.0 (sym same ∙ right), λ possible. same ∙ both.1 possible)

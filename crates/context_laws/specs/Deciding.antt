@@ -1,17 +1,17 @@
 -- The decisions of a log, as a choice of states gives them.
-use Rattle.std.specs.Prelude.{◌≡◌, ◌↔◌, ℕ, true, List, Some, slice_get}
+use Rattle.std.specs.Prelude.{◌≡◌, ◌↔◌, ℕ, true, Some, slice_get}
 use Rattle.audit_event.specs.declared.event.Event.{Event}
 use Rattle.base_types.specs.declared.placed.Places.{Places}
 use Rattle.base_types.specs.declared.request.Decision.{Decision}
-use Rattle.context_intake.specs.Contexts.{IsContextOf}
 use Rattle.rbac_timeline.specs.Decisions.{IsPossible}
 use Rattle.version_store.specs.Histories.{history_of}
 use Rattle.version_store.specs.Judged.{judged_decision, judged_user}
 use Rattle.version_store.specs.Known.{Known}
+use Rattle.version_store.specs.Told.{IsTold}
 
--- By the history that a setup and a log tell, caches at these places could give the judged decision of an event exactly
+-- By the history that a context tells, caches at these places could give the judged decision of an event exactly
 -- where one possible state for each role and each binding makes an authorizer give it.
 abbrev pub DecidesByChoice : Type 0
-DecidesByChoice = (setup log : List ℕ) (known : Known) (number : ℕ) (event : Event) (decision : Decision) (places : Places)
-    → IsContextOf setup log known → slice_get known.events number ≡ Some event → judged_decision known.setup event ≡ Some decision
+DecidesByChoice = (known : Known) (number : ℕ) (event : Event) (decision : Decision) (places : Places)
+    → IsTold known → slice_get known.events number ≡ Some event → judged_decision known.setup event ≡ Some decision
     → ((history_of known).decides number places ≡ true) ↔ IsPossible known.rbac places (judged_user event) event.attrs decision
