@@ -1,10 +1,11 @@
-ghost use Rattle.std.specs.Prelude.{◌≡◌, ◌++◌, ℕ, List, OnOk, Some, encode_utf8, option_map, string_bytes};
+ghost use Rattle.std.specs.Prelude.{◌≡◌, ℕ, List, Some, option_map};
 ghost use Rattle.markup.specs.Escaping.{IsInert, escaped, reference_of};
 
-use base_types::OutOfMemory;
 use std::fmt;
 
-/// A text of the input, which prints escaped.
+/// A text of the input, which prints so that it can be the text of an element or the value of an attribute in quotes.
+/// `&`, `<`, `>`, `"` and `'` become HTML's character references, and ASCII's control characters but tab and newline
+/// become U+FFFD.
 #[derive(Clone, Copy)]
 pub struct Told<'a>(pub &'a str);
 
@@ -20,29 +21,6 @@ impl fmt::Display for Told<'_> {
         }
         Ok(())
     }
-}
-
-/// Appends a text of the input so that it can be the text of an element or the value of an attribute in quotes. `&`,
-/// `<`, `>`, `"` and `'` become HTML's character references, and ASCII's control characters but tab and newline become
-/// U+FFFD.
-pub fn push_escaped(text: &mut String, told: &str) -> Result<(), OutOfMemory>
-    ensures { OnOk result (string_bytes text.new ≡ string_bytes text.old ++ escaped told.now) }
-{
-    for c in told.chars() {
-        push_char(text, c)?;
-    }
-    Ok(())
-}
-
-fn push_char(text: &mut String, c: char) -> Result<(), OutOfMemory>
-    ensures { OnOk result (string_bytes text.new ≡ string_bytes text.old ++ escaped
-        (encode_utf8 c)) }
-{
-    match reference_of(c) {
-        Some(reference) => text.push_str(reference)?,
-        None => text.push(c)?,
-    }
-    Ok(())
 }
 
 // The reference that is written in place of a character, if one is.

@@ -104,13 +104,6 @@ impl SpanIndex {
         }
     }
 
-    /// How many there are.
-    pub fn len(&self) -> usize
-        ensures { result ≡ length self.now }
-    {
-        self.entries.len()
-    }
-
     /// Puts a span behind the others. The search is quick where their first places rise, or fall.
     pub fn push(&mut self, span: Span) -> Result<(), AllocError>
         ensures pushed { OnOk result (self.new ≡ self.old ++ span ∷ []) }
