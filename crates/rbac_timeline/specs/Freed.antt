@@ -1,9 +1,11 @@
 -- The least places of roles with which bindings at a place don't grant for certain.
-use Rattle.std.specs.Prelude.{◌<◌, ◌≤◌, ◌⊎◌, ℕ, Option, Some, None, IfSome}
+use Rattle.std.specs.Prelude.{◌≡◌, ◌<◌, ◌≤◌, ◌⊎◌, ℕ, Option, Some, None, IfSome, Result, Ok, Err}
+use Rattle.std.specs.BTreeMap.{BTreeMap, get}
+use Rattle.std.specs.Ordering.{nat_cmp}
 use Rattle.base_types.specs.declared.placed.Places.{Places}
 use Rattle.base_types.specs.declared.request.RequestAttrs.{RequestAttrs}
 use Rattle.base_types.specs.declared.request.User.{User}
-use Rattle.clouds.specs.FirstPlace.{HoldsNowhere}
+use Rattle.clouds.specs.FirstPlace.{HoldsNowhere, IsLeastPlace}
 use Rattle.rbac_timeline.specs.declared.search.RoleCache.{RoleCache}
 use Rattle.rbac_timeline.specs.declared.search.RoleCache.TheVariants.{Cluster, Plain}
 use Rattle.rbac_timeline.specs.declared.way.Way.TheVariants.{ClusterRoles, Roles}
@@ -35,3 +37,13 @@ IsBarred known who attrs low high Cluster cluster_roles bindings = IsBarredClust
 -- the least free places with the role bindings from one place up to another
 abbrev pub AreFirstFrom : Known → User → RequestAttrs → ℕ → ℕ → ℕ → ℕ → Option Places → Type 0
 AreFirstFrom known who attrs low high bindings last places = AreFirstOf (λ p. (bindings ≤ p.bindings) × ((p.bindings ≤ last) × IsFreeAt known who attrs p)) low high places
+
+-- the least free place of cluster role bindings with these cluster roles, or a place of cluster roles up to which there is none
+abbrev pub IsFirstFree : Known → User → RequestAttrs → ℕ → ℕ → ℕ → Result ℕ ℕ → Type 0
+IsFirstFree known who attrs low high cluster_roles (Ok place) = IsLeastPlace (IsFreeCluster known who attrs cluster_roles) low high place
+IsFirstFree known who attrs low high cluster_roles (Err reached) = HoldsUpTo (λ c. HoldsNowhere (IsFreeCluster known who attrs c) low high) cluster_roles high reached
+
+-- what is remembered of the places of cluster roles is what a search finds for them
+abbrev pub AreFirstFree : Known → User → RequestAttrs → ℕ → ℕ → BTreeMap ℕ (Result ℕ ℕ) → Type 0
+AreFirstFree known who attrs low high free_bindings =
+    (cluster_roles : ℕ) (found : Result ℕ ℕ) → get nat_cmp free_bindings cluster_roles ≡ Some found → IsFirstFree known who attrs low high cluster_roles found

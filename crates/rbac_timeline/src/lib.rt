@@ -6,6 +6,7 @@ mod begun;
 mod deciding;
 mod extent;
 mod first;
+mod free_bindings;
 mod history;
 mod index;
 mod kind;

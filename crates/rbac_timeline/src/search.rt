@@ -1,13 +1,13 @@
-ghost use Rattle.std.specs.Prelude.{◌≡◌, ◌≤◌, ◌↔◌, IfErr, IfNone, IfOk, IfSome, IsTrue, MatchOption};
-ghost use Rattle.clouds.specs.FirstPlace.{HoldsNowhere, IsLeastPlace};
+ghost use Rattle.std.specs.Prelude.{◌≡◌, ◌≤◌, ◌↔◌, IfNone, IfSome, IsTrue, MatchOption};
 ghost use Rattle.rbac_timeline.specs.declared.way.Way.TheVariants.{ClusterBindings, ClusterRoles, Roles};
 ghost use Rattle.rbac_timeline.specs.Extents.{MustGrantInWay};
-ghost use Rattle.rbac_timeline.specs.Freed.{AreFirstFrom, IsBarred, IsBarredClusterRole, IsFreed};
-ghost use Rattle.rbac_timeline.specs.Lasting.{HoldsUpTo, LastsUntil};
-ghost use Rattle.rbac_timeline.specs.Searched.{AreFirstOf, IsFreeAt, IsFreeCluster, MayGrantAt, MayGrantBy};
+ghost use Rattle.rbac_timeline.specs.Freed.{AreFirstFree, AreFirstFrom, IsBarred, IsBarredClusterRole, IsFreed};
+ghost use Rattle.rbac_timeline.specs.Lasting.{LastsUntil};
+ghost use Rattle.rbac_timeline.specs.Searched.{AreFirstOf, IsFreeAt, MayGrantAt, MayGrantBy};
 ghost use Rattle.rbac_timeline.specs.Searched.{all_at, lesser_places, with_cluster_bindings, with_cluster_roles};
 ghost use Rattle.rbac_timeline.specs.Searched.{with_roles};
 
+use crate::free_bindings::FreeBindings;
 use crate::lasting::Until;
 use crate::timeline::Timeline;
 use crate::way::{Link, Way};
@@ -135,42 +135,23 @@ impl<'a> Asked<'a> {
         )
     }
 
-    // The least place of the cluster role bindings at which they don't grant for certain, or a place of the
-    // cluster roles up to which there is none; behind that, whoever asks looks again.
-    fn first_free_cluster_binding(&self, cluster_roles: u64) -> Result<u64, u64>
-        requires range { self.now.low ≤ self.now.high }
-        requires upto { cluster_roles ≤ self.now.high }
-        ensures found { IfOk result (IsLeastPlace
-            (IsFreeCluster self.now.timeline.now self.now.who.now self.now.attrs.now cluster_roles)
-            self.now.low self.now.high) }
-        ensures none { IfErr result (HoldsUpTo (λ c. HoldsNowhere
-            (IsFreeCluster self.now.timeline.now self.now.who.now self.now.attrs.now c) self.now.low
-            self.now.high) cluster_roles self.now.high) }
-    {
-        let mut place = self.low;
-        let mut last = self.high;
-        'places: while let Some(until) = self.granted_until(Link {
-            way: Way::ClusterBindings,
-            role_place: cluster_roles,
-            binding_place: place,
-        }) {
-            last = last.min(until.first);
-            if until.second >= self.high {
-                return Err(last);
-            }
-            place = until.second + 1;
-        }
-        Ok(place)
-    }
-
     // Until where role bindings grant for certain by cluster roles, or cluster role bindings wherever they are.
-    fn cluster_role_bar(&self, cluster_roles: u64, bindings: u64) -> Option<Until>
+    fn cluster_role_bar(
+        &self,
+        free_bindings: &mut FreeBindings,
+        cluster_roles: u64,
+        bindings: u64,
+    ) -> Option<Until>
         requires range { self.now.low ≤ self.now.high }
         requires cluster_roles { cluster_roles ≤ self.now.high }
         requires bindings { bindings ≤ self.now.high }
-        ensures { LastsUntil (IsBarredClusterRole self.now.timeline.now self.now.who.now
+        requires remembered { AreFirstFree self.now.timeline.now self.now.who.now
+            self.now.attrs.now self.now.low self.now.high free_bindings.old }
+        ensures until { LastsUntil (IsBarredClusterRole self.now.timeline.now self.now.who.now
             self.now.attrs.now self.now.low self.now.high) cluster_roles bindings
             self.now.high result }
+        ensures remembered { AreFirstFree self.now.timeline.now self.now.who.now
+            self.now.attrs.now self.now.low self.now.high free_bindings.new }
     {
         let granted = self.granted_until(Link {
             way: Way::ClusterRoles,
@@ -180,7 +161,7 @@ impl<'a> Asked<'a> {
         if granted.is_some() {
             return granted;
         }
-        match self.first_free_cluster_binding(cluster_roles) {
+        match self.first_free_cluster_binding_once(free_bindings, cluster_roles) {
             Ok(_) => None,
             Err(reached) => Some(Until {
                 first: reached,
@@ -190,12 +171,23 @@ impl<'a> Asked<'a> {
     }
 
     // Until where nothing is free with the roles of this cache and the role bindings.
-    fn bar(&self, cache: RoleCache, roles: u64, bindings: u64) -> Option<Until>
+    fn bar(
+        &self,
+        free_bindings: &mut FreeBindings,
+        cache: RoleCache,
+        roles: u64,
+        bindings: u64,
+    ) -> Option<Until>
         requires range { self.now.low ≤ self.now.high }
         requires roles { roles ≤ self.now.high }
         requires bindings { bindings ≤ self.now.high }
-        ensures { LastsUntil (IsBarred self.now.timeline.now self.now.who.now self.now.attrs.now
-            self.now.low self.now.high cache) roles bindings self.now.high result }
+        requires remembered { AreFirstFree self.now.timeline.now self.now.who.now
+            self.now.attrs.now self.now.low self.now.high free_bindings.old }
+        ensures until { LastsUntil (IsBarred self.now.timeline.now self.now.who.now
+            self.now.attrs.now self.now.low self.now.high cache) roles bindings
+            self.now.high result }
+        ensures remembered { AreFirstFree self.now.timeline.now self.now.who.now
+            self.now.attrs.now self.now.low self.now.high free_bindings.new }
     {
         match cache {
             RoleCache::Plain => self.granted_until(Link {
@@ -203,21 +195,25 @@ impl<'a> Asked<'a> {
                 role_place: roles,
                 binding_place: bindings,
             }),
-            RoleCache::Cluster => self.cluster_role_bar(roles, bindings),
+            RoleCache::Cluster => self.cluster_role_bar(free_bindings, roles, bindings),
         }
     }
 
     // The least place of these roles that is free with the role bindings at this one.
-    fn first_free(&self, cache: RoleCache, bindings: u64) -> Freed
+    fn first_free(&self, free_bindings: &mut FreeBindings, cache: RoleCache, bindings: u64) -> Freed
         requires range { self.now.low ≤ self.now.high }
         requires upto { bindings ≤ self.now.high }
-        ensures { IsFreed (IsBarred self.now.timeline.now self.now.who.now self.now.attrs.now
-            self.now.low self.now.high cache) bindings self.now.low self.now.high result.place
-            result.last }
+        requires remembered { AreFirstFree self.now.timeline.now self.now.who.now
+            self.now.attrs.now self.now.low self.now.high free_bindings.old }
+        ensures freed { IsFreed (IsBarred self.now.timeline.now self.now.who.now
+            self.now.attrs.now self.now.low self.now.high cache) bindings self.now.low
+            self.now.high result.place result.last }
+        ensures remembered { AreFirstFree self.now.timeline.now self.now.who.now
+            self.now.attrs.now self.now.low self.now.high free_bindings.new }
     {
         let mut place = self.low;
         let mut last = self.high;
-        'places: while let Some(until) = self.bar(cache, place, bindings) {
+        'places: while let Some(until) = self.bar(free_bindings, cache, place, bindings) {
             last = last.min(until.second);
             if until.first >= self.high {
                 return Freed { place: None, last };
@@ -232,17 +228,21 @@ impl<'a> Asked<'a> {
 
     // The least free places with the role bindings at this place, which no others are before with the role
     // bindings up to the last one: roles and cluster roles don't ask for each other there.
-    fn free_from(&self, bindings: u64) -> FreeFrom
+    fn free_from(&self, free_bindings: &mut FreeBindings, bindings: u64) -> FreeFrom
         requires range { self.now.low ≤ self.now.high }
         requires from { self.now.low ≤ bindings }
         requires upto { bindings ≤ self.now.high }
+        requires remembered { AreFirstFree self.now.timeline.now self.now.who.now
+            self.now.attrs.now self.now.low self.now.high free_bindings.old }
         ensures places { AreFirstFrom self.now.timeline.now self.now.who.now self.now.attrs.now
             self.now.low self.now.high bindings result.last result.places }
         ensures from { bindings ≤ result.last }
         ensures upto { result.last ≤ self.now.high }
+        ensures remembered { AreFirstFree self.now.timeline.now self.now.who.now
+            self.now.attrs.now self.now.low self.now.high free_bindings.new }
     {
-        let role = self.first_free(RoleCache::Plain, bindings);
-        let cluster_role = self.first_free(RoleCache::Cluster, bindings);
+        let role = self.first_free(free_bindings, RoleCache::Plain, bindings);
+        let cluster_role = self.first_free(free_bindings, RoleCache::Cluster, bindings);
         let last = role.last.min(cluster_role.last);
         let Some(roles) = role.place else {
             return FreeFrom { places: None, last };
@@ -250,7 +250,7 @@ impl<'a> Asked<'a> {
         let Some(cluster_roles) = cluster_role.place else {
             return FreeFrom { places: None, last };
         };
-        match self.first_free_cluster_binding(cluster_roles) {
+        match self.first_free_cluster_binding_once(free_bindings, cluster_roles) {
             Ok(cluster_bindings) => FreeFrom {
                 places: Some(Places {
                     roles,
@@ -271,10 +271,11 @@ impl<'a> Asked<'a> {
         ensures { AreFirstOf (IsFreeAt self.now.timeline.now self.now.who.now self.now.attrs.now)
             self.now.low self.now.high result }
     {
+        let mut free_bindings = self.timeline.no_free_bindings();
         let mut best = None;
         let mut bindings = self.low;
         'places: loop {
-            let found = self.free_from(bindings);
+            let found = self.free_from(&mut free_bindings, bindings);
             best = lesser_places(best, found.places);
             if has_first_roles(self.low, best) {
                 return best;

@@ -1,6 +1,7 @@
 ghost use Rattle.std.specs.Prelude.{◌≡◌, ◌↔◌, IsTrue, IfOk, IfSome, IfNone, Contains, []};
-ghost use Rattle.std.specs.Prelude.{◌<◌, ◌≤◌, None};
+ghost use Rattle.std.specs.Prelude.{◌<◌, ◌≤◌, ℕ, None};
 ghost use Rattle.std.specs.BTreeMap.{get};
+ghost use Rattle.std.specs.Ordering.{nat_cmp};
 ghost use Rattle.clouds.specs.Kept.{key_order};
 ghost use Rattle.clouds.specs.FirstPlace.{IsFirstPlace};
 ghost use Rattle.rbac_timeline.specs.Known.{writes_of};
@@ -9,6 +10,7 @@ mod finding;
 pub(crate) mod granting;
 mod lasting;
 
+use crate::free_bindings::FreeBindings;
 use crate::history::{Gap, Histories, Removals, Stored};
 use crate::index::Index;
 use crate::lookups::Lookups;
@@ -195,6 +197,13 @@ impl Timeline {
     // No least places of roles yet.
     pub(crate) fn no_firsts(&self) -> Firsts
         ensures { (role : ObjectKey) → get key_order result role ≡ None }
+    {
+        BTreeMap::new(self.alloc)
+    }
+
+    // No free places of cluster role bindings yet.
+    pub(crate) fn no_free_bindings(&self) -> FreeBindings
+        ensures { (cluster_roles : ℕ) → get nat_cmp result cluster_roles ≡ None }
     {
         BTreeMap::new(self.alloc)
     }

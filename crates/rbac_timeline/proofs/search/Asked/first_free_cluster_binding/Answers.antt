@@ -13,8 +13,8 @@ places-init c =
 pub granted_until-requires : goal.granted_until-requires
 granted_until-requires c = record { roles = c.requires.upto; bindings = c.places.invariant.upto }
 
-pub returns-then-until-self-clause-none : goal.returns-then-until-self-clause-none
-returns-then-until-self-clause-none c =
+pub returns-then-until-self : goal.returns-then-until-self
+returns-then-until-self c =
     let s = c.args.self.now in
     AreBarred-all (λ (cr b : ℕ). IsFreeCluster s.timeline.now s.who.now s.attrs.now cr b → ⊥) c.args.cluster_roles s.low s.high c.places.place c.places.last c.min-last.result c.in-Some.until (omega (arith, c.min-last.ensures)) (omega arith)
     c.places.invariant
@@ -30,8 +30,8 @@ places-preserved c =
 pub places-smaller : goal.places-smaller
 places-smaller c = let behind : c.places.place ≤ c.in-Some.until.second = c.in-Some.ensures.second_from in omega arith
 
-pub returns-clause-found : goal.returns-clause-found
-returns-clause-found c =
+pub returns : goal.returns
+returns c =
     let s = c.args.self.now in
     let so_far = c.places.invariant in
     least_there (IsFreeCluster s.timeline.now s.who.now s.attrs.now c.args.cluster_roles) s.low s.high c.places.place so_far.from so_far.upto
