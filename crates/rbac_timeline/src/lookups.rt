@@ -16,7 +16,7 @@ use base_types::OutOfMemory;
 use clouds::{Clouds, OpaqueSpan};
 use std::alloc::Global;
 
-/// What a decision looks bindings and places up in.
+/// What a decision looks bindings and places up in, and the index of bindings by subject, which `bindings_of` gives.
 #[derive(Drop)]
 pub struct Lookups {
     pub index: Index,
