@@ -51,10 +51,10 @@ item_there (x ∷ xs) (suc k) within = item_there xs k (omega (arith, within))
 abbrev pub AnswersEntered : {E : Type 0} → (ℕ → Claim → Type 0) → (ℕ → Type 0) → ℕ → Result Claim E → Type 0
 AnswersEntered Is Entered event answer = IfOk answer (λ claim. Is event claim × Entered event)
 
--- so of the numbers that were gone through, where they are the events, and of the list that was kept
-pub answers_kept : {E : Type 0} (P : ℕ → Result Claim E → Type 0) (numbers events : List ℕ) (answers : List (Result Claim E)) (claims kept : List Claim)
-    → AllZip P numbers answers → numbers ≡ events → answers ≡ map Ok claims → kept ≡ claims → AllZip P events (map Ok kept)
-answers_kept P numbers events answers claims kept each all gave same =
+-- so of the numbers that were gone through, where they are those of the events, and of the list that was kept
+pub answers_kept : {X E : Type 0} (P : ℕ → Result X E → Type 0) (numbers events : List ℕ) (answers : List (Result X E)) (found kept : List X)
+    → AllZip P numbers answers → numbers ≡ events → answers ≡ map Ok found → kept ≡ found → AllZip P events (map Ok kept)
+answers_kept P numbers events answers found kept each all gave same =
     subst (λ list. AllZip P events (map Ok list)) (sym same) (subst (AllZip P events) gave (subst (λ list. AllZip P list answers) all each))
 
 module _ (E : Type 0) (Is : ℕ → Claim → Type 0) (Entered : ℕ → Type 0) (n : ℕ) (claims : List Claim) where
