@@ -31,8 +31,8 @@ placed-requires-clause-explains g c κs within =
     let least = least_of known c.in_ok-claims.claims c.in_ok-claims.ensures.claims c.ranges-2.result.now c.order.result.now c.as_slice.result.now c.in_ok-settled.settled c.in-Fits.choice c.ranges-2.ensures c.as_slice.ensures c.in-Fits.is c.in_ok-settled.ensures.settled in
     subst (ExplainsEach known) (sym c.as_slice-in-Fits.ensures) (explains known c.in_ok-claims.claims c.in_ok-claims.ensures.claims c.in-Fits.choice least)
 
-pub returns-in-Fits : goal.returns-in-Fits
-returns-in-Fits g c =
+pub returns-in-Fits-clause-outcome : goal.returns-in-Fits-clause-outcome
+returns-in-Fits-clause-outcome g c =
     let known = c.args.context.now in
     let least = least_of known c.in_ok-claims.claims c.in_ok-claims.ensures.claims c.ranges-2.result.now c.order.result.now c.as_slice.result.now c.in_ok-settled.settled c.in-Fits.choice c.ranges-2.ensures c.as_slice.ensures c.in-Fits.is c.in_ok-settled.ensures.settled in
     explained_is known c.in_ok-claims.claims c.in_ok-claims.ensures.claims c.in-Fits.choice c.in_ok-lines-in-Fits.lines c.order.ensures.readable least
@@ -45,9 +45,15 @@ unexplained-requires-clause-known g c =
     c.ranges-2.ensures c.order.ensures.order c.as_slice.ensures c.in-Breaks.is c.in_ok-settled.ensures.settled in
     breaks_known known _ c.in_ok-claims.claims c.in-Breaks.event c.in-Breaks.reason c.order.ensures.readable breaks
 
-pub returns : goal.returns
-returns g c =
+pub returns-in-Fits-clause-entered : goal.returns-in-Fits-clause-entered
+returns-in-Fits-clause-entered g c = c.in_ok-claims.ensures.entered
+
+pub returns-clause-outcome : goal.returns-clause-outcome
+returns-clause-outcome g c =
     let known = c.args.context.now in
     let breaks = breaks_of known c.in_ok-claims.claims c.in_ok-claims.ensures.claims c.ranges-2.result.now c.order.result.now c.as_slice.result.now c.in_ok-settled.settled c.in-Breaks.event c.in-Breaks.reason
     c.ranges-2.ensures c.order.ensures.order c.as_slice.ensures c.in-Breaks.is c.in_ok-settled.ensures.settled in
     IfOk-weaker c.unexplained.result _ _ (λ outcome finding. unexplained_is known c.in_ok-claims.claims c.in_ok-claims.ensures.claims c.in-Breaks.event c.in-Breaks.reason outcome c.order.ensures.readable breaks finding) c.unexplained.ensures
+
+pub returns-clause-entered : goal.returns-clause-entered
+returns-clause-entered g c = IfOk-weaker c.unexplained.result _ _ (λ outcome finding. c.in_ok-claims.ensures.entered) c.unexplained.ensures
