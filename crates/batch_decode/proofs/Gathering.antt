@@ -1,7 +1,9 @@
--- What was answered to all places of a list, in order, holds of the list item by item.
-use Rattle.std.proofs.Common.{◌≡◌, ℕ, suc, ◌+◌, ◌<◌, List, [], ◌∷◌, length, get_or, map, Ok, Some, IfOk, slice_get, sym, ap, subst, ◌∙◌, arith}
+-- What was answered to all places of a list, in order, holds of the list item by item; places of which there is an
+-- answer have entered.
+use Rattle.std.proofs.Common.{◌≡◌, ℕ, zero, suc, ◌+◌, ◌<◌, List, [], ◌∷◌, length, get_or, map, Ok, Some, IfOk, slice_get, sym, ap, subst, ◌∙◌, arith}
 use Rattle.std.specs.List.{AllZip, range_with_len}
 use Rattle.std.proofs.lemmas.Option.{slice_get-get_or, same_Some}
+use Rattle.std.proofs.lemmas.Result.{IfOk-weaker}
 use Rattle.std.specs.declared.result.Result.{Result}
 
 -- where the call for a place gives a value, it is right for the item that stands there
@@ -31,3 +33,22 @@ module _ {X Y : Type 0} (E : Type 0) (P : X → Y → Type 0) where
 
   pub gathered : (xs : List X) (ys : List Y) → AllZip (AnswersPlace {E = E} P xs) (range_with_len 0 (length xs)) (map Ok ys) → AllZip P xs ys
   gathered xs ys each = gathered_from xs 0 xs ys (λ k d below. let here : 0 + k ≡ k = omega arith in ap (slice_get xs) here ∙ slice_get-get_or xs k d below) each
+
+-- the same, and the place has entered
+abbrev pub AnswersEntered : {X Y E : Type 0} → (X → Y → Type 0) → (ℕ → Type 0) → List X → ℕ → Result Y E → Type 0
+AnswersEntered {X} P Entered xs place answer = IfOk answer (λ y. ((x : X) × (slice_get xs place ≡ Some x) × P x y) × Entered place)
+
+module _ {X Y : Type 0} (E : Type 0) (P : X → Y → Type 0) (Entered : ℕ → Type 0) (xs : List X) where
+  -- from a place on
+  entered_from : (a n : ℕ) (ys : List Y) → AllZip (AnswersEntered {E = E} P Entered xs) (range_with_len a n) (map Ok ys) → (k : ℕ) → k < n → Entered (a + k)
+  entered_from a zero ys each k below = absurd (omega (arith, below))
+  entered_from a (suc n) [] each k below = absurd each
+  entered_from a (suc n) (y ∷ ys) each zero below = let here : a ≡ a + 0 = omega arith in subst Entered here each.0.1
+  entered_from a (suc n) (y ∷ ys) each (suc k) below = let next : a + 1 + k ≡ a + suc k = omega arith in subst Entered next (entered_from (a + 1) n ys each.1 k (omega (arith, below)))
+
+  pub all_entered : (ys : List Y) → AllZip (AnswersEntered {E = E} P Entered xs) (range_with_len 0 (length xs)) (map Ok ys) → (place : ℕ) → place < length xs → Entered place
+  all_entered ys each place below = let same : 0 + place ≡ place = omega arith in subst Entered same (entered_from 0 (length xs) ys each place below)
+
+  pub answered : (ys : List Y) → AllZip (AnswersEntered {E = E} P Entered xs) (range_with_len 0 (length xs)) (map Ok ys) → AllZip P xs ys
+  answered ys each =
+      gathered E P xs ys (each_pair (range_with_len 0 (length xs)) (map Ok ys) each (λ place answer so. IfOk-weaker answer _ _ (λ y both. both.0) so))

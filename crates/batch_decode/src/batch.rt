@@ -26,7 +26,9 @@ pub fn decode_all<R: Threads + Sync, G: Gate>(
     gate: &G,
 ) -> Result<DecodedList, OutOfMemory>
     requires { length lines.now < 2 ^ 32 }
-    ensures { IfOk result (AllZip IsDecodedLine lines.now) }
+    ensures decoded { IfOk result (AllZip IsDecodedLine lines.now) }
+    ensures entered { IfOk result
+        (λ _. (index : ℕ) → index < length lines.now → G.is_entered gate.now index) }
 {
     let gathered: Result<Vec<Decoded>, OutOfMemory> = (0..lines.len() as u32)
         .into_par_iter()
@@ -35,13 +37,30 @@ pub fn decode_all<R: Threads + Sync, G: Gate>(
             move || Scratch::new(alloc),
             |scratch: &mut Scratch, index: u32| -> Result<Decoded, OutOfMemory>
                 requires { index < length lines.now }
-                ensures { IfOk result (λ decoded. (line : Line)
-                    × (slice_get lines.entry.now index ≡ Some line) × IsDecodedLine line decoded) }
+                ensures { IfOk result (λ decoded. ((line : Line)
+                    × (slice_get lines.entry.now index ≡ Some line) × IsDecodedLine line decoded)
+                    × G.is_entered gate.entry.now index) }
             {
                 gate.enter(index);
-                decode_with(alloc, scratch, &lines[index as usize])
+                decode_behind(alloc, scratch, lines, gate, index)
             },
         )
         .collect(rt, alloc)?;
     Ok(DecodedList::from_vec(gathered?))
+}
+
+// What a line holds whose index has entered.
+fn decode_behind<G: Gate>(
+    alloc: Global,
+    scratch: &mut Scratch,
+    lines: &[Line],
+    _gate: &G,
+    index: u32,
+) -> Result<Decoded, OutOfMemory>
+    requires index { index < length lines.now }
+    requires entered { G.is_entered _gate.now index }
+    ensures { IfOk result (λ decoded. (line : Line)
+        × (slice_get lines.now index ≡ Some line) × IsDecodedLine line decoded) }
+{
+    decode_with(alloc, scratch, &lines[index as usize])
 }

@@ -1,4 +1,4 @@
--- Answers to all events, in order, are their claims, or their lines.
+-- Answers to all events, in order, are their claims, or their lines; events of which there is a claim have entered.
 use Rattle.std.proofs.Common.{◌≡◌, ℕ, zero, suc, ◌+◌, ◌<◌, List, [], ◌∷◌, Ok, Option, Some, IfOk, length, get_or, map, slice_get, refl, sym, ap, subst, ◌∙◌, arith}
 use Rattle.std.specs.List.{AllZip, range_with_len}
 use Rattle.std.proofs.lemmas.List.{same_lists}
@@ -41,8 +41,34 @@ module _ {X : Type 0} (E : Type 0) (Is : ℕ → X → Type 0) where
             subst (Is event) (get_or_from_slice_get xs event x x at) here,
       )
 
-pub claims_gathered : (E : Type 0) (Is : ℕ → Claim → Type 0) (n : ℕ) (claims : List Claim) → AllZip (AnswersEvent {E = E} Is) (range_with_len 0 n) (map Ok claims) → AreClaims n Is claims
-claims_gathered E Is n claims each = let found = gathered E Is n claims each in record { all = found.0; each = found.1 }
+-- a place of a list has an item
+item_there : {X : Type 0} (xs : List X) (k : ℕ) → k < length xs → (x : X) × (slice_get xs k ≡ Some x)
+item_there [] k within = absurd (omega (arith, within))
+item_there (x ∷ xs) zero within = (x, refl)
+item_there (x ∷ xs) (suc k) within = item_there xs k (omega (arith, within))
+
+-- the call for an event gives a claim of it, and tells that it has entered
+abbrev pub AnswersEntered : {E : Type 0} → (ℕ → Claim → Type 0) → (ℕ → Type 0) → ℕ → Result Claim E → Type 0
+AnswersEntered Is Entered event answer = IfOk answer (λ claim. Is event claim × Entered event)
+
+-- so of the numbers that were gone through, where they are those of the events, and of the list that was kept
+pub answers_kept : {X E : Type 0} (P : ℕ → Result X E → Type 0) (numbers events : List ℕ) (answers : List (Result X E)) (found kept : List X)
+    → AllZip P numbers answers → numbers ≡ events → answers ≡ map Ok found → kept ≡ found → AllZip P events (map Ok kept)
+answers_kept P numbers events answers found kept each all gave same =
+    subst (λ list. AllZip P events (map Ok list)) (sym same) (subst (AllZip P events) gave (subst (λ list. AllZip P list answers) all each))
+
+module _ (E : Type 0) (Is : ℕ → Claim → Type 0) (Entered : ℕ → Type 0) (n : ℕ) (claims : List Claim) where
+  pub claims_gathered : AllZip (AnswersEntered {E = E} Is Entered) (range_with_len 0 n) (map Ok claims) → AreClaims n Is claims
+  claims_gathered each =
+      let found = gathered E (λ event claim. Is event claim × Entered event) n claims each in
+      record { all = found.0; each = λ event claim at. (found.1 event claim at).0 }
+
+  pub all_entered : AllZip (AnswersEntered {E = E} Is Entered) (range_with_len 0 n) (map Ok claims) → (event : ℕ) → event < n → Entered event
+  all_entered each event below =
+      let found = gathered E (λ event claim. Is event claim × Entered event) n claims each in
+      let all = found.0 in
+      let claim = item_there claims event (omega (arith, below, all)) in
+      (found.1 event claim.0 claim.1).1
 
 pub lines_gathered : (E : Type 0) (Is : ℕ → Option PlacedLine → Type 0) (n : ℕ) (lines : List (Option PlacedLine)) → AllZip (AnswersEvent {E = E} Is) (range_with_len 0 n) (map Ok lines) → AreLines n Is lines
 lines_gathered E Is n lines each = let found = gathered E Is n lines each in record { all = found.0; each = found.1 }

@@ -40,7 +40,9 @@ pub fn claims_all<R: Threads + Sync, S: ClaimSource, G: Gate>(
     source: &S,
     gate: &G,
 ) -> Result<Claims, OutOfMemory>
-    ensures { IfOk result (AreClaims (S.events source.now) (S.is_claim source.now)) }
+    ensures claims { IfOk result (AreClaims (S.events source.now) (S.is_claim source.now)) }
+    ensures entered { IfOk result
+        (λ _. (event : ℕ) → event < S.events source.now → G.is_entered gate.now event) }
 {
     let gathered: Result<Vec<Claim>, OutOfMemory> = (0..source.count())
         .into_par_iter()
@@ -48,14 +50,29 @@ pub fn claims_all<R: Threads + Sync, S: ClaimSource, G: Gate>(
         .map(
             |event: u32| -> Result<Claim, OutOfMemory>
                 requires { event < S.events source.now }
-                ensures { IfOk result (S.is_claim source.entry.now event) }
+                ensures { IfOk result (λ claim. S.is_claim source.entry.now event claim
+                    × G.is_entered gate.entry.now event) }
             {
                 gate.enter(event);
-                source.claim(alloc, event)
+                claim_behind(source, alloc, gate, event)
             },
         )
         .collect(rt, alloc)?;
     Ok(Claims::from_vec(gathered?))
+}
+
+// The claim of an event that has entered.
+fn claim_behind<S: ClaimSource, G: Gate>(
+    source: &S,
+    alloc: Global,
+    _gate: &G,
+    event: u32,
+) -> Result<Claim, OutOfMemory>
+    requires event { event < S.events source.now }
+    requires entered { G.is_entered _gate.now event }
+    ensures { IfOk result (S.is_claim source.now event) }
+{
+    source.claim(alloc, event)
 }
 
 /// The claims are those of one thread, whatever the threads and the gate do: there is one list of them.

@@ -1,4 +1,4 @@
-ghost use Rattle.std.specs.Prelude.{IfOk};
+ghost use Rattle.std.specs.Prelude.{ℕ, ◌<◌, length, IfOk};
 ghost use Rattle.history_model.specs.Placed.{ArePlacedLines};
 ghost use Rattle.history_model.specs.Readable.{IsReadable};
 ghost use Rattle.log_verdict.specs.Findings.{ExplainsEach};
@@ -23,7 +23,9 @@ pub fn outcome_of<R: Threads + Sync, G: Gate>(
     context: &Context,
     gate: &G,
 ) -> Result<Outcome, OutOfMemory>
-    ensures { IfOk result (IsOutcomeOf context.now) }
+    ensures outcome { IfOk result (IsOutcomeOf context.now) }
+    ensures entered { IfOk result
+        (λ _. (event : ℕ) → event < length context.now.log → G.is_entered gate.now event) }
 {
     let claims = claims_all(rt, alloc, &ContextClaims { context }, gate)?;
     let settled = settle(alloc, context.ranges(), context.order(), claims.as_slice())?;

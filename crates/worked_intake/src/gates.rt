@@ -28,6 +28,8 @@ impl Meeting {
 }
 
 impl Gate for Meeting {
+    ghost is_entered = { λ _ _. Unit {0} };
+
     fn enter(&self, event: u32) {
         if event == self.last {
             self.entered.store(true, Ordering::SeqCst);
@@ -58,6 +60,14 @@ impl Roll {
         Roll { entries }
     }
 
+    /// How often a number entered.
+    pub fn times(&self, number: u32) -> u64 {
+        match self.entries.get(number as usize) {
+            Some(entries) => entries.load(Ordering::SeqCst),
+            None => 0,
+        }
+    }
+
     /// Whether each number entered once.
     pub fn is_once_each(&self) -> bool {
         for entries in &self.entries {
@@ -70,6 +80,8 @@ impl Roll {
 }
 
 impl Gate for Roll {
+    ghost is_entered = { λ _ _. Unit {0} };
+
     fn enter(&self, event: u32) {
         if let Some(entries) = self.entries.get(event as usize) {
             let _before = entries.fetch_add(1, Ordering::SeqCst);

@@ -5,6 +5,7 @@ use judge_pool::{ClaimSource, FreeGate, Gate, claims_all};
 use std::alloc::Global;
 use std::marker::Sync;
 use std::process::Abort;
+use std::sync::atomic::{AtomicBool, Ordering};
 use std::thread::Threads;
 
 const EVENTS: u32 = 8_192;
@@ -39,6 +40,52 @@ impl ClaimSource for Plain {
     }
 }
 
+/// Claims that ask nothing, each of which looks whether its event has entered the gate.
+#[derive(Drop)]
+struct Watching<'a> {
+    plain: Plain,
+    roll: &'a Roll,
+    is_early: AtomicBool,
+}
+
+impl<'a> Watching<'a> {
+    fn of(roll: &'a Roll, count: u32) -> Watching<'a> {
+        Watching {
+            plain: Plain { count },
+            roll,
+            is_early: AtomicBool::new(false),
+        }
+    }
+
+    /// Whether a claim was taken before its event entered.
+    fn is_early(&self) -> bool {
+        self.is_early.load(Ordering::SeqCst)
+    }
+}
+
+impl<'a> ClaimSource for Watching<'a> {
+    ghost use Rattle.std.specs.Prelude.{◌≡◌, [], None};
+    ghost use Rattle.std.proofs.Common.{sym, ◌∙◌};
+    ghost use Rattle.base_types.specs.declared.claim.Reason.TheVariants.{U10};
+
+    ghost events = { λ s. s.plain.count };
+
+    ghost is_claim = { λ s event claim. claim ≡ record { fails = None; bounds = []; reason = U10 } };
+
+    ghost one = { λ source event a b below x y. x ∙ sym y };
+
+    fn count(&self) -> u32 {
+        self.plain.count()
+    }
+
+    fn claim(&self, alloc: Global, event: u32) -> Result<Claim, OutOfMemory> {
+        if self.roll.times(event) == 0 {
+            self.is_early.store(true, Ordering::SeqCst);
+        }
+        self.plain.claim(alloc, event)
+    }
+}
+
 // How many claims of so many events come.
 fn count_claims(
     rt: &(impl Abort + AllocGlobal + Threads + Sync),
@@ -69,6 +116,32 @@ fn each_event_enters_the_gate_once(rt: HostRuntime) {
     for count in [0, 1, EVENTS] {
         check_roll(&rt, count);
     }
+}
+
+// Counts the claims that are taken from a source that watches a gate.
+fn count_watched(
+    rt: &(impl Abort + AllocGlobal + Threads + Sync),
+    watching: &Watching<'_>,
+    gate: &Roll,
+) -> usize {
+    claims_all(rt, rt.alloc(), watching, gate)
+        .expect(rt, "memory")
+        .len()
+}
+
+#[test]
+fn each_claim_is_taken_behind_its_entry(rt: HostRuntime) {
+    let gate = Roll::of(&rt, EVENTS);
+    let watching = Watching::of(&gate, EVENTS);
+    let found = count_watched(&rt, &watching, &gate);
+    assert_so(&rt, found == 8_192, "all claims");
+    assert_so(&rt, !watching.is_early(), "behind its entry");
+    drop(watching);
+    // Outside a gate each claim is early.
+    let watching = Watching::of(&gate, EVENTS + 1);
+    drop(watching.claim(rt.alloc(), EVENTS));
+    assert_so(&rt, watching.is_early(), "early");
+    drop(watching);
 }
 
 #[test]

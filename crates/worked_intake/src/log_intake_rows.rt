@@ -276,6 +276,22 @@ fn each_line_of_a_batch_enters_once(rt: HostRuntime) {
     assert_so(&rt, gate.is_once_each(), "each once");
 }
 
+// Batches of three lines, of two and of one.
+const BATCHES_OF_LISTS: &str = "LIST]}\nLIST]}\nLIST]}\nFILL\nLIST]}\nLIST]}\nFILL\nLIST]}";
+
+#[test]
+fn each_line_of_every_batch_enters(rt: HostRuntime) {
+    let log = filled(&rt, BATCHES_OF_LISTS);
+    let gate = Roll::of(&rt, 4);
+    let answer = read(&rt, log.as_str(), 65_536, &[], &gate);
+    assert_so(&rt, answer.is_ok(), "no line is refused");
+    drop(answer);
+    // A line enters by its index in its batch.
+    for (number, times) in [(0, 3), (1, 2), (2, 1), (3, 0)] {
+        assert_so(&rt, gate.times(number) == times, "once in each batch");
+    }
+}
+
 const SETUP: &str =
     r#"{"kind":"PastSetup","version":1,"start":{"revision":"10","time":"2024-05-01T10:00:00Z"},"policy":{"apiVersion":"audit.k8s.io/v1","kind":"Policy","rules":[]},"resources":[],"snapshot":[]}"#;
 

@@ -36,6 +36,8 @@ impl Meeting {
 }
 
 impl Gate for Meeting {
+    ghost is_entered = { λ _ _. Unit {0} };
+
     fn enter(&self, _event: u32) {
         if self.first.swap(true, Ordering::SeqCst) {
             self.second.store(true, Ordering::SeqCst);
