@@ -1,3 +1,5 @@
+ghost use Rattle.std.specs.Prelude.{◌≡◌};
+
 use crate::gates::{Meeting, Roll};
 use crate::given::assert_so;
 use base_types::{Bounds, Claim, OutOfMemory, Reason};
@@ -49,7 +51,9 @@ struct Watching<'a> {
 }
 
 impl<'a> Watching<'a> {
-    fn of(roll: &'a Roll, count: u32) -> Watching<'a> {
+    fn of(roll: &'a Roll, count: u32) -> Watching<'a>
+        ensures { result.plain.count ≡ count }
+    {
         Watching {
             plain: Plain { count },
             roll,
