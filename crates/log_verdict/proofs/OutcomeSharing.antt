@@ -135,7 +135,7 @@ fields_shared = declared_sync inside.the_type (
                     search (timeline_shared, sendable) depth 20,
                     (
                       search (sendable, owned.crosses) depth 60 fits 20000,
-                      (search (sendable, owned.crosses, mapped.crosses) depth 60 fits 20000, tt),
+                      tt,
                     ),
                   ),
                 ),

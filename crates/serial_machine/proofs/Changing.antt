@@ -18,6 +18,7 @@ use Rattle.history_model.specs.States.{Cut, Map}
 use Rattle.serial_machine.proofs.Unmade.{after_append, end_append}
 use Rattle.serial_machine.specs.Held.{HasMade, HasRooms, held, objects_in}
 use Rattle.serial_machine.specs.declared.machine.Machine.{Machine}
+use Rattle.version_store.specs.Uses.{AreUsesOf}
 
 -- the version of a revision is found
 pub found_by : (h : History) (v : Version) → IsReadable h → Contains h.versions v → find (λ w. w.revision == v.revision) h.versions ≡ Some v
@@ -90,12 +91,13 @@ module _ (h : History) (old new : BTreeMap ObjectKey (Option ℕ)) (cut : Cut) (
   removal_changes key = held_after h old new cut.removal.key None (updates (has_room h old cut.removal.key rooms (removal_key h cut r c))) key
 
 -- one step more
-pub made_more : (h : History) (old new : Machine) (done : List Step) (step : Step) → HasMade h old done → HasRooms h new.objects
+pub made_more : (h : History) (old new : Machine) (done : List Step) (step : Step) → HasMade h old done → HasRooms h new.objects → AreUsesOf h new.uses
     → ((key : ObjectKey) → objects_in h new.objects key ≡ after (objects_in h old.objects) step key) → new.place ≡ step_place step → HasMade h new (done ++ step ∷ [])
-made_more h old new done step made rooms objects place = record {
+made_more h old new done step made rooms uses objects place = record {
   readable = made.readable;
   objects = λ key. objects key ∙ after_alike key step ∙ ap (λ (m : Map). m key) (sym (after_append done (step ∷ []) (snapshot_map h)));
   rooms = rooms;
+  uses = uses;
   place = place ∙ sym (end_append h.start done (step ∷ []));
 }
   where

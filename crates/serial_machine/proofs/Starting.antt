@@ -23,6 +23,7 @@ use Rattle.write_groups.proofs.Lists.{map_from, map_has}
 use Rattle.serial_machine.proofs.Changing.{found_by}
 use Rattle.serial_machine.specs.Held.{HasMade, held, objects_in}
 use Rattle.serial_machine.specs.declared.machine.Machine.{Machine}
+use Rattle.version_store.specs.Uses.{AreUsesOf}
 
 abbrev pub first_revision : History → ObjectKey → Option ℕ
 first_revision h key = option_map (λ (v : histories.Version). v.revision) (latest h.versions key h.start)
@@ -74,8 +75,8 @@ begun_more h keys i key copy revision old new l is c r updates begun =
     (subst (λ o. Updates key_order old new key (Some o)) r (subst (λ k. Updates key_order old new k (Some revision)) c updates)) begun)
 
 pub begun_all : (h : History) (keys : List ObjectKey) (i : ℕ) (machine : Machine) (versions : List Version) → IsReadable h → h.versions ≡ map version_of versions → length keys ≤ i
-    → ((key : ObjectKey) → Contains keys key ↔ HasVersion versions key) → IsBegun h (take i keys) machine.objects → machine.place ≡ h.start → HasMade h machine []
-begun_all h keys i machine versions r past over exact begun place = record { readable = r; objects = objects; rooms = λ key. (to key, from key); place = place }
+    → ((key : ObjectKey) → Contains keys key ↔ HasVersion versions key) → IsBegun h (take i keys) machine.objects → AreUsesOf h machine.uses → machine.place ≡ h.start → HasMade h machine []
+begun_all h keys i machine versions r past over exact begun uses place = record { readable = r; objects = objects; rooms = λ key. (to key, from key); uses = uses; place = place }
   where
     all : IsBegun h keys machine.objects
     all = subst (λ ks. IsBegun h ks machine.objects) (take_all i keys over) begun

@@ -8,6 +8,7 @@ use Rattle.history_model.specs.Machine.{Step, Put, after_all, snapshot_map, step
 use Rattle.history_model.specs.Readable.{IsReadable}
 use Rattle.history_model.specs.States.{Map, latest}
 use Rattle.serial_machine.specs.declared.machine.Machine.{Machine}
+use Rattle.version_store.specs.Uses.{AreUsesOf}
 
 -- the revision under a key, where the key is there and has one
 abbrev pub held : Option (Option ℕ) → Option ℕ
@@ -60,4 +61,5 @@ pub record HasMade (h : History) (machine : Machine) (done : List Step) : Type 0
   pub readable : IsReadable h
   pub objects : (key : ObjectKey) → objects_of h machine key ≡ after_all (snapshot_map h) done key
   pub rooms : HasRooms h machine.objects
+  pub uses : AreUsesOf h machine.uses
   pub place : machine.place ≡ end_of_steps h.start done

@@ -11,6 +11,7 @@ ghost use Rattle.serial_machine.specs.Made.{IsAstray, IsLineOf, IsLineMade, IsRi
 ghost use Rattle.serial_machine.specs.Made.{StandsBehind};
 ghost use Rattle.serial_machine.specs.Stepping.{step_of};
 ghost use Rattle.version_store.specs.Histories.{history_of};
+ghost use Rattle.version_store.specs.Uses.{AreUsesOf};
 ghost use Rattle.write_groups.specs.declared.event.LogEvent.{LogEvent};
 
 use crate::fault::{CheckFault, StepFault, WrongCode};
@@ -131,7 +132,8 @@ fn right_step<'a>(
     machine: &Machine,
     placed: &PlacedLine,
 ) -> Result<Option<Step<'a>>, StepFault>
-    requires { HasRooms (history_of context.now) machine.now.objects }
+    requires rooms { HasRooms (history_of context.now) machine.now.objects }
+    requires uses { AreUsesOf (history_of context.now) machine.now.uses }
     ensures right { IfOk result (λ found. (done : List model.Step)
         → HasMade (history_of context.now) machine.now done
         → IsRightLine (history_of context.now) done placed.now (option_map step_of found)) }

@@ -15,7 +15,7 @@ use base_types::{ObjectKey, OutOfMemory};
 use object_past::Version;
 use std::alloc::Global;
 use std::collections::BTreeMap;
-use version_store::Context;
+use version_store::{Context, FirstUses};
 
 /// Of each key that ever has an object, the revision of the object that is there.
 pub type Objects = BTreeMap<ObjectKey, Option<u64>>;
@@ -26,6 +26,8 @@ pub type Objects = BTreeMap<ObjectKey, Option<u64>>;
 pub struct Machine {
     pub(crate) alloc: Global,
     pub(crate) objects: Objects,
+    // For the writes that create an object: whether its uid was there before.
+    pub(crate) uses: FirstUses,
     // Where the last step was.
     pub(crate) place: u64,
 }
@@ -77,7 +79,7 @@ fn change(objects: &mut Objects, step: Step<'_>)
 }
 
 impl Machine {
-    /// A machine that holds the snapshot.
+    /// A machine that holds the snapshot, and where each uid of the context comes first.
     pub fn start(alloc: Global, context: &Context) -> Result<Machine, OutOfMemory>
         ensures { IfOk result (λ machine. HasMade (history_of context.now) machine []) }
     {
@@ -90,9 +92,11 @@ impl Machine {
             let revision = revision_of(context.latest(key, start));
             let _none = objects.insert(key.clone()?, revision)?;
         }
+        let uses = FirstUses::of(alloc, context)?;
         Ok(Machine {
             alloc,
             objects,
+            uses,
             place: start,
         })
     }

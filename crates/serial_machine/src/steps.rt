@@ -8,6 +8,7 @@ ghost use Rattle.serial_machine.specs.Ordered.{row_step};
 ghost use Rattle.serial_machine.specs.Running.{IsFirstForbidden};
 ghost use Rattle.serial_machine.specs.Stepping.{IsOfHistory, IsVerdictOn, step_of};
 ghost use Rattle.version_store.specs.Histories.{history_of};
+ghost use Rattle.version_store.specs.Uses.{AreUsesOf};
 
 use crate::machine::Machine;
 use crate::rows::{Row, rows_of};
@@ -26,6 +27,7 @@ fn step_verdict(
 ) -> Result<Option<Reason>, OutOfMemory>
     requires known { IsOfHistory (history_of context.now) (step_of step) }
     requires rooms { HasRooms (history_of context.now) machine.now.objects }
+    requires uses { AreUsesOf (history_of context.now) machine.now.uses }
     ensures { IfOk result (λ found. (done : List model.Step)
         → HasMade (history_of context.now) machine.now done
         → IsVerdictOn (history_of context.now)

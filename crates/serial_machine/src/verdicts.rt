@@ -6,6 +6,7 @@ ghost use Rattle.object_past.specs.Modelled.{recorded, version_of};
 ghost use Rattle.serial_machine.specs.Held.{HasRooms};
 ghost use Rattle.serial_machine.specs.Stepping.{IsOfHistory, IsVerdictOn, scene_objects, step_of};
 ghost use Rattle.version_store.specs.Histories.{history_of};
+ghost use Rattle.version_store.specs.Uses.{AreUsesOf};
 ghost use Rattle.write_groups.specs.Met.{asks_uid};
 ghost use Rattle.write_groups.specs.Modelled.{event_of};
 
@@ -19,7 +20,8 @@ use write_groups::LogEvent;
 
 // Why the version's maker can't have made it of the object before it.
 fn put_verdict(scene: Scene<'_>, version: &Version) -> Result<Option<Reason>, OutOfMemory>
-    requires { Contains (history_of scene.context.now).versions (version_of version.now) }
+    requires known { Contains (history_of scene.context.now).versions (version_of version.now) }
+    requires uses { AreUsesOf (history_of scene.context.now) scene.machine.now.uses }
     ensures { IfOk result (IsVerdictOn (history_of scene.entry.context.now)
         (scene_objects scene.entry) (model.Put (version_of version.now))) }
 {
@@ -28,9 +30,10 @@ fn put_verdict(scene: Scene<'_>, version: &Version) -> Result<Option<Reason>, Ou
     match version.maker {
         Maker::Event(number) => {
             let before = scene.object(&version.key);
+            let machine = scene.machine;
             scene
                 .context
-                .making_fault(scene.machine.alloc, number, before)
+                .making_fault(machine.alloc, &machine.uses, number, before)
         }
         Maker::Snapshot => Ok(None),
         Maker::Unknown => Ok(None),
@@ -107,6 +110,7 @@ fn remove_verdict(scene: Scene<'_>, removal: &Removal) -> Option<Reason>
 pub fn verdict(scene: Scene<'_>, step: Step<'_>) -> Result<Option<Reason>, OutOfMemory>
     requires known { IsOfHistory (history_of scene.context.now) (step_of step) }
     requires rooms { HasRooms (history_of scene.context.now) scene.machine.now.objects }
+    requires uses { AreUsesOf (history_of scene.context.now) scene.machine.now.uses }
     ensures { IfOk result (IsVerdictOn (history_of scene.entry.context.now)
         (scene_objects scene.entry) (step_of step.entry)) }
 {

@@ -1,6 +1,5 @@
 -- A context holds what its setup and its events tell.
-use Rattle.std.specs.Prelude.{◌≡◌, ℕ, List, Option}
-use Rattle.std.specs.BTreeMap.{BTreeMap}
+use Rattle.std.specs.Prelude.{◌≡◌, List, Option}
 use Rattle.std.proofs.Common.{sym, subst}
 use Rattle.base_types.specs.declared.claim.Reason.{Reason}
 use Rattle.clouds.specs.Writes.{Writes}
@@ -14,9 +13,9 @@ use Rattle.version_store.specs.Shown.{AreItemsOf}
 use Rattle.version_store.specs.Told.{IsTold}
 use Rattle.version_store.specs.declared.log.Log.{Log}
 
-pub told_of : (known : Known) (log : Log) (windows : timed.History) (clouds : Writes) (faults : List (Option Reason)) (uses : BTreeMap (List ℕ) ℕ) → known.snapshot ≡ log.snapshot
-    → known.log ≡ log.events → IsContext known log windows clouds faults uses → IsTold known
-told_of known log windows clouds faults uses items events is = record {
+pub told_of : (known : Known) (log : Log) (windows : timed.History) (clouds : Writes) (faults : List (Option Reason)) → known.snapshot ≡ log.snapshot
+    → known.log ≡ log.events → IsContext known log windows clouds faults → IsTold known
+told_of known log windows clouds faults items events is = record {
   trees = is.trees;
   snapshot = subst (λ (l : List Item). AreItemsOf known.trees known.setup.snapshot l) (sym items) is.logged.snapshot;
   logged = subst (λ (l : List LogEvent). AreLogged known.setup known.trees known.events l) (sym events) is.logged.logged;

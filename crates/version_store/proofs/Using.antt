@@ -1,16 +1,19 @@
 -- One version more, and where its uid comes first.
-use Rattle.std.proofs.Common.{◌≡◌, ℕ, ◌<◌, ◌↔◌, ⊎_elim, false, true, List, [], ◌∷◌, ◌++◌, Option, Some, None, refl, sym, ◌∙◌, subst, ap, arith}
+use Rattle.std.proofs.Common.{◌≡◌, ℕ, ◌<◌, ◌↔◌, ⊎_elim, false, true, List, [], ◌∷◌, ◌++◌, Contains, Option, Some, None, map, refl, sym, ◌∙◌, subst, ap, arith}
 use Rattle.std.specs.BTreeMap.{BTreeMap, Updates, get}
 use Rattle.std.specs.Ordering.{is_eq}
 use Rattle.std.specs.Prelude.{IsTrue}
 use Rattle.std.proofs.lemmas.Bool.{both_ways, cases_Bool, false≢true, lt-ltb, ltb-false, ltb-true}
 use Rattle.std.proofs.lemmas.Cmp.{nat_list_cmp_total, tied_itself}
-use Rattle.base_types.proofs.Quantifiers.{Any-head}
+use Rattle.base_types.proofs.Quantifiers.{Any-contains, Any-head}
 use Rattle.clouds.specs.Kept.{text_order}
 use Rattle.clouds.proofs.Quantified.{Any-append_cases, Any-append_left, Any-append_right, Any-cons_cases}
+use Rattle.history_model.specs.Histories as past
+use Rattle.object_past.specs.Modelled.{version_of}
 use Rattle.object_past.specs.declared.version.Version.{Version}
 use Rattle.rbac_timeline.proofs.Mentions.{same_text}
-use Rattle.version_store.specs.Uses.{AreUses, IsUsedBelow, UsesBelow, is_used_below}
+use Rattle.version_store.specs.Uses.{AreUses, IsUsedBelow, IsUsedIn, UsesBelow, is_used_below}
+use Rattle.write_groups.proofs.Lists.{map_from, map_has}
 
 -- no version has a uid yet
 pub none_used : (uses : BTreeMap (List ℕ) ℕ) → ((uid : List ℕ) → get text_order uses uid ≡ None) → AreUses [] uses
@@ -67,3 +70,17 @@ module _ (versions : List Version) (v : Version) (uses : BTreeMap (List ℕ) ℕ
         (λ tied. subst (λ u. IsTrue (is_used_below (get text_order now u) revision) ↔ IsUsedBelow (versions ++ v ∷ []) u revision) (same_text v.uid uid tied) (here revision))
         (λ apart. there uid revision apart)
         (cases_Bool (is_eq (text_order v.uid uid)))
+
+-- what the versions tell, the history tells
+module _ (h : past.History) (versions : List Version) (are : h.versions ≡ map version_of versions) (uid : List ℕ) (revision : ℕ) where
+  into : IsUsedBelow versions uid revision → IsUsedIn h uid revision
+  into any = (version_of any.1, subst (λ vs. Contains vs (version_of any.1)) (sym are) (map_has version_of versions any.1 (any.0, any.2, any.3)), any.4.0, any.4.1)
+
+  from : IsUsedIn h uid revision → IsUsedBelow versions uid revision
+  from used =
+      let found = map_from version_of versions used.0 (subst (λ vs. Contains vs used.0) are used.1) in
+      Any-contains (UsesBelow uid revision) versions found.0 found.1
+      (subst (λ (n : ℕ). n < revision) (sym (ap (λ (v : past.Version). v.revision) found.2)) used.2, ap (λ (v : past.Version). v.uid) found.2 ∙ used.3)
+
+  pub used_in : (t : Type 0) → t ↔ IsUsedBelow versions uid revision → t ↔ IsUsedIn h uid revision
+  used_in t both = (λ yes. into (both.0 yes), λ used. both.1 (from used))

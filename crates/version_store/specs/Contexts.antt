@@ -1,6 +1,5 @@
 -- What is true of a context.
 use Rattle.std.specs.Prelude.{◌≡◌, ◌<◌, ◌^◌, ◌≤ℤ◌, neg_ℤ, pos, ℕ, List, Option, All, length}
-use Rattle.std.specs.BTreeMap.{BTreeMap}
 use Rattle.audit_event.specs.Events as audit
 use Rattle.base_types.specs.declared.claim.Reason.{Reason}
 use Rattle.clouds.specs.Writes.{Writes}
@@ -20,11 +19,10 @@ use Rattle.version_store.specs.LogTrees.{pooled}
 use Rattle.rbac_timeline.specs.Sound.{AreSound}
 use Rattle.version_store.specs.declared.log.Log.{Log}
 use Rattle.version_store.specs.Roles.{AreRoles, role_ends}
-use Rattle.version_store.specs.Uses.{AreUses}
 use Rattle.write_groups.specs.Members.{AreGroupsOf}
 
 -- what is found of the setup and the log is what the definitions say of them
-pub record IsContext (known : Known) (log : Log) (windows : timed.History) (clouds : Writes) (faults : List (Option Reason)) (uses : BTreeMap (List ℕ) ℕ) : Type 0 where
+pub record IsContext (known : Known) (log : Log) (windows : timed.History) (clouds : Writes) (faults : List (Option Reason)) : Type 0 where
   pub setup : IsSound known.setup
   pub events : All audit.IsSound known.events
   pub event_lines : AreLines known.events
@@ -46,4 +44,3 @@ pub record IsContext (known : Known) (log : Log) (windows : timed.History) (clou
   pub sound_roles : AreSound known.rbac.versions known.rbac.ends
   pub nodes : All (λ v. v.node.0 < length known.trees) known.versions
   pub faults_of : AreFaults (history_of known) faults
-  pub uses_of : AreUses known.versions uses

@@ -33,7 +33,7 @@ IsFound setup events trees log found = IsContext (record {
   versions = found.parts.past.versions;
   removals = found.parts.past.removals;
   rbac = found.told.timeline;
-}) log found.parts.windows found.parts.clouds found.told.faults.items found.told.uses
+}) log found.parts.windows found.parts.clouds found.told.faults.items
 
 -- the past of a log that these are parts of
 abbrev pub past_with : Parts → LogPast

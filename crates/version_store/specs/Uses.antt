@@ -1,8 +1,10 @@
 -- At which revision each uid comes first.
-use Rattle.std.specs.Prelude.{◌≡◌, ◌<◌, ◌↔◌, ℕ, Bool, false, List, Option, Some, None, Any, IsTrue, nat_lt}
+use Rattle.std.specs.Prelude.{◌≡◌, ◌<◌, ◌↔◌, ℕ, Bool, false, List, Option, Some, None, Any, Contains, IsTrue, nat_lt}
 use Rattle.std.specs.BTreeMap.{BTreeMap, get}
 use Rattle.clouds.specs.Kept.{text_order}
+use Rattle.history_model.specs.Histories as past
 use Rattle.object_past.specs.declared.version.Version.{Version}
+use Rattle.version_store.specs.declared.uses.FirstUses.{FirstUses}
 
 -- the first revision is there, and is below this one
 abbrev pub is_used_below : Option ℕ → ℕ → Bool
@@ -19,3 +21,11 @@ IsUsedBelow versions uid revision = Any (UsesBelow uid revision) versions
 -- the map tells of each uid and revision whether a version below it has the uid
 abbrev pub AreUses : List Version → BTreeMap (List ℕ) ℕ → Type 0
 AreUses versions uses = (uid : List ℕ) (revision : ℕ) → IsTrue (is_used_below (get text_order uses uid) revision) ↔ IsUsedBelow versions uid revision
+
+-- a version of the history below the revision has the uid
+abbrev pub IsUsedIn : past.History → List ℕ → ℕ → Type 0
+IsUsedIn h uid revision = (v : past.Version) × Contains h.versions v × (v.revision < revision) × (v.uid ≡ uid)
+
+-- they tell of each uid and revision whether a version of the history below it has the uid
+abbrev pub AreUsesOf : past.History → FirstUses → Type 0
+AreUsesOf h uses = (uid : List ℕ) (revision : ℕ) → IsTrue (is_used_below (get text_order uses.revisions uid) revision) ↔ IsUsedIn h uid revision

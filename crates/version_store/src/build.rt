@@ -8,7 +8,6 @@ ghost use Rattle.version_store.specs.Log.{AreLines, IsLogOf, RiseByLine};
 ghost use Rattle.version_store.specs.LogTrees.{pooled};
 ghost use Rattle.version_store.specs.Timelines.{IsTimelineOf};
 ghost use Rattle.version_store.specs.Told.{IsTold};
-ghost use Rattle.version_store.specs.Uses.{AreUses};
 
 use crate::bodies::RequestBodies;
 use crate::context::Context;
@@ -16,7 +15,6 @@ use crate::faults::{faults_of, makings_of};
 use crate::foreseen::past_foreseen;
 use crate::log::{BuildFault, Log, log_of};
 use crate::roles::timeline_of;
-use crate::uses::{Uses, uses_of};
 use audit_event::Events;
 use base_types::{OutOfMemory, Reason};
 use clouds::Clouds;
@@ -51,7 +49,6 @@ pub struct Parts {
 pub struct Told {
     faults: Vec<Option<Reason>>,
     timeline: Timeline,
-    uses: Uses,
 }
 
 /// What is found of a log.
@@ -141,36 +138,8 @@ fn timeline_in(
     )
 }
 
-// The uses of uids and the timeline of what is found of the writes, side by side.
-fn uses_and_timeline<R: Threads + Sync>(
-    rt: &R,
-    alloc: Global,
-    bodies: &RequestBodies<'_>,
-    parts: &Parts,
-) -> (Result<Uses, OutOfMemory>, Result<Timeline, OutOfMemory>)
-    requires start { bodies.now.setup.now.start ≡ parts.now.windows.start }
-    requires numbered { length parts.now.past.versions < 2 ^ 32 }
-    requires nodes { All (λ v. v.node.0 < length bodies.now.pool.now.trees)
-        parts.now.past.versions }
-    ensures uses { IfOk result.0 (AreUses parts.now.past.versions) }
-    ensures timeline { IfOk result.1 (IsTimelineOf bodies.now.setup.now bodies.now.pool.now.trees
-        parts.now.past parts.now.windows bodies.now.log.now) }
-{
-    let versions = parts.past.versions();
-    let find_uses = move || -> Result<Uses, OutOfMemory>
-        ensures { IfOk result (AreUses versions.entry.now) }
-    { uses_of(alloc, versions) };
-    let find_timeline = move || -> Result<Timeline, OutOfMemory>
-        requires start { bodies.now.setup.now.start ≡ parts.now.windows.start }
-        requires numbered { length parts.now.past.versions < 2 ^ 32 }
-        requires nodes { All (λ v. v.node.0 < length bodies.now.pool.now.trees)
-            parts.now.past.versions }
-    { timeline_in(alloc, bodies, parts) };
-    join(rt, find_uses, find_timeline)
-}
-
-// What is told of the events and of what is found of the writes. The faults, the uses and the timeline read the same
-// and write nothing of it, so they are found side by side.
+// What is told of the events and of what is found of the writes. The faults and the timeline read the same and write
+// nothing of it, so they are found side by side.
 fn told_of<R: Threads + Sync>(
     rt: &R,
     alloc: Global,
@@ -187,22 +156,20 @@ fn told_of<R: Threads + Sync>(
     ensures timeline { IfOk result (λ told. IsTimelineOf bodies.now.setup.now
         bodies.now.pool.now.trees parts.now.past parts.now.windows bodies.now.log.now
         told.timeline) }
-    ensures uses { IfOk result (λ told. AreUses parts.now.past.versions told.uses) }
 {
     let find_faults = move || -> Result<Vec<Option<Reason>>, OutOfMemory>
         requires { length bodies.now.log.now < 2 ^ 32 }
     { faults_in(alloc, bodies, parts) };
-    let find_rest = move || -> (Result<Uses, OutOfMemory>, Result<Timeline, OutOfMemory>)
+    let find_timeline = move || -> Result<Timeline, OutOfMemory>
         requires start { bodies.now.setup.now.start ≡ parts.now.windows.start }
         requires numbered { length parts.now.past.versions < 2 ^ 32 }
         requires nodes { All (λ v. v.node.0 < length bodies.now.pool.now.trees)
             parts.now.past.versions }
-    { uses_and_timeline(rt, alloc, bodies, parts) };
-    let (faults, (uses, timeline)) = join(rt, find_faults, find_rest);
+    { timeline_in(alloc, bodies, parts) };
+    let (faults, timeline) = join(rt, find_faults, find_timeline);
     Ok(Told {
         faults: faults?,
         timeline: timeline?,
-        uses: uses?,
     })
 }
 
@@ -280,11 +247,7 @@ fn joined(setup: Setup, events: Events, gathered: Gathered) -> Context
 {
     let Gathered { pool, log, found } = gathered;
     let Found { parts, told } = found;
-    let Told {
-        faults,
-        timeline,
-        uses,
-    } = told;
+    let Told { faults, timeline } = told;
     let Parts {
         order,
         windows,
@@ -305,14 +268,13 @@ fn joined(setup: Setup, events: Events, gathered: Gathered) -> Context
         past,
         timeline,
         faults,
-        uses,
     }
 }
 
 impl Context {
     /// What a setup and the events of a log say together. The objects may have 50,000,000 distinct values, lists and
-    /// members among them. Several threads classify the events, judge the bodies of writes, and find the faults, the
-    /// uses of uids and the timeline. The hashes of what the pool holds, and of keys and uids, begin with the seed.
+    /// members among them. Several threads classify the events, judge the bodies of writes, and find the faults
+    /// and the timeline. The hashes of what the pool holds, and of keys and uids, begin with the seed.
     pub fn build<R: Threads + Sync>(
         rt: &R,
         alloc: Global,

@@ -8,7 +8,6 @@ ghost use Rattle.object_versions.specs.Modelled.{AreCloudsOf};
 
 use crate::keys::keys_of;
 use crate::log::Log;
-use crate::uses::Uses;
 use audit_event::{Event, Events};
 use base_types::{ObjectKey, OutOfMemory, Range, Reason, Shared};
 use clouds::Clouds;
@@ -35,8 +34,6 @@ pub struct Context {
     pub(crate) past: Past,
     pub(crate) timeline: Timeline,
     pub(crate) faults: Vec<Option<Reason>>,
-    // Where each uid comes first, for those who try other objects before a write.
-    pub(crate) uses: Uses,
 }
 
 // Written out, so that a function that lets a context go has one call and not the steps of each field; so are those
@@ -55,7 +52,6 @@ impl Drop for Context {
             past,
             timeline,
             faults: _,
-            uses: _,
         } = self;
         drop(setup);
         drop(pool);
@@ -109,7 +105,7 @@ impl Model for Context {
       versions = c.past.versions;
       removals = c.past.removals;
       rbac = c.timeline;
-    }) c.log c.windows c.clouds c.faults.items c.uses };
+    }) c.log c.windows c.clouds c.faults.items };
 }
 
 // What is told of the event of this number.
@@ -252,13 +248,6 @@ impl Context {
         ensures { IfOk result (λ keys. AreKeys self.now.versions self.now.log keys.items) }
     {
         keys_of(alloc, &self.past, self.log.events.as_slice())
-    }
-
-    /// What `fault` tells of each event, by its number.
-    pub fn faults(&self) -> &[Option<Reason>]
-        ensures { AreFaults (history_of self.now) result.now }
-    {
-        self.faults.as_slice()
     }
 
     /// Why the write of this number could not have made its revision, where it is the maker, or could not have found

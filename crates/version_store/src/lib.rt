@@ -21,3 +21,4 @@ mod verdicts;
 pub use context::Context;
 pub use law::one_history_law;
 pub use log::{BuildFault, Log, log_of};
+pub use uses::FirstUses;

@@ -2,18 +2,26 @@ ghost use Rattle.std.specs.Prelude.{◌≡◌, ◌++◌, ◌∷◌, [], List, So
 ghost use Rattle.std.specs.BTreeMap.{Updates, get};
 ghost use Rattle.clouds.specs.Kept.{text_order};
 ghost use Rattle.object_past.specs.declared.version.Version.{Version as Recorded};
-ghost use Rattle.version_store.specs.Uses.{AreUses, is_used_below};
+ghost use Rattle.version_store.specs.Histories.{history_of};
+ghost use Rattle.version_store.specs.Uses.{AreUses, AreUsesOf, is_used_below};
 
+use crate::context::Context;
 use base_types::{OutOfMemory, Revision, Text};
 use object_past::Version;
 use std::alloc::Global;
 use std::collections::BTreeMap;
 
-/// The least revision of a version with each uid.
-pub type Uses = BTreeMap<Text, u64>;
+type Revisions = BTreeMap<Text, u64>;
+
+/// At which revision each uid comes first in a history: the least of a version that has it. A context doesn't keep it;
+/// it is for those who try other objects before a write.
+#[derive(Drop)]
+pub struct FirstUses {
+    pub(crate) revisions: Revisions,
+}
 
 /// Whether a version below the revision has the uid.
-pub fn is_used(uses: &Uses, revision: Revision, uid: &Text) -> bool
+pub fn is_used(uses: &Revisions, revision: Revision, uid: &Text) -> bool
     ensures { result ≡ is_used_below (get text_order uses.now uid.now) revision }
 {
     match uses.get(uid) {
@@ -22,7 +30,7 @@ pub fn is_used(uses: &Uses, revision: Revision, uid: &Text) -> bool
     }
 }
 
-fn put_use(uses: &mut Uses, uid: &Text, revision: u64) -> Result<(), OutOfMemory>
+fn put_use(uses: &mut Revisions, uid: &Text, revision: u64) -> Result<(), OutOfMemory>
     ensures { OnOk result (Updates text_order uses.old uses.new uid.now (Some revision)) }
 {
     let copy = uid.clone()?;
@@ -30,7 +38,7 @@ fn put_use(uses: &mut Uses, uid: &Text, revision: u64) -> Result<(), OutOfMemory
     Ok(())
 }
 
-fn add_use(uses: &mut Uses, version: &Version) -> Result<(), OutOfMemory>
+fn add_use(uses: &mut Revisions, version: &Version) -> Result<(), OutOfMemory>
     ensures { OnOk result ((versions : List Recorded) → AreUses versions uses.old
         → AreUses (versions ++ version.now ∷ []) uses.new) }
 {
@@ -40,13 +48,23 @@ fn add_use(uses: &mut Uses, version: &Version) -> Result<(), OutOfMemory>
     put_use(uses, &version.uid, version.revision.get())
 }
 
-/// Where the uid of each version comes first.
-pub fn uses_of(alloc: Global, versions: &[Version]) -> Result<Uses, OutOfMemory>
+// Where the uid of each version comes first.
+fn uses_of(alloc: Global, versions: &[Version]) -> Result<Revisions, OutOfMemory>
     ensures { IfOk result (AreUses versions.now) }
 {
-    let mut uses = Uses::new(alloc);
+    let mut uses = Revisions::new(alloc);
     for version in versions {
         add_use(&mut uses, version)?;
     }
     Ok(uses)
+}
+
+impl FirstUses {
+    /// Where each uid comes first in the history of a context.
+    pub fn of(alloc: Global, context: &Context) -> Result<FirstUses, OutOfMemory>
+        ensures { IfOk result (AreUsesOf (history_of context.now)) }
+    {
+        let revisions = uses_of(alloc, context.versions())?;
+        Ok(FirstUses { revisions })
+    }
 }

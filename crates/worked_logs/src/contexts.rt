@@ -7,7 +7,7 @@ use std::marker::Sync;
 use std::process::Abort;
 use std::string::String;
 use std::thread::Threads;
-use version_store::Context;
+use version_store::{Context, FirstUses};
 
 fn push(rt: &impl Abort, text: &mut String, more: &str) {
     text.push_str(more).expect(rt, "memory");
@@ -125,12 +125,13 @@ static NUMBERS: [u32; 4] = [0, 2, 4, 5];
 
 // Which write could have made its object with no object before it, and after the first version.
 fn append_faults(rt: &(impl Abort + AllocGlobal), text: &mut String, context: &Context) {
+    let uses = FirstUses::of(rt.alloc(), context).expect(rt, "memory");
     let alone = context
-        .making_fault(rt.alloc(), 0, None)
+        .making_fault(rt.alloc(), &uses, 0, None)
         .expect(rt, "memory");
     let first = context.versions().first();
     let again = context
-        .making_fault(rt.alloc(), 0, first)
+        .making_fault(rt.alloc(), &uses, 0, first)
         .expect(rt, "memory");
     write!(text, "{alone:?} {again:?}, ").expect(rt, "memory");
 }

@@ -1,7 +1,7 @@
 ghost use Rattle.std.specs.Prelude.{◌≡◌, ◌<◌, ◌≤◌, ◌+◌, ◌^◌, ◌++◌, [], ◌∷◌, Err, length, All, IfOk, OnOk};
 ghost use Rattle.audit_event.specs.Events.{IsSound};
-ghost use Rattle.version_store.specs.AllLogged.{AreAllLogged};
-ghost use Rattle.version_store.specs.Classified.{AddsLogged, AddsSelectors, AreClassified, IsLoggedAs, classified_trees};
+ghost use Rattle.version_store.specs.AllLogged.{AddsAndClassifies, AddsBatch, AreAllLogged};
+ghost use Rattle.version_store.specs.Classified.{IsLoggedAs, classified_trees};
 ghost use Rattle.version_store.specs.LogSelectors.{selector_in, AddsSelector};
 ghost use Rattle.version_store.specs.LogTrees.{answer_trees, event_trees, with_trees};
 
@@ -100,12 +100,8 @@ fn add_all(
     classified: Vec<Classified>,
 ) -> Result<(), BuildFault>
     requires few { length all.old.events + length classified.items < 2 ^ 32 }
-    ensures logged { OnOk result (AddsLogged pool.old.trees pool.new.trees classified.items
-        all.old.events all.new.events) }
-    ensures selectors { OnOk result (AddsSelectors all.old.events classified.items all.old.selectors
-        all.new.selectors) }
-    ensures added { OnOk result
-        (pool.new.trees ≡ with_trees pool.old.trees (classified_trees classified.items)) }
+    ensures added { OnOk result (AddsBatch pool.old.trees pool.new.trees classified.items all.old
+        all.new) }
     ensures full { result ≡ Err BuildFault.PoolFull
         → pool.old.limit < length (with_trees pool.old.trees (classified_trees classified.items)) }
     ensures limit { pool.new.limit ≡ pool.old.limit }
@@ -131,13 +127,8 @@ fn add_and_classify<R: Threads + Sync>(
     requires slack { setup.now.slack ≤ 10 ^ 18 }
     requires sound { All IsSound next.now }
     requires few { length all.old.events + length ahead.items < 2 ^ 32 }
-    ensures next { IfOk result (λ classified. AreClassified setup.now next.now classified.items) }
-    ensures logged { OnOk result (AddsLogged pool.old.trees pool.new.trees ahead.items
-        all.old.events all.new.events) }
-    ensures selectors { OnOk result (AddsSelectors all.old.events ahead.items all.old.selectors
-        all.new.selectors) }
-    ensures added { OnOk result
-        (pool.new.trees ≡ with_trees pool.old.trees (classified_trees ahead.items)) }
+    ensures added { IfOk result (λ classified. AddsAndClassifies setup.now next.now pool.old.trees
+        pool.new.trees ahead.items all.old all.new classified.items) }
     ensures full { result ≡ Err BuildFault.PoolFull
         → pool.old.limit < length (with_trees pool.old.trees (classified_trees ahead.items)) }
     ensures limit { pool.new.limit ≡ pool.old.limit }

@@ -17,6 +17,9 @@ step_verdict-requires-clause-known c = all_at (λ (row : Row). IsOfHistory (hist
 pub step_verdict-requires-clause-rooms : goal.step_verdict-requires-clause-rooms
 step_verdict-requires-clause-rooms c = c.loop-row.invariant.made.rooms
 
+pub step_verdict-requires-clause-uses : goal.step_verdict-requires-clause-uses
+step_verdict-requires-clause-uses c = c.loop-row.invariant.made.uses
+
 pub returns-in-Some-clause-some : goal.returns-in-Some-clause-some
 returns-in-Some-clause-some c =
     let verdict = rw c.in-Some.is at c.in_ok-code.ensures (map row_step (take c.loop-row.row-index c.args.rows.now)) c.loop-row.invariant.made in

@@ -9,7 +9,7 @@ use Rattle.serial_machine.proofs.verdicts.put_verdict.Goals as goal
 
 pub returns-in-Event : goal.returns-in-Event
 returns-in-Event c = IfOk-weaker c.making_fault.result _ _
-    (λ found least. put_judged (history_of c.args.scene.context.now) (scene_objects c.args.scene) (version_of c.args.version.now) c.in-Event.number found c.log-log.ensures.readable c.requires (ap maker_of c.in-Event.is)
+    (λ found least. put_judged (history_of c.args.scene.context.now) (scene_objects c.args.scene) (version_of c.args.version.now) c.in-Event.number found c.log-log.ensures.readable c.requires.known (ap maker_of c.in-Event.is)
     (λ making known same. subst (λ o. IsLeastFault (history_of c.args.scene.context.now) making o found) c.object-before.ensures (least making known same)))
     c.making_fault.ensures.write
 

@@ -4,8 +4,8 @@ use Rattle.version_store.specs.Histories.{history_of}
 use Rattle.serial_machine.specs.Stepping.{IsOfHistory, IsVerdictOn, scene_objects, step_of}
 use Rattle.serial_machine.proofs.verdicts.verdict.Goals as goal
 
-pub put_verdict-requires : goal.put_verdict-requires
-put_verdict-requires c = subst (λ s. IsOfHistory (history_of c.args.scene.context.now) (step_of s)) c.in-Put.is c.requires.known
+pub put_verdict-requires-clause-known : goal.put_verdict-requires-clause-known
+put_verdict-requires-clause-known c = subst (λ s. IsOfHistory (history_of c.args.scene.context.now) (step_of s)) c.in-Put.is c.requires.known
 
 pub returns-in-Put : goal.returns-in-Put
 returns-in-Put c = subst (λ s. IfOk c.put_verdict.result (IsVerdictOn (history_of c.args.scene.context.now) (scene_objects c.args.scene) (step_of s))) (sym c.in-Put.is) c.put_verdict.ensures

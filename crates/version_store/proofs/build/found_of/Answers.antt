@@ -147,5 +147,4 @@ returns g c =
           (record { versions = refl; removals = refl })
           (have_codes setup events trees log found kept roles refl refl right c.requires.rising c.requires.log)
           (ap (map event_of) (sym logged));
-      uses_of = found_of.uses;
     }

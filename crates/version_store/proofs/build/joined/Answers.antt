@@ -6,4 +6,4 @@ pub invariant_of-result : goal.invariant_of-result
 invariant_of-result c = c.requires
 
 pub returns-clause-told : goal.returns-clause-told
-returns-clause-told c = told_of _ _ _ _ _ _ refl refl c.requires
+returns-clause-told c = told_of _ _ _ _ _ refl refl c.requires

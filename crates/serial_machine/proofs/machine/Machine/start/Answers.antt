@@ -23,4 +23,4 @@ loop-key-preserved c =
 
 pub returns : goal.returns
 returns c = begun_all (history_of c.args.context.now) c.keys-keys.result.now c.loop-key.key-index _ c.args.context.now.versions c.log-log.ensures.readable refl c.loop-key-test.false
-    (rw c.past.ensures.versions at c.keys-keys.ensures.exact) c.loop-key.invariant (c.get-start.ensures.value ∙ ap (λ (s : Setup). s.start) c.setup.ensures.setup)
+    (rw c.past.ensures.versions at c.keys-keys.ensures.exact) c.loop-key.invariant c.in_ok-uses.ensures (c.get-start.ensures.value ∙ ap (λ (s : Setup). s.start) c.setup.ensures.setup)

@@ -5,8 +5,11 @@ use Rattle.serial_machine.specs.Held.{end_of_steps, unmade_puts}
 use Rattle.serial_machine.specs.Stepping.{step_of}
 use Rattle.serial_machine.proofs.machine.Machine.step.Goals as goal
 
-pub right_step-requires : goal.right_step-requires
-right_step-requires c = c.requires.1.rooms
+pub right_step-requires-clause-rooms : goal.right_step-requires-clause-rooms
+right_step-requires-clause-rooms c = c.requires.1.rooms
+
+pub right_step-requires-clause-uses : goal.right_step-requires-clause-uses
+right_step-requires-clause-uses c = c.requires.1.uses
 
 pub returns-in-Some-clause-made : goal.returns-in-Some-clause-made
 returns-in-Some-clause-made c = λ done made.

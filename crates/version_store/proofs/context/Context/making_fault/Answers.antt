@@ -4,14 +4,13 @@ use Rattle.audit_event.specs.declared.event.Event.{Event}
 use Rattle.history_model.specs.Groups as model
 use Rattle.history_model.specs.Making.{IsLeastFault}
 use Rattle.object_past.specs.Modelled.{version_of}
-use Rattle.object_past.specs.declared.version.Version.{Version}
 use Rattle.object_versions.specs.Modelled.{AreCloudsOf, making_of}
 use Rattle.object_versions.specs.Written.{making_at}
 use Rattle.write_groups.specs.Modelled.{HasEvents, HasTimes, event_of}
 use Rattle.write_groups.specs.declared.event.LogEvent.{LogEvent}
 use Rattle.version_store.specs.Histories.{body_test, history_of}
 use Rattle.version_store.specs.Known.{Known}
-use Rattle.version_store.proofs.Remade.{making_none, making_same, making_there, used_same}
+use Rattle.version_store.proofs.Remade.{making_none, making_same, making_there}
 use Rattle.version_store.proofs.context.Context.making_fault.Goals as goal
 
 pub returns-clause-write : goal.returns-clause-write
@@ -26,14 +25,12 @@ returns-clause-write c =
     sym (ap (λ (k : Known). (history_of k).body) c.self.view_is)
     ∙ ap (λ (es : List Event). body_test inside.setup es inside.log.events inside.pool.trees) (sym c.as_slice.ensures)
     ∙ ap (λ (l : List LogEvent). body_test inside.setup c.as_slice.result.now l inside.pool.trees) (sym c.as_slice-log.ensures) in
-    let versions : h.versions ≡ map version_of inside.past.versions = ap (λ (vs : List Version). map version_of vs) (sym (ap (λ (k : Known). k.versions) c.self.view_is)) in
-    let below = c.self.invariant.uses_of making.item.uid making.item.revision in
+    let used = c.requires making.item.uid making.item.revision in
     let all : HasEvents log h = ap (λ (l : List LogEvent). map event_of l) (sym (ap (λ (k : Known). k.log) c.self.view_is) ∙ sym c.as_slice-log.ensures) in
-    let used = used_same h inside.past.versions versions making in
     let at : Some making ≡ making_at log c.args.event = sym (ap (λ r. option_map making_of r) c.in-Some.is) ∙ c.making_at.ensures in
     IfOk-weaker c.making_fault.result _ _
     (λ fault holds m is same. subst (λ (x : model.Making). IsLeastFault h x (option_map (λ v. version_of v.now) c.args.before) fault) (making_same h log all c.args.event m making is same at)
-    (holds h times (record { clouds = clouds; bodies = bodies }) (λ created. (λ yes. used.0 (below.0 (sym c.is_used-is_used.ensures ∙ yes)), λ uses. c.is_used-is_used.ensures ∙ below.1 (used.1 uses)))))
+    (holds h times (record { clouds = clouds; bodies = bodies }) (λ created. (λ yes. used.0 (sym c.is_used-is_used.ensures ∙ yes), λ uses. c.is_used-is_used.ensures ∙ used.1 uses))))
     c.making_fault.ensures
 
 pub returns-clause-other : goal.returns-clause-other

@@ -1,7 +1,8 @@
 use Rattle.std.proofs.Common.{◌≡◌, ◌∙◌, ◌<◌, ◌++◌, ◌∷◌, [], Err, ap, append_assoc, arith, length, length-append, subst, sym}
 use Rattle.std.proofs.lemmas.List.{append-nil, nil_from_length}
 use Rattle.std.specs.Vec.Iter.{into_iter_items}
-use Rattle.version_store.specs.Classified.{AddsLogged, AddsSelectors, classified_trees}
+use Rattle.version_store.specs.AllLogged.{AddsBatch}
+use Rattle.version_store.specs.Classified.{classified_trees}
 use Rattle.version_store.specs.LogTrees.{answer_trees, with_trees}
 use Rattle.version_store.specs.declared.log.classifying.Classified.{Classified}
 use Rattle.version_store.specs.declared.log.fault.BuildFault.TheVariants.{PoolFull}
@@ -64,20 +65,11 @@ loop-one-init c =
       grown = grown_none pool;
     }
 
-pub returns-clause-logged : goal.returns-clause-logged
-returns-clause-logged c =
+pub returns-clause-added : goal.returns-clause-added
+returns-clause-added c =
     let l = c.loop-one in
     let left = l.invariant.left in
     let none = c.in-None.ensures.steps.0 in
     let rest = nil_from_length (into_iter_items l.one-iterator) (omega (arith, left, none)) in
     let whole = l.invariant.split ∙ ap (λ r. l.yielded ++ r) rest ∙ append-nil l.yielded in
-    subst (λ all. AddsLogged c.args.pool.now.trees l.pool.trees all c.args.all.now.events l.all.events) (sym whole) l.invariant.logged
-
-pub returns-clause-selectors : goal.returns-clause-selectors
-returns-clause-selectors c =
-    let l = c.loop-one in
-    let left = l.invariant.left in
-    let none = c.in-None.ensures.steps.0 in
-    let rest = nil_from_length (into_iter_items l.one-iterator) (omega (arith, left, none)) in
-    let whole = l.invariant.split ∙ ap (λ r. l.yielded ++ r) rest ∙ append-nil l.yielded in
-    subst (λ all. AddsSelectors c.args.all.now.events all c.args.all.now.selectors l.all.selectors) (sym whole) l.invariant.selectors
+    subst (λ batch. AddsBatch c.args.pool.now.trees l.pool.trees batch c.args.all.now l.all) (sym whole) (record { logged = l.invariant.logged; selectors = l.invariant.selectors; trees = l.invariant.grown.holds })

@@ -35,10 +35,10 @@ loop-batch-preserved g c =
     let e = c.in_ok-ahead.ensures in
     let all = c.add_and_classify.new.all in
     let more = all_with l.yielded batch in
-    let added = ahead_added setup old l.pool new (all_of l.yielded) l.all.events all.events l.all.selectors all.selectors l.ahead.items l.invariant.ahead e.logged e.selectors (record { holds = e.added; limit = e.limit }) in
+    let added = ahead_added setup old l.pool new (all_of l.yielded) l.all.events all.events l.all.selectors all.selectors l.ahead.items l.invariant.ahead e.added.added.logged e.added.added.selectors (record { holds = e.added.added.trees; limit = e.limit }) in
     record {
       split = l.invariant.split ∙ ap (λ r. all_of l.yielded ++ r) c.in-Some.ensures.steps.1.0 ∙ sym (append_assoc (all_of l.yielded) batch.now rest) ∙ ap (λ done. done ++ rest) (sym more);
-      ahead = ahead_more setup old new (all_of l.yielded) batch.now (all_of (l.yielded ++ batch ∷ [])) all.events all.selectors _ added e.next more;
+      ahead = ahead_more setup old new (all_of l.yielded) batch.now (all_of (l.yielded ++ batch ∷ [])) all.events all.selectors _ added e.added.ahead more;
     }
 
 pub add_all-requires : goal.add_all-requires
@@ -60,5 +60,5 @@ returns-clause-logged g c =
     let e = c.in_ok-add_all.ensures in
     let all = c.add_all.new.all in
     let added = last_added c.args.setup.now c.args.pool.now l.pool c.add_all.new.pool (all_of l.yielded) (chunks_rest l.batch-iterator) c.args.events.now l.all.events all.events l.all.selectors all.selectors l.ahead.items
-    l.invariant.ahead l.invariant.split c.in-None.ensures.steps.1.0 e.logged e.selectors (record { holds = e.added; limit = e.limit }) in
+    l.invariant.ahead l.invariant.split c.in-None.ensures.steps.1.0 e.added.logged e.added.selectors (record { holds = e.added.trees; limit = e.limit }) in
     record { logged = added.logged; selectors = added.selectors; added = added.grown.holds }
