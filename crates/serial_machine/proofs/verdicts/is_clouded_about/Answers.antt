@@ -1,4 +1,4 @@
-use Rattle.std.proofs.Common.{subst, ◌-◌}
+use Rattle.std.proofs.Common.{subst}
 use Rattle.std.specs.Prelude.{◌↔◌, IsTrue}
 use Rattle.history_model.specs.Clouds.{IsCloudedWithin}
 use Rattle.version_store.specs.Histories.{history_of}
