@@ -49,13 +49,6 @@ impl Text {
         Text { inner }
     }
 
-    pub fn into_string(self) -> String
-        ensures { string_bytes result ≡ self }
-    {
-        let Text { inner } = self;
-        inner
-    }
-
     pub fn as_str(&self) -> &str
         ensures value { result.now ≡ self.now }
         ensures utf8 { IsUtf8 self.now }

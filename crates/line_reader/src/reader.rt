@@ -1,6 +1,6 @@
 ghost use Rattle.std.specs.Prelude.{◌≡◌, ℕ, ◌↔◌, ◌++◌, ◌≤◌, ◌<◌, IfOk, IfErr, OnOk, OnErr, IsTrue, Err, length};
 ghost use Rattle.std.specs.Prelude.{drop, false, true, vec_len, vec_capacity, [], ◌≢◌, IfSome, IfNone};
-ghost use Rattle.line_reader.specs.Lines.{lines_from, number_after, rest_of, closing_of};
+ghost use Rattle.line_reader.specs.Lines.{lines_from, rest_of, closing_of};
 ghost use Rattle.line_reader.specs.Reading.{new_reading, HasWaiting, Gives, IsTooLong};
 ghost use Rattle.line_reader.specs.Search.{Skips, IsLineAt, HasNoNewline};
 
@@ -124,13 +124,6 @@ impl LineReader {
                 Ok(None)
             }
         }
-    }
-
-    /// The number of the line behind those that were given or skipped.
-    pub fn next_number(&self) -> u64
-        ensures { result ≡ number_after self.now.number }
-    {
-        next_number(self.number)
     }
 
     /// Says that no more bytes come: a rest without a newline is then the last line.

@@ -8,11 +8,13 @@ use Rattle.std.proofs.lemmas.Cmp.{nat_list_cmp_total, tied_itself}
 use Rattle.base_types.proofs.Quantifiers.{Any-contains, Any-head}
 use Rattle.clouds.specs.Kept.{text_order}
 use Rattle.clouds.proofs.Quantified.{Any-append_cases, Any-append_left, Any-append_right, Any-cons_cases}
+use Rattle.history_model.specs.Groups.{Making}
 use Rattle.history_model.specs.Histories as past
+use Rattle.history_model.specs.Making.{IsUsedUid}
 use Rattle.object_past.specs.Modelled.{version_of}
 use Rattle.object_past.specs.declared.version.Version.{Version}
 use Rattle.rbac_timeline.proofs.Mentions.{same_text}
-use Rattle.version_store.specs.Uses.{AreUses, IsUsedBelow, IsUsedIn, UsesBelow, is_used_below}
+use Rattle.version_store.specs.Uses.{AreUses, IsUsedBelow, UsesBelow, is_used_below}
 use Rattle.write_groups.proofs.Lists.{map_from, map_has}
 
 -- no version has a uid yet
@@ -72,15 +74,15 @@ module _ (versions : List Version) (v : Version) (uses : BTreeMap (List ℕ) ℕ
         (cases_Bool (is_eq (text_order v.uid uid)))
 
 -- what the versions tell, the history tells
-module _ (h : past.History) (versions : List Version) (are : h.versions ≡ map version_of versions) (uid : List ℕ) (revision : ℕ) where
-  into : IsUsedBelow versions uid revision → IsUsedIn h uid revision
+module _ (h : past.History) (versions : List Version) (are : h.versions ≡ map version_of versions) (m : Making) where
+  into : IsUsedBelow versions m.item.uid m.item.revision → IsUsedUid h m
   into any = (version_of any.1, subst (λ vs. Contains vs (version_of any.1)) (sym are) (map_has version_of versions any.1 (any.0, any.2, any.3)), any.4.0, any.4.1)
 
-  from : IsUsedIn h uid revision → IsUsedBelow versions uid revision
+  from : IsUsedUid h m → IsUsedBelow versions m.item.uid m.item.revision
   from used =
       let found = map_from version_of versions used.0 (subst (λ vs. Contains vs used.0) are used.1) in
-      Any-contains (UsesBelow uid revision) versions found.0 found.1
-      (subst (λ (n : ℕ). n < revision) (sym (ap (λ (v : past.Version). v.revision) found.2)) used.2, ap (λ (v : past.Version). v.uid) found.2 ∙ used.3)
+      Any-contains (UsesBelow m.item.uid m.item.revision) versions found.0 found.1
+      (subst (λ (n : ℕ). n < m.item.revision) (sym (ap (λ (v : past.Version). v.revision) found.2)) used.2, ap (λ (v : past.Version). v.uid) found.2 ∙ used.3)
 
-  pub used_in : (t : Type 0) → t ↔ IsUsedBelow versions uid revision → t ↔ IsUsedIn h uid revision
+  pub used_in : (t : Type 0) → t ↔ IsUsedBelow versions m.item.uid m.item.revision → t ↔ IsUsedUid h m
   used_in t both = (λ yes. into (both.0 yes), λ used. both.1 (from used))

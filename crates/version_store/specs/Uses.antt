@@ -1,8 +1,10 @@
 -- At which revision each uid comes first.
-use Rattle.std.specs.Prelude.{◌≡◌, ◌<◌, ◌↔◌, ℕ, Bool, false, List, Option, Some, None, Any, Contains, IsTrue, nat_lt}
+use Rattle.std.specs.Prelude.{◌≡◌, ◌<◌, ◌↔◌, ℕ, Bool, false, List, Option, Some, None, Any, IsTrue, nat_lt}
 use Rattle.std.specs.BTreeMap.{BTreeMap, get}
 use Rattle.clouds.specs.Kept.{text_order}
-use Rattle.history_model.specs.Histories as past
+use Rattle.history_model.specs.Groups.{Making}
+use Rattle.history_model.specs.Histories.{History}
+use Rattle.history_model.specs.Making.{IsUsedUid}
 use Rattle.object_past.specs.declared.version.Version.{Version}
 use Rattle.version_store.specs.declared.uses.FirstUses.{FirstUses}
 
@@ -22,10 +24,6 @@ IsUsedBelow versions uid revision = Any (UsesBelow uid revision) versions
 abbrev pub AreUses : List Version → BTreeMap (List ℕ) ℕ → Type 0
 AreUses versions uses = (uid : List ℕ) (revision : ℕ) → IsTrue (is_used_below (get text_order uses uid) revision) ↔ IsUsedBelow versions uid revision
 
--- a version of the history below the revision has the uid
-abbrev pub IsUsedIn : past.History → List ℕ → ℕ → Type 0
-IsUsedIn h uid revision = (v : past.Version) × Contains h.versions v × (v.revision < revision) × (v.uid ≡ uid)
-
--- they tell of each uid and revision whether a version of the history below it has the uid
-abbrev pub AreUsesOf : past.History → FirstUses → Type 0
-AreUsesOf h uses = (uid : List ℕ) (revision : ℕ) → IsTrue (is_used_below (get text_order uses.revisions uid) revision) ↔ IsUsedIn h uid revision
+-- they tell of what a write may have made whether its uid was there before
+abbrev pub AreUsesOf : History → FirstUses → Type 0
+AreUsesOf h uses = (m : Making) → IsTrue (is_used_below (get text_order uses.revisions m.item.uid) m.item.revision) ↔ IsUsedUid h m

@@ -25,7 +25,7 @@ returns-clause-write c =
     sym (ap (λ (k : Known). (history_of k).body) c.self.view_is)
     ∙ ap (λ (es : List Event). body_test inside.setup es inside.log.events inside.pool.trees) (sym c.as_slice.ensures)
     ∙ ap (λ (l : List LogEvent). body_test inside.setup c.as_slice.result.now l inside.pool.trees) (sym c.as_slice-log.ensures) in
-    let used = c.requires making.item.uid making.item.revision in
+    let used = c.requires making in
     let all : HasEvents log h = ap (λ (l : List LogEvent). map event_of l) (sym (ap (λ (k : Known). k.log) c.self.view_is) ∙ sym c.as_slice-log.ensures) in
     let at : Some making ≡ making_at log c.args.event = sym (ap (λ r. option_map making_of r) c.in-Some.is) ∙ c.making_at.ensures in
     IfOk-weaker c.making_fault.result _ _

@@ -6,6 +6,6 @@ use Rattle.version_store.proofs.Using.{used_in}
 use Rattle.version_store.proofs.uses.FirstUses.of.Goals as goal
 
 pub returns : goal.returns
-returns c = λ uid revision.
+returns c = λ m.
     let are = subst (λ (vs : List Version). AreUses vs c.in_ok-revisions.revisions) c.versions.ensures.versions c.in_ok-revisions.ensures in
-    used_in (history_of c.args.context.now) c.args.context.now.versions refl uid revision _ (are uid revision)
+    used_in (history_of c.args.context.now) c.args.context.now.versions refl m _ (are m.item.uid m.item.revision)
