@@ -13,7 +13,7 @@ use Rattle.clouds.specs.declared.span.KeyRevision.{KeyRevision}
 use Rattle.clouds.specs.declared.span.OpaqueSpan.{OpaqueSpan}
 use Rattle.clouds.specs.declared.wide.Wide.{Wide}
 use Rattle.clouds.specs.Clouds.{IsClouded, IsHiddenBy}
-use Rattle.clouds.specs.Filed.{AreFiled, AreKept, AreRecorded, IsNoneFiled}
+use Rattle.clouds.specs.Filed.{AreFiled, AreRecorded, AreWritesKept, IsNoneFiled}
 use Rattle.clouds.specs.FirstClouded.{AreFirstClouded, IsFirstUntilNext, SomeFirst}
 use Rattle.clouds.specs.FirstPlace.{IsFirstPlace}
 use Rattle.clouds.specs.Hiding.{AreRevisionsOf, HidesKey, ReachesKey, revision_of}
@@ -217,8 +217,8 @@ AreFirstClouded-is writes key firsts same is all = subst (λ l. AreFirstClouded 
 pub AreKept-made : (spans shown_spans : List OpaqueSpan) (given shown_given : List KeyRevision) (named : BTreeMap ObjectKey (List OpaqueSpan)) (wide : Wide) (recorded : BTreeMap ObjectKey Recorded)
     → shown_spans ≡ spans → shown_given ≡ given → AreFiled named wide spans → IsNoneFiled named wide ⊎ AreRecorded (revisions_at recorded) given
     → IsNoneFiled named wide ⊎ ((all : List OpaqueSpan) → AreFiled named wide all → (key : ObjectKey) → AreFirstClouded (record { spans = all; revisions = given }) key (firsts_at recorded key))
-    → AreKept (record { spans = shown_spans; revisions = shown_given }) named wide recorded
+    → AreWritesKept (record { spans = shown_spans; revisions = shown_given }) named wide recorded
 AreKept-made spans shown_spans given shown_given named wide recorded same_spans same_given filed all firsts =
-    let kept : AreKept (record { spans = spans; revisions = given }) named wide recorded =
+    let kept : AreWritesKept (record { spans = spans; revisions = given }) named wide recorded =
     record { filed = filed; recorded_all = all; firsts = ⊎_elim inl (λ found. inr (found spans filed)) firsts } in
     rw (same_spans, same_given) kept

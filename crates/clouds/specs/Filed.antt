@@ -33,7 +33,7 @@ abbrev pub IsNoneFiled : BTreeMap ObjectKey (List OpaqueSpan) → Wide → Type 
 IsNoneFiled named wide = IsEmpty named × IsEmpty wide.spans
 
 -- the recorded writes are kept only where there are spans
-pub record AreKept (writes : Writes) (named : BTreeMap ObjectKey (List OpaqueSpan)) (wide : Wide) (recorded : BTreeMap ObjectKey Recorded) : Type 0 where
+pub record AreWritesKept (writes : Writes) (named : BTreeMap ObjectKey (List OpaqueSpan)) (wide : Wide) (recorded : BTreeMap ObjectKey Recorded) : Type 0 where
   pub filed : AreFiled named wide writes.spans
   pub recorded_all : IsNoneFiled named wide ⊎ AreRecorded (revisions_at recorded) writes.revisions
   pub firsts : IsNoneFiled named wide ⊎ ((key : ObjectKey) → AreFirstClouded writes key (firsts_at recorded key))

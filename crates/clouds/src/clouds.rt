@@ -29,7 +29,7 @@ impl Model for Clouds {
 
     ghost Value = { Writes };
 
-    ghost use Rattle.clouds.specs.Filed.{AreKept};
+    ghost use Rattle.clouds.specs.Filed.{AreWritesKept};
 
     ghost view = { λ c. record {
       spans = map (λ s. s.value) c.spans.value.items;
@@ -37,7 +37,7 @@ impl Model for Clouds {
           (λ r. r.value) c.revisions.value.items;
     } };
 
-    ghost invariant = { λ c. AreKept (record {
+    ghost invariant = { λ c. AreWritesKept (record {
       spans = map (λ s. s.value) c.spans.value.items;
       revisions = map
           (λ r. r.value) c.revisions.value.items;

@@ -86,17 +86,17 @@ read_ordered (field k t ms) front ordered =
     one_more k ms front parts.0 parts.1 (λ next after. read_ordered ms next after) (of_json (outline (data_of t)))
 
 -- the values are there, and their trees are the members'
-abbrev AreKept : Fields → Type 0
-AreKept ms = (ds : Members) × (values ms ≡ Some ds) × (of_members ds ≡ Some ms)
+abbrev AreMembersKept : Fields → Type 0
+AreMembersKept ms = (ds : Members) × (values ms ≡ Some ds) × (of_members ds ≡ Some ms)
 
-object_kept : (ms : Fields) → are_ordered [] ms ≡ true → AreKept ms → IsKept (members ms)
+object_kept : (ms : Fields) → are_ordered [] ms ≡ true → AreMembersKept ms → IsKept (members ms)
 object_kept ms ordered kept = (
   object kept.0,
   ap (option_map object) (read_ordered ms no_members ordered ∙ ap (option_map (behind no_members)) kept.1),
   ap (option_map members) kept.2,
 )
 
-members_kept : (ms : Fields) → are_ordered [] ms ≡ true → IsKept (members ms) → AreKept ms
+members_kept : (ms : Fields) → are_ordered [] ms ≡ true → IsKept (members ms) → AreMembersKept ms
 members_kept ms ordered kept =
     let read = mapped (option_map (behind no_members) (values ms)) object kept.0 (sym (ap (option_map object) (read_ordered ms no_members ordered)) ∙ kept.1) in
     let found = mapped (values ms) (behind no_members) read.0 read.1 in
@@ -104,7 +104,7 @@ members_kept ms ordered kept =
     let same : tree.0 ≡ ms = cc in
     (found.0, found.1, tree.1 ∙ ap (λ m. Some m) same)
 
-first_kept : (k : List ℕ) (t : Meaning) (ms : Fields) → AreKept (field k t ms) → IsKept t × AreKept ms
+first_kept : (k : List ℕ) (t : Meaning) (ms : Fields) → AreMembersKept (field k t ms) → IsKept t × AreMembersKept ms
 first_kept k t ms kept =
     let first = found_both (of_json (outline (data_of t))) (λ d. option_map (member k d) (values ms)) kept.0 kept.1 in
     let rest = mapped (values ms) (member k first.0) kept.0 first.2 in
@@ -114,10 +114,10 @@ first_kept k t ms kept =
     let same_others : others.0 ≡ ms = cc in
     ((first.0, first.1, tree.1 ∙ ap (λ u. Some u) same), (rest.0, rest.1, others.1 ∙ ap (λ m. Some m) same_others))
 
-with_kept : (k : List ℕ) (t : Meaning) (ms : Fields) → IsKept t → AreKept ms → AreKept (field k t ms)
+with_kept : (k : List ℕ) (t : Meaning) (ms : Fields) → IsKept t → AreMembersKept ms → AreMembersKept (field k t ms)
 with_kept k t ms here others = (member k here.0 others.0, rw (here.1, others.1) refl, rw (here.2, others.2) refl)
 
-other_value : (front back : List (List ℕ × Meaning)) (name : List ℕ) (t u : Meaning) → (IsKept t → IsKept u) → AreKept (fields_of (front ++ (name, t) ∷ back)) → AreKept (fields_of (front ++ (name, u) ∷ back))
+other_value : (front back : List (List ℕ × Meaning)) (name : List ℕ) (t u : Meaning) → (IsKept t → IsKept u) → AreMembersKept (fields_of (front ++ (name, t) ∷ back)) → AreMembersKept (fields_of (front ++ (name, u) ∷ back))
 other_value [] back name t u gives kept =
     let parts = first_kept name t (fields_of back) kept in
     with_kept name u (fields_of back) (gives parts.0) parts.1

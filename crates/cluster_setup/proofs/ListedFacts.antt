@@ -11,7 +11,7 @@ use Rattle.base_types.proofs.Found.{same_some}
 use Rattle.cluster_setup.specs.declared.fault.FileFault.{FileFault}
 use Rattle.cluster_setup.specs.declared.fault.FileFault.TheVariants.{Pages, Twice, Revision}
 use Rattle.cluster_setup.specs.declared.fault.SetupRefusal.TheVariants.{File}
-use Rattle.cluster_setup.specs.declared.finding.Found.{Found}
+use Rattle.cluster_setup.specs.declared.finding.FoundResource.{FoundResource}
 use Rattle.cluster_setup.specs.Files.{group_of, is_listing, word}
 use Rattle.cluster_setup.specs.Found.{is_listed_again, source_of}
 use Rattle.cluster_setup.specs.Indexed.{AreListed, IsFirstWrong, Names, by_names, pair_of, refined, source_found}
@@ -84,7 +84,7 @@ not_twice true c is = sym (ap not is)
 not_twice false c is = sym (ap not is)
 
 -- whether no document has the resource of a list
-pub unfound_told : (trees : List Meaning) (list : Meaning) (found : Option Found) (none : Bool) → is_some found ≡ not none
+pub unfound_told : (trees : List Meaning) (list : Meaning) (found : Option FoundResource) (none : Bool) → is_some found ≡ not none
     → option_map pair_of found ≡ source_found trees list → none ≡ is_none (source_of trees list)
 unfound_told trees list found none said is =
     not_twice none (is_some found) said ∙ ap not (some_mapped pair_of found ∙ ap (λ o. is_some o) is ∙ some_source trees list)

@@ -14,7 +14,7 @@ use Rattle.std.proofs.lemmas.Map.Text.{is_eq-slice_cmp}
 use Rattle.std.proofs.lemmas.Slice.Eq.{bytes_eq-Decides}
 use Rattle.base_types.specs.Meaning.{Meaning}
 use Rattle.base_types.specs.Texts.{◌>>=◌}
-use Rattle.cluster_setup.specs.declared.finding.Found.{Found}
+use Rattle.cluster_setup.specs.declared.finding.FoundResource.{FoundResource}
 use Rattle.cluster_setup.specs.Files.{is_discovery, is_whole_name, listed, word}
 use Rattle.cluster_setup.specs.Found.{entry_in, found_in, is_entry_for, is_list_of, is_source, source_of}
 use Rattle.cluster_setup.specs.Indexed.{AreEntries, AreSources, Names, by_names, entry_found, pair_of, source_found}
@@ -54,7 +54,7 @@ skipped_entry true kind entry found is = absurd (cc)
 skipped_entry false kind entry found is = refl
 
 -- an entry in front of others
-pub entry_put : (old new : BTreeMap Names Found) (names : Names) (value : Found) (document entry : Meaning) (later behind : List Meaning)
+pub entry_put : (old new : BTreeMap Names FoundResource) (names : Names) (value : FoundResource) (document entry : Meaning) (later behind : List Meaning)
     → names.0.now ≡ word (codes "groupVersion") document → names.1.now ≡ word (codes "kind") entry → pair_of value ≡ (document, entry)
     → is_whole_name (word (codes "name") entry) ≡ true
     → Updates (λ (x y : Names). by_names x.0.now x.1.now y) old new names (Some value)
@@ -76,7 +76,7 @@ entry_put old new names value document entry later behind versioned kinded is wh
     ∙ put_cases same (is_list_of (word (codes "kind") entry) (word (codes "kind") list)) (is_whole_name (word (codes "name") entry)) document entry found (source_found behind list) whole
 
 -- an entry of no resource in front of others
-pub entry_skipped : (known : BTreeMap Names Found) (document entry : Meaning) (later behind : List Meaning) → is_whole_name (word (codes "name") entry) ≡ false
+pub entry_skipped : (known : BTreeMap Names FoundResource) (document entry : Meaning) (later behind : List Meaning) → is_whole_name (word (codes "name") entry) ≡ false
     → AreEntries known document later behind → AreEntries known document (entry ∷ later) behind
 entry_skipped known document entry later behind part held = λ list kind ends.
     held list kind ends
@@ -96,7 +96,7 @@ skipped_document true some version document others is = absurd (cc)
 skipped_document false some version document others is = refl
 
 -- all entries of a document
-pub document_put : (known : BTreeMap Names Found) (document : Meaning) (behind : List Meaning) → is_discovery document ≡ true
+pub document_put : (known : BTreeMap Names FoundResource) (document : Meaning) (behind : List Meaning) → is_discovery document ≡ true
     → AreEntries known document (listed (codes "resources") document) behind → AreSources known (document ∷ behind)
 document_put known document behind discovery held = λ list kind ends.
     held list kind ends
@@ -104,7 +104,7 @@ document_put known document behind discovery held = λ list kind ends.
     document (source_of behind list) (found_in list) discovery
 
 -- a file that tells of no resources
-pub document_skipped : (known : BTreeMap Names Found) (document : Meaning) (behind : List Meaning) → is_discovery document ≡ false
+pub document_skipped : (known : BTreeMap Names FoundResource) (document : Meaning) (behind : List Meaning) → is_discovery document ≡ false
     → AreSources known behind → AreSources known (document ∷ behind)
 document_skipped known document behind other held = λ list kind ends.
     held list kind ends
@@ -113,7 +113,7 @@ document_skipped known document behind other held = λ list kind ends.
     document (source_of behind list) other)
 
 -- no file
-pub no_sources : (known : BTreeMap Names Found) → known.entries ≡ [] → AreSources known []
+pub no_sources : (known : BTreeMap Names FoundResource) → known.entries ≡ [] → AreSources known []
 no_sources known empty = λ list kind ends. ap (λ es. option_map pair_of (lookup (λ names. is_eq (by_names (word (codes "apiVersion") list) kind names)) es)) empty
 
 none_passes : {A : Type 0} (test : A → Bool) (xs : List A) → ((x : A) → test x ≡ false) → find test xs ≡ None

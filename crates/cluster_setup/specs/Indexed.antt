@@ -9,7 +9,7 @@ use Rattle.std.specs.BTreeSet.{BTreeSet, contains_by}
 use Rattle.std.specs.List.{find}
 use Rattle.base_types.specs.Meaning.{Meaning}
 use Rattle.base_types.specs.Texts.{◌>>=◌}
-use Rattle.cluster_setup.specs.declared.finding.Found.{Found}
+use Rattle.cluster_setup.specs.declared.finding.FoundResource.{FoundResource}
 use Rattle.cluster_setup.specs.Files.{word, group_of, is_listing}
 use Rattle.cluster_setup.specs.declared.fault.FileFault.{FileFault}
 use Rattle.cluster_setup.specs.declared.fault.FileFault.TheVariants.{Json, Kind, Pages, Unknown, Version, Twice, Revision, Rule}
@@ -24,11 +24,11 @@ Names = Bor (List ℕ) × Bor (List ℕ)
 abbrev pub by_names : List ℕ → List ℕ → Names → Ordering
 by_names first second names = ordering_then (slice_cmp nat_cmp first names.0.now) (slice_cmp nat_cmp second names.1.now)
 
-abbrev pub pair_of : Found → Meaning × Meaning
+abbrev pub pair_of : FoundResource → Meaning × Meaning
 pair_of found = (found.document.now, found.entry.now)
 
 -- what a map of versions and kinds has
-abbrev pub entry_at : BTreeMap Names Found → List ℕ → List ℕ → Option (Meaning × Meaning)
+abbrev pub entry_at : BTreeMap Names FoundResource → List ℕ → List ℕ → Option (Meaning × Meaning)
 entry_at entries version kind = option_map pair_of (get_by (by_names version kind) entries)
 
 -- the document and its entry of a list's resource
@@ -36,7 +36,7 @@ abbrev pub source_found : List Meaning → Meaning → Option (Meaning × Meanin
 source_found trees list = source_of trees list >>= found_in list
 
 -- the map has the resources of these files: to each list, by its version and its kind without the `List` at the end
-abbrev pub AreSources : BTreeMap Names Found → List Meaning → Type 0
+abbrev pub AreSources : BTreeMap Names FoundResource → List Meaning → Type 0
 AreSources entries trees = (list : Meaning) (kind : List ℕ) → word (codes "kind") list ≡ kind ++ codes "List"
     → entry_at entries (word (codes "apiVersion") list) kind ≡ source_found trees list
 
@@ -50,7 +50,7 @@ entry_or document entries behind list =
     entry_found document (find (is_entry_for list) entries) (bytes_eq (word (codes "groupVersion") document) (word (codes "apiVersion") list)) (source_found behind list)
 
 -- the map has these entries of a document, and the resources of the files behind it
-abbrev pub AreEntries : BTreeMap Names Found → Meaning → List Meaning → List Meaning → Type 0
+abbrev pub AreEntries : BTreeMap Names FoundResource → Meaning → List Meaning → List Meaning → Type 0
 AreEntries known document entries behind = (list : Meaning) (kind : List ℕ) → word (codes "kind") list ≡ kind ++ codes "List"
     → entry_at known (word (codes "apiVersion") list) kind ≡ entry_or document entries behind list
 

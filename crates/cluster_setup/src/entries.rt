@@ -10,7 +10,7 @@ ghost use Rattle.cluster_setup.specs.Table.{patch_of};
 
 use crate::building::{flag, items, object, put, said, say};
 use crate::documents::Document;
-use crate::finding::Found;
+use crate::finding::FoundResource;
 use crate::shapes::{shape_list, shapes_of, status_shapes_of};
 use crate::sources::Sources;
 use crate::table::{Form, form_of, patch_of};
@@ -118,13 +118,13 @@ fn is_namespaced(entry: &Tree) -> bool
 fn add_rules(
     alloc: Global,
     fields: &mut MemberList,
-    found: Found<'_>,
+    found: FoundResource<'_>,
     form: Form,
 ) -> Result<(), OutOfMemory>
     ensures { OnOk result (fields_of fields.new ≡ with_rules_of found.entry.document.now
         found.entry.entry.now form (fields_of fields.old)) }
 {
-    let Found { document, entry } = found;
+    let FoundResource { document, entry } = found;
     put(alloc, fields, "namespaced", flag(is_namespaced(entry)))?;
     say(alloc, fields, "objectPatch", patch_of(form))?;
     let shapes = shape_list(alloc, shapes_of(form))?;
@@ -136,14 +136,14 @@ fn add_rules(
 // The entry of a resource, whose lists have this kind.
 fn entry_of(
     alloc: Global,
-    found: Found<'_>,
+    found: FoundResource<'_>,
     list_kind: &str,
     form: Form,
 ) -> Result<Tree, OutOfMemory>
     ensures { IfOk result (λ tree. tree ≡ entry_of found.entry.document.now
         found.entry.entry.now list_kind.now form) }
 {
-    let Found { document, entry } = found;
+    let FoundResource { document, entry } = found;
     let group_version = word(document.tree(), "groupVersion");
     let mut fields = said(
         alloc,
@@ -159,7 +159,7 @@ fn entry_of(
     Ok(object(fields))
 }
 
-fn form_for(found: Found<'_>) -> Form
+fn form_for(found: FoundResource<'_>) -> Form
     ensures { result ≡ form_for found.entry.document.now found.entry.entry.now }
 {
     form_of(

@@ -8,7 +8,7 @@ use base_types::json::Tree;
 
 /// The `APIResourceList` that has a resource, and its entry there.
 #[derive(Clone, Copy)]
-pub struct Found<'a> {
+pub struct FoundResource<'a> {
     pub document: &'a Document<'a>,
     pub entry: &'a Tree,
 }

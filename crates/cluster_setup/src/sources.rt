@@ -5,7 +5,7 @@ ghost use Rattle.cluster_setup.specs.Indexed.{AreEntries, AreSources, pair_of, s
 
 use crate::documents::Document;
 use crate::files::{is_discovery, is_listing};
-use crate::finding::Found;
+use crate::finding::FoundResource;
 use crate::words::{is_whole_name, listed, word};
 use base_types::OutOfMemory;
 use base_types::json::Tree;
@@ -14,7 +14,7 @@ use std::collections::BTreeMap;
 use std::marker::Model;
 
 // The first entry of each version and kind of objects.
-type Entries<'a> = BTreeMap<(&'a str, &'a str), Found<'a>>;
+type Entries<'a> = BTreeMap<(&'a str, &'a str), FoundResource<'a>>;
 
 /// All files, and where each resource is told in them.
 #[derive(Drop)]
@@ -53,7 +53,7 @@ fn add_entry<'a>(
         return Ok(());
     }
     let names = (word(document.tree(), "groupVersion"), word(entry, "kind"));
-    entries.insert(names, Found { document, entry })?;
+    entries.insert(names, FoundResource { document, entry })?;
     Ok(())
 }
 
@@ -90,7 +90,7 @@ impl<'a> Sources<'a> {
     }
 
     /// The document that has a list's resource in the list's version, and its entry there.
-    pub fn source_found(&self, list: &'a Tree) -> Option<Found<'a>>
+    pub fn source_found(&self, list: &'a Tree) -> Option<FoundResource<'a>>
         ensures { option_map pair_of result ≡ source_found self.now list.now }
     {
         let Some(kind) = word(list, "kind").strip_suffix("List") else {
@@ -101,7 +101,7 @@ impl<'a> Sources<'a> {
     }
 
     /// The document and its entry of the resource whose list a file is.
-    pub fn found_for(&self, list: &'a Tree) -> Option<Found<'a>>
+    pub fn found_for(&self, list: &'a Tree) -> Option<FoundResource<'a>>
         ensures { option_map pair_of result ≡ found_for self.now list.now }
     {
         if !is_listing(list) {

@@ -6,8 +6,8 @@ use Rattle.base_types.specs.declared.placed.Outcome.TheVariants.{Explained, Unex
 use Rattle.base_types.specs.declared.placed.WriteLine.{WriteLine}
 use Rattle.context_intake.specs.Contexts.{IsContextOf, IsRefused}
 use Rattle.context_intake.specs.declared.refusal.Refusal.{Refusal}
-use Rattle.context_intake.specs.declared.told.Told.{Told}
-use Rattle.context_intake.specs.declared.told.Told.TheVariants as told
+use Rattle.context_intake.specs.declared.told.Intake.{Intake}
+use Rattle.context_intake.specs.declared.told.Intake.TheVariants as told
 use Rattle.finding_picture.specs.Page as finding_page
 use Rattle.finding_picture.specs.declared.finding.Finding.{Finding}
 use Rattle.log_picture.specs.Page.{IsLogPage}
@@ -40,7 +40,7 @@ pub record IsPicturedOf (known : Known) (answered : Answer) : Type 0 where
   pub answers : answered ≡ answer (outcome_status outcome) page
 
 -- what they come to, of what they tell: a refusal is said as the judge says it
-abbrev pub IsPicturedFrom : Told → Answer → Type 0
+abbrev pub IsPicturedFrom : Intake → Answer → Type 0
 IsPicturedFrom (told.Refused refusal) answered = answered ≡ refusal_answer refusal
 IsPicturedFrom (told.Context known) answered = IsPicturedOf known answered
 

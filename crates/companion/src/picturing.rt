@@ -7,7 +7,7 @@ ghost use Rattle.companion.specs.Picturing.{HasBrokenRule, HasPage, IsPage, IsPi
 ghost use Rattle.companion.specs.Picturing.{IsPicturedFrom, IsPicturedOf};
 
 use base_types::{Bytes, OutOfMemory, Outcome};
-use context_intake::{Stop, Told, read_context};
+use context_intake::{Intake, Stop, read_context};
 use edge_io::Desk;
 use finding_picture::{Finding, finding_page};
 use judge_pool::Gate;
@@ -52,14 +52,14 @@ pub fn picture<R: Threads + Sync, D: Desk, G: Gate, H: Gate>(
 fn pictured_of<R: Threads + Sync, G: Gate>(
     rt: &R,
     alloc: Global,
-    told: &Told,
+    told: &Intake,
     gate: &G,
 ) -> Result<Report, OutOfMemory>
     ensures { IfOk result (λ report. IsPicturedFrom told.now (report_answer report)) }
 {
     match told {
-        Told::Refused(refusal) => refusal_report(alloc, *refusal),
-        Told::Context(context) => {
+        Intake::Refused(refusal) => refusal_report(alloc, *refusal),
+        Intake::Context(context) => {
             let outcome = outcome_of(rt, alloc, context, gate)?;
             verdict_of(alloc, context, &outcome)
         }

@@ -28,8 +28,8 @@ use Rattle.context_intake.specs.Taking.{IsReadBefore, IsReadFor, ReadsSetupAndLo
 use Rattle.context_intake.specs.declared.refusal.Refusal.{Refusal}
 use Rattle.context_intake.specs.declared.stop.Stop.{Stop}
 use Rattle.context_intake.specs.declared.stop.Stop.TheVariants.{OutOfMemory, ReadFault}
-use Rattle.context_intake.specs.declared.told.Told.{Told}
-use Rattle.context_intake.specs.declared.told.Told.TheVariants.{Context, Refused}
+use Rattle.context_intake.specs.declared.told.Intake.{Intake}
+use Rattle.context_intake.specs.declared.told.Intake.TheVariants.{Context, Refused}
 use Rattle.context_intake.proofs.OneContextFacts.{setup_one_way}
 
 -- the setup was refused for its bytes
@@ -49,7 +49,7 @@ log_answered bytes log_stop.ReadFault refusal answered is = absurd is
 log_answered bytes log_stop.OutOfMemory refusal answered is = absurd is
 
 -- setup and log were read
-found_told : (setup log : List ℕ) (read : Setup) (events : List Event) (told : Told) → IsSetupRead setup (Ok read) → IsLogRead log (Ok events) → IsFoundIn (with_chains read events) events told → IsToldBy setup log told
+found_told : (setup log : List ℕ) (read : Setup) (events : List Event) (told : Intake) → IsSetupRead setup (Ok read) → IsLogRead log (Ok events) → IsFoundIn (with_chains read events) events told → IsToldBy setup log told
 found_told setup log read events (Refused refusal) setup_is log_is found = of_pool read events setup_is log_is found.0 found.1
 found_told setup log read events (Context known) setup_is log_is found = record {
   read = read;
@@ -63,7 +63,7 @@ found_told setup log read events (Context known) setup_is log_is found = record 
 -- a context was built of them, or its pool was full
 pub found_built : (setup : Setup) (events : List Event) (built : Result Known BuildFault) → IfOk built (λ known. known.setup ≡ setup) → IfOk built (λ known. known.events ≡ events) → IfOk built IsTold
     → (built ≡ Err build_fault.PoolFull → most_nodes < length (pooled setup events)) → IfOk built (λ known. length (pooled setup events) ≤ most_nodes)
-    → (told : Told) → IsBuiltAs built told → IsFoundIn setup events told
+    → (told : Intake) → IsBuiltAs built told → IsFoundIn setup events told
 found_built setup events (Ok known) same_setup same_events is full fits told built_as = subst (IsFoundIn setup events) (sym built_as) (same_setup, same_events, fits, is)
 found_built setup events (Err build_fault.PoolFull) same_setup same_events is full fits told built_as = subst (IsFoundIn setup events) (sym built_as) (full refl, refl)
 found_built setup events (Err build_fault.OutOfMemory) same_setup same_events is full fits told built_as = absurd built_as
@@ -83,12 +83,12 @@ log_read log_stop.TooLong refusal setup log ended is = subst (λ r. IsReadBefore
 log_read log_stop.ReadFault refusal setup log ended is = absurd is
 log_read log_stop.OutOfMemory refusal setup log ended is = absurd is
 
-found_read : (read : Setup) (events : List Event) (setup log : Option (List ℕ)) (told : Told) → IsAtEnd setup → IsAtEnd log → IsFoundIn read events told → IsReadFor told setup log
+found_read : (read : Setup) (events : List Event) (setup log : Option (List ℕ)) (told : Intake) → IsAtEnd setup → IsAtEnd log → IsFoundIn read events told → IsReadFor told setup log
 found_read read events setup log (Refused refusal) setup_ended log_ended found = subst (λ r. IsReadBefore r setup log) (sym found.1) (setup_ended, log_ended)
 found_read read events setup log (Context known) setup_ended log_ended found = (setup_ended, log_ended)
 
 -- what was read to its end before what is told
-module _ (setup log : Option (List ℕ)) (result : Result Told Stop) where
+module _ (setup log : Option (List ℕ)) (result : Result Intake Stop) where
   pub read_setup : (stop : SetupStop) → (IsWhole (Err stop) → IsAtEnd setup) → IfOk result (λ told. (refusal : Refusal) × IsSetupStopOf stop refusal × (told ≡ Refused refusal)) → IfOk result (λ told. IsReadFor told setup log)
   read_setup stop whole refused =
       IfOk-weaker result (λ told. (refusal : Refusal) × IsSetupStopOf stop refusal × (told ≡ Refused refusal)) (λ told. IsReadFor told setup log)
@@ -107,9 +107,9 @@ module _ (setup log : Option (List ℕ)) (result : Result Told Stop) where
       (λ told f. found_read (with_chains read events) events setup log told (subst IsAtEnd (sym same) ended) log_ended f)
       found
 
-module _ (left : List ℕ → Option (List ℕ)) (setup log : List ℕ) (result : Result Told Stop) where
+module _ (left : List ℕ → Option (List ℕ)) (setup log : List ℕ) (result : Result Intake Stop) where
   -- what the names tell that were asked for
-  abbrev pub TellsNames : Told → Type 0
+  abbrev pub TellsNames : Intake → Type 0
   TellsNames told = (of_setup of_log : List ℕ) → left setup ≡ Some of_setup → left log ≡ Some of_log → IsToldBy of_setup of_log told
 
   pub told_setup : (stop : SetupStop) → ((bytes : List ℕ) → left setup ≡ Some bytes → AnswersSetup bytes (Err stop)) → IfOk result (λ told. (refusal : Refusal) × IsSetupStopOf stop refusal × (told ≡ Refused refusal)) → IfOk result TellsNames
@@ -201,7 +201,7 @@ pub rose_from : (old middle now : ℕ) → old ≤ middle → Rose middle now �
 rose_from old middle now counted rose = omega (arith, counted, rose)
 
 -- a call that passes on what was read, and answers a read fault where the reading does
-pub reads_on : {setup log : List ℕ} {old now : List ℕ → Option (List ℕ)} {faults_before faults_now : ℕ} (result : Result Told Stop) (read_fault : Type 0) → (read_fault → IsErrOf result ReadFault)
+pub reads_on : {setup log : List ℕ} {old now : List ℕ → Option (List ℕ)} {faults_before faults_now : ℕ} (result : Result Intake Stop) (read_fault : Type 0) → (read_fault → IsErrOf result ReadFault)
     → ReadsSetupAndLog setup log old now faults_before faults_now (RefusesNothing result) (IsErrOf result ReadFault) → ReadsSetupAndLog setup log old now faults_before faults_now read_fault read_fault
 reads_on {setup = setup} {log = log} {old = old} {now = now} result read_fault failed reads = record {
   fault = λ is. reads.fault (failed is);
@@ -253,14 +253,14 @@ module _ (setup log : List ℕ) (differ : setup ≢ log) (fine read_fault : Type
   }
 
 -- a refusal isn't passed on where nothing is refused
-refused_nothing : (result : Result Told Stop) (IsOf : Refusal → Type 0) (Q : Type 0) → IfOk result (λ told. (refusal : Refusal) × IsOf refusal × (told ≡ Refused refusal)) → (IsErrOf result ReadFault → Q) → RefusesNothing result → Q
+refused_nothing : (result : Result Intake Stop) (IsOf : Refusal → Type 0) (Q : Type 0) → IfOk result (λ told. (refusal : Refusal) × IsOf refusal × (told ≡ Refused refusal)) → (IsErrOf result ReadFault → Q) → RefusesNothing result → Q
 refused_nothing (Ok told) IsOf Q (refusal, is, same) failed nothing = absurd (subst (λ t. RefusesNothing (Ok t)) same nothing)
 refused_nothing (Err ReadFault) IsOf Q refused failed nothing = failed refl
 refused_nothing (Err OutOfMemory) IsOf Q refused failed nothing = absurd nothing
 
 -- a failed read refuses nothing
-pub failed_setup : (result : Result Told Stop) (stop : SetupStop) → IfOk result (λ told. (refusal : Refusal) × IsSetupStopOf stop refusal × (told ≡ Refused refusal)) → (IsErrOf result ReadFault → stop ≡ setup_stop.ReadFault) → RefusesNothing result → StaysWithin (Err stop)
+pub failed_setup : (result : Result Intake Stop) (stop : SetupStop) → IfOk result (λ told. (refusal : Refusal) × IsSetupStopOf stop refusal × (told ≡ Refused refusal)) → (IsErrOf result ReadFault → stop ≡ setup_stop.ReadFault) → RefusesNothing result → StaysWithin (Err stop)
 failed_setup result stop refused failed nothing = refused_nothing result (IsSetupStopOf stop) (StaysWithin (Err stop)) refused (λ is. subst (λ s. StaysWithin (Err s)) (sym (failed is)) tt) nothing
 
-pub failed_log : (result : Result Told Stop) (stop : LogStop) → IfOk result (λ told. (refusal : Refusal) × IsStopOf stop refusal × (told ≡ Refused refusal)) → (IsErrOf result ReadFault → stop ≡ log_stop.ReadFault) → RefusesNothing result → taking.RefusesNothing (Err stop)
+pub failed_log : (result : Result Intake Stop) (stop : LogStop) → IfOk result (λ told. (refusal : Refusal) × IsStopOf stop refusal × (told ≡ Refused refusal)) → (IsErrOf result ReadFault → stop ≡ log_stop.ReadFault) → RefusesNothing result → taking.RefusesNothing (Err stop)
 failed_log result stop refused failed nothing = refused_nothing result (IsStopOf stop) (taking.RefusesNothing (Err stop)) refused (λ is. subst (λ s. taking.RefusesNothing (Err s)) (sym (failed is)) tt) nothing

@@ -14,8 +14,8 @@ use Rattle.context_intake.specs.declared.refusal.Refusal.{Refusal}
 use Rattle.context_intake.specs.declared.refusal.Refusal.TheVariants.{PastLimit}
 use Rattle.context_intake.specs.declared.stop.Stop.{Stop}
 use Rattle.context_intake.specs.declared.stop.Stop.TheVariants.{OutOfMemory, ReadFault}
-use Rattle.context_intake.specs.declared.told.Told.{Told}
-use Rattle.context_intake.specs.declared.told.Told.TheVariants.{Context, Refused}
+use Rattle.context_intake.specs.declared.told.Intake.{Intake}
+use Rattle.context_intake.specs.declared.told.Intake.TheVariants.{Context, Refused}
 
 -- the lists that clients read in pages are checkpoints behind those of the setup
 abbrev pub with_chains : Setup → List Event → Setup
@@ -41,23 +41,23 @@ pub record IsContextOf (setup log : List ℕ) (known : Known) : Type 0 where
   pub few : length (pooled known.setup known.events) ≤ most_nodes
   pub told : IsTold known
 
-abbrev pub IsToldBy : (setup log : List ℕ) → Told → Type 0
+abbrev pub IsToldBy : (setup log : List ℕ) → Intake → Type 0
 IsToldBy setup log (Refused refusal) = IsRefused setup log refusal
 IsToldBy setup log (Context known) = IsContextOf setup log known
 
 -- what a setup with its chains and the events of a log tell, unless the objects have too many distinct values
-abbrev pub IsFoundIn : Setup → List Event → Told → Type 0
+abbrev pub IsFoundIn : Setup → List Event → Intake → Type 0
 IsFoundIn setup events (Refused refusal) = (most_nodes < length (pooled setup events)) × (refusal ≡ PastLimit PoolSize)
 IsFoundIn setup events (Context known) = (known.setup ≡ setup) × (known.events ≡ events) × (length (pooled setup events) ≤ most_nodes) × IsTold known
 
 -- both were read to their ends, or up to a failed read
-abbrev pub RefusesNothing : Result Told Stop → Type 0
+abbrev pub RefusesNothing : Result Intake Stop → Type 0
 RefusesNothing (Ok (Refused refusal)) = ⊥
 RefusesNothing (Ok (Context known)) = ⊤
 RefusesNothing (Err ReadFault) = ⊤
 RefusesNothing (Err OutOfMemory) = ⊥
 
 -- nothing was refused
-abbrev pub IsOfContext : Told → Type 0
+abbrev pub IsOfContext : Intake → Type 0
 IsOfContext (Refused refusal) = ⊥
 IsOfContext (Context known) = ⊤

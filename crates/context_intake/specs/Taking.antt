@@ -8,8 +8,8 @@ use Rattle.context_intake.specs.Refusals.{IsSetupRefused}
 use Rattle.context_intake.specs.declared.refusal.Limit.TheVariants.{SetupSize, LineSize, EventCount, InputSize, PoolSize}
 use Rattle.context_intake.specs.declared.refusal.Refusal.{Refusal}
 use Rattle.context_intake.specs.declared.refusal.Refusal.TheVariants.{BrokenSetup, MalformedLog, PastLimit}
-use Rattle.context_intake.specs.declared.told.Told.{Told}
-use Rattle.context_intake.specs.declared.told.Told.TheVariants.{Context, Refused}
+use Rattle.context_intake.specs.declared.told.Intake.{Intake}
+use Rattle.context_intake.specs.declared.told.Intake.TheVariants.{Context, Refused}
 
 -- What was taken of the two at most, and less where nothing is refused (`fine`); of the log nothing where the setup is
 -- refused.
@@ -37,6 +37,6 @@ IsReadBefore (PastLimit InputSize) setup log = IsAtEnd setup
 IsReadBefore (PastLimit PoolSize) setup log = IsAtEnd setup × IsAtEnd log
 
 -- what was read to its end before this is told: both, where nothing is refused
-abbrev pub IsReadFor : Told → (setup log : Option (List ℕ)) → Type 0
+abbrev pub IsReadFor : Intake → (setup log : Option (List ℕ)) → Type 0
 IsReadFor (Refused refusal) setup log = IsReadBefore refusal setup log
 IsReadFor (Context known) setup log = IsAtEnd setup × IsAtEnd log

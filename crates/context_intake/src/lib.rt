@@ -12,4 +12,4 @@ pub use law::one_context_law;
 pub use reading::read_context;
 pub use refusal::{Limit, Refusal};
 pub use stop::Stop;
-pub use told::Told;
+pub use told::Intake;

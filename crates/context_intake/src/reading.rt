@@ -10,7 +10,7 @@ ghost use Rattle.setup_file.specs.Sound.{IsSound};
 use crate::chained::with_chains;
 use crate::refusal::{Limit, Refusal};
 use crate::stop::Stop;
-use crate::told::Told;
+use crate::told::Intake;
 use audit_event::Events;
 use edge_io::{Desk, piece_buffer};
 use hash_seed::Seed;
@@ -31,7 +31,7 @@ pub fn read_context<R: Threads + Sync, D: Desk, H: Gate>(
     setup: &str,
     log: &str,
     lines: &H,
-) -> Result<Told, Stop>
+) -> Result<Intake, Stop>
     requires { setup.now ≢ log.now }
     ensures told { IfOk result (λ told. (of_setup of_log : List ℕ)
         → D.left desk.old setup.now ≡ Some of_setup → D.left desk.old log.now ≡ Some of_log
@@ -57,7 +57,7 @@ fn read_by_pieces<R: Threads + Sync, D: Desk, H: Gate>(
     log: &str,
     buffer: &mut [u8],
     lines: &H,
-) -> Result<Told, Stop>
+) -> Result<Intake, Stop>
     requires apart { setup.now ≢ log.now }
     requires some { 0 < length buffer.old }
     requires piece { length buffer.old ≤ 65536 }
@@ -80,34 +80,34 @@ fn read_by_pieces<R: Threads + Sync, D: Desk, H: Gate>(
     }
 }
 
-fn refused_setup(stop: SetupStop) -> Result<Told, Stop>
+fn refused_setup(stop: SetupStop) -> Result<Intake, Stop>
     ensures refused { IfOk result (λ told. (refusal : Refusal) × IsSetupStopOf stop refusal
-        × (told ≡ Told.Refused refusal)) }
+        × (told ≡ Intake.Refused refusal)) }
     ensures fault { IsErrOf result Stop.ReadFault → stop ≡ SetupStop.ReadFault }
     ensures memory { IsErrOf result Stop.OutOfMemory → stop ≡ SetupStop.OutOfMemory }
 {
     match stop {
-        SetupStop::Rule(rule) => Ok(Told::Refused(Refusal::BrokenSetup(rule))),
-        SetupStop::TooLong => Ok(Told::Refused(Refusal::PastLimit(Limit::SetupSize))),
+        SetupStop::Rule(rule) => Ok(Intake::Refused(Refusal::BrokenSetup(rule))),
+        SetupStop::TooLong => Ok(Intake::Refused(Refusal::PastLimit(Limit::SetupSize))),
         SetupStop::ReadFault => Err(Stop::ReadFault),
         SetupStop::OutOfMemory => Err(Stop::OutOfMemory),
     }
 }
 
-fn refused_log(stop: LogStop) -> Result<Told, Stop>
+fn refused_log(stop: LogStop) -> Result<Intake, Stop>
     ensures refused { IfOk result (λ told. (refusal : Refusal) × IsStopOf stop refusal
-        × (told ≡ Told.Refused refusal)) }
+        × (told ≡ Intake.Refused refusal)) }
     ensures fault { IsErrOf result Stop.ReadFault → stop ≡ LogStop.ReadFault }
     ensures memory { IsErrOf result Stop.OutOfMemory → stop ≡ LogStop.OutOfMemory }
 {
     match stop {
-        LogStop::Malformed { line, code } => Ok(Told::Refused(Refusal::MalformedLog {
+        LogStop::Malformed { line, code } => Ok(Intake::Refused(Refusal::MalformedLog {
             line,
             code,
         })),
-        LogStop::LineTooLong => Ok(Told::Refused(Refusal::PastLimit(Limit::LineSize))),
-        LogStop::TooManyEvents => Ok(Told::Refused(Refusal::PastLimit(Limit::EventCount))),
-        LogStop::TooLong => Ok(Told::Refused(Refusal::PastLimit(Limit::InputSize))),
+        LogStop::LineTooLong => Ok(Intake::Refused(Refusal::PastLimit(Limit::LineSize))),
+        LogStop::TooManyEvents => Ok(Intake::Refused(Refusal::PastLimit(Limit::EventCount))),
+        LogStop::TooLong => Ok(Intake::Refused(Refusal::PastLimit(Limit::InputSize))),
         LogStop::ReadFault => Err(Stop::ReadFault),
         LogStop::OutOfMemory => Err(Stop::OutOfMemory),
     }
@@ -120,7 +120,7 @@ fn told_by<R: Threads + Sync>(
     setup: Setup,
     events: Events,
     seed: Seed,
-) -> Result<Told, Stop>
+) -> Result<Intake, Stop>
     requires setup { IsSound setup }
     requires few { length setup.checkpoints ≤ most_checkpoints }
     requires events { AreLogEvents events }
@@ -132,14 +132,14 @@ fn told_by<R: Threads + Sync>(
 }
 
 // What a context tells that was built, or why it wasn't.
-fn told_of(built: Result<Context, BuildFault>) -> Result<Told, Stop>
+fn told_of(built: Result<Context, BuildFault>) -> Result<Intake, Stop>
     ensures told { IfOk result (IsBuiltAs built) }
     ensures no_fault { IsErrOf result Stop.ReadFault → ⊥ }
     ensures memory { IsErrOf result Stop.OutOfMemory → built ≡ Err BuildFault.OutOfMemory }
 {
     match built {
-        Ok(context) => Ok(Told::Context(context)),
-        Err(BuildFault::PoolFull) => Ok(Told::Refused(Refusal::PastLimit(Limit::PoolSize))),
+        Ok(context) => Ok(Intake::Context(context)),
+        Err(BuildFault::PoolFull) => Ok(Intake::Refused(Refusal::PastLimit(Limit::PoolSize))),
         Err(BuildFault::OutOfMemory) => Err(Stop::OutOfMemory),
     }
 }

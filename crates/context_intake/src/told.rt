@@ -3,7 +3,7 @@ use version_store::Context;
 
 /// What a setup and a log tell.
 #[derive(Drop)]
-pub enum Told {
+pub enum Intake {
     /// Nothing, for what their bytes are.
     Refused(Refusal),
     Context(Context),

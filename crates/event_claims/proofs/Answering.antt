@@ -14,8 +14,8 @@ use Rattle.history_model.specs.Histories.{History, ranges}
 use Rattle.history_model.specs.Right.{answer_code}
 use Rattle.history_model.specs.Words.{Word, Makes, Removes, At, Strays, Nothing, word}
 use Rattle.local_bounds.specs.Asked.{AreDeciding, IsAskingOf, bounds_of}
-use Rattle.local_bounds.specs.declared.asking.Asking.{Asking}
-use Rattle.local_bounds.specs.declared.asking.Asking.TheVariants.{Free, Under, Never}
+use Rattle.local_bounds.specs.declared.asking.BoundDemand.{BoundDemand}
+use Rattle.local_bounds.specs.declared.asking.BoundDemand.TheVariants.{Free, Under, Never}
 use Rattle.event_claims.proofs.Faulting.{some_choice}
 use Rattle.event_claims.specs.Standing.{HasAnswerCode}
 use Rattle.event_claims.specs.Verdicts.{IsVerdict}
@@ -33,12 +33,12 @@ module _ (h : History) (number : ℕ) (event : Event) where
       go : (choice : List ℕ) × IsChoice (ranges h) choice × MeetsAll choice bounds → SometimesHolds h number event
       go (choice, chosen, met) = (choice, chosen, (a.1 choice chosen).1 met)
 
-  pub bounds_exact : (asking : Asking) → IsAskingOf h number event asking → AreExactBounds h number event (bounds_of asking)
+  pub bounds_exact : (asking : BoundDemand) → IsAskingOf h number event asking → AreExactBounds h number event (bounds_of asking)
   bounds_exact Free a = inl (free_holds a, λ choice chosen. ((λ s k d l. absurd (omega arith)), λ m. a choice chosen))
   bounds_exact (Under bounds) a = inl (bounds_hold bounds a, a.1)
   bounds_exact Never a = inr (a, refl)
 
-  pub bounds_decide : (asking : Asking) → IsAskingOf h number event asking → AreDeciding h (bounds_of asking)
+  pub bounds_decide : (asking : BoundDemand) → IsAskingOf h number event asking → AreDeciding h (bounds_of asking)
   bounds_decide Free a = record { rising = λ i j d l m. absurd (omega arith); deciding = λ b c. absurd (not_in_none c) }
   bounds_decide (Under bounds) a = a.0
   bounds_decide Never a = record { rising = λ i j d l m. absurd (omega arith); deciding = λ b c. absurd (not_in_none c) }

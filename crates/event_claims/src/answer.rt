@@ -17,7 +17,7 @@ use crate::verdict::reason_of;
 use crate::view::{Decisions, View};
 use crate::word::Word;
 use base_types::{OutOfMemory, Reason};
-use local_bounds::{Asking, Known, Listable, asking_of};
+use local_bounds::{BoundDemand, Known, Listable, asking_of};
 use std::alloc::Global;
 use write_groups::{Shown, Window};
 
@@ -28,7 +28,7 @@ pub fn asking_in<L: Listable, D: Decisions>(
     case: Case<'_>,
     word: Word,
     window: Window,
-) -> Result<Asking, OutOfMemory>
+) -> Result<BoundDemand, OutOfMemory>
     ensures { IfOk result
         (λ asking. (h : History) → IsViewOf L.listable D.decides view.now h → IsCaseOf h case.entry
         → IsSaid h (event_word h case.entry.number (event_of case.entry.event.now)) word
@@ -36,7 +36,7 @@ pub fn asking_in<L: Listable, D: Decisions>(
         → IsAskingOf h case.entry.number (event_of case.entry.event.now) asking) }
 {
     let Word::At = word else {
-        return Ok(Asking::Free);
+        return Ok(BoundDemand::Free);
     };
     let known = Known {
         past: view.past,
@@ -54,14 +54,14 @@ pub fn asking_in<L: Listable, D: Decisions>(
 }
 
 /// The code of an answer that no choice makes right.
-pub fn answer_fault(asking: &Asking, answer: &Shown) -> Option<Reason>
+pub fn answer_fault(asking: &BoundDemand, answer: &Shown) -> Option<Reason>
     ensures { (h : History) (number : ℕ) (event : Event) → event.answer ≡ answer_of answer.now
         → IsAskingOf h number event asking.now
         → IsVerdict (SometimesHolds h number event) (HasAnswerCode h number event) result }
 {
     match asking {
-        Asking::Free => None,
-        Asking::Under(_) => None,
-        Asking::Never => Some(reason_of(answer)),
+        BoundDemand::Free => None,
+        BoundDemand::Under(_) => None,
+        BoundDemand::Never => Some(reason_of(answer)),
     }
 }

@@ -23,7 +23,7 @@ use crate::verdict::{lesser, reason_of};
 use crate::view::{Decisions, View};
 use crate::word::{Word, word_of};
 use base_types::{Claim, OutOfMemory, Reason};
-use local_bounds::{Asking, Known, Listable};
+use local_bounds::{BoundDemand, Known, Listable};
 use std::alloc::Global;
 use write_groups::{Window, window_of};
 
@@ -57,7 +57,7 @@ fn failure_of<L: Listable, D: Decisions>(
     case: Case<'_>,
     word: Word,
     window: Window,
-    asking: &Asking,
+    asking: &BoundDemand,
 ) -> Option<Reason>
     ensures { (h : History) → IsViewOf L.listable D.decides view.now h → IsCaseOf h case.entry
         → IsSaid h (event_word h case.entry.number (event_of case.entry.event.now)) word

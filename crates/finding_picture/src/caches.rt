@@ -7,7 +7,7 @@ use crate::finding::Finding;
 use crate::limits::MOST_ROWS;
 use crate::objects::push_maker;
 use base_types::{OutOfMemory, key_text};
-use markup::{Told, first_of, push_rest};
+use markup::{EscapedText, first_of, push_rest};
 use object_past::{Removal, Version};
 use rbac_timeline::kind_of_key;
 use std::alloc::Global;
@@ -181,7 +181,7 @@ fn push_come(
     write!(
         text,
         "<tr><td>revision {revision}</td><td><code>{}</code></td><td>",
-        Told(key.as_str())
+        EscapedText(key.as_str())
     )?;
     push_maker(text, log, version.maker)?;
     text.push_str("</td></tr>\n")?;
@@ -206,7 +206,7 @@ fn push_gone(
         "<tr><td>removed from {} to {}</td><td><code>{}</code></td><td>line {line}</td></tr>",
         range.low,
         range.high,
-        Told(key.as_str())
+        EscapedText(key.as_str())
     )?;
     Ok(())
 }

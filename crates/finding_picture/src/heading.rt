@@ -4,7 +4,7 @@ ghost use Rattle.finding_picture.specs.Heading.{code_name, guide_section, guide_
 use crate::finding::Finding;
 use base_types::{OutOfMemory, Reason};
 use code_guide::explain;
-use markup::Told;
+use markup::EscapedText;
 use std::alloc::Global;
 
 /// Appends the verdict, and what the code means.
@@ -34,7 +34,7 @@ fn push_verdict(text: &mut String, finding: &Finding<'_>) -> Result<(), OutOfMem
         <dt>Audit ID</dt><dd><code>{}</code></dd>\n\
         <dt>Code</dt><dd>U{code}</dd>\n\
         <dt>Places</dt><dd>from {} to {}</dd>\n</dl>\n",
-        Told(finding.audit_id.as_str()),
+        EscapedText(finding.audit_id.as_str()),
         finding.low,
         finding.high
     )?;
@@ -46,7 +46,7 @@ fn push_guide(alloc: Global, text: &mut String, reason: Reason) -> Result<(), Ou
     ensures { OnOk result (string_bytes text.new ≡ string_bytes text.old ++ guide_section reason) }
 {
     let guide = guide_of(alloc, reason)?;
-    write!(text, "<pre>{}</pre>\n", Told(guide))?;
+    write!(text, "<pre>{}</pre>\n", EscapedText(guide))?;
     Ok(())
 }
 

@@ -11,7 +11,7 @@ ghost use Rattle.version_store.specs.Histories.{history_of};
 use crate::limits::MOST_ROWS;
 use crate::objects::key_on;
 use base_types::{Cover, CoverName, ObjectKey, OutOfMemory, Text, covers};
-use markup::{Told, first_of, push_rest};
+use markup::{EscapedText, first_of, push_rest};
 use std::alloc::Global;
 use version_store::Context;
 use write_groups::{LogEvent, Shown, window_of};
@@ -210,8 +210,8 @@ fn push_cover(text: &mut String, line: u64, low: u64, cover: &Cover) -> Result<(
     ensures { OnOk result (string_bytes text.new ≡ string_bytes text.old
         ++ cover_row line low cover.now) }
 {
-    let group = Told(cover.group.as_str());
-    let resource = Told(cover.resource.as_str());
+    let group = EscapedText(cover.group.as_str());
+    let resource = EscapedText(cover.resource.as_str());
     write!(
         text,
         "<tr><td>{line}</td><td>behind {low}</td><td><code>{group}</code></td><td><code>{resource}</code></td><td>"
@@ -229,7 +229,7 @@ fn push_namespace(text: &mut String, namespace: &Option<Text>) -> Result<(), Out
         ++ namespace_text namespace.now) }
 {
     match namespace {
-        Some(namespace) => write!(text, "<code>{}</code>", Told(namespace.as_str()))?,
+        Some(namespace) => write!(text, "<code>{}</code>", EscapedText(namespace.as_str()))?,
         None => text.push_str("any")?,
     }
     Ok(())
@@ -240,11 +240,11 @@ fn push_name(text: &mut String, name: &CoverName) -> Result<(), OutOfMemory>
     ensures { OnOk result (string_bytes text.new ≡ string_bytes text.old ++ name_text name.now) }
 {
     match name {
-        CoverName::Exact(name) => write!(text, "<code>{}</code>", Told(name.as_str()))?,
+        CoverName::Exact(name) => write!(text, "<code>{}</code>", EscapedText(name.as_str()))?,
         CoverName::Prefix(front) => write!(
             text,
             "each that begins with <code>{}</code>",
-            Told(front.as_str())
+            EscapedText(front.as_str())
         )?,
         CoverName::Any => text.push_str("any")?,
     }

@@ -4,7 +4,7 @@ ghost use Rattle.finding_picture.specs.Marks.{range_text, tick_text};
 
 use crate::looking::user_on;
 use base_types::{OutOfMemory, Text, WriteLine};
-use markup::{Axis, Told};
+use markup::{Axis, EscapedText};
 use object_past::Version;
 use version_store::Context;
 
@@ -87,8 +87,8 @@ fn push_tick(
         ++ tick_text axis.now revision line key.now user.now) }
 {
     let x = axis.position(revision);
-    let object = Told(key.as_str());
-    let user = Told(user);
+    let object = EscapedText(key.as_str());
+    let user = EscapedText(user);
     write!(
         text,
         r#"<line class="tick" x1="{x}" y1="36" x2="{x}" y2="80"><title>"#
@@ -116,8 +116,8 @@ fn push_range(
     let x = axis.position(low);
     let y = 40 + line % 3 * 13;
     let width = bar_width(axis, low, high);
-    let object = Told(key.as_str());
-    let user = Told(user);
+    let object = EscapedText(key.as_str());
+    let user = EscapedText(user);
     write!(
         text,
         r#"<rect class="bar" x="{x}" y="{y}" width="{width}" height="9"><title>"#

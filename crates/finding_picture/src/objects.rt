@@ -8,7 +8,7 @@ ghost use Rattle.version_store.specs.Known.{versions_of};
 use crate::lasting::since;
 use crate::limits::{MOST_ROWS, MOST_VERSIONS};
 use base_types::{ObjectKey, OutOfMemory, key_text};
-use markup::{Told, first_of, push_rest};
+use markup::{EscapedText, first_of, push_rest};
 use object_past::{Maker, Removal, Version};
 use std::alloc::Global;
 use version_store::Context;
@@ -82,7 +82,7 @@ fn push_object_name(alloc: Global, text: &mut String, key: &ObjectKey) -> Result
     write!(
         text,
         "{BEFORE_OBJECT}{}{BEHIND_OBJECT}",
-        Told(name.as_str())
+        EscapedText(name.as_str())
     )?;
     Ok(())
 }
@@ -225,7 +225,7 @@ fn push_version(text: &mut String, log: &[LogEvent], version: &Version) -> Resul
         ++ version_row log.now version.now) }
 {
     let revision = version.revision.get();
-    let uid = Told(version.uid.as_str());
+    let uid = EscapedText(version.uid.as_str());
     write!(
         text,
         "<tr><td>from {revision} on</td><td>its revision {revision}</td><td><code>{uid}</code></td><td>"
@@ -256,7 +256,7 @@ fn push_removal(text: &mut String, log: &[LogEvent], removal: &Removal) -> Resul
 {
     let range = removal.range;
     let line = line_at(log, range.event);
-    let uid = Told(removal.uid.as_str());
+    let uid = EscapedText(removal.uid.as_str());
     let low = range.low;
     let high = range.high;
     writeln!(

@@ -7,7 +7,7 @@ ghost use Rattle.finding_picture.specs.Requests.{request_text, status_text, time
 use crate::showing::push_showing;
 use audit_event::{Event, Status};
 use base_types::{Decision, Moment, OutOfMemory, Pair, Text, User};
-use markup::{Told, push_moment};
+use markup::{EscapedText, push_moment};
 use write_groups::LogEvent;
 
 /// What stands for the event of a checkpoint, before what it shows.
@@ -76,7 +76,11 @@ fn push_entry(text: &mut String, name: &str, told: &Text) -> Result<(), OutOfMem
     ensures { OnOk result (string_bytes text.new ≡ string_bytes text.old
         ++ entry_text name.now told.now) }
 {
-    writeln!(text, "<dt>{name}</dt><dd>{}</dd>", Told(told.as_str()))?;
+    writeln!(
+        text,
+        "<dt>{name}</dt><dd>{}</dd>",
+        EscapedText(told.as_str())
+    )?;
     Ok(())
 }
 
@@ -106,8 +110,8 @@ fn push_query(text: &mut String, query: &[Pair]) -> Result<(), OutOfMemory>
 fn push_pair(text: &mut String, pair: &Pair) -> Result<(), OutOfMemory>
     ensures { OnOk result (string_bytes text.new ≡ string_bytes text.old ++ pair_text pair.now) }
 {
-    let name = Told(pair.name.as_str());
-    let value = Told(pair.value.as_str());
+    let name = EscapedText(pair.name.as_str());
+    let value = EscapedText(pair.value.as_str());
     writeln!(
         text,
         "<dt>Query</dt><dd><code>{name}</code> is <code>{value}</code></dd>"
@@ -152,7 +156,7 @@ fn push_status(text: &mut String, status: &Status) -> Result<(), OutOfMemory>
 {
     match status.code {
         Some(code) => {
-            let reason = Told(status.reason.as_str());
+            let reason = EscapedText(status.reason.as_str());
             writeln!(text, "<dt>Answer</dt><dd>{code} {reason}</dd>")?;
         }
         None => text.push_str("<dt>Answer</dt><dd>none: the request panicked</dd>\n")?,

@@ -7,7 +7,7 @@ use crate::limits::MOST_WRITES;
 use crate::looking::event_on;
 use audit_event::Event;
 use base_types::{OutOfMemory, Text, WriteLine};
-use markup::{Told, first_of, push_moment, push_rest};
+use markup::{EscapedText, first_of, push_moment, push_rest};
 use version_store::Context;
 
 /// Appends the table of the writes in the window.
@@ -80,7 +80,7 @@ fn push_author(
     write!(
         text,
         "</td><td>{line}</td><td><code>{}</code></td>",
-        Told(key.as_str())
+        EscapedText(key.as_str())
     )?;
     push_cells(text, event_on(context, line))
 }
@@ -95,7 +95,11 @@ fn push_cells(text: &mut String, event: Option<&Event>) -> Result<(), OutOfMemor
         text.push_str("<td>-</td><td>-</td><td>-</td></tr>\n")?;
         return Ok(());
     };
-    write!(text, "<td>{}</td><td>", Told(event.user.name.as_str()))?;
+    write!(
+        text,
+        "<td>{}</td><td>",
+        EscapedText(event.user.name.as_str())
+    )?;
     push_moment(text, event.received)?;
     text.push_str("</td><td>")?;
     push_moment(text, event.staged)?;

@@ -4,7 +4,7 @@ ghost use Rattle.finding_picture.specs.Segments.{is_on_axis, segment_text, segme
 
 use crate::limits::MOST_SEGMENTS;
 use base_types::{ObjectKey, OutOfMemory};
-use markup::{Axis, Told, first_of};
+use markup::{Axis, EscapedText, first_of};
 use object_past::Version;
 use std::alloc::Global;
 
@@ -92,7 +92,7 @@ fn push_segment(text: &mut String, axis: &Axis, version: &Version) -> Result<(),
     let revision = version.revision.get();
     let x = axis.position(revision);
     let width = segment_width(axis, revision);
-    let uid = Told(version.uid.as_str());
+    let uid = EscapedText(version.uid.as_str());
     writeln!(
         text,
         "<rect class=\"segment\" x=\"{x}\" y=\"108\" width=\"{width}\" height=\"18\">\

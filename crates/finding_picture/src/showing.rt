@@ -3,7 +3,7 @@ ghost use Rattle.finding_picture.specs.Showing.{answer_text, item_text, listing_
 ghost use Rattle.finding_picture.specs.Showing.{wanted_revision, wanted_uid, whole_words, words_text};
 
 use base_types::{OutOfMemory, Revision, Text};
-use markup::Told;
+use markup::EscapedText;
 use write_groups::{Item, Listing, LogEvent, Shown};
 
 /// Appends what an event's answer shows, and what its request asks of the object before.
@@ -37,7 +37,7 @@ fn push_wanted_uid(text: &mut String, wanted: &Option<Text>) -> Result<(), OutOf
     ensures { OnOk result (string_bytes text.new ≡ string_bytes text.old ++ wanted_uid wanted.now) }
 {
     if let Some(uid) = wanted {
-        let uid = Told(uid.as_str());
+        let uid = EscapedText(uid.as_str());
         writeln!(text, "<dt>Precondition</dt><dd>UID <code>{uid}</code></dd>")?;
     }
     Ok(())
@@ -76,7 +76,7 @@ fn push_item(text: &mut String, item: &Item) -> Result<(), OutOfMemory>
     ensures { OnOk result (string_bytes text.new ≡ string_bytes text.old ++ item_text item.now) }
 {
     let revision = item.revision.get();
-    let uid = Told(item.uid.as_str());
+    let uid = EscapedText(item.uid.as_str());
     writeln!(
         text,
         "<dt>Shows</dt><dd>its object at revision {revision}, UID <code>{uid}</code></dd>"
@@ -88,7 +88,7 @@ fn push_item(text: &mut String, item: &Item) -> Result<(), OutOfMemory>
 fn push_removed(text: &mut String, uid: &Text) -> Result<(), OutOfMemory>
     ensures { OnOk result (string_bytes text.new ≡ string_bytes text.old ++ removed_text uid.now) }
 {
-    let uid = Told(uid.as_str());
+    let uid = EscapedText(uid.as_str());
     writeln!(
         text,
         "<dt>Shows</dt><dd>that it removed the object of UID <code>{uid}</code></dd>"

@@ -20,8 +20,8 @@ use Rattle.log_verdict.specs.Taking.{IsReadToAnswer, IsReadToJudge, IsReadToSett
 use Rattle.log_verdict.specs.Verifying.{IsVerified, most_placement}
 use Rattle.log_verdict.specs.declared.asking.Answered.{Answered}
 use Rattle.log_verdict.specs.declared.asking.Answered.TheVariants as answered
-use Rattle.log_verdict.specs.declared.judged.Judged.{Judged}
-use Rattle.log_verdict.specs.declared.judged.Judged.TheVariants.{Refused, Verdict}
+use Rattle.log_verdict.specs.declared.judged.JudgedLog.{JudgedLog}
+use Rattle.log_verdict.specs.declared.judged.JudgedLog.TheVariants.{Refused, Verdict}
 use Rattle.log_verdict.specs.declared.report.Report.{Report}
 use Rattle.log_verdict.specs.declared.report.Status.{Status}
 use Rattle.log_verdict.specs.declared.report.Status.TheVariants.{Explained, Unexplained, SetupRefused, LogRefused, LimitPassed}
@@ -87,11 +87,11 @@ another_status status more (inr is) = omega (arith, more, is)
 
 -- what was read to its end before a report
 module _ (setup log : Option (List ℕ)) where
-  judged_whole : (judged : Judged) (report : Report) → report_answer report ≡ judged_answer judged → IsReadToJudge judged setup log → HasVerdictStatus report → IsAtEnd setup × IsAtEnd log
+  judged_whole : (judged : JudgedLog) (report : Report) → report_answer report ≡ judged_answer judged → IsReadToJudge judged setup log → HasVerdictStatus report → IsAtEnd setup × IsAtEnd log
   judged_whole (Refused refusal) report told read verdict = absurd (no_verdict refusal report told verdict)
   judged_whole (Verdict outcome) report told read verdict = read
 
-  judged_setup : (judged : Judged) (report : Report) → report_answer report ≡ judged_answer judged → IsReadToJudge judged setup log → HasBrokenStatus report → IsAtEnd setup
+  judged_setup : (judged : JudgedLog) (report : Report) → report_answer report ≡ judged_answer judged → IsReadToJudge judged setup log → HasBrokenStatus report → IsAtEnd setup
   judged_setup (Refused refusal) report told read broken = broken_setup refusal report setup log told read broken
   judged_setup (Verdict outcome) report told read broken = read.0
 
@@ -161,7 +161,7 @@ unprinted (Ok report) = tt
 unprinted (Err stop) = tt
 
 module _ (old now : List ℕ → Option (List ℕ)) (untouched : Type 0) (before after : ℕ) (setup log : List ℕ) (result : Result Report Stop) where
-  pub judge_reported : (inner : Result Judged Stop) → IsPassed judged_answer inner result
+  pub judge_reported : (inner : Result JudgedLog Stop) → IsPassed judged_answer inner result
       → IfOk inner (λ judged. (s l : List ℕ) → old setup ≡ Some s → old log ≡ Some l → IsJudged s l judged)
       → IfOk inner (λ judged. IsReadToJudge judged (now setup) (now log))
       → ReadsSetupAndLog setup log old now before after (IsErrOf inner ReadFault) (IsErrOf inner ReadFault) → IfOk result (PrintsPlacement (Judge setup log))

@@ -8,7 +8,7 @@ use Rattle.command_words.specs.Command.{Verify}
 use Rattle.log_verdict.specs.Answers.{answer}
 use Rattle.log_verdict.specs.Judging.{IsJudged}
 use Rattle.kubepast.specs.Program.{IsAnswerTo}
-use Rattle.log_verdict.specs.declared.judged.Judged.TheVariants.{Verdict}
+use Rattle.log_verdict.specs.declared.judged.JudgedLog.TheVariants.{Verdict}
 
 -- an explained log's text holds as its placement
 abbrev pub PrintedHolds : Type 0

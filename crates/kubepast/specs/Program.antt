@@ -13,8 +13,8 @@ use Rattle.log_verdict.specs.Judging.{IsJudged}
 use Rattle.log_verdict.specs.Strictly.{IsStrictlyJudged}
 use Rattle.log_verdict.specs.Verifying.{IsVerified}
 use Rattle.log_verdict.specs.declared.asking.Answered.{Answered}
-use Rattle.log_verdict.specs.declared.judged.Judged.{Judged}
-use Rattle.log_verdict.specs.declared.judged.Judged.TheVariants.{Refused, Verdict}
+use Rattle.log_verdict.specs.declared.judged.JudgedLog.{JudgedLog}
+use Rattle.log_verdict.specs.declared.judged.JudgedLog.TheVariants.{Refused, Verdict}
 use Rattle.log_verdict.specs.declared.report.Report.{Report}
 use Rattle.log_verdict.specs.declared.strictly.StrictlyJudged.{StrictlyJudged}
 use Rattle.log_verdict.specs.declared.verified.Verified.{Verified}
@@ -25,20 +25,20 @@ abbrev pub usage_answer : Answer
 usage_answer = answer 2 (ended (codes "usage"))
 
 -- of a made case the summary alone
-abbrev pub made_answer : (number events : ℕ) → Judged → Answer
+abbrev pub made_answer : (number events : ℕ) → JudgedLog → Answer
 made_answer number events (Refused refusal) = refusal_answer refusal
 made_answer number events (Verdict outcome) = answer (outcome_status outcome) (summary_text number events outcome)
 
 abbrev pub IsAnswerTo : Option Asked → (List ℕ → List ℕ) → Answer → Type 0
 IsAnswerTo None files answered = answered ≡ usage_answer
-IsAnswerTo (Some (Judge setup log)) files answered = (judged : Judged) × IsJudged (files setup) (files log) judged × (answered ≡ judged_answer judged)
+IsAnswerTo (Some (Judge setup log)) files answered = (judged : JudgedLog) × IsJudged (files setup) (files log) judged × (answered ≡ judged_answer judged)
 IsAnswerTo (Some (Strict setup log)) files answered = (found : StrictlyJudged) × IsStrictlyJudged (files setup) (files log) found × (answered ≡ strictly_answer found)
 IsAnswerTo (Some (Verify setup log placement)) files answered =
     (verified : Verified) × IsVerified (files setup) (files log) (files placement) verified × (answered ≡ verified_answer verified)
 IsAnswerTo (Some (Ask setup log question)) files answered =
     (found : Answered) × IsHistory (files setup) (files log) question found × (answered ≡ history_answer found)
 IsAnswerTo (Some (Make number events)) files answered =
-    (judged : Judged) × IsJudged setup_text (log_text number events) judged × (answered ≡ made_answer number events judged)
+    (judged : JudgedLog) × IsJudged setup_text (log_text number events) judged × (answered ≡ made_answer number events judged)
 
 -- the answer to the words, whose names have these bytes
 abbrev pub IsAnswer : List (List ℕ) → (List ℕ → List ℕ) → Answer → Type 0

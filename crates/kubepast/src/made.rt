@@ -10,7 +10,7 @@ use case_maker::{Case, make_case};
 use context_intake::Stop;
 use edge_io::{InputFile, InputFiles, SteadyDesk};
 use judge_pool::Gate;
-use log_verdict::{Gates, Judged, Report, judge, refusal_report, status_of};
+use log_verdict::{Gates, JudgedLog, Report, judge, refusal_report, status_of};
 use std::alloc::Global;
 use std::marker::Sync;
 use std::thread::Threads;
@@ -29,7 +29,7 @@ pub fn judge_made<R: Threads + Sync, G: Gate, H: Gate>(
     number: u64,
     events: u32,
     gates: Gates<'_, G, H>,
-) -> Result<Judged, OutOfMemory>
+) -> Result<JudgedLog, OutOfMemory>
     requires { events ≤ 100000 }
     ensures { IfOk result (IsJudged setup_text (log_text number events)) }
 {
@@ -48,13 +48,13 @@ pub fn made_report(
     alloc: Global,
     number: u64,
     events: u32,
-    judged: &Judged,
+    judged: &JudgedLog,
 ) -> Result<Report, OutOfMemory>
     ensures { IfOk result (λ report. report_answer report ≡ made_answer number events judged.now) }
 {
     match judged {
-        Judged::Refused(refusal) => refusal_report(alloc, *refusal),
-        Judged::Verdict(outcome) => Ok(Report {
+        JudgedLog::Refused(refusal) => refusal_report(alloc, *refusal),
+        JudgedLog::Verdict(outcome) => Ok(Report {
             status: status_of(outcome),
             text: summary(alloc, number, events, outcome)?,
         }),

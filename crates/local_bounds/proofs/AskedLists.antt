@@ -13,8 +13,8 @@ use Rattle.local_bounds.proofs.Askings.{zip_append}
 use Rattle.local_bounds.proofs.Asks.{asking_same}
 use Rattle.local_bounds.proofs.ListRight.{demands_of, list_is, demands_apart}
 use Rattle.local_bounds.proofs.Together.{asked_together}
-use Rattle.local_bounds.specs.declared.asking.Asking.{Asking}
-use Rattle.local_bounds.specs.declared.asking.KeyAsking.{KeyAsking}
+use Rattle.local_bounds.specs.declared.asking.BoundDemand.{BoundDemand}
+use Rattle.local_bounds.specs.declared.asking.KeyDemand.{KeyDemand}
 use Rattle.local_bounds.specs.Asked.{IsAsking}
 use Rattle.local_bounds.specs.Demands.{AreAsked, AreAskedOfList, IsDemandAsking, IsMetUnder, IsTogether}
 use Rattle.local_bounds.specs.Lacked.{AreLacked}
@@ -24,7 +24,7 @@ mapped f g [] = refl
 mapped f g (x ∷ xs) = ap (λ l. f (g x) ∷ l) (mapped f g xs)
 
 pub all_asked : (h : History) (number place : ℕ) (listing : Listing) (lacked : List (Bor ObjectKey)) → place ≡ listing.revision → AreLacked h (listing_of listing) (map (λ key. key.now) lacked)
-    → (askings others all : List KeyAsking) → AreAsked h number place (map (λ item. Shows (item_of item)) listing.items) askings → AreAsked h number place (map (λ key. Lacks key.now) lacked) others → all ≡ askings ++ others
+    → (askings others all : List KeyDemand) → AreAsked h number place (map (λ item. Shows (item_of item)) listing.items) askings → AreAsked h number place (map (λ key. Lacks key.now) lacked) others → all ≡ askings ++ others
     → AreAskedOfList h number (listing_of listing) all
 all_asked h number place listing lacked at lacks askings others all a b e = record {
   lacked = map (λ key. key.now) lacked;
@@ -37,7 +37,7 @@ all_asked h number place listing lacked at lacks askings others all a b e = reco
 }
 
 pub list_asked : (h : History) → IsReadable h → (number place low high : ℕ) (listing : Listing) → place ≡ listing.revision → AllPairs (λ a b. a.key ≢ b.key) listing.items
-    → (all : List KeyAsking) (asking : Asking) → AreAskedOfList h number (listing_of listing) all → low ≤ place → place ≤ high → IsTogether all asking
+    → (all : List KeyDemand) (asking : BoundDemand) → AreAskedOfList h number (listing_of listing) all → low ≤ place → place ≤ high → IsTogether all asking
     → IsAsking h (λ choice. SomewhereIn low high (λ x. IsListRight h number (listing_of listing) x (state h choice x))) asking
 list_asked h r number place low high listing at distinct all asking asks l m t =
     let apart : AllPairs (λ a b. a.key ≢ b.key) (listing_of listing).items = pairs_map item_of (λ a b. a.key ≢ b.key) listing.items distinct in

@@ -9,24 +9,24 @@ use Rattle.history_model.specs.Histories.{History, ranges}
 use Rattle.history_model.specs.States.{state}
 use Rattle.object_past.specs.declared.version.Version.{Version}
 use Rattle.object_past.specs.Modelled.{version_of}
-use Rattle.local_bounds.specs.declared.asking.KeyAsking.{KeyAsking}
-use Rattle.local_bounds.specs.declared.asking.KeyAsking.TheVariants.{Free, Under, Never}
+use Rattle.local_bounds.specs.declared.asking.KeyDemand.{KeyDemand}
+use Rattle.local_bounds.specs.declared.asking.KeyDemand.TheVariants.{Free, Under, Never}
 use Rattle.local_bounds.specs.declared.standing.Standing.{Standing}
 use Rattle.local_bounds.specs.declared.standing.Standing.TheVariants.{Absent, Present, Leaving}
-use Rattle.local_bounds.specs.declared.asking.Asking.{Asking}
-use Rattle.local_bounds.specs.declared.asking.Asking.TheVariants as whole
+use Rattle.local_bounds.specs.declared.asking.BoundDemand.{BoundDemand}
+use Rattle.local_bounds.specs.declared.asking.BoundDemand.TheVariants as whole
 use Rattle.local_bounds.specs.Asked.{IsKeyAsking, IsAsking, settled}
 use Rattle.local_bounds.specs.Standings.{IsStanding, IsLeaving, IsEither, standing_version, ask_of, ask_either}
 
 -- what is asked stays, where the same choices are meant
-pub asks_same : (h : History) (key : ObjectKey) (P Q : List ℕ → Type 0) (asking : KeyAsking) → ((choice : List ℕ) → IsChoice (ranges h) choice → P choice ↔ Q choice)
+pub asks_same : (h : History) (key : ObjectKey) (P Q : List ℕ → Type 0) (asking : KeyDemand) → ((choice : List ℕ) → IsChoice (ranges h) choice → P choice ↔ Q choice)
     → IsKeyAsking h key P asking → IsKeyAsking h key Q asking
 asks_same h key P Q Free same a = λ choice chosen. (same choice chosen).0 (a choice chosen)
 asks_same h key P Q (Under bound) same a =
     (a.0, a.1, λ choice chosen. ((λ q. (a.2 choice chosen).0 ((same choice chosen).1 q)), (λ m. (same choice chosen).0 ((a.2 choice chosen).1 m))))
 asks_same h key P Q Never same a = λ choice chosen q. a choice chosen ((same choice chosen).1 q)
 
-pub asking_same : (h : History) (P Q : List ℕ → Type 0) (asking : Asking) → ((choice : List ℕ) → IsChoice (ranges h) choice → P choice ↔ Q choice)
+pub asking_same : (h : History) (P Q : List ℕ → Type 0) (asking : BoundDemand) → ((choice : List ℕ) → IsChoice (ranges h) choice → P choice ↔ Q choice)
     → IsAsking h P asking → IsAsking h Q asking
 asking_same h P Q whole.Free same a = λ choice chosen. (same choice chosen).0 (a choice chosen)
 asking_same h P Q (whole.Under bounds) same a =

@@ -17,20 +17,20 @@ use Rattle.history_model.specs.States.{state}
 use Rattle.history_model.specs.Windows.{InWindow}
 use Rattle.history_model.specs.Words.{At, word}
 use Rattle.write_groups.specs.declared.window.Window.{Window}
-use Rattle.local_bounds.specs.declared.asking.Asking.{Asking}
-use Rattle.local_bounds.specs.declared.asking.Asking.TheVariants as whole
-use Rattle.local_bounds.specs.declared.asking.KeyAsking.{KeyAsking}
-use Rattle.local_bounds.specs.declared.asking.KeyAsking.TheVariants.{Free, Under, Never}
+use Rattle.local_bounds.specs.declared.asking.BoundDemand.{BoundDemand}
+use Rattle.local_bounds.specs.declared.asking.BoundDemand.TheVariants as whole
+use Rattle.local_bounds.specs.declared.asking.KeyDemand.{KeyDemand}
+use Rattle.local_bounds.specs.declared.asking.KeyDemand.TheVariants.{Free, Under, Never}
 use Rattle.local_bounds.proofs.Asks.{asking_same}
 use Rattle.local_bounds.specs.Asked.{IsKeyAsking, IsAsking, IsAskingOf, IsDeciding, HoldsUnder, HoldsAll, asking_from, bounds_of}
 use Rattle.local_bounds.specs.Known.{IsWindowOf}
 
-pub holds_key : (h : History) (key : ObjectKey) (P : List ℕ → Type 0) (asking : KeyAsking) (choice : List ℕ) → IsChoice (ranges h) choice → IsKeyAsking h key P asking → HoldsUnder choice asking ↔ P choice
+pub holds_key : (h : History) (key : ObjectKey) (P : List ℕ → Type 0) (asking : KeyDemand) (choice : List ℕ) → IsChoice (ranges h) choice → IsKeyAsking h key P asking → HoldsUnder choice asking ↔ P choice
 holds_key h key P Free choice chosen a = ((λ t. a choice chosen), λ p. tt)
 holds_key h key P (Under bound) choice chosen a = ((a.2 choice chosen).1, (a.2 choice chosen).0)
 holds_key h key P Never choice chosen a = ((λ t. absurd t), λ p. a choice chosen p)
 
-pub holds_all : (h : History) (P : List ℕ → Type 0) (asking : Asking) (choice : List ℕ) → IsChoice (ranges h) choice → IsAsking h P asking → HoldsAll choice asking ↔ P choice
+pub holds_all : (h : History) (P : List ℕ → Type 0) (asking : BoundDemand) (choice : List ℕ) → IsChoice (ranges h) choice → IsAsking h P asking → HoldsAll choice asking ↔ P choice
 holds_all h P whole.Free choice chosen a = ((λ t. a choice chosen), λ p. tt)
 holds_all h P (whole.Under bounds) choice chosen a = ((a.1 choice chosen).1, (a.1 choice chosen).0)
 holds_all h P whole.Never choice chosen a = ((λ t. absurd t), λ p. a choice chosen p)
@@ -50,7 +50,7 @@ one_met choice bound = ((λ m. all_from (Meets choice) (bound ∷ []) (λ x c. g
     go x m (inr c) = absurd (not_in_none c)
 
 -- one bound is all
-pub key_whole : (h : History) (key : ObjectKey) (P : List ℕ → Type 0) (asking : KeyAsking) → IsKeyAsking h key P asking → IsAsking h P (asking_from asking)
+pub key_whole : (h : History) (key : ObjectKey) (P : List ℕ → Type 0) (asking : KeyDemand) → IsKeyAsking h key P asking → IsAsking h P (asking_from asking)
 key_whole h key P Free a = a
 key_whole h key P (Under bound) a = (
   record { rising = λ i j d l m. absurd (omega arith); deciding = λ x c. go x (in_cons bound [] x c) },
@@ -63,7 +63,7 @@ key_whole h key P (Under bound) a = (
 key_whole h key P Never a = a
 
 -- bounds that are exact
-pub exact_from : (h : History) (number : ℕ) (event : model.Event) (asking : Asking) → IsAskingOf h number event asking → AreExactBounds h number event (bounds_of asking)
+pub exact_from : (h : History) (number : ℕ) (event : model.Event) (asking : BoundDemand) → IsAskingOf h number event asking → AreExactBounds h number event (bounds_of asking)
 exact_from h number event whole.Free a = go (open_is (ranges h) [] (λ i j d l m. absurd (omega arith)) (λ b c. absurd (not_in_none c)))
   where
     go : (choice : List ℕ) × IsChoice (ranges h) choice × MeetsAll choice [] → AreExactBounds h number event []
@@ -77,7 +77,7 @@ exact_from h number event (whole.Under bounds) a = go (open_is (ranges h) bounds
     go (choice, chosen, met) = inl ((choice, chosen, (a.1 choice chosen).1 met), a.1)
 exact_from h number event whole.Never a = inr (a, refl)
 
-pub exact_as : (h : History) (number : ℕ) (event : model.Event) (asking : Asking) (bounds : List Bound) → bounds ≡ bounds_of asking → IsAskingOf h number event asking → AreExactBounds h number event bounds
+pub exact_as : (h : History) (number : ℕ) (event : model.Event) (asking : BoundDemand) (bounds : List Bound) → bounds ≡ bounds_of asking → IsAskingOf h number event asking → AreExactBounds h number event bounds
 exact_as h number event asking bounds e a = subst (AreExactBounds h number event) (sym e) (exact_from h number event asking a)
 
 -- an answer holds where it is right somewhere in its window
@@ -89,7 +89,7 @@ module _ (h : History) (number : ℕ) (event : model.Event) (window : Window) (w
       back (x, i, r) = (x, omega (arith, i.0, w.from), omega (arith, i.1, w.to), r)
 
   -- by what it is right at each place
-  pub asking_by : (Q : List ℕ → ℕ → Type 0) (asking : Asking) → ((choice : List ℕ) (x : ℕ) → IsRight h number event x (state h choice x) ↔ Q choice x)
+  pub asking_by : (Q : List ℕ → ℕ → Type 0) (asking : BoundDemand) → ((choice : List ℕ) (x : ℕ) → IsRight h number event x (state h choice x) ↔ Q choice x)
       → IsAsking h (λ choice. SomewhereIn window.low window.high (Q choice)) asking → IsAskingOf h number event asking
   asking_by Q asking same a = asking_same h (λ choice. SomewhereIn window.low window.high (Q choice)) (λ choice. AnswerHolds h choice number event) asking
       (λ choice chosen. ((λ (x, l, m, q). (answer_is choice).0 (x, l, m, (same choice x).1 q)), λ p. to choice ((answer_is choice).1 p))) a

@@ -6,15 +6,15 @@ use Rattle.base_types.specs.declared.claim.Bound.{Bound}
 use Rattle.history_model.proofs.Members.{not_in_none, here, there, in_cons, all_at, all_from, pairs_head, pairs_tail, pairs_cons}
 use Rattle.history_model.specs.Bounding.{Demand, demand_key}
 use Rattle.history_model.specs.Histories.{History, ranges}
-use Rattle.local_bounds.specs.declared.asking.Asking.{Asking}
-use Rattle.local_bounds.specs.declared.asking.Asking.TheVariants as whole
-use Rattle.local_bounds.specs.declared.asking.KeyAsking.{KeyAsking}
-use Rattle.local_bounds.specs.declared.asking.KeyAsking.TheVariants.{Free, Under, Never}
+use Rattle.local_bounds.specs.declared.asking.BoundDemand.{BoundDemand}
+use Rattle.local_bounds.specs.declared.asking.BoundDemand.TheVariants as whole
+use Rattle.local_bounds.specs.declared.asking.KeyDemand.{KeyDemand}
+use Rattle.local_bounds.specs.declared.asking.KeyDemand.TheVariants.{Free, Under, Never}
 use Rattle.local_bounds.specs.Asked.{IsDeciding, IsOnKey, IsAsking}
 use Rattle.local_bounds.specs.Demands.{IsMetUnder, IsDemandAsking, AreAsked, bounds_in, IsPossible, IsTogether}
 use Rattle.local_bounds.proofs.Strict.{strict_by}
 
-possible_tail : (asking : KeyAsking) (askings : List KeyAsking) → IsPossible (asking ∷ askings) → IsPossible askings
+possible_tail : (asking : KeyDemand) (askings : List KeyDemand) → IsPossible (asking ∷ askings) → IsPossible askings
 possible_tail asking askings p = λ k d l. p (suc k) d (omega arith)
 
 meets_cons : (choice : List ℕ) (bound : Bound) (bounds : List Bound) → Meets choice bound → MeetsAll choice bounds → MeetsAll choice (bound ∷ bounds)
@@ -28,7 +28,7 @@ module _ (h : History) (number place : ℕ) where
   abbrev AllMet : List ℕ → List Demand → Type 0
   AllMet choice demands = (d : Demand) → Contains demands d → IsMetUnder h number place choice d
 
-  met_bounds : (choice : List ℕ) → IsChoice (ranges h) choice → (demands : List Demand) (askings : List KeyAsking) → AreAsked h number place demands askings → IsPossible askings
+  met_bounds : (choice : List ℕ) → IsChoice (ranges h) choice → (demands : List Demand) (askings : List KeyDemand) → AreAsked h number place demands askings → IsPossible askings
       → AllMet choice demands → MeetsAll choice (bounds_in askings)
   met_bounds choice chosen [] [] a p met = λ k d l. absurd (omega arith)
   met_bounds choice chosen [] (asking ∷ askings) a p met = absurd a
@@ -46,7 +46,7 @@ module _ (h : History) (number place : ℕ) where
       go e (inl s) = subst (IsMetUnder h number place choice) s first
       go e (inr c) = rest e c
 
-  bounds_met : (choice : List ℕ) → IsChoice (ranges h) choice → (demands : List Demand) (askings : List KeyAsking) → AreAsked h number place demands askings → IsPossible askings
+  bounds_met : (choice : List ℕ) → IsChoice (ranges h) choice → (demands : List Demand) (askings : List KeyDemand) → AreAsked h number place demands askings → IsPossible askings
       → MeetsAll choice (bounds_in askings) → AllMet choice demands
   bounds_met choice chosen [] [] a p m = λ e c. absurd (not_in_none c)
   bounds_met choice chosen [] (asking ∷ askings) a p m = absurd a
@@ -64,7 +64,7 @@ module _ (h : History) (number place : ℕ) where
   of_more : (e : Demand) (demands : List Demand) (bound : Bound) → IsOfDemand demands bound → IsOfDemand (e ∷ demands) bound
   of_more e demands bound (d, c, x, k) = (d, there e d demands c, x, k)
 
-  of_demand : (demands : List Demand) (askings : List KeyAsking) → AreAsked h number place demands askings → (bound : Bound) → Contains (bounds_in askings) bound → IsOfDemand demands bound
+  of_demand : (demands : List Demand) (askings : List KeyDemand) → AreAsked h number place demands askings → (bound : Bound) → Contains (bounds_in askings) bound → IsOfDemand demands bound
   of_demand [] [] a bound c = absurd (not_in_none c)
   of_demand [] (asking ∷ askings) a bound c = absurd a
   of_demand (d ∷ demands) [] a bound c = absurd a
@@ -80,7 +80,7 @@ module _ (h : History) (number place : ℕ) where
   other_range : (a b : Demand) (x y : Bound) → demand_key a ≢ demand_key b → IsOnKey h (demand_key a) x → IsDeciding h y → IsOnKey h (demand_key b) y → x.range ≢ y.range
   other_range a b x y n k d l e = n (sym (k d.removal (ap (λ i. slice_get h.removals i) e ∙ d.known)) ∙ l d.removal d.known)
 
-  ranges_apart : (demands : List Demand) (askings : List KeyAsking) → AreAsked h number place demands askings → AllPairs (λ a b. demand_key a ≢ demand_key b) demands
+  ranges_apart : (demands : List Demand) (askings : List KeyDemand) → AreAsked h number place demands askings → AllPairs (λ a b. demand_key a ≢ demand_key b) demands
       → AllPairs (λ x y. x.range ≢ y.range) (bounds_in askings)
   ranges_apart [] [] a n = λ i j d l m. absurd (omega arith)
   ranges_apart [] (asking ∷ askings) a n = absurd a
@@ -94,7 +94,7 @@ module _ (h : History) (number place : ℕ) where
       go y (e, c, x, k) = other_range d e bound y (all_at (λ b. demand_key d ≢ demand_key b) demands e (pairs_head (λ a b. demand_key a ≢ demand_key b) d demands n) c) a.0.1 x k
   ranges_apart (d ∷ demands) (Never ∷ askings) a n = ranges_apart demands askings a.1 (pairs_tail (λ a b. demand_key a ≢ demand_key b) d demands n)
 
-  never_met : (demands : List Demand) (askings : List KeyAsking) → AreAsked h number place demands askings → Contains askings Never
+  never_met : (demands : List Demand) (askings : List KeyDemand) → AreAsked h number place demands askings → Contains askings Never
       → (choice : List ℕ) → IsChoice (ranges h) choice → AllMet choice demands → ⊥
   never_met [] [] a c choice chosen met = absurd (not_in_none c)
   never_met [] (asking ∷ askings) a c choice chosen met = absurd a
@@ -102,14 +102,14 @@ module _ (h : History) (number place : ℕ) where
   never_met (d ∷ demands) (asking ∷ askings) a c choice chosen met =
       go asking a.0 (λ k. never_met demands askings a.1 k choice chosen (λ e l. met e (there d e demands l))) (in_cons asking askings Never c)
     where
-      go : (asking : KeyAsking) → IsDemandAsking h number place d asking → (Contains askings Never → ⊥) → (asking ≡ Never) ⊎ Contains askings Never → ⊥
+      go : (asking : KeyDemand) → IsDemandAsking h number place d asking → (Contains askings Never → ⊥) → (asking ≡ Never) ⊎ Contains askings Never → ⊥
       go Free x rest (inl e) = absurd (cc e)
       go (Under bound) x rest (inl e) = absurd (cc e)
       go Never x rest (inl e) = x choice chosen (met d (here d demands))
       go other x rest (inr k) = rest k
 
   -- all that is asked of different keys
-  pub asked_together : (demands : List Demand) (askings : List KeyAsking) (asking : Asking) → AreAsked h number place demands askings → AllPairs (λ a b. demand_key a ≢ demand_key b) demands
+  pub asked_together : (demands : List Demand) (askings : List KeyDemand) (asking : BoundDemand) → AreAsked h number place demands askings → AllPairs (λ a b. demand_key a ≢ demand_key b) demands
       → IsTogether askings asking → IsAsking h (λ choice. (d : Demand) → Contains demands d → IsMetUnder h number place choice d) asking
   asked_together demands askings whole.Free a n t = λ choice chosen. bounds_met choice chosen demands askings a t.0 (subst (MeetsAll choice) (sym t.1) (λ k d l. absurd (omega arith)))
   asked_together demands askings (whole.Under bounds) a n t = (

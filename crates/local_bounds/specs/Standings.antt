@@ -7,8 +7,8 @@ use Rattle.history_model.specs.Histories.{History, ranges}
 use Rattle.history_model.specs.States.{state}
 use Rattle.object_past.specs.declared.version.Version.{Version}
 use Rattle.object_past.specs.Modelled.{version_of}
-use Rattle.local_bounds.specs.declared.asking.KeyAsking.{KeyAsking}
-use Rattle.local_bounds.specs.declared.asking.KeyAsking.TheVariants.{Free, Under, Never}
+use Rattle.local_bounds.specs.declared.asking.KeyDemand.{KeyDemand}
+use Rattle.local_bounds.specs.declared.asking.KeyDemand.TheVariants.{Free, Under, Never}
 use Rattle.local_bounds.specs.declared.standing.Standing.{Standing}
 use Rattle.local_bounds.specs.declared.standing.Standing.TheVariants.{Absent, Present, Leaving}
 use Rattle.local_bounds.specs.Asked.{IsDeciding, IsOnKey, settled}
@@ -37,11 +37,11 @@ standing_version Absent = None
 standing_version (Present version) = Some version.now
 standing_version (Leaving version gone there) = Some version.now
 
-abbrev pub ask_either : (if_absent if_present : Bool) → Bound → Bound → KeyAsking
+abbrev pub ask_either : (if_absent if_present : Bool) → Bound → Bound → KeyDemand
 ask_either if_absent if_present gone there = if if_absent then (if if_present then Free else Under gone) else (if if_present then Under there else Never)
 
 -- what is asked where the absent object, and the present one, fit so
-abbrev pub ask_of : Standing → (if_absent if_present : Bool) → KeyAsking
+abbrev pub ask_of : Standing → (if_absent if_present : Bool) → KeyDemand
 ask_of Absent if_absent if_present = settled if_absent
 ask_of (Present version) if_absent if_present = settled if_present
 ask_of (Leaving version gone there) if_absent if_present = ask_either if_absent if_present gone there

@@ -6,7 +6,7 @@ ghost use Rattle.local_bounds.specs.Known.{IsKnownBy, HasSelectors, IsWindowOf};
 ghost use Rattle.local_bounds.specs.Subjects.{IsFindingOf};
 ghost use Rattle.write_groups.specs.Modelled.{event_of};
 
-use crate::asking::{Asking, KeyAsking};
+use crate::asking::{BoundDemand, KeyDemand};
 use crate::known::{Known, Listable};
 use crate::listing::list_asking;
 use crate::object::object_asking;
@@ -16,17 +16,17 @@ use std::alloc::Global;
 use write_groups::{LogEvent, Window};
 
 // What is asked of one object, as all that is asked.
-fn asking_from(alloc: Global, asking: KeyAsking) -> Result<Asking, OutOfMemory>
+fn asking_from(alloc: Global, asking: KeyDemand) -> Result<BoundDemand, OutOfMemory>
     ensures { IfOk result (λ made. made ≡ asking_from asking) }
 {
     match asking {
-        KeyAsking::Free => Ok(Asking::Free),
-        KeyAsking::Under(bound) => {
+        KeyDemand::Free => Ok(BoundDemand::Free),
+        KeyDemand::Under(bound) => {
             let mut bounds = Bounds::new(alloc);
             bounds.push(bound)?;
-            Ok(Asking::Under(bounds))
+            Ok(BoundDemand::Under(bounds))
         }
-        KeyAsking::Never => Ok(Asking::Never),
+        KeyDemand::Never => Ok(BoundDemand::Never),
     }
 }
 
@@ -41,7 +41,7 @@ pub fn asking_of<L: Listable>(
     number: u32,
     event: &LogEvent,
     finding: Option<Reason>,
-) -> Result<Asking, OutOfMemory>
+) -> Result<BoundDemand, OutOfMemory>
     ensures { IfOk result
         (λ asking. (h : History) → IsKnownBy known.entry.past.now known.entry.clouds.now h
         → HasSelectors (L.listable lists.now) h
@@ -55,6 +55,6 @@ pub fn asking_of<L: Listable>(
             asking_from(alloc, object_asking(known, key, sight, window))
         }
         Subject::List(listing) => list_asking(alloc, known, lists, window, number, listing),
-        Subject::Nothing => Ok(Asking::Free),
+        Subject::Nothing => Ok(BoundDemand::Free),
     }
 }

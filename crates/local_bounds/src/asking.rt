@@ -7,7 +7,7 @@ use std::alloc::Global;
 
 /// What an answer asks of the removals' places.
 #[derive(Drop)]
-pub enum Asking {
+pub enum BoundDemand {
     /// It is right whatever is chosen.
     Free,
     /// It is right exactly under these bounds, by range rising, each on a range whose place decides.
@@ -18,7 +18,7 @@ pub enum Asking {
 
 /// What is asked of the removals' places for one object.
 #[derive(Clone, Copy, PartialEq, Eq)]
-pub enum KeyAsking {
+pub enum KeyDemand {
     /// It is so whatever is chosen.
     Free,
     /// It is so exactly under this bound.
@@ -47,15 +47,15 @@ fn meets_all(choice: &[u64], bounds: &[Bound]) -> bool
     true
 }
 
-impl KeyAsking {
+impl KeyDemand {
     /// What is asked where no choice decides.
-    pub fn settled(holds: bool) -> KeyAsking
+    pub fn settled(holds: bool) -> KeyDemand
         ensures { result ≡ settled holds }
     {
         if holds {
-            KeyAsking::Free
+            KeyDemand::Free
         } else {
-            KeyAsking::Never
+            KeyDemand::Never
         }
     }
 
@@ -64,14 +64,14 @@ impl KeyAsking {
         ensures { IsTrue result ↔ HoldsUnder choice.now self }
     {
         match self {
-            KeyAsking::Free => true,
-            KeyAsking::Under(bound) => meets(choice, bound),
-            KeyAsking::Never => false,
+            KeyDemand::Free => true,
+            KeyDemand::Under(bound) => meets(choice, bound),
+            KeyDemand::Never => false,
         }
     }
 }
 
-impl Asking {
+impl BoundDemand {
     ghost use Rattle.history_model.specs.Events.{Event};
     ghost use Rattle.history_model.specs.Exact.{AreExactBounds};
     ghost use Rattle.history_model.specs.Histories.{History};
@@ -82,9 +82,9 @@ impl Asking {
         ensures { IsTrue result ↔ HoldsAll choice.now self.now }
     {
         match self {
-            Asking::Free => true,
-            Asking::Under(bounds) => meets_all(choice, bounds.as_slice()),
-            Asking::Never => false,
+            BoundDemand::Free => true,
+            BoundDemand::Under(bounds) => meets_all(choice, bounds.as_slice()),
+            BoundDemand::Never => false,
         }
     }
 
@@ -98,12 +98,12 @@ impl Asking {
     }
 }
 
-fn bounds_of(alloc: Global, asking: Asking) -> Bounds
+fn bounds_of(alloc: Global, asking: BoundDemand) -> Bounds
     ensures { result ≡ bounds_of asking }
 {
     match asking {
-        Asking::Free => Bounds::new(alloc),
-        Asking::Under(bounds) => bounds,
-        Asking::Never => Bounds::new(alloc),
+        BoundDemand::Free => Bounds::new(alloc),
+        BoundDemand::Under(bounds) => bounds,
+        BoundDemand::Never => Bounds::new(alloc),
     }
 }

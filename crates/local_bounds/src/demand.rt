@@ -5,7 +5,7 @@ ghost use Rattle.local_bounds.specs.Demands.{IsDemandAsking};
 ghost use Rattle.local_bounds.specs.Known.{IsKnownBy, HasSelectors};
 ghost use Rattle.write_groups.specs.Modelled.{item_of};
 
-use crate::asking::KeyAsking;
+use crate::asking::KeyDemand;
 use crate::known::{Known, Listable};
 use crate::seen::seen_at;
 use crate::sight::Sight;
@@ -20,18 +20,18 @@ pub fn shown_asking<L: Listable>(
     number: u32,
     place: u64,
     item: &Item,
-) -> Result<KeyAsking, OutOfMemory>
+) -> Result<KeyDemand, OutOfMemory>
     ensures { IfOk result
         (λ asking. (h : History) → IsKnownBy known.entry.past.now known.entry.clouds.now h
         → HasSelectors (L.listable lists.now) h
         → IsDemandAsking h number place (Shows (item_of item.now)) asking) }
 {
     if known.clouds.clouded(&item.key, place) {
-        return Ok(KeyAsking::Free);
+        return Ok(KeyDemand::Free);
     }
     let listable = lists.is_listable(number, item.node)?;
     if !listable {
-        return Ok(KeyAsking::Never);
+        return Ok(KeyDemand::Never);
     }
     Ok(seen_at(known.past, &item.key, Sight::Shown(item), place))
 }
@@ -43,14 +43,14 @@ pub fn lacked_asking<L: Listable>(
     number: u32,
     place: u64,
     key: &ObjectKey,
-) -> Result<KeyAsking, OutOfMemory>
+) -> Result<KeyDemand, OutOfMemory>
     ensures { IfOk result
         (λ asking. (h : History) → IsKnownBy known.entry.past.now known.entry.clouds.now h
         → HasSelectors (L.listable lists.now) h
         → IsDemandAsking h number place (Lacks key.now) asking) }
 {
     if known.clouds.clouded(key, place) {
-        return Ok(KeyAsking::Free);
+        return Ok(KeyDemand::Free);
     }
     let standing = standing_at(known.past, key, place);
     let Some(version) = standing.version() else {

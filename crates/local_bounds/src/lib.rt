@@ -18,6 +18,6 @@ mod standing;
 mod subject;
 
 pub use answer::asking_of;
-pub use asking::{Asking, KeyAsking};
+pub use asking::{BoundDemand, KeyDemand};
 pub use known::{Known, Listable};
 pub use place::place_of;

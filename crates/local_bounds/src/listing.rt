@@ -11,7 +11,7 @@ ghost use Rattle.local_bounds.specs.Lacked.{AreLacked};
 ghost use Rattle.object_past.specs.Among.{keys_at};
 ghost use Rattle.write_groups.specs.Modelled.{item_of, listing_of};
 
-use crate::asking::{Asking, KeyAsking};
+use crate::asking::{BoundDemand, KeyDemand};
 use crate::demand::{lacked_asking, shown_asking};
 use crate::gathering::together;
 use crate::keys::distinct_keys;
@@ -29,7 +29,7 @@ fn shown_askings<L: Listable>(
     number: u32,
     place: u64,
     items: &[Item],
-) -> Result<Vec<KeyAsking>, OutOfMemory>
+) -> Result<Vec<KeyDemand>, OutOfMemory>
     ensures { IfOk result
         (λ askings. (h : History) → IsKnownBy known.entry.past.now known.entry.clouds.now h
         → HasSelectors (L.listable lists.now) h
@@ -51,7 +51,7 @@ fn lacked_askings<L: Listable>(
     number: u32,
     place: u64,
     keys: &[&ObjectKey],
-) -> Result<Vec<KeyAsking>, OutOfMemory>
+) -> Result<Vec<KeyDemand>, OutOfMemory>
     ensures { IfOk result
         (λ askings. (h : History) → IsKnownBy known.entry.past.now known.entry.clouds.now h
         → HasSelectors (L.listable lists.now) h
@@ -93,7 +93,7 @@ fn key_askings<L: Listable>(
     number: u32,
     listing: &Listing,
     shown: &[&ObjectKey],
-) -> Result<Vec<KeyAsking>, OutOfMemory>
+) -> Result<Vec<KeyDemand>, OutOfMemory>
     requires { AreKeysOf listing.now.items shown.now }
     ensures { IfOk result
         (λ askings. (h : History) → IsKnownBy known.entry.past.now known.entry.clouds.now h
@@ -116,7 +116,7 @@ pub fn list_asking<L: Listable>(
     window: Window,
     number: u32,
     listing: &Listing,
-) -> Result<Asking, OutOfMemory>
+) -> Result<BoundDemand, OutOfMemory>
     ensures { IfOk result
         (λ asking. (h : History) → IsKnownBy known.entry.past.now known.entry.clouds.now h
         → HasSelectors (L.listable lists.now) h
@@ -125,10 +125,10 @@ pub fn list_asking<L: Listable>(
 {
     let place = listing.revision.get();
     if place < window.low || window.high < place {
-        return Ok(Asking::Never);
+        return Ok(BoundDemand::Never);
     }
     let Some(shown) = distinct_keys(alloc, listing.items.as_slice())? else {
-        return Ok(Asking::Never);
+        return Ok(BoundDemand::Never);
     };
     let askings = key_askings(alloc, known, lists, number, listing, &shown)?;
     together(alloc, &askings)

@@ -7,7 +7,7 @@ ghost use Rattle.local_bounds.specs.Asked.{IsKeyAsking};
 ghost use Rattle.local_bounds.specs.Known.{IsKnownBy};
 ghost use Rattle.local_bounds.specs.Sights.{IsSeen};
 
-use crate::asking::KeyAsking;
+use crate::asking::KeyDemand;
 use crate::known::Known;
 use crate::seen::seen_within;
 use crate::sight::Sight;
@@ -20,13 +20,13 @@ pub fn object_asking(
     key: &ObjectKey,
     sight: Sight<'_>,
     window: Window,
-) -> KeyAsking
+) -> KeyDemand
     ensures { (h : History) → IsKnownBy known.entry.past.now known.entry.clouds.now h
         → IsKeyAsking h key.now (λ choice. SomewhereIn window.low window.high
         (λ x. IsClouded h key.now x ⊎ IsSeen sight.entry (state h choice x key.now))) result }
 {
     if known.clouds.meets(key, window.low, window.high).is_some() {
-        return KeyAsking::Free;
+        return KeyDemand::Free;
     }
     seen_within(known.past, key, sight, window)
 }

@@ -8,7 +8,7 @@ ghost use Rattle.local_bounds.specs.Sights.{IsSeen, IsSeenWithin};
 ghost use Rattle.history_model.specs.Right.{IsShown, IsRefused};
 ghost use Rattle.write_groups.specs.Modelled.{item_of, conditions_of};
 
-use crate::asking::KeyAsking;
+use crate::asking::KeyDemand;
 use crate::coming::last_comer;
 use crate::sight::{Sight, is_shown};
 use crate::standing::standing_at;
@@ -17,7 +17,7 @@ use object_past::Past;
 use write_groups::{Item, Preconditions, Window};
 
 /// What is asked, so that the object is so at the place.
-pub fn seen_at(past: &Past, key: &ObjectKey, sight: Sight<'_>, place: u64) -> KeyAsking
+pub fn seen_at(past: &Past, key: &ObjectKey, sight: Sight<'_>, place: u64) -> KeyDemand
     ensures { (h : History) → IsPastOf past.now h
         → IsKeyAsking h key.now (λ choice. IsSeen sight.entry (state h choice place key.now))
         result }
@@ -30,14 +30,14 @@ pub fn seen_at(past: &Past, key: &ObjectKey, sight: Sight<'_>, place: u64) -> Ke
 }
 
 // An absent object is somewhere where it is absent anyway, or at the window's last place.
-fn gone_within(past: &Past, key: &ObjectKey, window: Window) -> KeyAsking
+fn gone_within(past: &Past, key: &ObjectKey, window: Window) -> KeyDemand
     requires { window.low ≤ window.high }
     ensures { (h : History) → IsPastOf past.now h
         → IsKeyAsking h key.now (λ choice. SomewhereIn window.low window.high
         (λ x. state h choice x key.now ≡ None)) result }
 {
     if past.is_absent_within(key, window.low, window.high) {
-        return KeyAsking::Free;
+        return KeyDemand::Free;
     }
     seen_at(past, key, Sight::Gone, window.high)
 }
@@ -49,7 +49,7 @@ fn there_within(
     sight: Sight<'_>,
     window: Window,
     comes: bool,
-) -> KeyAsking
+) -> KeyDemand
     requires { window.low ≤ window.high }
     ensures { (h : History) → IsPastOf past.now h → (IsSeen sight.entry None → ⊥)
         → (IsTrue comes
@@ -58,7 +58,7 @@ fn there_within(
         (λ choice. IsSeenWithin h choice key.now sight.entry window.low window.high) result }
 {
     if comes {
-        return KeyAsking::Free;
+        return KeyDemand::Free;
     }
     seen_at(past, key, sight, window.low)
 }
@@ -148,7 +148,7 @@ fn is_refused_within(
 }
 
 // What a Conflict asks: without a uid the object is there, with a uid it may be absent.
-fn refused_within(past: &Past, key: &ObjectKey, asked: &Preconditions, window: Window) -> KeyAsking
+fn refused_within(past: &Past, key: &ObjectKey, asked: &Preconditions, window: Window) -> KeyDemand
     requires { window.low ≤ window.high }
     ensures { (h : History) → IsPastOf past.now h
         → IsKeyAsking h key.now (λ choice. SomewhereIn window.low window.high (λ x. IsRefused
@@ -159,19 +159,19 @@ fn refused_within(past: &Past, key: &ObjectKey, asked: &Preconditions, window: W
         return there_within(past, key, Sight::Refused(asked), window, comes);
     };
     if is_refused_within(past, key, asked, uid, window) {
-        return KeyAsking::Free;
+        return KeyDemand::Free;
     }
     gone_within(past, key, window)
 }
 
 /// What is asked, so that the object is so somewhere in the window.
-pub fn seen_within(past: &Past, key: &ObjectKey, sight: Sight<'_>, window: Window) -> KeyAsking
+pub fn seen_within(past: &Past, key: &ObjectKey, sight: Sight<'_>, window: Window) -> KeyDemand
     ensures { (h : History) → IsPastOf past.now h
         → IsKeyAsking h key.now
         (λ choice. IsSeenWithin h choice key.now sight.entry window.low window.high) result }
 {
     if window.low > window.high {
-        return KeyAsking::Never;
+        return KeyDemand::Never;
     }
     match sight {
         Sight::Gone => gone_within(past, key, window),
@@ -184,6 +184,6 @@ pub fn seen_within(past: &Past, key: &ObjectKey, sight: Sight<'_>, window: Windo
             there_within(past, key, sight, window, comes)
         }
         Sight::Refused(asked) => refused_within(past, key, asked, window),
-        Sight::Nowhere => KeyAsking::Never,
+        Sight::Nowhere => KeyDemand::Never,
     }
 }

@@ -3,7 +3,7 @@ ghost use Rattle.history_model.specs.Histories.{History};
 ghost use Rattle.local_bounds.specs.Known.{IsPastOf};
 ghost use Rattle.local_bounds.specs.Standings.{IsStanding, ask_of, standing_version};
 
-use crate::asking::KeyAsking;
+use crate::asking::KeyDemand;
 use base_types::{Bound, ObjectKey};
 use object_past::{Past, Version};
 
@@ -67,23 +67,23 @@ impl<'a> Standing<'a> {
     }
 
     /// What is asked where the absent object, and the present one, fit so.
-    pub fn ask(self, if_absent: bool, if_present: bool) -> KeyAsking
+    pub fn ask(self, if_absent: bool, if_present: bool) -> KeyDemand
         ensures { result ≡ ask_of self.entry if_absent if_present }
     {
         match self {
-            Standing::Absent => KeyAsking::settled(if_absent),
-            Standing::Present(_) => KeyAsking::settled(if_present),
+            Standing::Absent => KeyDemand::settled(if_absent),
+            Standing::Present(_) => KeyDemand::settled(if_present),
             Standing::Leaving { gone, there, .. } => {
                 if if_absent && if_present {
-                    return KeyAsking::Free;
+                    return KeyDemand::Free;
                 }
                 if if_absent {
-                    return KeyAsking::Under(gone);
+                    return KeyDemand::Under(gone);
                 }
                 if if_present {
-                    return KeyAsking::Under(there);
+                    return KeyDemand::Under(there);
                 }
-                KeyAsking::Never
+                KeyDemand::Never
             }
         }
     }

@@ -8,7 +8,7 @@ use crate::gone::TABLE_END;
 use crate::limits::CHANGE_LIMIT;
 use crate::tallies::{Tallies, tallies_of};
 use base_types::{ObjectKey, OutOfMemory, key_text};
-use markup::{Told, first_of, push_rest};
+use markup::{EscapedText, first_of, push_rest};
 use object_past::Version;
 use std::alloc::Global;
 use std::cmp::Reverse;
@@ -104,7 +104,7 @@ fn append_row(alloc: Global, text: &mut String, changed: &Changed) -> Result<(),
     writeln!(
         text,
         "<tr><td>{}</td><td>{count}</td><td>{first}</td><td>{last}</td></tr>",
-        Told(key.as_str())
+        EscapedText(key.as_str())
     )?;
     Ok(())
 }

@@ -5,7 +5,7 @@ ghost use Rattle.log_picture.specs.Gone.{removed_at, removed_by, removed_text};
 use crate::limits::REMOVAL_LIMIT;
 use crate::spreading::{append_rest, spread};
 use base_types::{OutOfMemory, PlacedAnswer, PlacedLine, key_text};
-use markup::Told;
+use markup::EscapedText;
 use object_past::Removal;
 use std::alloc::Global;
 use write_groups::{LogEvent, line_at};
@@ -144,8 +144,8 @@ fn append_removed(
     write!(
         text,
         "<tr><td>{line}</td><td>{}</td><td>{}</td><td>{last}</td><td>{} to {}</td><td>",
-        Told(key.as_str()),
-        Told(removal.uid.as_str()),
+        EscapedText(key.as_str()),
+        EscapedText(removal.uid.as_str()),
         range.low,
         range.high
     )?;

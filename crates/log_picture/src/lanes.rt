@@ -11,7 +11,7 @@ use crate::spreading::spread;
 use crate::tables::append_events;
 use audit_event::Event;
 use base_types::{Decision, OutOfMemory};
-use markup::{Axis, Told, moment_at, push_moment, push_rest};
+use markup::{Axis, EscapedText, moment_at, push_moment, push_rest};
 use std::alloc::Global;
 use write_groups::LogEvent;
 
@@ -299,8 +299,8 @@ fn append_title(text: &mut String, event: &Event) -> Result<(), OutOfMemory>
         text,
         "{}: {} {}</title></path>",
         event.line,
-        Told(event.attrs.verb.as_str()),
-        Told(event.attrs.path.as_str())
+        EscapedText(event.attrs.verb.as_str()),
+        EscapedText(event.attrs.path.as_str())
     )?;
     Ok(())
 }

@@ -7,7 +7,7 @@ use crate::limits::{REMOVAL_LIMIT, UNRECORDED_LIMIT, VERSION_LIMIT};
 use crate::spreading::{append_rest, spread};
 use crate::tables::{append_unrecorded, append_versions};
 use base_types::{OutOfMemory, Range, key_text};
-use markup::{Axis, Told};
+use markup::{Axis, EscapedText};
 use object_past::{Maker, Removal, Version};
 use std::alloc::Global;
 use write_groups::{LogEvent, line_at};
@@ -148,7 +148,7 @@ fn append_version_mark(
     writeln!(
         text,
         "<line class=\"tick\" x1=\"{x}\" y1=\"20\" x2=\"{x}\" y2=\"44\"><title>Revision {revision}: {}</title></line>",
-        Told(key.as_str())
+        EscapedText(key.as_str())
     )?;
     Ok(())
 }
@@ -224,7 +224,7 @@ fn append_range(
     writeln!(
         text,
         "{line}: removed at a place from {low} to {high}: {}</title></rect>",
-        Told(key)
+        EscapedText(key)
     )?;
     Ok(())
 }

@@ -11,7 +11,7 @@ use crate::revised::UnrecordedWrite;
 use crate::spreading::spread;
 use audit_event::Event;
 use base_types::{Decision, OutOfMemory, key_text};
-use markup::{Told, push_moment};
+use markup::{EscapedText, push_moment};
 use object_past::{Maker, Version};
 use std::alloc::Global;
 use write_groups::{LogEvent, line_at};
@@ -106,7 +106,7 @@ fn append_version_cells(
     write!(
         text,
         "<tr><td>{revision}</td><td>{}</td><td>",
-        Told(key.as_str())
+        EscapedText(key.as_str())
     )?;
     Ok(())
 }
@@ -216,8 +216,8 @@ fn append_asked(text: &mut String, event: &Event, logged: &LogEvent) -> Result<(
     writeln!(
         text,
         "</td><td>{} {}</td><td>{answered}</td><td>{decided}</td></tr>",
-        Told(event.attrs.verb.as_str()),
-        Told(event.attrs.path.as_str())
+        EscapedText(event.attrs.verb.as_str()),
+        EscapedText(event.attrs.path.as_str())
     )?;
     Ok(())
 }

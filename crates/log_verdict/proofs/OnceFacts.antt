@@ -26,8 +26,8 @@ use Rattle.log_verdict.specs.Strictly.{IsExplained, IsStrictlyJudged}
 use Rattle.log_verdict.specs.Verifying.{IsVerified}
 use Rattle.log_verdict.specs.declared.asking.Answered.{Answered}
 use Rattle.log_verdict.specs.declared.asking.Answered.TheVariants as answered
-use Rattle.log_verdict.specs.declared.judged.Judged.{Judged}
-use Rattle.log_verdict.specs.declared.judged.Judged.TheVariants.{Refused, Verdict}
+use Rattle.log_verdict.specs.declared.judged.JudgedLog.{JudgedLog}
+use Rattle.log_verdict.specs.declared.judged.JudgedLog.TheVariants.{Refused, Verdict}
 use Rattle.log_verdict.specs.declared.strictly.StrictlyJudged.{StrictlyJudged}
 use Rattle.log_verdict.specs.declared.strictly.StrictlyJudged.TheVariants.{Plain, Settled}
 use Rattle.log_verdict.specs.declared.verified.Verified.{Verified}
@@ -49,7 +49,7 @@ one_verdict x y a b setups logs histories readable v w =
     let found : v.found ≡ w.found = one_outcome_is (history_of y) v.found w.found readable (subst (λ h. model.IsOutcome h v.found) histories v.is) w.is in
     one_text x y w.found a b histories called (subst (λ o. IsPrinted x o a) found v.printed) w.printed
 
-pub judged_once : (setup log : List ℕ) (a b : Judged) → IsJudged setup log a → IsJudged setup log b → a ≡ b
+pub judged_once : (setup log : List ℕ) (a b : JudgedLog) → IsJudged setup log a → IsJudged setup log b → a ≡ b
 judged_once setup log (Refused a) (Refused b) x y = ap Refused (one_refusal setup log a b x y)
 judged_once setup log (Refused a) (Verdict b) x (known, context, outcome) = absurd (one_way setup log a known x context)
 judged_once setup log (Verdict a) (Refused b) (known, context, outcome) y = absurd (one_way setup log b known y context)

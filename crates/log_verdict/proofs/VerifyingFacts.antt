@@ -7,8 +7,8 @@ use Rattle.context_intake.specs.Contexts.{IsOfContext, IsRefused, IsToldBy, Refu
 use Rattle.context_intake.specs.Taking.{IsReadFor, ReadsSetupAndLog}
 use Rattle.context_intake.specs.declared.stop.Stop.{Stop}
 use Rattle.context_intake.specs.declared.refusal.Refusal.{Refusal}
-use Rattle.context_intake.specs.declared.told.Told.{Told}
-use Rattle.context_intake.specs.declared.told.Told.TheVariants as told
+use Rattle.context_intake.specs.declared.told.Intake.{Intake}
+use Rattle.context_intake.specs.declared.told.Intake.TheVariants as told
 use Rattle.context_intake.proofs.OneContextFacts.{one_way}
 use Rattle.context_intake.proofs.ReadingFacts.{whole_untouched}
 use Rattle.version_store.specs.Known.{Known}
@@ -17,7 +17,7 @@ use Rattle.log_verdict.specs.Verifying.{IsOfText, IsReadLast, IsVerified, IsVeri
 use Rattle.log_verdict.specs.declared.verified.Verified.{Verified}
 use Rattle.log_verdict.specs.declared.verified.Verified.TheVariants.{Refused, TooLong, Misspelt, Judged}
 
-pub verified_told : (setup log placement : List ℕ) (found : Told) (verified : Verified) → IsToldBy setup log found → IsVerifiedFrom found placement verified → IsVerified setup log placement verified
+pub verified_told : (setup log placement : List ℕ) (found : Intake) (verified : Verified) → IsToldBy setup log found → IsVerifiedFrom found placement verified → IsVerified setup log placement verified
 verified_told setup log placement (told.Refused refusal) verified is from = subst (IsVerified setup log placement) (sym from) is
 verified_told setup log placement (told.Context known) (Refused refusal) is from = absurd from
 verified_told setup log placement (told.Context known) TooLong is from = (known, is, from)
@@ -25,7 +25,7 @@ verified_told setup log placement (told.Context known) (Misspelt line) is from =
 verified_told setup log placement (told.Context known) (Judged checked) is from = (known, is, from)
 
 -- where something is refused there is no context
-pub refused_told : (setup log : List ℕ) (refusal : Refusal) (found : Told) → IsRefused setup log refusal → IsToldBy setup log found → IsOfContext found → ⊥
+pub refused_told : (setup log : List ℕ) (refusal : Refusal) (found : Intake) → IsRefused setup log refusal → IsToldBy setup log found → IsOfContext found → ⊥
 refused_told setup log refusal (told.Refused other) refused is context = context
 refused_told setup log refusal (told.Context known) refused is context = one_way setup log refusal known refused is
 
@@ -56,7 +56,7 @@ read_to_verify verified setup log old now of_setup of_log of_placement same_setu
     (subst (λ p. IsReadToVerify verified setup log p now) same_placement read))
 
 -- a placement is read behind a context alone
-pub read_last : (found : Told) (setup log old now : Option (List ℕ)) → ((IsOfContext found → ⊥) → now ≡ old) → ((known : Known) → found ≡ told.Context known → IsAtEnd setup × IsAtEnd log) → IsReadLast setup log old now
+pub read_last : (found : Intake) (setup log old now : Option (List ℕ)) → ((IsOfContext found → ⊥) → now ≡ old) → ((known : Known) → found ≡ told.Context known → IsAtEnd setup × IsAtEnd log) → IsReadLast setup log old now
 read_last (told.Refused refusal) setup log old now left ends = inl (left (λ none. none))
 read_last (told.Context known) setup log old now left ends = inr (ends known refl)
 
@@ -72,7 +72,7 @@ whole_from most old middle now fine fine' same weaker t = subst (λ o. TakesWhol
 })
 
 -- a context refuses nothing
-pub context_nothing : (result : Result Told Stop) (found : Told) → result ≡ Ok found → IsOfContext found → RefusesNothing result
+pub context_nothing : (result : Result Intake Stop) (found : Intake) → result ≡ Ok found → IsOfContext found → RefusesNothing result
 context_nothing result (told.Refused refusal) same context = absurd context
 context_nothing result (told.Context known) same context = subst RefusesNothing (sym same) tt
 

@@ -1,8 +1,8 @@
 -- What a question comes to by a setup and a log, of their bytes alone.
 use Rattle.std.specs.Prelude.{◌≡◌, ℕ, List}
 use Rattle.context_intake.specs.Contexts.{IsContextOf, IsRefused}
-use Rattle.context_intake.specs.declared.told.Told.{Told}
-use Rattle.context_intake.specs.declared.told.Told.TheVariants as told
+use Rattle.context_intake.specs.declared.told.Intake.{Intake}
+use Rattle.context_intake.specs.declared.told.Intake.TheVariants as told
 use Rattle.history_query.specs.Questions.{IsHistoryText}
 use Rattle.history_query.specs.declared.question.Question.{Question}
 use Rattle.version_store.specs.Known.{Known}
@@ -10,7 +10,7 @@ use Rattle.log_verdict.specs.declared.asking.Answered.{Answered}
 use Rattle.log_verdict.specs.declared.asking.Answered.TheVariants.{Refused, History}
 
 -- what the question comes to, of what they tell
-abbrev pub IsHistoryFrom : Told → Question → Answered → Type 0
+abbrev pub IsHistoryFrom : Intake → Question → Answered → Type 0
 IsHistoryFrom (told.Refused refusal) question found = found ≡ Refused refusal
 IsHistoryFrom (told.Context known) question found = (text : List ℕ) × IsHistoryText known question text × (found ≡ History text)
 

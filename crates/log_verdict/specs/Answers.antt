@@ -19,8 +19,8 @@ use Rattle.verdict_text.specs.Reading.{IsPlacement}
 use Rattle.verdict_text.specs.Words.{ended, spaced}
 use Rattle.log_verdict.specs.declared.asking.Answered.{Answered}
 use Rattle.log_verdict.specs.declared.asking.Answered.TheVariants as answered
-use Rattle.log_verdict.specs.declared.judged.Judged.{Judged}
-use Rattle.log_verdict.specs.declared.judged.Judged.TheVariants.{Refused, Verdict}
+use Rattle.log_verdict.specs.declared.judged.JudgedLog.{JudgedLog}
+use Rattle.log_verdict.specs.declared.judged.JudgedLog.TheVariants.{Refused, Verdict}
 use Rattle.log_verdict.specs.declared.report.Report.{Report}
 use Rattle.log_verdict.specs.declared.report.Status.{Status}
 use Rattle.log_verdict.specs.declared.report.Status.TheVariants as statuses
@@ -59,7 +59,7 @@ outcome_status (Explained lines) = 0
 outcome_status (Unexplained line audit_id reason low high writes) = 1
 
 -- the verdict's text, or why there is none
-abbrev pub judged_answer : Judged → Answer
+abbrev pub judged_answer : JudgedLog → Answer
 judged_answer (Refused refusal) = refusal_answer refusal
 judged_answer (Verdict outcome) = answer (outcome_status outcome) (outcome_text outcome)
 

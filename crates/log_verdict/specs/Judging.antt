@@ -3,8 +3,8 @@ use Rattle.std.specs.Prelude.{◌≡◌, ℕ, List, Some, map, slice_get}
 use Rattle.base_types.specs.declared.placed.Outcome.{Outcome}
 use Rattle.base_types.specs.declared.placed.Outcome.TheVariants as printed
 use Rattle.context_intake.specs.Contexts.{IsContextOf, IsRefused}
-use Rattle.context_intake.specs.declared.told.Told.{Told}
-use Rattle.context_intake.specs.declared.told.Told.TheVariants as told
+use Rattle.context_intake.specs.declared.told.Intake.{Intake}
+use Rattle.context_intake.specs.declared.told.Intake.TheVariants as told
 use Rattle.history_model.specs.Events.{Event}
 use Rattle.history_model.specs.Histories.{IsEvent}
 use Rattle.history_model.specs.Outcomes as model
@@ -12,8 +12,8 @@ use Rattle.version_store.specs.Answered.{names}
 use Rattle.version_store.specs.Histories.{history_of}
 use Rattle.version_store.specs.Known.{Known}
 use Rattle.window_writes.specs.Lines.{write_line}
-use Rattle.log_verdict.specs.declared.judged.Judged.{Judged}
-use Rattle.log_verdict.specs.declared.judged.Judged.TheVariants.{Refused, Verdict}
+use Rattle.log_verdict.specs.declared.judged.JudgedLog.{JudgedLog}
+use Rattle.log_verdict.specs.declared.judged.JudgedLog.TheVariants.{Refused, Verdict}
 
 -- the outcome with the line and the name of its event, and with the texts of keys
 abbrev pub IsPrinted : Known → model.Outcome → Outcome → Type 0
@@ -30,11 +30,11 @@ pub record IsOutcomeOf (known : Known) (outcome : Outcome) : Type 0 where
   pub printed : IsPrinted known found outcome
 
 -- what they come to, of what they tell
-abbrev pub IsJudgedFrom : Told → Judged → Type 0
+abbrev pub IsJudgedFrom : Intake → JudgedLog → Type 0
 IsJudgedFrom (told.Refused refusal) judged = judged ≡ Refused refusal
 IsJudgedFrom (told.Context known) judged = (outcome : Outcome) × IsOutcomeOf known outcome × (judged ≡ Verdict outcome)
 
 -- what a log comes to, by a setup
-abbrev pub IsJudged : List ℕ → List ℕ → Judged → Type 0
+abbrev pub IsJudged : List ℕ → List ℕ → JudgedLog → Type 0
 IsJudged setup log (Refused refusal) = IsRefused setup log refusal
 IsJudged setup log (Verdict outcome) = (known : Known) × IsContextOf setup log known × IsOutcomeOf known outcome

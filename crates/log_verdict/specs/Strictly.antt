@@ -3,15 +3,15 @@ use Rattle.std.specs.Prelude.{◌≡◌, ℕ, List}
 use Rattle.base_types.specs.declared.placed.Outcome.{Outcome}
 use Rattle.base_types.specs.declared.placed.Outcome.TheVariants.{Explained, Unexplained}
 use Rattle.context_intake.specs.Contexts.{IsContextOf}
-use Rattle.context_intake.specs.declared.told.Told.{Told}
-use Rattle.context_intake.specs.declared.told.Told.TheVariants as told
+use Rattle.context_intake.specs.declared.told.Intake.{Intake}
+use Rattle.context_intake.specs.declared.told.Intake.TheVariants as told
 use Rattle.log_moments.specs.Answers.{IsStrictAnswer}
 use Rattle.log_moments.specs.declared.answer.StrictAnswer.{StrictAnswer}
 use Rattle.version_store.specs.Histories.{history_of}
 use Rattle.version_store.specs.Known.{Known}
 use Rattle.log_verdict.specs.Judging.{IsJudged, IsOutcomeOf}
-use Rattle.log_verdict.specs.declared.judged.Judged.{Judged}
-use Rattle.log_verdict.specs.declared.judged.Judged.TheVariants as judged
+use Rattle.log_verdict.specs.declared.judged.JudgedLog.{JudgedLog}
+use Rattle.log_verdict.specs.declared.judged.JudgedLog.TheVariants as judged
 use Rattle.log_verdict.specs.declared.strictly.StrictlyJudged.{StrictlyJudged}
 use Rattle.log_verdict.specs.declared.strictly.StrictlyJudged.TheVariants.{Plain, Settled}
 
@@ -20,7 +20,7 @@ IsExplained (Explained lines) = Unit {0}
 IsExplained (Unexplained line audit_id reason low high writes) = ⊥
 
 -- moments are asked for where the log is explained alone
-abbrev pub IsLeftPlain : Judged → Type 0
+abbrev pub IsLeftPlain : JudgedLog → Type 0
 IsLeftPlain (judged.Refused refusal) = Unit {0}
 IsLeftPlain (judged.Verdict outcome) = IsExplained outcome → ⊥
 
@@ -41,6 +41,6 @@ IsSettledFrom known (Plain (judged.Refused refusal)) = ⊥
 IsSettledFrom known (Plain (judged.Verdict outcome)) = IsOutcomeOf known outcome × (IsExplained outcome → ⊥)
 IsSettledFrom known (Settled outcome answer) = AreSettled known outcome answer
 
-abbrev pub IsStrictlyFrom : Told → StrictlyJudged → Type 0
+abbrev pub IsStrictlyFrom : Intake → StrictlyJudged → Type 0
 IsStrictlyFrom (told.Refused refusal) found = found ≡ Plain (judged.Refused refusal)
 IsStrictlyFrom (told.Context known) found = IsSettledFrom known found

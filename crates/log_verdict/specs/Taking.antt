@@ -10,8 +10,8 @@ use Rattle.edge_io.specs.Whole.{TakesWhole}
 use Rattle.log_verdict.specs.Verifying.{IsReadLast, most_placement}
 use Rattle.log_verdict.specs.declared.asking.Answered.{Answered}
 use Rattle.log_verdict.specs.declared.asking.Answered.TheVariants as answered
-use Rattle.log_verdict.specs.declared.judged.Judged.{Judged}
-use Rattle.log_verdict.specs.declared.judged.Judged.TheVariants as judged
+use Rattle.log_verdict.specs.declared.judged.JudgedLog.{JudgedLog}
+use Rattle.log_verdict.specs.declared.judged.JudgedLog.TheVariants as judged
 use Rattle.log_verdict.specs.declared.strictly.StrictlyJudged.{StrictlyJudged}
 use Rattle.log_verdict.specs.declared.strictly.StrictlyJudged.TheVariants.{Plain, Settled}
 use Rattle.log_verdict.specs.declared.verified.Verified.{Verified}
@@ -29,7 +29,7 @@ pub record ReadsSetupLogAndPlacement (setup log placement : List ℕ) (old now :
   pub others : (other : List ℕ) → other ≢ setup → other ≢ log → other ≢ placement → now other ≡ old other
 
 -- both are read to their ends before a verdict
-abbrev pub IsReadToJudge : Judged → (setup log : Option (List ℕ)) → Type 0
+abbrev pub IsReadToJudge : JudgedLog → (setup log : Option (List ℕ)) → Type 0
 IsReadToJudge (judged.Refused refusal) setup log = IsReadBefore refusal setup log
 IsReadToJudge (judged.Verdict outcome) setup log = IsAtEnd setup × IsAtEnd log
 

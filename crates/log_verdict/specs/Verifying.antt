@@ -3,8 +3,8 @@ use Rattle.std.specs.Prelude.{◌≡◌, ⊤, ◌<◌, ◌≤◌, ◌⊎◌, ℕ
 use Rattle.std.specs.Io.KnownBytes.{IsAtEnd}
 use Rattle.base_types.specs.declared.placed.PlacedLine.{PlacedLine}
 use Rattle.context_intake.specs.Contexts.{IsContextOf, IsRefused}
-use Rattle.context_intake.specs.declared.told.Told.{Told}
-use Rattle.context_intake.specs.declared.told.Told.TheVariants as told
+use Rattle.context_intake.specs.declared.told.Intake.{Intake}
+use Rattle.context_intake.specs.declared.told.Intake.TheVariants as told
 use Rattle.serial_machine.specs.Checks.{IsChecked}
 use Rattle.verdict_text.specs.Outcome.{explained_text}
 use Rattle.verdict_text.specs.Reading.{IsFaultLine, IsPlacement}
@@ -41,7 +41,7 @@ abbrev pub IsReadLast : (setup log old now : Option (List ℕ)) → Type 0
 IsReadLast setup log old now = (now ≡ old) ⊎ (IsAtEnd setup × IsAtEnd log)
 
 -- what the setup and the log told, and then the placement
-abbrev pub IsVerifiedFrom : Told → List ℕ → Verified → Type 0
+abbrev pub IsVerifiedFrom : Intake → List ℕ → Verified → Type 0
 IsVerifiedFrom (told.Refused refusal) bytes verified = verified ≡ Refused refusal
 IsVerifiedFrom (told.Context known) bytes verified = IsVerifiedBy known bytes verified
 

@@ -4,7 +4,7 @@ ghost use Rattle.log_verdict.specs.Answering.{IsHistory, IsHistoryFrom};
 ghost use Rattle.log_verdict.specs.Taking.{IsReadToAnswer};
 
 use base_types::{Bytes, OutOfMemory};
-use context_intake::{Refusal, Stop, Told, read_context};
+use context_intake::{Intake, Refusal, Stop, read_context};
 use edge_io::Desk;
 use history_query::{Question, answer};
 use judge_pool::Gate;
@@ -49,11 +49,11 @@ pub fn ask<R: Threads + Sync, D: Desk, H: Gate>(
 }
 
 // What the question comes to, of what the setup and the log tell.
-fn answered_of(alloc: Global, told: &Told, question: &Question) -> Result<Answered, OutOfMemory>
+fn answered_of(alloc: Global, told: &Intake, question: &Question) -> Result<Answered, OutOfMemory>
     ensures { IfOk result (IsHistoryFrom told.now question.now) }
 {
     match told {
-        Told::Refused(refusal) => Ok(Answered::Refused(*refusal)),
-        Told::Context(context) => Ok(Answered::History(answer(alloc, context, question)?)),
+        Intake::Refused(refusal) => Ok(Answered::Refused(*refusal)),
+        Intake::Context(context) => Ok(Answered::History(answer(alloc, context, question)?)),
     }
 }

@@ -3,7 +3,7 @@ use context_intake::Refusal;
 
 /// What a setup and a log come to.
 #[derive(Drop)]
-pub enum Judged {
+pub enum JudgedLog {
     Refused(Refusal),
     Verdict(Outcome),
 }

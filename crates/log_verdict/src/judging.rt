@@ -3,10 +3,10 @@ ghost use Rattle.context_intake.specs.Taking.{ReadsSetupAndLog};
 ghost use Rattle.log_verdict.specs.Judging.{IsJudged, IsJudgedFrom};
 ghost use Rattle.log_verdict.specs.Taking.{IsReadToJudge};
 
-use crate::judged::Judged;
+use crate::judged::JudgedLog;
 use crate::outcome::outcome_of;
 use base_types::OutOfMemory;
-use context_intake::{Stop, Told, read_context};
+use context_intake::{Intake, Stop, read_context};
 use edge_io::Desk;
 use judge_pool::Gate;
 use std::alloc::Global;
@@ -30,7 +30,7 @@ pub fn judge<R: Threads + Sync, D: Desk, G: Gate, H: Gate>(
     setup: &str,
     log: &str,
     gates: Gates<'_, G, H>,
-) -> Result<Judged, Stop>
+) -> Result<JudgedLog, Stop>
     requires { setup.now ≢ log.now }
     ensures judged { IfOk result (λ judged. (of_setup of_log : List ℕ)
         → D.left desk.old setup.now ≡ Some of_setup → D.left desk.old log.now ≡ Some of_log
@@ -51,13 +51,13 @@ pub fn judge<R: Threads + Sync, D: Desk, G: Gate, H: Gate>(
 fn judged_of<R: Threads + Sync, G: Gate>(
     rt: &R,
     alloc: Global,
-    told: &Told,
+    told: &Intake,
     gate: &G,
-) -> Result<Judged, OutOfMemory>
+) -> Result<JudgedLog, OutOfMemory>
     ensures { IfOk result (IsJudgedFrom told.now) }
 {
     match told {
-        Told::Refused(refusal) => Ok(Judged::Refused(*refusal)),
-        Told::Context(context) => Ok(Judged::Verdict(outcome_of(rt, alloc, context, gate)?)),
+        Intake::Refused(refusal) => Ok(JudgedLog::Refused(*refusal)),
+        Intake::Context(context) => Ok(JudgedLog::Verdict(outcome_of(rt, alloc, context, gate)?)),
     }
 }

@@ -14,7 +14,7 @@ mod verified;
 mod verifying;
 
 pub use asking::{Answered, ask};
-pub use judged::Judged;
+pub use judged::JudgedLog;
 pub use judging::{Gates, judge};
 pub use outcome::outcome_of;
 pub use report::{

@@ -5,7 +5,7 @@ ghost use Rattle.log_verdict.specs.Answers.{outcome_status, refusal_answer, repo
 ghost use Rattle.log_verdict.specs.Answers.{status_number, strictly_answer, verified_answer};
 
 use crate::asking::Answered;
-use crate::judged::Judged;
+use crate::judged::JudgedLog;
 use crate::strictly::StrictlyJudged;
 use crate::verified::Verified;
 use base_types::{Bytes, OutOfMemory, Outcome};
@@ -53,14 +53,14 @@ pub struct Report {
 }
 
 /// The report of what a setup and a log come to.
-pub fn judged_report(alloc: Global, judged: &Judged) -> Result<Report, OutOfMemory>
+pub fn judged_report(alloc: Global, judged: &JudgedLog) -> Result<Report, OutOfMemory>
     ensures report { IfOk result (λ report. report_answer report ≡ judged_answer judged.now) }
     ensures printed { IfOk result (λ report. status_number report.status ≡ 0
         → IsPlacementText report.text) }
 {
     match judged {
-        Judged::Refused(refusal) => refusal_report(alloc, *refusal),
-        Judged::Verdict(outcome) => Ok(Report {
+        JudgedLog::Refused(refusal) => refusal_report(alloc, *refusal),
+        JudgedLog::Verdict(outcome) => Ok(Report {
             status: status_of(outcome),
             text: print_outcome(alloc, outcome)?,
         }),

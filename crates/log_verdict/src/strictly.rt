@@ -4,11 +4,11 @@ ghost use Rattle.log_verdict.specs.Judging.{IsOutcomeOf};
 ghost use Rattle.log_verdict.specs.Strictly.{IsExplained, IsSettledFrom, IsStrictlyFrom, IsStrictlyJudged};
 ghost use Rattle.log_verdict.specs.Taking.{IsReadToSettle};
 
-use crate::judged::Judged;
+use crate::judged::JudgedLog;
 use crate::judging::Gates;
 use crate::outcome::outcome_of;
 use base_types::{OutOfMemory, Outcome};
-use context_intake::{Stop, Told, read_context};
+use context_intake::{Intake, Stop, read_context};
 use edge_io::Desk;
 use judge_pool::Gate;
 use log_moments::{StrictAnswer, strict_answer};
@@ -22,7 +22,7 @@ use version_store::Context;
 #[derive(Drop)]
 pub enum StrictlyJudged {
     /// The log isn't explained, or isn't judged.
-    Plain(Judged),
+    Plain(JudgedLog),
     /// The log is explained, and its things have moments, or two of them cross.
     Settled {
         outcome: Outcome,
@@ -60,14 +60,14 @@ pub fn judge_strictly<R: Threads + Sync, D: Desk, G: Gate, H: Gate>(
 fn strictly_of<R: Threads + Sync, G: Gate>(
     rt: &R,
     alloc: Global,
-    told: &Told,
+    told: &Intake,
     gate: &G,
 ) -> Result<StrictlyJudged, OutOfMemory>
     ensures { IfOk result (IsStrictlyFrom told.now) }
 {
     match told {
-        Told::Refused(refusal) => Ok(StrictlyJudged::Plain(Judged::Refused(*refusal))),
-        Told::Context(context) => {
+        Intake::Refused(refusal) => Ok(StrictlyJudged::Plain(JudgedLog::Refused(*refusal))),
+        Intake::Context(context) => {
             let outcome = outcome_of(rt, alloc, context, gate)?;
             settled(alloc, context, outcome)
         }
@@ -84,7 +84,7 @@ fn settled(
     ensures { IfOk result (IsSettledFrom context.now) }
 {
     if !is_explained(&outcome) {
-        return Ok(StrictlyJudged::Plain(Judged::Verdict(outcome)));
+        return Ok(StrictlyJudged::Plain(JudgedLog::Verdict(outcome)));
     }
     let answer = strict_answer(alloc, context)?;
     Ok(StrictlyJudged::Settled { outcome, answer })

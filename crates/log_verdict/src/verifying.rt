@@ -9,7 +9,7 @@ ghost use Rattle.log_verdict.specs.Verifying.{most_placement};
 
 use crate::verified::Verified;
 use base_types::OutOfMemory;
-use context_intake::{Stop, Told, read_context};
+use context_intake::{Intake, Stop, read_context};
 use edge_io::{Desk, WholeStop, piece_buffer, read_whole};
 use judge_pool::Gate;
 use serial_machine::verify as check_again;
@@ -58,7 +58,7 @@ fn verified_of<D: Desk>(
     alloc: Global,
     desk: &mut D,
     placement: &str,
-    told: &Told,
+    told: &Intake,
 ) -> Result<Verified, Stop>
     ensures verified { IfOk result (λ verified. (of_placement : List ℕ)
         → D.left desk.old placement.now ≡ Some of_placement
@@ -77,8 +77,8 @@ fn verified_of<D: Desk>(
         → D.left desk.new other ≡ D.left desk.old other }
 {
     match told {
-        Told::Refused(refusal) => Ok(Verified::Refused(*refusal)),
-        Told::Context(context) => check_named(alloc, desk, placement, context),
+        Intake::Refused(refusal) => Ok(Verified::Refused(*refusal)),
+        Intake::Context(context) => check_named(alloc, desk, placement, context),
     }
 }
 

@@ -7,9 +7,9 @@ use std::fmt;
 /// `&`, `<`, `>`, `"` and `'` become HTML's character references, and ASCII's control characters but tab and newline
 /// become U+FFFD.
 #[derive(Clone, Copy)]
-pub struct Told<'a>(pub &'a str);
+pub struct EscapedText<'a>(pub &'a str);
 
-impl fmt::Display for Told<'_> {
+impl fmt::Display for EscapedText<'_> {
     ghost output = { λ told. Some (escaped told.0.now) };
 
     fn fmt<W: fmt::Write>(&self, f: &mut fmt::Formatter<W>) -> fmt::Result {

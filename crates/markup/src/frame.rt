@@ -1,7 +1,7 @@
 ghost use Rattle.std.specs.Prelude.{◌≡◌, ◌++◌, OnOk, string_bytes};
 ghost use Rattle.markup.specs.Frame.{begin_text, end_text};
 
-use crate::escaping::Told;
+use crate::escaping::EscapedText;
 use base_types::OutOfMemory;
 
 /// What stands in front of a page's title. The policy lets nothing in but the page's own style.
@@ -71,7 +71,7 @@ pub fn push_begin(text: &mut String, title: &str) -> Result<(), OutOfMemory>
     ensures { OnOk result (string_bytes text.new ≡ string_bytes text.old ++ begin_text title.now) }
 {
     text.push_str(BEFORE_TITLE)?;
-    write!(text, "{}", Told(title))?;
+    write!(text, "{}", EscapedText(title))?;
     text.push_str(BEHIND_TITLE)?;
     Ok(())
 }

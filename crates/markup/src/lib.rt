@@ -10,7 +10,7 @@ mod limits;
 mod moments;
 
 pub use drawing::{Axis, position_law};
-pub use escaping::{Told, escaped_law};
+pub use escaping::{EscapedText, escaped_law};
 pub use frame::{push_begin, push_end};
 pub use limits::{first_of, push_rest};
 pub use moments::{moment_at, push_moment};

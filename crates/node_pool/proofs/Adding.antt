@@ -11,7 +11,7 @@ use Rattle.indexmap.specs.IndexSet.{insert_key}
 use Rattle.base_types.specs.Meaning.{Meaning}
 use Rattle.base_types.specs.Same.{same, same-Decides}
 use Rattle.node_pool.specs.Flat.{Flat, flat_eq, flat_eq-Decides}
-use Rattle.node_pool.specs.Kept.{AreKept}
+use Rattle.node_pool.specs.Kept.{AreLevelsKept}
 use Rattle.node_pool.specs.Pooled.{AreDistinct}
 use Rattle.node_pool.specs.Subtrees.{with_tree, Begins}
 use Rattle.node_pool.specs.Within.{tree_of, trees_from, IsWithin, AreWithin}
@@ -39,7 +39,7 @@ found_alike ns all ts (q ∷ ps) p dn da wp front w =
     let rest = found_alike ns all (ts ++ t ∷ []) ps p dn da wp (front ∙ sym (append_assoc ts (t ∷ []) us)) (subst (λ k. AreWithin ns k ps) (length-snoc ts t) w.1) in λ i. first i || rest i
 
 -- the trees after a level is inserted
-pub trees-insert : (limit : ℕ) (ns : List (List ℕ)) (ps : List Flat) (p : Flat) → AreKept limit ns ps → IsWithin ns (length (trees_from ns [] ps)) p
+pub trees-insert : (limit : ℕ) (ns : List (List ℕ)) (ps : List Flat) (p : Flat) → AreLevelsKept limit ns ps → IsWithin ns (length (trees_from ns [] ps)) p
     → trees_from ns [] (insert_key flat_eq ps p) ≡ with_tree (trees_from ns [] ps) (tree_of ns (trees_from ns [] ps) p)
 trees-insert limit ns ps p kept w =
     go (list_any (flat_eq p) ps) ∙ ap (λ b. if b then trees_from ns [] ps else trees_from ns [] ps ++ tree_of ns (trees_from ns [] ps) p ∷ [])
@@ -70,8 +70,8 @@ within-insert ns ps p w last = go (list_any (flat_eq p) ps)
     go true = w
     go false = AreWithin-snoc ns 0 ps p w (let e : length ps ≡ 0 + length ps = omega arith in subst (λ k. IsWithin ns k p) e last)
 
-pub kept-insert : (limit : ℕ) (ns : List (List ℕ)) (ps : List Flat) (p : Flat) → AreKept limit ns ps → IsWithin ns (length (trees_from ns [] ps)) p → length (insert_key flat_eq ps p) ≤ limit
-    → AreKept limit ns (insert_key flat_eq ps p)
+pub kept-insert : (limit : ℕ) (ns : List (List ℕ)) (ps : List Flat) (p : Flat) → AreLevelsKept limit ns ps → IsWithin ns (length (trees_from ns [] ps)) p → length (insert_key flat_eq ps p) ≤ limit
+    → AreLevelsKept limit ns (insert_key flat_eq ps p)
 kept-insert limit ns ps p kept w room = record {
   within = within-insert ns ps p kept.within (subst (λ k. IsWithin ns k p) (trees_from-length ns [] ps) w);
   one_number_a_name = kept.one_number_a_name;
@@ -80,7 +80,7 @@ kept-insert limit ns ps p kept w room = record {
   narrow = kept.narrow;
 }
 
-pub length-insert : (limit : ℕ) (ns : List (List ℕ)) (ps : List Flat) (p : Flat) → AreKept limit ns ps → IsWithin ns (length (trees_from ns [] ps)) p
+pub length-insert : (limit : ℕ) (ns : List (List ℕ)) (ps : List Flat) (p : Flat) → AreLevelsKept limit ns ps → IsWithin ns (length (trees_from ns [] ps)) p
     → length (insert_key flat_eq ps p) ≡ length (with_tree (trees_from ns [] ps) (tree_of ns (trees_from ns [] ps) p))
 length-insert limit ns ps p kept w = sym (trees_from-length ns [] (insert_key flat_eq ps p)) ∙ ap length (trees-insert limit ns ps p kept w)
 
@@ -91,7 +91,7 @@ found_level p ps n e =
     slice_get-get_or ps n p found.0 ∙ ap Some (sym ((flat_eq-Decides p (get_or ps n p)).0 found.1))
 
 -- a level that stands at a number has its tree there
-pub number-insert : (limit : ℕ) (ns : List (List ℕ)) (ps : List Flat) (p : Flat) (n : ℕ) → AreKept limit ns ps → IsWithin ns (length (trees_from ns [] ps)) p → slice_get (insert_key flat_eq ps p) n ≡ Some p
+pub number-insert : (limit : ℕ) (ns : List (List ℕ)) (ps : List Flat) (p : Flat) (n : ℕ) → AreLevelsKept limit ns ps → IsWithin ns (length (trees_from ns [] ps)) p → slice_get (insert_key flat_eq ps p) n ≡ Some p
     → slice_get (trees_from ns [] (insert_key flat_eq ps p)) n ≡ Some (tree_of ns (trees_from ns [] ps) p)
 number-insert limit ns ps p n kept w at =
     let ts = trees_from ns [] ps in
@@ -103,7 +103,7 @@ number-insert limit ns ps p n kept w at =
     trees_from-at ns [] (insert_key flat_eq ps p) n within ∙ ap (option_map (tree_of ns us)) at ∙ ap Some left
 
 -- more names
-pub kept-names : (limit : ℕ) (ns ns' : List (List ℕ)) (ps : List Flat) → AreKept limit ns ps → Begins ns ns' → AreDistinct ns' → AreKept limit ns' ps
+pub kept-names : (limit : ℕ) (ns ns' : List (List ℕ)) (ps : List Flat) → AreLevelsKept limit ns ps → Begins ns ns' → AreDistinct ns' → AreLevelsKept limit ns' ps
 kept-names limit ns ns' ps kept more distinct = record {
   within = subst (λ l. AreWithin l 0 ps) (sym more.1) (AreWithin-names ns more.0 0 ps kept.within);
   one_number_a_name = distinct;
@@ -112,11 +112,11 @@ kept-names limit ns ns' ps kept more distinct = record {
   narrow = kept.narrow;
 }
 
-pub trees-names : (limit : ℕ) (ns ns' : List (List ℕ)) (ps : List Flat) → AreKept limit ns ps → Begins ns ns' → trees_from ns' [] ps ≡ trees_from ns [] ps
+pub trees-names : (limit : ℕ) (ns ns' : List (List ℕ)) (ps : List Flat) → AreLevelsKept limit ns ps → Begins ns ns' → trees_from ns' [] ps ≡ trees_from ns [] ps
 trees-names limit ns ns' ps kept more = ap (λ l. trees_from l [] ps) more.1 ∙ trees_from-names ns more.0 [] ps kept.within
 
 -- the first levels alone
-pub kept-take : (limit : ℕ) (ns : List (List ℕ)) (k : ℕ) (ps : List Flat) → AreKept limit ns ps → AreKept limit ns (take k ps)
+pub kept-take : (limit : ℕ) (ns : List (List ℕ)) (k : ℕ) (ps : List Flat) → AreLevelsKept limit ns ps → AreLevelsKept limit ns (take k ps)
 kept-take limit ns k ps kept = record {
   within = AreWithin-take ns 0 k ps kept.within;
   one_number_a_name = kept.one_number_a_name;

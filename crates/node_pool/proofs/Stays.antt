@@ -5,7 +5,7 @@ use Rattle.std.specs.List.{list_any}
 use Rattle.base_types.specs.Meaning.{Meaning, null, flag, whole, words, items, members}
 use Rattle.base_types.specs.Same.{same, same-Decides}
 use Rattle.node_pool.specs.Flat.{Flat, flat_null, flat_flag, flat_whole, flat_words}
-use Rattle.node_pool.specs.Kept.{Kept, seen, AreKept}
+use Rattle.node_pool.specs.Kept.{Kept, seen, AreLevelsKept}
 use Rattle.node_pool.specs.Leaves.{leaf_of}
 use Rattle.node_pool.specs.Subtrees.{inside, interned, with_tree}
 use Rattle.node_pool.specs.Within.{tree_of}
@@ -46,7 +46,7 @@ leaf-tree ns ts (items ks) p is = absurd (cc)
 leaf-tree ns ts (members ms) p is = absurd (cc)
 
 -- the tree of a level that stands at a number
-pub standing-number : (limit : ℕ) (ns : List (List ℕ)) (ps : List Flat) (p : Flat) (r : Option ℕ) (old : Kept) → AreKept limit ns ps → seen limit ns ps ≡ old → IfSome r (λ n. slice_get ps n ≡ Some p)
+pub standing-number : (limit : ℕ) (ns : List (List ℕ)) (ps : List Flat) (p : Flat) (r : Option ℕ) (old : Kept) → AreLevelsKept limit ns ps → seen limit ns ps ≡ old → IfSome r (λ n. slice_get ps n ≡ Some p)
     → IfSome r (λ n. slice_get old.trees n ≡ Some (tree_of old.names old.trees p))
 standing-number limit ns ps p None old kept is at = tt
 standing-number limit ns ps p (Some n) old kept is at = sym (seen-level limit n ns ps old kept is) ∙ ap (option_map (tree_of old.names old.trees)) at
@@ -56,7 +56,7 @@ standing-placed ts t None at = tt
 standing-placed ts t (Some n) at = stays ts t n at
 
 -- a value that has nothing within it, at the number of its level
-pub leaf-number : (limit : ℕ) (ns : List (List ℕ)) (ps : List Flat) (t : Meaning) (r : Option ℕ) (old : Kept) → AreKept limit ns ps → seen limit ns ps ≡ old
+pub leaf-number : (limit : ℕ) (ns : List (List ℕ)) (ps : List Flat) (t : Meaning) (r : Option ℕ) (old : Kept) → AreLevelsKept limit ns ps → seen limit ns ps ≡ old
     → IfSome r (λ n. (p : Flat) × (slice_get ps n ≡ Some p) × (leaf_of t ≡ Some p)) → IfSome r (λ n. slice_get old.trees n ≡ Some t)
 leaf-number limit ns ps t None old kept is h = tt
 leaf-number limit ns ps t (Some n) old kept is h =

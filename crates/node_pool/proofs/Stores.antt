@@ -5,34 +5,34 @@ use Rattle.indexmap.specs.IndexSet.{insert_key}
 use Rattle.node_pool.specs.declared.fault.PoolFault.{PoolFault}
 use Rattle.node_pool.specs.declared.fault.PoolFault.TheVariants.{Full}
 use Rattle.node_pool.specs.Flat.{Flat, flat_eq, flat_eq-Decides}
-use Rattle.node_pool.specs.Kept.{Kept, seen, AreKept, Grows}
+use Rattle.node_pool.specs.Kept.{Kept, seen, AreLevelsKept, Grows}
 use Rattle.node_pool.specs.Subtrees.{with_tree, Begins}
 use Rattle.node_pool.specs.Within.{tree_of, trees_from, IsWithin}
 use Rattle.node_pool.proofs.Levels.{trees_from-length, trees_from-take, trees_from-at, AreWithin-at}
 use Rattle.node_pool.proofs.Adding.{kept-insert, trees-insert, length-insert, number-insert, trees-names}
 
-pub grows-names : (limit : ℕ) (ns ns' : List (List ℕ)) (ps : List Flat) (old : Kept) → AreKept limit ns ps → seen limit ns ps ≡ old → Begins ns ns' → Grows old (seen limit ns' ps)
+pub grows-names : (limit : ℕ) (ns ns' : List (List ℕ)) (ps : List Flat) (old : Kept) → AreLevelsKept limit ns ps → seen limit ns ps ≡ old → Begins ns ns' → Grows old (seen limit ns' ps)
 grows-names limit ns ns' ps old kept is more =
     subst (λ o. Grows o (seen limit ns' ps)) is (record { limit = refl; names = more; trees = ([], trees-names limit ns ns' ps kept more ∙ sym (append-nil (trees_from ns [] ps))) })
 
-pub same-trees : (limit : ℕ) (ns ns' : List (List ℕ)) (ps : List Flat) (old : Kept) → AreKept limit ns ps → seen limit ns ps ≡ old → Begins ns ns' → trees_from ns' [] ps ≡ old.trees
+pub same-trees : (limit : ℕ) (ns ns' : List (List ℕ)) (ps : List Flat) (old : Kept) → AreLevelsKept limit ns ps → seen limit ns ps ≡ old → Begins ns ns' → trees_from ns' [] ps ≡ old.trees
 same-trees limit ns ns' ps old kept is more = trees-names limit ns ns' ps kept more ∙ ap (λ (o : Kept). o.trees) is
 
 pub seen-length : (limit : ℕ) (ns : List (List ℕ)) (ps : List Flat) (old : Kept) → seen limit ns ps ≡ old → length ps ≡ length old.trees
 seen-length limit ns ps old is = sym (trees_from-length ns [] ps) ∙ ap (λ (o : Kept). length o.trees) is
 
-pub seen-room : (limit : ℕ) (ns : List (List ℕ)) (ps : List Flat) (old : Kept) → AreKept limit ns ps → seen limit ns ps ≡ old → length old.trees ≤ old.limit
+pub seen-room : (limit : ℕ) (ns : List (List ℕ)) (ps : List Flat) (old : Kept) → AreLevelsKept limit ns ps → seen limit ns ps ≡ old → length old.trees ≤ old.limit
 seen-room limit ns ps old kept is = subst (λ (o : Kept). length o.trees ≤ o.limit) is (let room = kept.room in omega (arith, trees_from-length ns [] ps))
 
 pub seen-take : (limit n : ℕ) (ns : List (List ℕ)) (ps : List Flat) (old : Kept) → seen limit ns ps ≡ old → trees_from ns [] (take n ps) ≡ take n old.trees
 seen-take limit n ns ps old is = trees_from-take ns [] n ps ∙ ap (λ (o : Kept). take n o.trees) is
 
-pub seen-level : (limit number : ℕ) (ns : List (List ℕ)) (ps : List Flat) (old : Kept) → AreKept limit ns ps → seen limit ns ps ≡ old
+pub seen-level : (limit number : ℕ) (ns : List (List ℕ)) (ps : List Flat) (old : Kept) → AreLevelsKept limit ns ps → seen limit ns ps ≡ old
     → option_map (tree_of old.names old.trees) (slice_get ps number) ≡ slice_get old.trees number
 seen-level limit number ns ps old kept is =
     subst (λ (o : Kept). option_map (tree_of o.names o.trees) (slice_get ps number) ≡ slice_get o.trees number) is (sym (trees_from-at ns [] ps number kept.within))
 
-pub seen-before : (limit number : ℕ) (ns : List (List ℕ)) (ps : List Flat) (old : Kept) → AreKept limit ns ps → seen limit ns ps ≡ old
+pub seen-before : (limit number : ℕ) (ns : List (List ℕ)) (ps : List Flat) (old : Kept) → AreLevelsKept limit ns ps → seen limit ns ps ≡ old
     → IfSome (slice_get ps number) (IsWithin old.names number)
 seen-before limit number ns ps old kept is =
     subst (λ (o : Kept). IfSome (slice_get ps number) (IsWithin o.names number)) is (go (slice_get ps number) (λ p at. let e : 0 + number ≡ number = omega arith in subst (λ k. IsWithin ns k p) e (AreWithin-at ns 0 ps number p kept.within at)))
@@ -64,12 +64,12 @@ pub record Placed (old new : Kept) (p : Flat) (r : Result ℕ PoolFault) : Type 
 pub within-seen : (limit : ℕ) (ns : List (List ℕ)) (ps : List Flat) (p : Flat) (old : Kept) → seen limit ns ps ≡ old → IsWithin old.names (length old.trees) p → IsWithin ns (length (trees_from ns [] ps)) p
 within-seen limit ns ps p old is w = subst (λ (o : Kept). IsWithin o.names (length o.trees) p) (sym is) w
 
-pub kept-place : (limit : ℕ) (ns : List (List ℕ)) (ps ps' : List Flat) (p : Flat) (r : Result ℕ PoolFault) → AreKept limit ns ps → IsWithin ns (length (trees_from ns [] ps)) p
-    → OnOk r (ps' ≡ insert_key flat_eq ps p) → OnOk r (length (insert_key flat_eq ps p) ≤ limit) → OnErr r (ps' ≡ ps) → AreKept limit ns ps'
-kept-place limit ns ps ps' p (Ok n) kept w keys fits refused = subst (AreKept limit ns) (sym keys) (kept-insert limit ns ps p kept w fits)
-kept-place limit ns ps ps' p (Err e) kept w keys fits refused = subst (AreKept limit ns) (sym refused) kept
+pub kept-place : (limit : ℕ) (ns : List (List ℕ)) (ps ps' : List Flat) (p : Flat) (r : Result ℕ PoolFault) → AreLevelsKept limit ns ps → IsWithin ns (length (trees_from ns [] ps)) p
+    → OnOk r (ps' ≡ insert_key flat_eq ps p) → OnOk r (length (insert_key flat_eq ps p) ≤ limit) → OnErr r (ps' ≡ ps) → AreLevelsKept limit ns ps'
+kept-place limit ns ps ps' p (Ok n) kept w keys fits refused = subst (AreLevelsKept limit ns) (sym keys) (kept-insert limit ns ps p kept w fits)
+kept-place limit ns ps ps' p (Err e) kept w keys fits refused = subst (AreLevelsKept limit ns) (sym refused) kept
 
-placed-seen : (limit : ℕ) (ns : List (List ℕ)) (ps ps' : List Flat) (p : Flat) (r : Result ℕ PoolFault) → AreKept limit ns ps → IsWithin ns (length (trees_from ns [] ps)) p
+placed-seen : (limit : ℕ) (ns : List (List ℕ)) (ps ps' : List Flat) (p : Flat) (r : Result ℕ PoolFault) → AreLevelsKept limit ns ps → IsWithin ns (length (trees_from ns [] ps)) p
     → OnOk r (ps' ≡ insert_key flat_eq ps p) → IfOk r (λ n. slice_get ps' n ≡ Some p) → OnOk r (length (insert_key flat_eq ps p) ≤ limit) → (r ≡ Err Full → limit < length (insert_key flat_eq ps p))
     → Placed (seen limit ns ps) (seen limit ns ps') p r
 placed-seen limit ns ps ps' p (Ok n) kept w keys at fits full = record {
@@ -85,14 +85,14 @@ placed-seen limit ns ps ps' p (Err f) kept w keys at fits full = record {
   full = λ e. subst (λ k. limit < k) (length-insert limit ns ps p kept w) (full e);
 }
 
-pub place-seen : (limit : ℕ) (ns : List (List ℕ)) (ps ps' : List Flat) (p : Flat) (r : Result ℕ PoolFault) (old : Kept) → AreKept limit ns ps → seen limit ns ps ≡ old → IsWithin old.names (length old.trees) p
+pub place-seen : (limit : ℕ) (ns : List (List ℕ)) (ps ps' : List Flat) (p : Flat) (r : Result ℕ PoolFault) (old : Kept) → AreLevelsKept limit ns ps → seen limit ns ps ≡ old → IsWithin old.names (length old.trees) p
     → OnOk r (ps' ≡ insert_key flat_eq ps p) → IfOk r (λ n. slice_get ps' n ≡ Some p) → OnOk r (length (insert_key flat_eq ps p) ≤ limit) → (r ≡ Err Full → limit < length (insert_key flat_eq ps p))
     → Placed old (seen limit ns ps') p r
 place-seen limit ns ps ps' p r old kept is w keys at fits full =
     subst (λ o. Placed o (seen limit ns ps') p r) is (placed-seen limit ns ps ps' p r kept (within-seen limit ns ps p old is w) keys at fits full)
 
 -- a tree that is one too many is refused as such
-pub place-above : (limit : ℕ) (ns : List (List ℕ)) (ps : List Flat) (p : Flat) (r : Result ℕ PoolFault) (old : Kept) → AreKept limit ns ps → seen limit ns ps ≡ old → IsWithin old.names (length old.trees) p
+pub place-above : (limit : ℕ) (ns : List (List ℕ)) (ps : List Flat) (p : Flat) (r : Result ℕ PoolFault) (old : Kept) → AreLevelsKept limit ns ps → seen limit ns ps ≡ old → IsWithin old.names (length old.trees) p
     → (limit < length (insert_key flat_eq ps p) → r ≡ Err Full) → old.limit < length (with_tree old.trees (tree_of old.names old.trees p)) → r ≡ Err Full
 place-above limit ns ps p r old kept is w above =
     subst (λ (o : Kept). o.limit < length (with_tree o.trees (tree_of o.names o.trees p)) → r ≡ Err Full) is

@@ -22,7 +22,7 @@ abbrev pub seen : ℕ → List (List ℕ) → List Flat → Kept
 seen limit names levels = record { limit = limit; names = names; trees = trees_from names [] levels }
 
 -- what holds of the names and levels of a pool
-pub record AreKept (limit : ℕ) (names : List (List ℕ)) (levels : List Flat) : Type 0 where
+pub record AreLevelsKept (limit : ℕ) (names : List (List ℕ)) (levels : List Flat) : Type 0 where
   pub within : AreWithin names 0 levels
   pub one_number_a_name : AreDistinct names
   pub distinct : AreDistinct (trees_from names [] levels)

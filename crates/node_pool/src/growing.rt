@@ -28,7 +28,7 @@ pub struct GrowingStore {
 }
 
 impl Model for GrowingStore {
-    ghost use Rattle.node_pool.specs.Kept.{Kept, coded_kept, seen, AreKept};
+    ghost use Rattle.node_pool.specs.Kept.{Kept, coded_kept, seen, AreLevelsKept};
 
     ghost Value = { Kept };
 
@@ -36,7 +36,7 @@ impl Model for GrowingStore {
 
     ghost view = { λ s. seen s.limit s.names.keys s.levels.keys };
 
-    ghost invariant = { λ s. AreKept s.limit s.names.keys s.levels.keys };
+    ghost invariant = { λ s. AreLevelsKept s.limit s.names.keys s.levels.keys };
 }
 
 /// A member's name while its object is put in.

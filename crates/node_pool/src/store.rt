@@ -1,5 +1,5 @@
 ghost use Rattle.std.specs.Prelude.{◌≡◌, ◌≤◌, length, slice_get, option_map, option_copied, IfSome};
-ghost use Rattle.node_pool.specs.Kept.{seen, AreKept};
+ghost use Rattle.node_pool.specs.Kept.{seen, AreLevelsKept};
 ghost use Rattle.node_pool.specs.Pooled.{AreDistinct};
 ghost use Rattle.node_pool.specs.Within.{IsWithin, name_at, tree_of};
 
@@ -16,7 +16,7 @@ pub struct Store {
 }
 
 impl Model for Store {
-    ghost use Rattle.node_pool.specs.Kept.{Kept, coded_kept, seen, AreKept};
+    ghost use Rattle.node_pool.specs.Kept.{Kept, coded_kept, seen, AreLevelsKept};
 
     ghost Value = { Kept };
 
@@ -24,13 +24,13 @@ impl Model for Store {
 
     ghost view = { λ s. seen s.limit s.names.items s.levels.items };
 
-    ghost invariant = { λ s. AreKept s.limit s.names.items s.levels.items };
+    ghost invariant = { λ s. AreLevelsKept s.limit s.names.items s.levels.items };
 }
 
 impl Store {
     /// The store of these names and levels.
     pub fn of(limit: u32, names: Vec<Text>, levels: Vec<Level>) -> Store
-        requires { AreKept limit names.items levels.items }
+        requires { AreLevelsKept limit names.items levels.items }
         ensures { result ≡ seen limit names.items levels.items }
     {
         Store {

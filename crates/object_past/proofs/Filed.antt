@@ -15,7 +15,7 @@ use Rattle.clouds.specs.Kept.{key_order}
 use Rattle.history_model.proofs.KeyLemmas.{key_tells}
 use Rattle.history_model.proofs.Members.{at_in, not_in_none}
 use Rattle.node_number.proofs.Growing.{slice_get-front, slice_get-last}
-use Rattle.object_past.specs.Indexed.{AreEntries, AreFound, AreGone, ChangesAt, Found, HasVersion, IsFoundBy, IsGrown, entry_of, found_at, found_in, position_of}
+use Rattle.object_past.specs.Indexed.{AreEntries, AreFound, AreGone, ChangesAt, FoundByKey, HasVersion, IsFoundBy, IsGrown, entry_of, found_at, found_in, position_of}
 use Rattle.object_past.specs.Incarnated.{AreIncarnations}
 use Rattle.object_past.specs.Past.{AreRising}
 use Rattle.object_past.specs.declared.ending.Ending.{Ending}
@@ -25,7 +25,7 @@ use Rattle.object_past.specs.declared.version.Version.{Version}
 use Rattle.object_past.proofs.Cut.{AreBelow, AreIncarnations-none, AreIncarnations-other, AreIncarnations-same, recorded_of}
 use Rattle.object_past.proofs.Gone.{AreGone-none, AreGone-other, AreGone-same, IsEnded}
 
-pub ChangesAt-updates : (old new : BTreeMap ObjectKey Found) (key : ObjectKey) (found : Found) (Changes : Found → Found → Type 0) → Updates key_order old new key (Some found)
+pub ChangesAt-updates : (old new : BTreeMap ObjectKey FoundByKey) (key : ObjectKey) (found : FoundByKey) (Changes : FoundByKey → FoundByKey → Type 0) → Updates key_order old new key (Some found)
     → Changes (found_at old key) found → ChangesAt old new key Changes
 ChangesAt-updates old new key found Changes updates changes = record {
   here = subst (λ f. Changes (found_at old key) f) (sym (ap found_in updates.1)) changes;
@@ -89,7 +89,7 @@ HasVersion-more done v key any =
     Any-contains (λ (w : Version). w.key ≡ key) (done ++ v ∷ []) any.1 (Contains-append_left done (v ∷ []) any.1 (any.0, any.2, any.3)) any.4
 
 -- nothing is found of no versions
-pub AreFound-none : (removals : List Removal) (by_key : BTreeMap ObjectKey Found) → by_key.entries ≡ [] → AreFound [] removals by_key
+pub AreFound-none : (removals : List Removal) (by_key : BTreeMap ObjectKey FoundByKey) → by_key.entries ≡ [] → AreFound [] removals by_key
 AreFound-none removals by_key none = record {
   each = λ key. subst (IsFoundBy [] removals key) (sym (ap found_in (unfound key))) (record { entries = AreEntries-none key; incarnations = AreIncarnations-none removals key; gone = AreGone-none removals key });
   used = λ key some. absurd (nowhere (subst IsSome (unfound key) some));
@@ -98,19 +98,19 @@ AreFound-none removals by_key none = record {
     unfound : (key : ObjectKey) → get key_order by_key key ≡ None
     unfound key = rw none refl
 
-    nowhere : IsSome {T = Found} None → ⊥
+    nowhere : IsSome {T = FoundByKey} None → ⊥
     nowhere some = false≢true some
 
-pub AreFound-more : (done : List Version) (v : Version) (removals : List Removal) (ending : Option Ending) (old new : BTreeMap ObjectKey Found)
+pub AreFound-more : (done : List Version) (v : Version) (removals : List Removal) (ending : Option Ending) (old new : BTreeMap ObjectKey FoundByKey)
     → AreBelow done v → IsEnded removals v ending → ChangesAt old new v.key (IsGrown (length done) v ending) → AreFound done removals old → AreFound (done ++ v ∷ []) removals new
 AreFound-more done v removals ending old new below ended changes found = record {
   each = λ key. ⊎_elim
       (λ same. subst (λ k. IsFoundBy (done ++ v ∷ []) removals k (found_at new k)) (sym same.1) here)
       (λ other. record {
-        entries = subst (λ (f : Found). AreEntries (done ++ v ∷ []) key f.entries) (sym (changes.others key other.1)) (AreEntries-other done v key (found_at old key).entries other.1 (found.each key).entries);
-        incarnations = subst (λ (f : Found). AreIncarnations (recorded_of (done ++ v ∷ []) removals) key f.incarnations) (sym (changes.others key other.1))
+        entries = subst (λ (f : FoundByKey). AreEntries (done ++ v ∷ []) key f.entries) (sym (changes.others key other.1)) (AreEntries-other done v key (found_at old key).entries other.1 (found.each key).entries);
+        incarnations = subst (λ (f : FoundByKey). AreIncarnations (recorded_of (done ++ v ∷ []) removals) key f.incarnations) (sym (changes.others key other.1))
             (AreIncarnations-other done v removals key (found_at old key).incarnations below other.1 (found.each key).incarnations);
-        gone = subst (λ (f : Found). AreGone (done ++ v ∷ []) removals key f.gone) (sym (changes.others key other.1)) (AreGone-other done v removals key (found_at old key).gone other.1 (found.each key).gone);
+        gone = subst (λ (f : FoundByKey). AreGone (done ++ v ∷ []) removals key f.gone) (sym (changes.others key other.1)) (AreGone-other done v removals key (found_at old key).gone other.1 (found.each key).gone);
       })
       (key_tells key v.key);
   used = λ key some. ⊎_elim

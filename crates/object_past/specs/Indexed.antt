@@ -16,20 +16,20 @@ use Rattle.object_past.specs.declared.removal.Removal.{Removal}
 use Rattle.object_past.specs.declared.version.Version.{Version}
 
 -- what is found by one key
-pub record Found : Type 0 where
+pub record FoundByKey : Type 0 where
   pub entries : List Entry
   pub incarnations : List Incarnation
   pub gone : List ℕ
 
-abbrev pub nothing : Found
+abbrev pub nothing : FoundByKey
 nothing = record { entries = []; incarnations = []; gone = [] }
 
-abbrev pub found_in : Option Found → Found
+abbrev pub found_in : Option FoundByKey → FoundByKey
 found_in None = nothing
 found_in (Some found) = found
 
 -- nothing is found by a key without an entry
-abbrev pub found_at : BTreeMap ObjectKey Found → ObjectKey → Found
+abbrev pub found_at : BTreeMap ObjectKey FoundByKey → ObjectKey → FoundByKey
 found_at by_key key = found_in (get key_order by_key key)
 
 abbrev pub entry_of : ℕ → Version → Entry
@@ -50,7 +50,7 @@ pub record AreGone (versions : List Version) (removals : List Removal) (key : Ob
   pub sound : (place : ℕ) → Contains gone place → (removal : Removal) × Contains removals removal × (removal.key ≡ key) × HasVersionAt versions key removal.last × (removal.range.high ≡ place)
   pub full : (removal : Removal) → Contains removals removal → removal.key ≡ key → HasVersionAt versions key removal.last → Contains gone removal.range.high
 
-pub record IsFoundBy (versions : List Version) (removals : List Removal) (key : ObjectKey) (found : Found) : Type 0 where
+pub record IsFoundBy (versions : List Version) (removals : List Removal) (key : ObjectKey) (found : FoundByKey) : Type 0 where
   pub entries : AreEntries versions key found.entries
   pub incarnations : AreIncarnations (record { versions = versions; removals = removals }) key found.incarnations
   pub gone : AreGone versions removals key found.gone
@@ -59,7 +59,7 @@ abbrev pub HasVersion : List Version → ObjectKey → Type 0
 HasVersion versions key = Any (λ v. v.key ≡ key) versions
 
 -- each key finds what is known of it
-pub record AreFound (versions : List Version) (removals : List Removal) (by_key : BTreeMap ObjectKey Found) : Type 0 where
+pub record AreFound (versions : List Version) (removals : List Removal) (by_key : BTreeMap ObjectKey FoundByKey) : Type 0 where
   pub each : (key : ObjectKey) → IsFoundBy versions removals key (found_at by_key key)
   pub used : (key : ObjectKey) → IsSome (get key_order by_key key) → HasVersion versions key
 
@@ -71,13 +71,13 @@ high_of None = []
 high_of (Some ending) = ending.high ∷ []
 
 -- one version more
-pub record IsGrown (position : ℕ) (version : Version) (ending : Option Ending) (old new : Found) : Type 0 where
+pub record IsGrown (position : ℕ) (version : Version) (ending : Option Ending) (old new : FoundByKey) : Type 0 where
   pub entries : new.entries ≡ old.entries ++ entry_of position version ∷ []
   pub incarnations : IsExtended old.incarnations new.incarnations version (position_of ending)
   pub gone : new.gone ≡ old.gone ++ high_of ending
 
 -- what is found changes at one key
-pub record ChangesAt (old new : BTreeMap ObjectKey Found) (key : ObjectKey) (Changes : Found → Found → Type 0) : Type 0 where
+pub record ChangesAt (old new : BTreeMap ObjectKey FoundByKey) (key : ObjectKey) (Changes : FoundByKey → FoundByKey → Type 0) : Type 0 where
   pub here : Changes (found_at old key) (found_at new key)
   pub others : (other : ObjectKey) → other ≢ key → found_at new other ≡ found_at old other
   pub used : (other : ObjectKey) → IsSome (get key_order new other) → (other ≡ key) ⊎ IsSome (get key_order old other)
@@ -88,7 +88,7 @@ pub record AreKeys (versions : List Version) (keys : List ObjectKey) : Type 0 wh
   pub exact : (key : ObjectKey) → Contains keys key ↔ HasVersion versions key
 
 -- all that a past keeps
-pub record IsKept (past : Recorded) (ranges : List Range) (endings : List Ending) (keys : List ObjectKey) (by_key : BTreeMap ObjectKey Found) : Type 0 where
+pub record IsKept (past : Recorded) (ranges : List Range) (endings : List Ending) (keys : List ObjectKey) (by_key : BTreeMap ObjectKey FoundByKey) : Type 0 where
   pub rising : AreRising past.versions
   pub ends : AreEnds past.versions past.removals
   pub ranges_of : ranges ≡ map (λ removal. removal.range) past.removals

@@ -9,13 +9,13 @@ ghost use Rattle.object_past.specs.Scopes.{AreInOrder};
 ghost use Rattle.object_past.specs.declared.removal.Removal.{Removal};
 
 use crate::ending::{Ending, ending_behind};
-use crate::found::Found;
+use crate::found::FoundByKey;
 use crate::version::Version;
 use base_types::{ObjectKey, OutOfMemory};
 use std::alloc::Global;
 use std::collections::BTreeMap;
 
-pub type ByKey = BTreeMap<ObjectKey, Found>;
+pub type ByKey = BTreeMap<ObjectKey, FoundByKey>;
 
 fn file(
     alloc: Global,
@@ -33,7 +33,7 @@ fn file(
             return Ok(());
         }
         None => {
-            let mut found = Found::new(alloc);
+            let mut found = FoundByKey::new(alloc);
             found.add(position, version, ending)?;
             let _none = by_key.insert(version.key.clone()?, found)?;
         }

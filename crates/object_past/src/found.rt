@@ -11,17 +11,17 @@ use std::marker::Model;
 
 /// What is found by one key.
 #[derive(Drop)]
-pub struct Found {
+pub struct FoundByKey {
     entries: Vec<Entry>,
     incarnations: Vec<Incarnation>,
     // Where the ranges of its removals end: from there to its next version the object is absent.
     gone: Vec<u64>,
 }
 
-impl Model for Found {
-    ghost use Rattle.object_past.specs.Indexed.{Found};
+impl Model for FoundByKey {
+    ghost use Rattle.object_past.specs.Indexed.{FoundByKey};
 
-    ghost Value = { Found };
+    ghost Value = { FoundByKey };
 
     ghost view = { λ f. record {
       entries = f.entries.items;
@@ -46,11 +46,11 @@ fn add_gone(gone: &mut Vec<u64>, ending: Option<Ending>) -> Result<(), OutOfMemo
     Ok(())
 }
 
-impl Found {
-    pub fn new(alloc: Global) -> Found
+impl FoundByKey {
+    pub fn new(alloc: Global) -> FoundByKey
         ensures { result ≡ nothing }
     {
-        Found {
+        FoundByKey {
             entries: Vec::new(alloc),
             incarnations: Vec::new(alloc),
             gone: Vec::new(alloc),

@@ -5,30 +5,30 @@ use Rattle.std.proofs.lemmas.List.Folds.{find-append}
 use Rattle.base_types.specs.declared.claim.Reason.{Reason}
 use Rattle.object_versions.specs.Chosen.{able_maker, first_able, must_have_made}
 use Rattle.object_versions.specs.Removals.{or_first}
-use Rattle.object_versions.specs.declared.maker.Judged.{Judged}
+use Rattle.object_versions.specs.declared.maker.JudgedWrite.{JudgedWrite}
 
 -- where none could have made the revision, none must have
-none_must : (finding : ℕ → Option Reason) (judged : List Judged) → length (filter (λ one. is_none one.making) judged) < 1 → find (must_have_made finding) judged ≡ None
+none_must : (finding : ℕ → Option Reason) (judged : List JudgedWrite) → length (filter (λ one. is_none one.making) judged) < 1 → find (must_have_made finding) judged ≡ None
 none_must finding [] few = refl
 none_must finding (j ∷ judged) few = go (is_none j.making) (is_some (finding j.number)) (filter (λ one. is_none one.making) judged) (find (must_have_made finding) judged) few (none_must finding judged)
   where
-    go : (a b : Bool) (able : List Judged) (must : Option Judged) → length (if a then j ∷ able else able) < 1 → (length able < 1 → must ≡ None) → (if a && b then Some j else must) ≡ None
+    go : (a b : Bool) (able : List JudgedWrite) (must : Option JudgedWrite) → length (if a then j ∷ able else able) < 1 → (length able < 1 → must ≡ None) → (if a && b then Some j else must) ≡ None
     go true b able must few none = absurd (omega (arith, few))
     go false b able must few none = none few
 
 -- where one alone could have made the revision, nothing needs to be asked of it
-pub one_able : (finding : ℕ → Option Reason) (judged : List Judged) → length (filter (λ one. is_none one.making) judged) < 2 → first_able judged ≡ able_maker finding judged
+pub one_able : (finding : ℕ → Option Reason) (judged : List JudgedWrite) → length (filter (λ one. is_none one.making) judged) < 2 → first_able judged ≡ able_maker finding judged
 one_able finding [] few = refl
 one_able finding (j ∷ judged) few =
     go (is_none j.making) (is_some (finding j.number)) (filter (λ one. is_none one.making) judged) (find (must_have_made finding) judged) (find (λ one. is_none one.making) judged) few
     (none_must finding judged) (one_able finding judged)
   where
-    go : (a b : Bool) (able : List Judged) (must found : Option Judged) → length (if a then j ∷ able else able) < 2 → (length able < 1 → must ≡ None)
+    go : (a b : Bool) (able : List JudgedWrite) (must found : Option JudgedWrite) → length (if a then j ∷ able else able) < 2 → (length able < 1 → must ≡ None)
         → (length able < 2 → option_map (λ one. one.number) found ≡ or_first (option_map (λ one. one.number) must) (option_map (λ one. one.number) found))
         → option_map (λ one. one.number) (if a then Some j else found)
         ≡ or_first (option_map (λ one. one.number) (if a && b then Some j else must)) (option_map (λ one. one.number) (if a then Some j else found))
     go true true able must found few none rest = refl
-    go true false able must found few none rest = sym (ap (λ o. or_first (option_map (λ (one : Judged). one.number) o) (Some j.number)) (none (omega (arith, few))))
+    go true false able must found few none rest = sym (ap (λ o. or_first (option_map (λ (one : JudgedWrite). one.number) o) (Some j.number)) (none (omega (arith, few))))
     go false b able must found few none rest = rest few
 
 -- the test of one more write of a search

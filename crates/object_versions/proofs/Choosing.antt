@@ -27,7 +27,7 @@ use Rattle.object_past.specs.Faulted.{IsLeastFoundFault}
 use Rattle.object_past.specs.Modelled.{maker_of, version_of}
 use Rattle.object_past.specs.declared.version.Version.{Version}
 use Rattle.object_versions.specs.Written.{making_at, IsJudgement, AreJudged}
-use Rattle.object_versions.specs.declared.maker.Judged.{Judged}
+use Rattle.object_versions.specs.declared.maker.JudgedWrite.{JudgedWrite}
 use Rattle.object_past.specs.declared.version.Maker.{Maker}
 use Rattle.object_past.specs.declared.version.Maker.TheVariants.{Event}
 
@@ -41,18 +41,18 @@ pub record IsFoundFirst (h : past.History) (members : List ℕ) (Holds : Making 
   pub first : (other : Making) → IsMaking h other → Holds other → Contains members other.number → IsJudgedBefore other.event m.event → ⊥
 
 -- the test tells of what holds
-abbrev pub Tells : past.History → (ℕ → Type 0) → (Making → Type 0) → (Judged → Bool) → Type 0
-Tells h Known Holds test = (m : Making) (judged : Judged) → IsMaking h m → Known m.number → judged.number ≡ m.number → IsJudgement h m judged → IsTrue (test judged) ↔ Holds m
+abbrev pub Tells : past.History → (ℕ → Type 0) → (Making → Type 0) → (JudgedWrite → Bool) → Type 0
+Tells h Known Holds test = (m : Making) (judged : JudgedWrite) → IsMaking h m → Known m.number → judged.number ≡ m.number → IsJudgement h m judged → IsTrue (test judged) ↔ Holds m
 
 abbrev pub IsSearched : past.History → List ℕ → (Making → Type 0) → Option ℕ → Type 0
 IsSearched h members Holds None = (other : Making) → IsMaking h other → Contains members other.number → Holds other → ⊥
 IsSearched h members Holds (Some number) = IsFoundFirst h members Holds number
 
-number_of : Option Judged → Option ℕ
+number_of : Option JudgedWrite → Option ℕ
 number_of found = option_map (λ one. one.number) found
 
-pub searched : (h : past.History) (events : List LogEvent) (Known : ℕ → Type 0) (Holds : Making → Type 0) (test : Judged → Bool) → HasEvents events h → Tells h Known Holds test
-    → (members : List ℕ) (judged : List Judged) → ((n : ℕ) → Contains members n → Known n) → AreInOrder h members → AreJudged h events members judged
+pub searched : (h : past.History) (events : List LogEvent) (Known : ℕ → Type 0) (Holds : Making → Type 0) (test : JudgedWrite → Bool) → HasEvents events h → Tells h Known Holds test
+    → (members : List ℕ) (judged : List JudgedWrite) → ((n : ℕ) → Contains members n → Known n) → AreInOrder h members → AreJudged h events members judged
     → IsSearched h members Holds (option_map (λ one. one.number) (find test judged))
 searched h events Known Holds test all tells [] [] known order zipped = λ other making among holds. not_in_none among
 searched h events Known Holds test all tells [] (j ∷ judged) known order zipped = absurd zipped
@@ -177,7 +177,7 @@ pub record IsChosen (h : past.History) (group : Group) (maker : Maker) (shown : 
   pub making : IsMaking h m
   pub showing : IsShowing h group.key group.revision (maker_of maker) m
 
-pub chosen : (h : past.History) (events : List LogEvent) (body : ℕ → Option ℕ → Bool) (group : Group) (judged : List Judged) (first : ℕ) (may : Bool) → HasEvents events h → h.body ≡ body
+pub chosen : (h : past.History) (events : List LogEvent) (body : ℕ → Option ℕ → Bool) (group : Group) (judged : List JudgedWrite) (first : ℕ) (may : Bool) → HasEvents events h → h.body ≡ body
     → IsGroupOf h group → AreJudged h events group.members judged → option_map (λ one. one.number) (find (λ one. true) judged) ≡ Some first
     → (IsTrue may ↔ MayBeUnrecorded h group.key group.revision)
     → IsChosen h group (maker_among (finding_at body events) judged first may) (shown_by first (maker_among (finding_at body events) judged first may))
@@ -220,7 +220,7 @@ chosen h events body group judged first may all bodies grouped zipped head told 
     go None None none no_able = unseen may refl (none_found h group (CouldHaveMade h group.key group.revision) grouped (λ m could. could.member) no_able)
 
 -- a search for anything finds the first
-pub first_find : (judged : List Judged) → option_map (λ one. one.number) (find (λ one. true) judged) ≡ first_write judged
+pub first_find : (judged : List JudgedWrite) → option_map (λ one. one.number) (find (λ one. true) judged) ≡ first_write judged
 first_find [] = refl
 first_find (one ∷ judged) = refl
 

@@ -18,7 +18,7 @@ use Rattle.history_model.specs.Incarnations.{IsFirstWithUid}
 use Rattle.object_versions.proofs.Firsts.{first_later, first_continued, first_new, not_first}
 use Rattle.object_past.proofs.Looking.{in_map, from_map}
 use Rattle.object_versions.proofs.Mapped.{no_true, pairs_push, any_in, in_any}
-use Rattle.object_versions.specs.Growing.{AddsUid, AreFlagged, AreKept, AreLinked, HasNone, IsContinued, IsFirst, IsLastAt, IsLastOf}
+use Rattle.object_versions.specs.Growing.{AddsUid, AreFlagged, AreLinked, AreVersionsKept, HasNone, IsContinued, IsFirst, IsLastAt, IsLastOf}
 use Rattle.object_versions.specs.Keyed.{OwnerSet, Positions, UidSet, key_eq}
 use Rattle.object_past.specs.Modelled.{version_of}
 use Rattle.object_versions.specs.Owners.{owner_eq, owner_of}
@@ -276,9 +276,9 @@ pub data IsOwned (versions : List Version) (v : Version) (owners new : OwnerSet)
       → set.Updates owner_eq owners new (owner_of v) true → AddsUid uids new_uids v.uid → IsOwned versions v owners new uids new_uids is_first
 
 pub kept_more : (versions : List Version) (firsts : List Bool) (earlier : List (Option ℕ)) (last new_last : Positions) (owners new_owners : OwnerSet) (uids new_uids : UidSet)
-    (v : Version) (before : Option ℕ) (is_first : Bool) → AreKept versions firsts earlier last owners uids → All (λ w. w.revision < v.revision) versions
+    (v : Version) (before : Option ℕ) (is_first : Bool) → AreVersionsKept versions firsts earlier last owners uids → All (λ w. w.revision < v.revision) versions
     → before ≡ get key_eq last v.key → Updates key_eq last new_last v.key (Some (length versions)) → IsOwned versions v owners new_owners uids new_uids is_first
-    → AreKept (versions ++ v ∷ []) (firsts ++ is_first ∷ []) (earlier ++ before ∷ []) new_last new_owners new_uids
+    → AreVersionsKept (versions ++ v ∷ []) (firsts ++ is_first ∷ []) (earlier ++ before ∷ []) new_last new_owners new_uids
 kept_more versions firsts earlier last new_last owners new_owners uids new_uids v before is_first kept below found lasts owned = record {
   rising = pairs_push (λ a b. a.revision < b.revision) versions v kept.rising below;
   flagged = flagged_more versions firsts v is_first below kept.flagged (flag owned);
@@ -310,7 +310,7 @@ none_past (x ∷ xs) (suc i) none = omega (arith, none_past xs i none)
 
 -- the key's latest version, as it is found
 pub latest_found : (versions : List Version) (firsts : List Bool) (earlier : List (Option ℕ)) (last : Positions) (owners : OwnerSet) (uids : UidSet) (key : ObjectKey) (position : ℕ) (v : Version) (is_first : Bool)
-    → AreKept versions firsts earlier last owners uids → get key_eq last key ≡ Some position → slice_get versions position ≡ Some v → slice_get firsts position ≡ Some is_first
+    → AreVersionsKept versions firsts earlier last owners uids → get key_eq last key ≡ Some position → slice_get versions position ≡ Some v → slice_get firsts position ≡ Some is_first
     → IsLastOf versions key v × (IsTrue is_first ↔ IsFirst versions v)
 latest_found versions firsts earlier last owners uids key position v is_first kept found at flag =
     let known : IsLastAt versions key (Some position) = subst (IsLastAt versions key) found (kept.last_of key) in
@@ -318,12 +318,12 @@ latest_found versions firsts earlier last owners uids key position v is_first ke
     (subst (IsLastOf versions key) same known.2, kept.flagged.each position v is_first at flag)
 
 pub latest_known : (versions : List Version) (firsts : List Bool) (earlier : List (Option ℕ)) (last : Positions) (owners : OwnerSet) (uids : UidSet) (key : ObjectKey) (position : ℕ)
-    → AreKept versions firsts earlier last owners uids → get key_eq last key ≡ Some position → slice_get versions position ≡ None → ⊥
+    → AreVersionsKept versions firsts earlier last owners uids → get key_eq last key ≡ Some position → slice_get versions position ≡ None → ⊥
 latest_known versions firsts earlier last owners uids key position kept found none =
     let known : IsLastAt versions key (Some position) = subst (IsLastAt versions key) found (kept.last_of key) in cc (sym known.1 ∙ none)
 
 pub latest_flagged : (versions : List Version) (firsts : List Bool) (earlier : List (Option ℕ)) (last : Positions) (owners : OwnerSet) (uids : UidSet) (key : ObjectKey) (position : ℕ)
-    → AreKept versions firsts earlier last owners uids → get key_eq last key ≡ Some position → slice_get firsts position ≡ None → ⊥
+    → AreVersionsKept versions firsts earlier last owners uids → get key_eq last key ≡ Some position → slice_get firsts position ≡ None → ⊥
 latest_flagged versions firsts earlier last owners uids key position kept found none =
     let known : IsLastAt versions key (Some position) = subst (IsLastAt versions key) found (kept.last_of key) in
     let within = slice_get_within versions position known.0 known.1 in

@@ -29,7 +29,7 @@ use Rattle.base_types.specs.declared.claim.Reason.{Reason}
 use Rattle.object_versions.specs.Chosen.{first_able, first_maker, maker_among, must_have_made, or_maker, shown_by, unseen_maker}
 use Rattle.object_versions.specs.Removals.{or_first}
 use Rattle.object_versions.specs.Written.{making_at, snapshot_version, AreAllJudged, AreJudged, Extends, IsAnsweredAt, IsJudgedAt, IsJudgement, IsSnapshot}
-use Rattle.object_versions.specs.declared.maker.Judged.{Judged}
+use Rattle.object_versions.specs.declared.maker.JudgedWrite.{JudgedWrite}
 
 -- the first versions of a history's are these
 pub record GoesOn (h : past.History) (done : List Version) : Type 0 where
@@ -74,7 +74,7 @@ begun_below order i item grown v rising within is grown_is v_is = all_from (λ w
     omega (arith, below, left, right))
 
 -- the judgements of one more group
-pub all_judged_more : (h : past.History) (events : List LogEvent) (groups : List Group) (i : ℕ) (group : Group) (judged more : List Judged) → i < length groups → get_or groups i group ≡ group
+pub all_judged_more : (h : past.History) (events : List LogEvent) (groups : List Group) (i : ℕ) (group : Group) (judged more : List JudgedWrite) → i < length groups → get_or groups i group ≡ group
     → AreAllJudged h events (take i groups) judged → AreJudged h events group.members more → map (λ one. one.number) more ≡ group.members
     → AreAllJudged h events (take (i + 1) groups) (judged ++ more)
 all_judged_more h events groups i group judged more within is before zipped numbers = record {
@@ -85,7 +85,7 @@ all_judged_more h events groups i group judged more within is before zipped numb
   full = λ g number among member. ⊎_elim
       (λ earlier. let found = any_in (λ one. one.number ≡ number) judged (before.full g number earlier member) in
       in_any (λ one. one.number ≡ number) (judged ++ more) found.0 (Contains-append_left judged more found.0 found.1) found.2)
-      (λ this. let found = from_map (λ (one : Judged). one.number) more number (subst (λ l. Contains l number) (sym numbers) (subst (λ (x : Group). Contains x.members number) (sym this) member)) in
+      (λ this. let found = from_map (λ (one : JudgedWrite). one.number) more number (subst (λ l. Contains l number) (sym numbers) (subst (λ (x : Group). Contains x.members number) (sym this) member)) in
       in_any (λ one. one.number ≡ number) (judged ++ more) found.0 (Contains-append_right judged more found.0 found.1) found.2)
       (in_more groups i group within is g among);
 }
@@ -106,7 +106,7 @@ made_more h begun versions v made new = all_from (λ w. Contains begun w ⊎ IsM
     (Contains-push_cases versions v w among))
 
 -- the versions that were found, and each write judged
-pub record AreWritten (h : past.History) (events : List LogEvent) (begun : List Version) (groups : List Group) (versions : List Version) (judged : List Judged) : Type 0 where
+pub record AreWritten (h : past.History) (events : List LogEvent) (begun : List Version) (groups : List Group) (versions : List Version) (judged : List JudgedWrite) : Type 0 where
   pub made : AreMade h begun versions
   pub all : AreAllJudged h events groups judged
 
@@ -183,7 +183,7 @@ begun_written h events order grown is = record {
     begun = map snapshot_version (map (λ item. item.now) order)
 
 -- one group more
-pub written_more : (h : past.History) (events : List LogEvent) (begun : List Version) (groups : List Group) (i : ℕ) (group : Group) (versions : List Version) (v : Version) (judged more : List Judged)
+pub written_more : (h : past.History) (events : List LogEvent) (begun : List Version) (groups : List Group) (i : ℕ) (group : Group) (versions : List Version) (v : Version) (judged more : List JudgedWrite)
     → i < length groups → get_or groups i group ≡ group → AreWritten h events begun (take i groups) versions judged → IsMadeVersion h (version_of v)
     → AreJudged h events group.members more → map (λ one. one.number) more ≡ group.members
     → AreWritten h events begun (take (i + 1) groups) (versions ++ v ∷ []) (judged ++ more)
@@ -210,17 +210,17 @@ before_group start snapshot items groups i group versions is_snapshot same risin
     (all_from (λ (g : Group). g.revision < group.revision) (take i groups) (before_in (λ (a b : Group). a.revision < b.revision) groups i group rising within is))
 
 -- judgements of writes are of writes
-pub shown_write : (events : List LogEvent) (finding : ℕ → Option Reason) (judged : List Judged) (first : ℕ) (may : Bool) → All (λ n. IsSome (item_at events n)) (map (λ j. j.number) judged)
+pub shown_write : (events : List LogEvent) (finding : ℕ → Option Reason) (judged : List JudgedWrite) (first : ℕ) (may : Bool) → All (λ n. IsSome (item_at events n)) (map (λ j. j.number) judged)
     → option_map (λ one. one.number) (find (λ one. true) judged) ≡ Some first → IsSome (item_at events (shown_by first (maker_among finding judged first may)))
 shown_write events finding judged first may writes head = go (first_maker finding judged) (found_write (must_have_made finding)) (first_able judged) (found_write (λ j. is_none j.making)) may
   where
-    found_write : (test : Judged → Bool) (n : ℕ) → option_map (λ one. one.number) (find test judged) ≡ Some n → IsSome (item_at events n)
+    found_write : (test : JudgedWrite → Bool) (n : ℕ) → option_map (λ one. one.number) (find test judged) ≡ Some n → IsSome (item_at events n)
     found_write test n = of (find test judged) (found_in test judged)
       where
-        of : (o : Option Judged) → ((x : Judged) → o ≡ Some x → Contains judged x) → option_map (λ one. one.number) o ≡ Some n → IsSome (item_at events n)
+        of : (o : Option JudgedWrite) → ((x : JudgedWrite) → o ≡ Some x → Contains judged x) → option_map (λ one. one.number) o ≡ Some n → IsSome (item_at events n)
         of None known is = absurd (cc is)
         of (Some j) known is = subst (λ k. IsSome (item_at events k)) (same_Some j.number n is)
-            (all_at (λ k. IsSome (item_at events k)) (map (λ (x : Judged). x.number) judged) j.number writes (in_map (λ (x : Judged). x.number) judged j (known j refl)))
+            (all_at (λ k. IsSome (item_at events k)) (map (λ (x : JudgedWrite). x.number) judged) j.number writes (in_map (λ (x : JudgedWrite). x.number) judged j (known j refl)))
 
     go : (a : Option ℕ) → ((n : ℕ) → a ≡ Some n → IsSome (item_at events n)) → (b : Option ℕ) → ((n : ℕ) → b ≡ Some n → IsSome (item_at events n)) → (t : Bool)
         → IsSome (item_at events (shown_by first (or_maker (or_first a b) (unseen_maker first t))))
@@ -230,7 +230,7 @@ shown_write events finding judged first may writes head = go (first_maker findin
     go None made None able false = found_write (λ j. true) first head
 
 -- the judgement of one more write
-pub each_more : (h : past.History) (events : List LogEvent) (members : List ℕ) (i d : ℕ) (judged : List Judged) (m : Making) (one : Judged) → i < length members
+pub each_more : (h : past.History) (events : List LogEvent) (members : List ℕ) (i d : ℕ) (judged : List JudgedWrite) (m : Making) (one : JudgedWrite) → i < length members
     → making_at events (get_or members i d) ≡ Some m → one.number ≡ m.number → IsJudgement h m one → AreJudged h events (take i members) judged
     → AreJudged h events (take (i + 1) members) (judged ++ one ∷ [])
 each_more h events members i d judged m one within at number judgement done =

@@ -45,7 +45,7 @@ pub record AreLinked (versions : List Version) (earlier : List (Option ℕ)) : T
   pub each : (position : ℕ) (v : Version) (before : Option ℕ) → slice_get versions position ≡ Some v → slice_get earlier position ≡ Some before
       → IsLastAt (take position versions) v.key before
 
-pub record AreKept (versions : List Version) (firsts : List Bool) (earlier : List (Option ℕ)) (last : Positions) (owners : OwnerSet) (uids : UidSet) : Type 0 where
+pub record AreVersionsKept (versions : List Version) (firsts : List Bool) (earlier : List (Option ℕ)) (last : Positions) (owners : OwnerSet) (uids : UidSet) : Type 0 where
   pub rising : AllPairs (λ a b. a.revision < b.revision) versions
   pub flagged : AreFlagged versions firsts
   pub linked : AreLinked versions earlier

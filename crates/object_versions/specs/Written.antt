@@ -16,7 +16,7 @@ use Rattle.write_groups.specs.declared.groups.Group.{Group}
 use Rattle.object_past.specs.Modelled.{version_of}
 use Rattle.object_versions.specs.Modelled.{AreCloudsOf}
 use Rattle.object_versions.specs.Surrounded.{HasLog, IsJudgedBy}
-use Rattle.object_versions.specs.declared.maker.Judged.{Judged}
+use Rattle.object_versions.specs.declared.maker.JudgedWrite.{JudgedWrite}
 use Rattle.object_past.specs.declared.version.Maker.TheVariants.{Snapshot}
 use Rattle.object_past.specs.declared.version.Version.{Version}
 use Rattle.object_versions.specs.declared.versions.Log.{Log}
@@ -56,14 +56,14 @@ pub record Extends (h : past.History) (done : List Version) (revision : ℕ) : T
   pub behind : All (λ v. revision ≤ v.revision) later
 
 -- why the write could not have made its revision from the object before it
-abbrev pub IsJudgement : past.History → Making → Judged → Type 0
+abbrev pub IsJudgement : past.History → Making → JudgedWrite → Type 0
 IsJudgement h m judged = (before : Option past.Version) × IsEntryBefore h m before × IsLeastFault h m before judged.making
 
 -- the write of the number, judged
-abbrev pub IsJudgedAt : past.History → List LogEvent → ℕ → Judged → Type 0
+abbrev pub IsJudgedAt : past.History → List LogEvent → ℕ → JudgedWrite → Type 0
 IsJudgedAt h events number judged = (judged.number ≡ number) × ((m : Making) × (making_at events number ≡ Some m) × IsJudgement h m judged)
 
-abbrev pub AreJudged : past.History → List LogEvent → List ℕ → List Judged → Type 0
+abbrev pub AreJudged : past.History → List LogEvent → List ℕ → List JudgedWrite → Type 0
 AreJudged h events members judged = AllZip (IsJudgedAt h events) members judged
 
 -- the write of the number is of the key, and was answered with the revision
@@ -71,7 +71,7 @@ abbrev pub IsAnsweredAt : List LogEvent → ObjectKey → ℕ → ℕ → Type 0
 IsAnsweredAt events key revision number = (m : Making) × (making_at events number ≡ Some m) × (m.item.key ≡ key) × (m.item.revision ≡ revision)
 
 -- a group of the history whose writes are judged
-pub record IsOfGroup (log : Log) (body : ℕ → Option ℕ → Bool) (group : Group) (judged : List Judged) (h : past.History) : Type 0 where
+pub record IsOfGroup (log : Log) (body : ℕ → Option ℕ → Bool) (group : Group) (judged : List JudgedWrite) (h : past.History) : Type 0 where
   pub all : HasEvents log.events.now h
   pub clouds : AreCloudsOf log.clouds.now h
   pub bodies : h.body ≡ body
@@ -79,7 +79,7 @@ pub record IsOfGroup (log : Log) (body : ℕ → Option ℕ → Bool) (group : G
   pub members : AreJudged h log.events.now group.members judged
 
 -- the writes of all groups are judged
-pub record AreAllJudged (h : past.History) (events : List LogEvent) (groups : List Group) (judged : List Judged) : Type 0 where
+pub record AreAllJudged (h : past.History) (events : List LogEvent) (groups : List Group) (judged : List JudgedWrite) : Type 0 where
   pub sound : All (λ one. IsJudgedAt h events one.number one) judged
   pub full : (group : Group) (number : ℕ) → Contains groups group → Contains group.members number → Any (λ one. one.number ≡ number) judged
 

@@ -2,7 +2,7 @@ ghost use Rattle.std.specs.Prelude.{◌≡◌, ◌<◌, ◌++◌, ◌∷◌, [],
 ghost use Rattle.std.specs.Prelude.{Any, Some, option_map, slice_get};
 ghost use Rattle.std.specs.HashMap.{get, Updates as UpdatesMap};
 ghost use Rattle.std.specs.HashSet.{contains, Updates};
-ghost use Rattle.object_versions.specs.Growing.{AddsUid, AreFlagged, AreKept, AreLinked};
+ghost use Rattle.object_versions.specs.Growing.{AddsUid, AreFlagged, AreLinked, AreVersionsKept};
 ghost use Rattle.object_versions.specs.Growing.{IsContinued, IsLastAt, IsLatestIn};
 ghost use Rattle.object_versions.specs.Keyed.{key_eq};
 ghost use Rattle.object_versions.specs.Owners.{owner_eq, owner_of};
@@ -66,11 +66,11 @@ impl Model for Grown {
 
     ghost Value = { List Version };
 
-    ghost use Rattle.object_versions.specs.Growing.{AreKept};
+    ghost use Rattle.object_versions.specs.Growing.{AreVersionsKept};
 
     ghost view = { λ g. g.versions };
 
-    ghost invariant = { λ g. AreKept g.versions g.index.firsts.items g.index.earlier.items
+    ghost invariant = { λ g. AreVersionsKept g.versions g.index.firsts.items g.index.earlier.items
         g.index.last g.index.owners g.index.uids };
 }
 
@@ -157,10 +157,10 @@ fn put_last(
 impl Index {
     // Takes the version behind these. Where it continues its key's latest one, an earlier version has its uid.
     fn add(&mut self, versions: &[Version], version: &Version) -> Result<(), OutOfMemory>
-        requires kept { AreKept versions.now self.old.firsts.items self.old.earlier.items
+        requires kept { AreVersionsKept versions.now self.old.firsts.items self.old.earlier.items
             self.old.last self.old.owners self.old.uids }
         requires above { All (λ v. v.revision < version.now.revision) versions.now }
-        ensures { OnOk result (AreKept (versions.now ++ version.now ∷ []) self.new.firsts.items
+        ensures { OnOk result (AreVersionsKept (versions.now ++ version.now ∷ []) self.new.firsts.items
             self.new.earlier.items self.new.last self.new.owners self.new.uids) }
     {
         let before = put_last(&mut self.last, &version.key, versions.len())?;
@@ -193,11 +193,11 @@ impl Index {
 
 // Puts the version behind these.
 fn add(versions: &mut Versions, index: &mut Index, version: Version) -> Result<(), OutOfMemory>
-    requires kept { AreKept versions.old index.old.firsts.items index.old.earlier.items
+    requires kept { AreVersionsKept versions.old index.old.firsts.items index.old.earlier.items
         index.old.last index.old.owners index.old.uids }
     requires above { All (λ v. v.revision < version.revision) versions.old }
     ensures versions { OnOk result (versions.new ≡ versions.old ++ version ∷ []) }
-    ensures kept { OnOk result (AreKept versions.new index.new.firsts.items
+    ensures kept { OnOk result (AreVersionsKept versions.new index.new.firsts.items
         index.new.earlier.items index.new.last index.new.owners index.new.uids) }
 {
     index.add(versions.as_slice(), &version)?;

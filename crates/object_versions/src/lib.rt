@@ -16,5 +16,5 @@ mod versions;
 pub use bodies::Bodies;
 pub use hiding::unrecorded_of;
 pub use log_past::{LogPast, past_of};
-pub use maker::Judged;
+pub use maker::JudgedWrite;
 pub use making::{Making, finding_fault, making_at, making_fault};

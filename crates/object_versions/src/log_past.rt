@@ -17,7 +17,7 @@ ghost use Rattle.object_versions.specs.Written.{AreAllJudged, AreSlots, IsSnapsh
 
 use crate::bodies::Bodies;
 use crate::hiding::{clouds_of, slots_of};
-use crate::maker::Judged;
+use crate::maker::JudgedWrite;
 use crate::removals::removals_of;
 use crate::removed::first_removals;
 use crate::versions::{Log, Written, write_versions};
@@ -39,7 +39,7 @@ pub struct LogPast {
     pub groups: Groups,
     pub versions: Versions,
     /// Why each write of a group could not have made its revision.
-    pub judged: Vec<Judged>,
+    pub judged: Vec<JudgedWrite>,
     pub removals: Removals,
 }
 

@@ -11,7 +11,7 @@ use write_groups::LogEvent;
 
 /// What is found of a write of a group behind the versions before it.
 #[derive(Clone, Copy)]
-pub struct Judged {
+pub struct JudgedWrite {
     pub number: u32,
     /// Why it could not have made its revision; None where it could.
     pub making: Option<Reason>,
@@ -22,7 +22,7 @@ fn must_have_made<B: Bodies>(
     alloc: Global,
     bodies: &B,
     events: &[LogEvent],
-    one: &Judged,
+    one: &JudgedWrite,
 ) -> Result<bool, OutOfMemory>
     ensures { IfOk result
         (λ must. must ≡ must_have_made (finding_at (B.body bodies.now) events.now) one.now) }
@@ -38,7 +38,7 @@ fn first_maker<B: Bodies>(
     alloc: Global,
     bodies: &B,
     events: &[LogEvent],
-    judged: &[Judged],
+    judged: &[JudgedWrite],
 ) -> Result<Option<u32>, OutOfMemory>
     ensures { IfOk result
         (λ maker. maker ≡ first_maker (finding_at (B.body bodies.now) events.now) judged.now) }
@@ -52,7 +52,7 @@ fn first_maker<B: Bodies>(
 }
 
 // The first that could have made the revision.
-fn first_able(judged: &[Judged]) -> Option<u32>
+fn first_able(judged: &[JudgedWrite]) -> Option<u32>
     ensures { result ≡ first_able judged.now }
 {
     let one = judged.iter().find(|one| one.making.is_none())?;
@@ -60,7 +60,7 @@ fn first_able(judged: &[Judged]) -> Option<u32>
 }
 
 // How many could have made the revision.
-fn able_count(judged: &[Judged]) -> usize
+fn able_count(judged: &[JudgedWrite]) -> usize
     ensures { result ≡ count_by (λ one. is_none one.making) judged.now }
 {
     judged.iter().filter(|one| one.making.is_none()).count()
@@ -72,7 +72,7 @@ fn able_maker<B: Bodies>(
     alloc: Global,
     bodies: &B,
     events: &[LogEvent],
-    judged: &[Judged],
+    judged: &[JudgedWrite],
 ) -> Result<Option<u32>, OutOfMemory>
     ensures { IfOk result
         (λ maker. maker ≡ able_maker (finding_at (B.body bodies.now) events.now) judged.now) }
@@ -92,7 +92,7 @@ pub fn maker_among<B: Bodies>(
     alloc: Global,
     bodies: &B,
     events: &[LogEvent],
-    judged: &[Judged],
+    judged: &[JudgedWrite],
     first: u32,
     may_be_unrecorded: bool,
 ) -> Result<Maker, OutOfMemory>

@@ -14,7 +14,7 @@ ghost use Rattle.object_versions.specs.Chosen.{first_write, shown_by};
 ghost use Rattle.object_versions.specs.Behind.{AreGroupsBehind};
 ghost use Rattle.object_versions.specs.Growing.{IsLatestIn};
 ghost use Rattle.object_versions.specs.Traced.{AreTraced};
-ghost use Rattle.object_versions.specs.declared.maker.Judged.{Judged as Writing};
+ghost use Rattle.object_versions.specs.declared.maker.JudgedWrite.{JudgedWrite as Writing};
 ghost use Rattle.object_versions.specs.Hidden.{slots_of};
 ghost use Rattle.object_versions.specs.Modelled.{making_of};
 ghost use Rattle.object_versions.specs.Surrounded.{HasLog};
@@ -24,7 +24,7 @@ ghost use Rattle.object_versions.specs.Written.{IsSnapshot};
 
 use crate::bodies::Bodies;
 use crate::grown::{Grown, Latest};
-use crate::maker::{Judged, maker_among, shown_by};
+use crate::maker::{JudgedWrite, maker_among, shown_by};
 use crate::making::{Making, making_at, making_fault};
 use crate::owner::{Owner, owned};
 use crate::removal::range_behind;
@@ -105,7 +105,7 @@ fn judge<B: Bodies>(
     grown: &Grown,
     latest: Option<Latest<'_>>,
     making: Making<'_>,
-) -> Result<Judged, OutOfMemory>
+) -> Result<JudgedWrite, OutOfMemory>
     ensures number { IfOk result (λ judged. judged.number ≡ making.entry.number) }
     ensures judged { IfOk result (λ judged. (h : History) → IsOfLog log.entry (B.body bodies.now) h
         → Extends h grown.now making.entry.item.now.revision
@@ -114,7 +114,7 @@ fn judge<B: Bodies>(
 {
     let before = entry_before(log, latest, making);
     let is_used = is_reused(grown, making);
-    Ok(Judged {
+    Ok(JudgedWrite {
         number: making.number,
         making: making_fault(
             alloc,
@@ -136,7 +136,7 @@ fn judge_each<B: Bodies>(
     grown: &Grown,
     latest: Option<Latest<'_>>,
     members: &[u32],
-) -> Result<Vec<Judged>, OutOfMemory>
+) -> Result<Vec<JudgedWrite>, OutOfMemory>
     requires writes { AreWrites log.events.now members.now }
     ensures numbers { IfOk result (λ judged. map (λ one. one.number) judged.items ≡ members.now) }
     ensures judged { IfOk result (λ judged. (h : History) (key : ObjectKey) (revision : ℕ)
@@ -154,7 +154,7 @@ fn judge_each<B: Bodies>(
 }
 
 // The group's first write.
-fn first_number(judged: &[Judged]) -> u32
+fn first_number(judged: &[JudgedWrite]) -> u32
     requires { 0 < length judged.now }
     ensures { first_write judged.now ≡ Some result }
 {
@@ -167,7 +167,7 @@ fn version_in<B: Bodies>(
     log: Log<'_>,
     bodies: &B,
     group: &Group,
-    judged: &[Judged],
+    judged: &[JudgedWrite],
 ) -> Result<Version, OutOfMemory>
     requires writes { AreWrites log.events.now (map (λ one. one.number) judged.now) }
     ensures key { IfOk result (λ version. version.key ≡ group.now.key) }
@@ -236,7 +236,7 @@ pub struct Written {
     pub versions: Versions,
     pub firsts: Vec<bool>,
     pub earlier: Vec<Option<usize>>,
-    pub judged: Vec<Judged>,
+    pub judged: Vec<JudgedWrite>,
 }
 
 // Takes the version that a group's writes left behind these, and puts what was judged of them behind the others.
@@ -245,7 +245,7 @@ fn add_group<B: Bodies>(
     log: Log<'_>,
     bodies: &B,
     grown: Grown,
-    judged: &mut Vec<Judged>,
+    judged: &mut Vec<JudgedWrite>,
     group: &Group,
 ) -> Result<Grown, OutOfMemory>
     requires writes { AreWrites log.events.now group.now.members }

@@ -93,12 +93,12 @@ HasLeastCode-along claim A B code to from least = record {
 }
 
 -- whether the event's bounds left a place in each range
-pub record IsTold (left new : List Range) (claim : Claim) (fits : Bool) : Type 0 where
+pub record IsClaimTold (left new : List Range) (claim : Claim) (fits : Bool) : Type 0 where
   pub narrowed : fits ≡ true → Narrows left new claim.bounds
   pub emptied : fits ≡ false → (choice : List ℕ) → IsChoice left choice → MeetsAll choice claim.bounds → ⊥
 
 pub fits_from_choice : (ranges left new : List Range) (claims : List Claim) (order : List ℕ) (i : ℕ) (claim : Claim) (fits : Bool) → IsNext ranges left claims order i claim
-    → IsTold left new claim fits → LeavesNoChoice ranges claims (take (i + 1) order) → fits ≡ false
+    → IsClaimTold left new claim fits → LeavesNoChoice ranges claims (take (i + 1) order) → fits ≡ false
 fits_from_choice ranges left new claims order i claim false next told none = refl
 fits_from_choice ranges left new claims order i claim true next told none =
     let lows = map (λ (range : Range). range.low) new in
@@ -107,7 +107,7 @@ fits_from_choice ranges left new claims order i claim true next told none =
 
 -- an event that has a code is the first that breaks
 pub BreaksFirst-here : (ranges left new : List Range) (claims : List Claim) (order : List ℕ) (i : ℕ) (claim : Claim) (fits : Bool) (reason : Reason) → IsNext ranges left claims order i claim
-    → IsTold left new claim fits → HasLeastCode claim (fits ≡ false) reason → BreaksFirst ranges claims order (get_or order i 0) reason
+    → IsClaimTold left new claim fits → HasLeastCode claim (fits ≡ false) reason → BreaksFirst ranges claims order (get_or order i 0) reason
 BreaksFirst-here ranges left new claims order i claim fits reason next told least =
     let lows = map (λ (range : Range). range.low) left in
     let none = λ (lost : fits ≡ false) (choice : List ℕ) (meets : MeetsBounds ranges claims (take (i + 1) order) choice).

@@ -112,7 +112,7 @@ abbrev pub IsKnownUnsure : Known → ℕ → ObjectKey → Type 0
 IsKnownUnsure known place key = IsKnownKey known key × IsUnsure (IsBindingOf key) known key place
 
 -- what a timeline keeps is of what is known
-pub record AreKept (known : Known) (histories : BTreeMap ObjectKey (List Stored)) (gaps : BTreeMap ObjectKey (List Gap)) (clouds : Writes)
+pub record AreBindingsKept (known : Known) (histories : BTreeMap ObjectKey (List Stored)) (gaps : BTreeMap ObjectKey (List Gap)) (clouds : Writes)
     (index : Index) (nameless : Nameless) (unsure : Unsure) (reigns : ReignIndex) : Type 0 where
   pub sound : AreSound known.versions known.ends
   pub stored : AreStored histories known.versions

@@ -61,9 +61,9 @@ impl Model for Timeline {
       bypass = t.bypass;
     } };
 
-    ghost use Rattle.rbac_timeline.specs.Kept.{AreKept};
+    ghost use Rattle.rbac_timeline.specs.Kept.{AreBindingsKept};
 
-    ghost invariant = { λ t. AreKept (record {
+    ghost invariant = { λ t. AreBindingsKept (record {
       versions = t.versions.value;
       ends = t.ends.value;
       spans =

@@ -9,14 +9,14 @@ use Rattle.std.proofs.lemmas.List.Sorted.{All-permutation, IsPermutation-sym}
 use Rattle.base_types.proofs.Integers.{ge_from_test, lt_from_test}
 use Rattle.base_types.proofs.Quantifiers.{All-unmap, Any-permutation, Any-unmap}
 use Rattle.base_types.specs.declared.revision.Moment.{Moment}
-use Rattle.strict_order.specs.declared.latest.Mark.{Mark}
+use Rattle.strict_order.specs.declared.latest.LatestMark.{LatestMark}
 use Rattle.strict_order.specs.declared.thing.Thing.{Thing}
 use Rattle.strict_order.specs.Latest.{IsLatest, IsLatestOf, mark_of}
 use Rattle.strict_order.specs.Printed.{IsPrinted}
 
 -- numbers that rise from each mark to the next rise all the way
-rises : (order : List Mark) → ((k : ℕ) (d : Mark) → k + 1 < length order → (get_or order k d).number ≤ (get_or order (k + 1) d).number)
-    → (i n : ℕ) (d : Mark) → i + n < length order → (get_or order i d).number ≤ (get_or order (i + n) d).number
+rises : (order : List LatestMark) → ((k : ℕ) (d : LatestMark) → k + 1 < length order → (get_or order k d).number ≤ (get_or order (k + 1) d).number)
+    → (i n : ℕ) (d : LatestMark) → i + n < length order → (get_or order i d).number ≤ (get_or order (i + n) d).number
 rises order rising i zero d within = let same : i + 0 ≡ i = omega arith in subst (λ j. (get_or order i d).number ≤ (get_or order j d).number) (sym same) (omega arith)
 rises order rising i (suc n) d within =
     let upto = rises order rising i n d (omega arith) in
@@ -25,7 +25,7 @@ rises order rising i (suc n) d within =
     subst (λ j. (get_or order i d).number ≤ (get_or order j d).number) same (omega arith)
 
 -- the marks below a number stand in front
-pub marks_parted : (things : List Thing) (marks : List Mark) (number : ℕ) → IsLatest things marks → IsPartitionedBy (λ mark. ltb mark.number number) marks
+pub marks_parted : (things : List Thing) (marks : List LatestMark) (number : ℕ) → IsLatest things marks → IsPartitionedBy (λ mark. ltb mark.number number) marks
 marks_parted things marks number latest = λ i j d upto within passes.
     let long = latest.latest.long in
     let below : (get_or marks j d).number < number = ltb-true _ _ passes in
@@ -37,11 +37,11 @@ marks_parted things marks number latest = λ i j d upto within passes.
     lt-ltb _ _ (omega arith)
 
 -- the place where the marks reach a number
-abbrev pub IsPlaceOf : List Mark → ℕ → ℕ → Type 0
+abbrev pub IsPlaceOf : List LatestMark → ℕ → ℕ → Type 0
 IsPlaceOf marks number place = IsPartitionPoint (λ mark. ltb mark.number number ≡ true) (λ mark. ltb mark.number number ≡ false) marks place
 
 -- no thing is before the first mark's number
-pub IsPrinted-own : (things : List Thing) (marks : List Mark) (thing : Thing) (place : ℕ) → IsLatest things marks → IsPlaceOf marks thing.least place → place ≡ 0 → IsPrinted things thing thing.lo
+pub IsPrinted-own : (things : List Thing) (marks : List LatestMark) (thing : Thing) (place : ℕ) → IsLatest things marks → IsPlaceOf marks thing.least place → place ≡ 0 → IsPrinted things thing thing.lo
 IsPrinted-own things marks thing place latest found first = record {
   reached = inl refl;
   own = omega (arith, ints);
@@ -67,7 +67,7 @@ IsLater-max a b = elim_test (is_lt (int_cmp b.0 a.0)) refl
     elim_test false is = let above = ge_from_test b.0 a.0 is in record { is = inr refl; first = omega (arith, ints); second = omega (arith, ints) }
 
 -- the mark before the place has the latest moment of the things before the number
-pub IsPrinted-of : (things : List Thing) (marks : List Mark) (thing : Thing) (place : ℕ) (d : Mark) (moment : Moment) → IsLatest things marks → IsPlaceOf marks thing.least place
+pub IsPrinted-of : (things : List Thing) (marks : List LatestMark) (thing : Thing) (place : ℕ) (d : LatestMark) (moment : Moment) → IsLatest things marks → IsPlaceOf marks thing.least place
     → 0 < place → place ≤ length marks → IsLater thing.lo (get_or marks (place - 1) d).lo moment → IsPrinted things thing moment
 IsPrinted-of things marks thing place d moment latest found after_first upto later =
     let long = latest.latest.long in
@@ -76,14 +76,14 @@ IsPrinted-of things marks thing place d moment latest found after_first upto lat
     let front : IsLatestOf (take place latest.order) (get_or marks (place - 1) d).lo = subst (λ n. IsLatestOf (take n latest.order) (get_or marks (place - 1) d).lo) next before in
     record {
       reached = ⊎_elim inl (λ is_mark. inr (
-          let P : Mark → Type 0 = λ mark. (mark.number < thing.least) × (moment ≡ mark.lo) in
+          let P : LatestMark → Type 0 = λ mark. (mark.number < thing.least) × (moment ≡ mark.lo) in
           let any = front.among in
           let within : any.0 < length latest.order = (let among = any.2 in omega (arith, length-take place latest.order)) in
           let below : any.0 < place = (let among = any.2 in omega (arith, length-take place latest.order)) in
           let number = latest.latest.numbers any.0 any.1 within in
           let passes : (get_or marks any.0 any.1).number < thing.least = ltb-true _ _ (found.0 any.0 any.1 (omega arith) below) in
           let same : get_or latest.order any.0 any.1 ≡ any.1 = sym (get_or-take place latest.order any.0 any.1 below) ∙ any.3 in
-          let low : any.1.number < thing.least = subst (λ (m : Mark). m.number < thing.least) same (omega arith) in
+          let low : any.1.number < thing.least = subst (λ (m : LatestMark). m.number < thing.least) same (omega arith) in
           Any-unmap mark_of P things (Any-permutation P latest.order (map mark_of things) (IsPermutation-sym _ _ latest.sorted.same) (any.0, any.1, within, same, (low, is_mark ∙ sym any.4))))) later.is;
       own = later.first;
       others = All-unmap mark_of (λ mark. mark.number < thing.least → mark.lo.0 ≤ℤ moment.0) things
@@ -92,7 +92,7 @@ IsPrinted-of things marks thing place d moment latest found after_first upto lat
           ⊎_elim
           (λ below.
           let among : k < length (take place latest.order) = omega (arith, length-take place latest.order) in
-          let bound : (get_or latest.order k e).lo.0 ≤ℤ (get_or marks (place - 1) d).lo.0 = subst (λ (m : Mark). m.lo.0 ≤ℤ (get_or marks (place - 1) d).lo.0) (get_or-take place latest.order k e below) (front.bound k e among) in
+          let bound : (get_or latest.order k e).lo.0 ≤ℤ (get_or marks (place - 1) d).lo.0 = subst (λ (m : LatestMark). m.lo.0 ≤ℤ (get_or marks (place - 1) d).lo.0) (get_or-take place latest.order k e below) (front.bound k e among) in
           let second = later.second in
           omega (arith, ints))
           (λ above. let fails = ltb-false _ _ (found.1 k e above (omega arith)) in absurd (omega arith))

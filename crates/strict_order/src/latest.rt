@@ -6,7 +6,7 @@ use std::alloc::Global;
 
 /// The latest `lo` among the things up to one of them, in the order of their greatest numbers.
 #[derive(Clone, Copy, PartialEq, Eq, PartialOrd, Ord)]
-pub struct Mark {
+pub struct LatestMark {
     pub number: u128,
     pub lo: Moment,
 }
@@ -16,7 +16,7 @@ ghost use Rattle.strict_order.specs.Latest.{IsByNumber, IsLatest, IsLatestSoFar,
 ghost use Rattle.strict_order.specs.Printed.{IsPrinted};
 
 /// Puts at each mark the latest moment up to it.
-fn raise(marks: &mut [Mark])
+fn raise(marks: &mut [LatestMark])
     ensures { IsLatestSoFar marks.old marks.new }
 {
     for i in 1..marks.len() {
@@ -29,7 +29,7 @@ fn raise(marks: &mut [Mark])
 }
 
 /// The things' own moments, by number.
-fn by_number(alloc: Global, things: &[Thing]) -> Result<Vec<Mark>, OutOfMemory>
+fn by_number(alloc: Global, things: &[Thing]) -> Result<Vec<LatestMark>, OutOfMemory>
     ensures { IfOk result (λ marks. IsByNumber things.now marks.items) }
 {
     let mut marks = own_marks(alloc, things)?;
@@ -37,12 +37,12 @@ fn by_number(alloc: Global, things: &[Thing]) -> Result<Vec<Mark>, OutOfMemory>
     Ok(marks)
 }
 
-fn own_marks(alloc: Global, things: &[Thing]) -> Result<Vec<Mark>, OutOfMemory>
+fn own_marks(alloc: Global, things: &[Thing]) -> Result<Vec<LatestMark>, OutOfMemory>
     ensures { IfOk result (λ marks. marks.items ≡ map mark_of things.now) }
 {
     let marks = things
         .iter()
-        .map(|thing| Mark {
+        .map(|thing| LatestMark {
             number: thing.greatest,
             lo: thing.lo,
         })
@@ -51,7 +51,7 @@ fn own_marks(alloc: Global, things: &[Thing]) -> Result<Vec<Mark>, OutOfMemory>
 }
 
 /// The marks of all things.
-pub fn marks_of(alloc: Global, things: &[Thing]) -> Result<Vec<Mark>, OutOfMemory>
+pub fn marks_of(alloc: Global, things: &[Thing]) -> Result<Vec<LatestMark>, OutOfMemory>
     ensures { IfOk result (λ marks. IsLatest things.now marks.items) }
 {
     let mut marks = by_number(alloc, things)?;
@@ -60,7 +60,7 @@ pub fn marks_of(alloc: Global, things: &[Thing]) -> Result<Vec<Mark>, OutOfMemor
 }
 
 /// The first moment that a thing can have: the latest `lo` of its own and of those that come before it.
-pub fn first_moment(marks: &[Mark], thing: &Thing) -> Moment
+pub fn first_moment(marks: &[LatestMark], thing: &Thing) -> Moment
     ensures { (things : List Thing) → IsLatest things marks.now
         → IsPrinted things thing.now result }
 {

@@ -6,7 +6,7 @@ ghost use Rattle.strict_order.specs.Printed.{IsPrinted};
 ghost use Rattle.strict_order.specs.Strict.{IsStrict};
 ghost use Rattle.strict_order.specs.Things.{Crosses, IsJudgedNoLater};
 
-use crate::latest::{Mark, first_moment, marks_of};
+use crate::latest::{LatestMark, first_moment, marks_of};
 use crate::thing::Thing;
 use base_types::{Listed, Moment, OutOfMemory};
 use std::alloc::Global;
@@ -52,7 +52,7 @@ fn earlier(first: Option<Thing>, next: &Thing) -> Thing
 fn moments_of(
     alloc: Global,
     things: &[Thing],
-    marks: &[Mark],
+    marks: &[LatestMark],
 ) -> Result<(Vec<Moment>, Option<Thing>), OutOfMemory>
     requires marks { IsLatest things.now marks.now }
     requires moments { All (λ thing. thing.lo.0 ≤ℤ thing.hi.0) things.now }

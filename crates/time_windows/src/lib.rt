@@ -5,6 +5,6 @@ mod mark;
 mod span;
 mod windows;
 
-pub use mark::Mark;
+pub use mark::SpanMark;
 pub use span::Span;
 pub use windows::Windows;

@@ -7,7 +7,7 @@ use std::alloc::Global;
 /// A moment at which a span begins or ends, and a revision. Marks are in order by their moments, and at
 /// one moment by their revisions.
 #[derive(Clone, Copy, PartialEq, Eq, PartialOrd, Ord)]
-pub struct Mark {
+pub struct SpanMark {
     pub at: Moment,
     pub revision: u64,
 }
@@ -16,12 +16,12 @@ ghost use Rattle.time_windows.specs.Marks.{start_of, end_of, IsInOrder, IsGreate
 ghost use Rattle.time_windows.specs.Marks.{IsRunningGreatest, IsRunningLeast};
 
 /// The end of each span.
-pub fn ends_of(alloc: Global, spans: &[Span]) -> Result<Vec<Mark>, OutOfMemory>
+pub fn ends_of(alloc: Global, spans: &[Span]) -> Result<Vec<SpanMark>, OutOfMemory>
     ensures { IfOk result (λ marks. marks.items ≡ map end_of spans.now) }
 {
     let marks = spans
         .iter()
-        .map(|span| Mark {
+        .map(|span| SpanMark {
             at: span.hi,
             revision: span.revision.get(),
         })
@@ -30,12 +30,12 @@ pub fn ends_of(alloc: Global, spans: &[Span]) -> Result<Vec<Mark>, OutOfMemory>
 }
 
 /// The start of each span.
-pub fn starts_of(alloc: Global, spans: &[Span]) -> Result<Vec<Mark>, OutOfMemory>
+pub fn starts_of(alloc: Global, spans: &[Span]) -> Result<Vec<SpanMark>, OutOfMemory>
     ensures { IfOk result (λ marks. marks.items ≡ map start_of spans.now) }
 {
     let marks = spans
         .iter()
-        .map(|span| Mark {
+        .map(|span| SpanMark {
             at: span.lo,
             revision: span.revision.get(),
         })
@@ -43,7 +43,7 @@ pub fn starts_of(alloc: Global, spans: &[Span]) -> Result<Vec<Mark>, OutOfMemory
     Ok(marks)
 }
 
-fn sorted(mut marks: Vec<Mark>) -> Result<Vec<Mark>, OutOfMemory>
+fn sorted(mut marks: Vec<SpanMark>) -> Result<Vec<SpanMark>, OutOfMemory>
     ensures { IfOk result (λ order. IsInOrder marks.items order.items) }
 {
     marks.sort()?;
@@ -51,7 +51,7 @@ fn sorted(mut marks: Vec<Mark>) -> Result<Vec<Mark>, OutOfMemory>
 }
 
 /// Puts at each mark the greatest revision up to it.
-fn raise(marks: &mut [Mark])
+fn raise(marks: &mut [SpanMark])
     ensures { IsGreatestSoFar marks.old marks.new }
 {
     for i in 1..marks.len() {
@@ -62,7 +62,7 @@ fn raise(marks: &mut [Mark])
 }
 
 /// Puts at each mark the least revision from it on.
-fn lower(marks: &mut [Mark])
+fn lower(marks: &mut [SpanMark])
     ensures { IsLeastFromThere marks.old marks.new }
 {
     for i in (1..marks.len()).rev() {
@@ -73,7 +73,7 @@ fn lower(marks: &mut [Mark])
 }
 
 /// The marks in order, each with the greatest revision up to it.
-pub fn running_greatest(marks: Vec<Mark>) -> Result<Vec<Mark>, OutOfMemory>
+pub fn running_greatest(marks: Vec<SpanMark>) -> Result<Vec<SpanMark>, OutOfMemory>
     ensures { IfOk result (λ running. IsRunningGreatest marks.items running.items) }
 {
     let mut order = sorted(marks)?;
@@ -82,7 +82,7 @@ pub fn running_greatest(marks: Vec<Mark>) -> Result<Vec<Mark>, OutOfMemory>
 }
 
 /// The marks in order, each with the least revision from it on.
-pub fn running_least(marks: Vec<Mark>) -> Result<Vec<Mark>, OutOfMemory>
+pub fn running_least(marks: Vec<SpanMark>) -> Result<Vec<SpanMark>, OutOfMemory>
     ensures { IfOk result (λ running. IsRunningLeast marks.items running.items) }
 {
     let mut order = sorted(marks)?;

@@ -1,6 +1,6 @@
 ghost use Rattle.std.specs.Prelude.{◌≡◌, ◌<◌, IfOk, All, AllPairs};
 
-use crate::mark::{Mark, ends_of, running_greatest, running_least, starts_of};
+use crate::mark::{SpanMark, ends_of, running_greatest, running_least, starts_of};
 use crate::span::Span;
 use base_types::{Moment, OutOfMemory, Revision};
 use std::alloc::Global;
@@ -11,11 +11,11 @@ use std::snapshot::Snapshot;
 #[derive(Drop)]
 pub struct Windows {
     start: Revision,
-    by_hi: Vec<Mark>,
-    by_lo: Vec<Mark>,
+    by_hi: Vec<SpanMark>,
+    by_lo: Vec<SpanMark>,
     // For contracts alone: they take no memory.
-    ends: Snapshot<Vec<Mark>>,
-    starts: Snapshot<Vec<Mark>>,
+    ends: Snapshot<Vec<SpanMark>>,
+    starts: Snapshot<Vec<SpanMark>>,
 }
 
 impl Model for Windows {
@@ -76,14 +76,14 @@ impl Windows {
     }
 
     /// The spans' ends in order, each with the greatest revision up to it.
-    pub fn by_hi(&self) -> &[Mark]
+    pub fn by_hi(&self) -> &[SpanMark]
         ensures { IsByHi self.now.spans result.now }
     {
         self.by_hi.as_slice()
     }
 
     /// The spans' starts in order, each with the least revision from it on.
-    pub fn by_lo(&self) -> &[Mark]
+    pub fn by_lo(&self) -> &[SpanMark]
         ensures { IsByLo self.now.spans result.now }
     {
         self.by_lo.as_slice()

@@ -31,7 +31,7 @@ use Rattle.object_past.specs.declared.version.Version.{Version}
 use Rattle.object_versions.proofs.Mapped.{any_in}
 use Rattle.object_versions.proofs.Numbered.{making_from}
 use Rattle.object_versions.specs.Written.{making_at, AreAllJudged, IsJudgedAt}
-use Rattle.object_versions.specs.declared.maker.Judged.{Judged}
+use Rattle.object_versions.specs.declared.maker.JudgedWrite.{JudgedWrite}
 use Rattle.write_groups.specs.Members.{AreGroupsOf, IsGroupOf}
 use Rattle.write_groups.specs.Modelled.{HasEvents}
 use Rattle.write_groups.specs.declared.event.LogEvent.{LogEvent}
@@ -138,7 +138,7 @@ key_same : (h : History) (revision : ℕ) (a b : ObjectKey) → IsReadable h →
 key_same h revision a b r x y = sym x.of_key ∙ ap (λ (z : model.Item). z.key) (same_making h x.m y.m x.first.holds.making y.first.holds.making
     (first_making_same h (IsAnsweredWith h revision) x.m y.m r (λ m k. k.making) x.first y.first)).1 ∙ y.of_key
 
-module _ (h : History) (events : List LogEvent) (groups : List Group) (judged : List Judged) (makings : Makings) (r : IsReadable h) (all : HasEvents events h)
+module _ (h : History) (events : List LogEvent) (groups : List Group) (judged : List JudgedWrite) (makings : Makings) (r : IsReadable h) (all : HasEvents events h)
     (grouped : AreGroupsOf h groups) (are : AreAllJudged h events groups judged) (of : AreMakingsOf judged makings) where
   belongs_to : (v : past.Version) (number : ℕ) → Contains h.versions v → v.maker ≡ ByEvent number → IsKeyOf h v.revision v.key
   belongs_to v number c e = go (r.versions.sound v c)
@@ -147,10 +147,10 @@ module _ (h : History) (events : List LogEvent) (groups : List Group) (judged : 
       go (inl s) = absurd (cc (s.maker, e))
       go (inr s) = s.belongs
 
-  judged_one : (m : Making) (v : past.Version) → IsMadeBy h m v → (one : Judged) × Contains judged one × (one.number ≡ m.number)
+  judged_one : (m : Making) (v : past.Version) → IsMadeBy h m v → (one : JudgedWrite) × Contains judged one × (one.number ≡ m.number)
   judged_one m v b = go (grouped.full m b.making (subst (λ n. h.start < n) b.at_revision b.above))
     where
-      go : Any (λ group. group.revision ≡ m.item.revision) groups → (one : Judged) × Contains judged one × (one.number ≡ m.number)
+      go : Any (λ group. group.revision ≡ m.item.revision) groups → (one : JudgedWrite) × Contains judged one × (one.number ≡ m.number)
       go some = by (are.full group m.number known (is.full m (record { making = b.making; of_key = sym b.of_key ∙ same; at_revision = sym at })))
         where
           pair : (group : Group) × Contains groups group × (group.revision ≡ m.item.revision)
@@ -171,8 +171,8 @@ module _ (h : History) (events : List LogEvent) (groups : List Group) (judged : 
           same : v.key ≡ group.key
           same = key_same h v.revision v.key group.key r (belongs_to v m.number b.known b.maker) (subst (λ n. IsKeyOf h n group.key) (at ∙ sym b.at_revision) is.belongs)
 
-          by : Any (λ one. one.number ≡ m.number) judged → (one : Judged) × Contains judged one × (one.number ≡ m.number)
-          by any = let p = any_in (λ (one : Judged). one.number ≡ m.number) judged any in (p.0, p.1, p.2)
+          by : Any (λ one. one.number ≡ m.number) judged → (one : JudgedWrite) × Contains judged one × (one.number ≡ m.number)
+          by any = let p = any_in (λ (one : JudgedWrite). one.number ≡ m.number) judged any in (p.0, p.1, p.2)
 
   pub makers_codes : AreMakersCodes h makings
   makers_codes v number c e = go (made_version h v number r c e)
@@ -181,13 +181,13 @@ module _ (h : History) (events : List LogEvent) (groups : List Group) (judged : 
           → (m : Making) × (m.number ≡ number) × IsMaking h m × ((before : Option past.Version) × IsEntryBefore h m before × IsLeastFault h m before (making_code makings number))
       go (m, n, b) = (m, n, b.making, at (get nat_cmp makings number) (of number) refl)
         where
-          one : (one : Judged) × Contains judged one × (one.number ≡ m.number)
+          one : (one : JudgedWrite) × Contains judged one × (one.number ≡ m.number)
           one = judged_one m v b
 
           at : (o : Option (Option Reason)) → IsCodeIn judged number o → get nat_cmp makings number ≡ o
               → (before : Option past.Version) × IsEntryBefore h m before × IsLeastFault h m before (making_code makings number)
           at None none q = absurd (none one.0 one.1 (one.2 ∙ n))
-          at (Some code) (judge, known, numbered, is) q = by (all_at (λ (x : Judged). IsJudgedAt h events x.number x) judged judge are.sound known)
+          at (Some code) (judge, known, numbered, is) q = by (all_at (λ (x : JudgedWrite). IsJudgedAt h events x.number x) judged judge are.sound known)
             where
               by : IsJudgedAt h events judge.number judge → (before : Option past.Version) × IsEntryBefore h m before × IsLeastFault h m before (making_code makings number)
               by (own, (w, taken, made)) = (

@@ -22,7 +22,7 @@ use Rattle.object_past.specs.Scopes.{AreInOrder}
 use Rattle.object_past.specs.declared.version.Version.{Version}
 use Rattle.object_versions.proofs.Mapped.{any_in}
 use Rattle.write_groups.specs.declared.event.LogEvent.{LogEvent}
-use Rattle.version_store.specs.Keyed.{AreKeys, IsNamedBy, IsTold}
+use Rattle.version_store.specs.Keyed.{AreKeys, IsNamedBy, IsToldOfKey}
 
 abbrev Holds : BTreeSet ObjectKey → ObjectKey → Type 0
 Holds keys key = IsTrue (contains key_order keys key)
@@ -170,14 +170,14 @@ keys_are versions log mine none some all list order exact named kept own empty =
     nothing : (key : ObjectKey) → Holds none key → ⊥
     nothing key holds = let f : IsTrue false = subst (λ l. IsTrue (list_any (λ k. is_eq (key_order key k)) l)) empty holds in true≢false (sym f)
 
-    forth : (key : ObjectKey) → Holds some key ⊎ Any (IsNamedBy key) log → IsTold versions log key
+    forth : (key : ObjectKey) → Holds some key ⊎ Any (IsNamedBy key) log → IsToldOfKey versions log key
     forth key (inr any) = inr any
     forth key (inl holds) = by ((kept key).0 holds)
       where
-        by : Holds none key ⊎ Contains mine key → IsTold versions log key
+        by : Holds none key ⊎ Contains mine key → IsToldOfKey versions log key
         by (inl h) = absurd (nothing key h)
         by (inr c) = inl ((own key).0 c)
 
-    back : (key : ObjectKey) → IsTold versions log key → Holds some key ⊎ Any (IsNamedBy key) log
+    back : (key : ObjectKey) → IsToldOfKey versions log key → Holds some key ⊎ Any (IsNamedBy key) log
     back key (inl has) = inl ((kept key).1 (inr ((own key).1 has)))
     back key (inr any) = inr any

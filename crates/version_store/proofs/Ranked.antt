@@ -21,17 +21,17 @@ use Rattle.rbac_timeline.specs.declared.version.RbacVersion.{RbacVersion}
 use Rattle.write_groups.proofs.Judging.{apart_moved}
 use Rattle.write_groups.proofs.Lists.{made_from, made_has, made_pairs}
 use Rattle.version_store.specs.Roles.{AreRoles, is_role, rbac_version, roles_at, turn_order, turns_from, version_with}
-use Rattle.version_store.specs.declared.roles.Turn.{Turn}
+use Rattle.version_store.specs.declared.roles.RoleTurn.{RoleTurn}
 
 -- the turn of a role or binding among the versions, which stand from a position on
-record IsTurn (position : ℕ) (versions : List Version) (turn : Turn) : Type 0 where
+record IsTurn (position : ℕ) (versions : List Version) (turn : RoleTurn) : Type 0 where
   pub behind : position ≤ turn.position
   pub version : Version
   pub at : slice_get versions (turn.position - position) ≡ Some version
   pub of_key : turn.key ≡ version.key
   pub of_revision : turn.revision ≡ version.revision
 
-turn_later : (position : ℕ) (v : Version) (versions : List Version) (turn : Turn) → IsTurn (position + 1) versions turn → IsTurn position (v ∷ versions) turn
+turn_later : (position : ℕ) (v : Version) (versions : List Version) (turn : RoleTurn) → IsTurn (position + 1) versions turn → IsTurn position (v ∷ versions) turn
 turn_later position v versions turn t = record {
   behind = let b = t.behind in omega arith;
   version = t.version;
@@ -49,7 +49,7 @@ turn_here position v versions = record {
   of_revision = refl;
 }
 
-turns_are : (position : ℕ) (versions : List Version) (turn : Turn) → Contains (turns_from position versions) turn → IsTurn position versions turn
+turns_are : (position : ℕ) (versions : List Version) (turn : RoleTurn) → Contains (turns_from position versions) turn → IsTurn position versions turn
 turns_are position [] turn c = absurd (not_in_none c)
 turns_are position (v ∷ versions) turn c = go (is_role v.key) refl (λ d. turns_are (position + 1) versions turn d)
   where
@@ -72,7 +72,7 @@ turns_have position (suc i) (w ∷ versions) v e role = go (is_role w.key) refl
     (subst (λ n. Contains (turns_from (position + 1) versions) (record { key = v.key; revision = v.revision; position = n })) (let p : position + 1 + i ≡ position + suc i = omega arith in p)
     (turns_have (position + 1) i versions v e role))
   where
-    turn : Turn
+    turn : RoleTurn
     turn = record { key = v.key; revision = v.revision; position = position + suc i }
 
     go : (b : Bool) → is_role w.key ≡ b → Contains (turns_from (position + 1) versions) turn → Contains (turns_from position (w ∷ versions)) turn
@@ -85,8 +85,8 @@ turns_apart position (v ∷ versions) = go (is_role v.key) refl (turns_apart (po
   where
     go : (b : Bool) → is_role v.key ≡ b → AllPairs (λ a b. a.position ≢ b.position) (turns_from (position + 1) versions) → AllPairs (λ a b. a.position ≢ b.position) (turns_from position (v ∷ versions))
     go false e rest = rw e rest
-    go true e rest = rw e (pairs_cons (λ (a b : Turn). a.position ≢ b.position) (record { key = v.key; revision = v.revision; position = position }) (turns_from (position + 1) versions)
-        (all_from (λ (b : Turn). position ≢ b.position) (turns_from (position + 1) versions) (λ t c same. let b = (turns_are (position + 1) versions t c).behind in omega (arith, b, same)))
+    go true e rest = rw e (pairs_cons (λ (a b : RoleTurn). a.position ≢ b.position) (record { key = v.key; revision = v.revision; position = position }) (turns_from (position + 1) versions)
+        (all_from (λ (b : RoleTurn). position ≢ b.position) (turns_from (position + 1) versions) (λ t c same. let b = (turns_are (position + 1) versions t c).behind in omega (arith, b, same)))
         rest)
 
 -- what an order of three parts says of the first two
@@ -95,25 +95,25 @@ order_cases Less = inl refl
 order_cases Equal = inr (inl refl)
 order_cases Greater = inr (inr refl)
 
-module _ (trees : List Meaning) (versions : List Version) (order : List Turn) (same : IsPermutation (turns_from 0 versions) order) (sorted : IsSorted turn_order order)
+module _ (trees : List Meaning) (versions : List Version) (order : List RoleTurn) (same : IsPermutation (turns_from 0 versions) order) (sorted : IsSorted turn_order order)
     (rising : AllPairs (λ a b. a.revision < b.revision) versions) (nodes : All (λ v. v.node.0 < length trees) versions) where
-  is_turn : (turn : Turn) → Contains order turn → IsTurn 0 versions turn
+  is_turn : (turn : RoleTurn) → Contains order turn → IsTurn 0 versions turn
   is_turn turn c = turns_are 0 versions turn (Contains-permutation order (turns_from 0 versions) turn (IsPermutation-sym (turns_from 0 versions) order same) c)
 
-  at_position : (turn : Turn) (t : IsTurn 0 versions turn) → slice_get versions turn.position ≡ Some t.version
+  at_position : (turn : RoleTurn) (t : IsTurn 0 versions turn) → slice_get versions turn.position ≡ Some t.version
   at_position turn t = subst (λ i. slice_get versions i ≡ Some t.version) (let e : turn.position - 0 ≡ turn.position = omega arith in e) t.at
 
   pub turns_within : All (λ turn. turn.position < length versions) order
-  turns_within = all_from (λ (turn : Turn). turn.position < length versions) order (λ turn c. let t = is_turn turn c in slice_get_within versions turn.position t.version (at_position turn t))
+  turns_within = all_from (λ (turn : RoleTurn). turn.position < length versions) order (λ turn c. let t = is_turn turn c in slice_get_within versions turn.position t.version (at_position turn t))
 
-  abbrev f : Turn → Option RbacVersion
+  abbrev f : RoleTurn → Option RbacVersion
   f turn = option_and_then (rbac_version trees) (slice_get versions turn.position)
 
-  apart : AllPairs (λ (a b : Turn). a.position ≢ b.position) order
-  apart = apart_moved (λ (turn : Turn). turn.position) (turns_from 0 versions) order same (turns_apart 0 versions)
+  apart : AllPairs (λ (a b : RoleTurn). a.position ≢ b.position) order
+  apart = apart_moved (λ (turn : RoleTurn). turn.position) (turns_from 0 versions) order same (turns_apart 0 versions)
 
   ranks : IsStrictWeakOrder (λ a b. is_lt (turn_order a b))
-  ranks = ranks_by (then_total (on_total (λ (t : Turn). t.key) key_order_total) (then_total (on_total (λ (t : Turn). t.revision) nat_cmp_total) (on_total (λ (t : Turn). t.position) nat_cmp_total))) (λ t. t)
+  ranks = ranks_by (then_total (on_total (λ (t : RoleTurn). t.key) key_order_total) (then_total (on_total (λ (t : RoleTurn). t.revision) nat_cmp_total) (on_total (λ (t : RoleTurn). t.position) nat_cmp_total))) (λ t. t)
 
   far : AllPairs (λ a b. is_lt (turn_order b a) ≡ false) order
   far = λ i j d l m. sorted_far (λ a b. is_lt (turn_order a b)) ranks order sorted i j d (omega arith) m
@@ -126,10 +126,10 @@ module _ (trees : List Meaning) (versions : List Version) (order : List Turn) (s
       go (Some k) None q = absurd (cc q)
       go (Some k) (Some t) q = (ap (λ (z : RbacVersion). z.key) (sym (same_Some _ r q)), ap (λ (z : RbacVersion). z.revision) (sym (same_Some _ r q)))
 
-  made_of : (turn : Turn) (t : IsTurn 0 versions turn) (r : RbacVersion) → f turn ≡ Some r → rbac_version trees t.version ≡ Some r
+  made_of : (turn : RoleTurn) (t : IsTurn 0 versions turn) (r : RbacVersion) → f turn ≡ Some r → rbac_version trees t.version ≡ Some r
   made_of turn t r e = sym (ap (option_and_then (rbac_version trees)) (at_position turn t)) ∙ e
 
-  before : (a b : Turn) (x y : RbacVersion) → Contains order a → Contains order b → (a.position ≢ b.position) × (is_lt (turn_order b a) ≡ false) → f a ≡ Some x → f b ≡ Some y → IsBefore x y
+  before : (a b : RoleTurn) (x y : RbacVersion) → Contains order a → Contains order b → (a.position ≢ b.position) × (is_lt (turn_order b a) ≡ false) → f a ≡ Some x → f b ≡ Some y → IsBefore x y
   before a b x y ca cb (differ, not) ex ey = go (order_cases (key_order a.key b.key))
     where
       s : IsTurn 0 versions a

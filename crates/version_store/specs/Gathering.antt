@@ -13,14 +13,14 @@ use Rattle.setup_file.specs.declared.setup.Setup.{Setup}
 use Rattle.version_store.specs.Contexts.{IsContext}
 use Rattle.version_store.specs.Histories.{body_test}
 use Rattle.version_store.specs.Makings.{AreMakersCodes, AreMakingsOf}
-use Rattle.version_store.specs.declared.build.Found.{Found}
+use Rattle.version_store.specs.declared.build.LogFindings.{LogFindings}
 use Rattle.version_store.specs.declared.build.Parts.{Parts}
 use Rattle.version_store.specs.declared.log.Log.{Log}
 use Rattle.write_groups.specs.Modelled.{HasEvents}
 use Rattle.write_groups.specs.declared.event.LogEvent.{LogEvent}
 
 -- what is found is what a context holds
-abbrev pub IsFound : Setup → List Event → List Meaning → Log → Found → Type 0
+abbrev pub IsFound : Setup → List Event → List Meaning → Log → LogFindings → Type 0
 IsFound setup events trees log found = IsContext (record {
   setup = setup;
   events = events;

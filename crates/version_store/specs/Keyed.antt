@@ -14,10 +14,10 @@ abbrev pub IsNamedBy : ObjectKey → LogEvent → Type 0
 IsNamedBy key event = (cover : Cover) × (event.answer ≡ Opaque cover) × NamesExactly cover key
 
 -- there is a version of it, or an unrecorded write names it
-abbrev pub IsTold : List Version → List LogEvent → ObjectKey → Type 0
-IsTold versions log key = HasVersion versions key ⊎ Any (IsNamedBy key) log
+abbrev pub IsToldOfKey : List Version → List LogEvent → ObjectKey → Type 0
+IsToldOfKey versions log key = HasVersion versions key ⊎ Any (IsNamedBy key) log
 
 -- all of them, in their order
 pub record AreKeys (versions : List Version) (log : List LogEvent) (keys : List ObjectKey) : Type 0 where
   pub order : AreInOrder keys
-  pub exact : (key : ObjectKey) → Contains keys key ↔ IsTold versions log key
+  pub exact : (key : ObjectKey) → Contains keys key ↔ IsToldOfKey versions log key

@@ -8,7 +8,7 @@ use Rattle.history_model.specs.Events.{Event}
 use Rattle.history_model.specs.Histories.{History, Version, ByEvent, IsEvent}
 use Rattle.history_model.specs.Making.{IsEntryBefore, IsLeastFault}
 use Rattle.object_past.specs.Faulted.{IsFaultOf}
-use Rattle.object_versions.specs.declared.maker.Judged.{Judged}
+use Rattle.object_versions.specs.declared.maker.JudgedWrite.{JudgedWrite}
 
 abbrev pub Makings : Type 0
 Makings = BTreeMap ℕ (Option Reason)
@@ -22,11 +22,11 @@ abbrev pub making_code : Makings → ℕ → Option Reason
 making_code makings number = code_in (get nat_cmp makings number)
 
 -- the number has the code of a write that was judged under it, or nothing was judged under it
-abbrev pub IsCodeIn : List Judged → ℕ → Option (Option Reason) → Type 0
-IsCodeIn judged number None = (one : Judged) → Contains judged one → one.number ≡ number → ⊥
-IsCodeIn judged number (Some code) = (one : Judged) × Contains judged one × (one.number ≡ number) × (one.making ≡ code)
+abbrev pub IsCodeIn : List JudgedWrite → ℕ → Option (Option Reason) → Type 0
+IsCodeIn judged number None = (one : JudgedWrite) → Contains judged one → one.number ≡ number → ⊥
+IsCodeIn judged number (Some code) = (one : JudgedWrite) × Contains judged one × (one.number ≡ number) × (one.making ≡ code)
 
-abbrev pub AreMakingsOf : List Judged → Makings → Type 0
+abbrev pub AreMakingsOf : List JudgedWrite → Makings → Type 0
 AreMakingsOf judged makings = (number : ℕ) → IsCodeIn judged number (get nat_cmp makings number)
 
 -- each maker's least code

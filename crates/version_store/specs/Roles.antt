@@ -17,8 +17,8 @@ use Rattle.rbac_timeline.specs.declared.version.RbacContent.{RbacContent}
 use Rattle.rbac_timeline.specs.declared.version.RbacContent.TheVariants.{Role, Bound, Unreadable}
 use Rattle.rbac_timeline.specs.declared.version.RbacEnd.{RbacEnd}
 use Rattle.rbac_timeline.specs.declared.version.RbacVersion.{RbacVersion}
-use Rattle.version_store.specs.contracts.roles.TurnOrd.TheImpl as turn_ord
-use Rattle.version_store.specs.declared.roles.Turn.{Turn}
+use Rattle.version_store.specs.contracts.roles.RoleTurnOrd.TheImpl as turn_ord
+use Rattle.version_store.specs.declared.roles.RoleTurn.{RoleTurn}
 
 abbrev pub rules_content : Option (List PolicyRule) → RbacContent
 rules_content None = Unreadable
@@ -55,18 +55,18 @@ abbrev pub rbac_version : List Meaning → Version → Option RbacVersion
 rbac_version trees v = version_with v (kind_of_key v.key) (slice_get trees v.node.0)
 
 -- by key, at one key by revision
-abbrev pub turn_order : Turn → Turn → Ordering
+abbrev pub turn_order : RoleTurn → RoleTurn → Ordering
 turn_order = (turn_ord.ghosts).cmp
 
 -- the turns of the roles and bindings among the versions from the position on
-abbrev pub turns_from : ℕ → List Version → List Turn
+abbrev pub turns_from : ℕ → List Version → List RoleTurn
 turns_from position [] = []
 turns_from position (v ∷ versions) =
     if is_role v.key then record { key = v.key; revision = v.revision; position = position } ∷ turns_from (position + 1) versions
     else turns_from (position + 1) versions
 
 -- the roles and bindings at these positions
-abbrev pub roles_at : List Meaning → List Version → List Turn → List RbacVersion
+abbrev pub roles_at : List Meaning → List Version → List RoleTurn → List RbacVersion
 roles_at trees versions turns = filter_map (λ turn. option_and_then (rbac_version trees) (slice_get versions turn.position)) turns
 
 -- the roles and bindings of some versions, by key and revision

@@ -21,7 +21,7 @@ use clouds::Clouds;
 use hash_seed::Seed;
 use node_pool::{Interner, Pool};
 use object_past::Past;
-use object_versions::{Judged, LogPast};
+use object_versions::{JudgedWrite, LogPast};
 use rbac_timeline::Timeline;
 use setup_file::Setup;
 use std::alloc::Global;
@@ -40,22 +40,22 @@ pub struct Parts {
     windows: Windows,
     clouds: Clouds,
     groups: Groups,
-    judged: Vec<Judged>,
+    judged: Vec<JudgedWrite>,
     past: Past,
 }
 
 /// What is told of the events and objects of a log.
 #[derive(Drop)]
-pub struct Told {
+pub struct EventFindings {
     faults: Vec<Option<Reason>>,
     timeline: Timeline,
 }
 
 /// What is found of a log.
 #[derive(Drop)]
-pub struct Found {
+pub struct LogFindings {
     parts: Parts,
-    told: Told,
+    told: EventFindings,
 }
 
 // What a context holds beside its setup and events.
@@ -63,7 +63,7 @@ pub struct Found {
 struct Gathered {
     pool: Pool,
     log: Log,
-    found: Found,
+    found: LogFindings,
 }
 
 fn parts_of(alloc: Global, found: LogPast) -> Result<Parts, OutOfMemory>
@@ -145,7 +145,7 @@ fn told_of<R: Threads + Sync>(
     alloc: Global,
     bodies: &RequestBodies<'_>,
     parts: &Parts,
-) -> Result<Told, OutOfMemory>
+) -> Result<EventFindings, OutOfMemory>
     requires start { bodies.now.setup.now.start ≡ parts.now.windows.start }
     requires few { length bodies.now.log.now < 2 ^ 32 }
     requires numbered { length parts.now.past.versions < 2 ^ 32 }
@@ -167,7 +167,7 @@ fn told_of<R: Threads + Sync>(
             parts.now.past.versions }
     { timeline_in(alloc, bodies, parts) };
     let (faults, timeline) = join(rt, find_faults, find_timeline);
-    Ok(Told {
+    Ok(EventFindings {
         faults: faults?,
         timeline: timeline?,
     })
@@ -182,7 +182,7 @@ fn found_of<R: Threads + Sync>(
     pool: &Pool,
     log: &Log,
     seed: Seed,
-) -> Result<Found, OutOfMemory>
+) -> Result<LogFindings, OutOfMemory>
     requires buildable { IsBuildable setup.now events.now }
     requires trees { pool.now.trees ≡ pooled setup.now events.now }
     requires log { IsLogOf setup.now events.now pool.now.trees log.now }
@@ -204,7 +204,7 @@ fn found_of<R: Threads + Sync>(
         drop(parts);
         return Err(OutOfMemory);
     };
-    Ok(Found { parts, told })
+    Ok(LogFindings { parts, told })
 }
 
 // What a context holds beside its setup and events, where the objects may have `limit` distinct values.
@@ -246,8 +246,8 @@ fn joined(setup: Setup, events: Events, gathered: Gathered) -> Context
     ensures told { IsTold result }
 {
     let Gathered { pool, log, found } = gathered;
-    let Found { parts, told } = found;
-    let Told { faults, timeline } = told;
+    let LogFindings { parts, told } = found;
+    let EventFindings { faults, timeline } = told;
     let Parts {
         order,
         windows,

@@ -10,7 +10,7 @@ ghost use Rattle.version_store.specs.Makings.{AreMakersCodes, AreMakingsOf, maki
 
 use base_types::{ObjectKey, OutOfMemory, Reason, Revision};
 use object_past::{Maker, Past, Version};
-use object_versions::{Bodies, Judged, Making, finding_fault};
+use object_versions::{Bodies, JudgedWrite, Making, finding_fault};
 use std::alloc::Global;
 use std::collections::BTreeMap;
 use write_groups::{LogEvent, Shown};
@@ -19,7 +19,7 @@ use write_groups::{LogEvent, Shown};
 pub type Makings = BTreeMap<u32, Option<Reason>>;
 
 /// The codes of writes that were judged.
-pub fn makings_of(alloc: Global, judged: &[Judged]) -> Result<Makings, OutOfMemory>
+pub fn makings_of(alloc: Global, judged: &[JudgedWrite]) -> Result<Makings, OutOfMemory>
     ensures { IfOk result (AreMakingsOf judged.now) }
 {
     let mut makings = Makings::new(alloc);

@@ -88,21 +88,21 @@ fn rbac_version(
 
 // What versions are sorted by, and their position.
 #[derive(PartialEq, Eq, PartialOrd, Ord, Drop)]
-pub struct Turn {
+pub struct RoleTurn {
     key: ObjectKey,
     revision: Revision,
     position: u32,
 }
 
 // The turns of the roles and bindings.
-fn turns_of(alloc: Global, versions: &[Version]) -> Result<Vec<Turn>, OutOfMemory>
+fn turns_of(alloc: Global, versions: &[Version]) -> Result<Vec<RoleTurn>, OutOfMemory>
     requires { length versions.now < 2 ^ 32 }
     ensures { IfOk result (λ turns. turns.items ≡ turns_from 0 versions.now) }
 {
     let mut turns = Vec::new(alloc);
     for (i, version) in versions.iter().enumerate() {
         if is_role(&version.key) {
-            turns.push(Turn {
+            turns.push(RoleTurn {
                 key: version.key.clone()?,
                 revision: version.revision,
                 position: i as u32,
@@ -112,7 +112,7 @@ fn turns_of(alloc: Global, versions: &[Version]) -> Result<Vec<Turn>, OutOfMemor
     Ok(turns)
 }
 
-fn sorted(mut turns: Vec<Turn>) -> Result<Vec<Turn>, OutOfMemory>
+fn sorted(mut turns: Vec<RoleTurn>) -> Result<Vec<RoleTurn>, OutOfMemory>
     ensures same { IfOk result (λ order. IsPermutation turns.items order.items) }
     ensures sorted { IfOk result (λ order. IsSorted turn_order order.items) }
 {
@@ -125,7 +125,7 @@ fn roles_at(
     alloc: Global,
     pool: &Pool,
     versions: &[Version],
-    turns: &[Turn],
+    turns: &[RoleTurn],
 ) -> Result<RbacVersions, OutOfMemory>
     requires within { All (λ turn. turn.position < length versions.now) turns.now }
     requires nodes { All (λ v. v.node.0 < length pool.now.trees) versions.now }

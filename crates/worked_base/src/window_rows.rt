@@ -4,7 +4,7 @@ use crate::given::check;
 use base_types::{Moment, OutOfMemory, Revision};
 use std::marker::{Send, Sync};
 use std::process::Abort;
-use time_windows::{Mark, Span, Windows};
+use time_windows::{Span, SpanMark, Windows};
 
 const MAX: u64 = u64::MAX;
 
@@ -19,8 +19,8 @@ struct Row {
     name: &'static str,
     start: u64,
     written: &'static [Written],
-    by_hi: &'static [Mark],
-    by_lo: &'static [Mark],
+    by_hi: &'static [SpanMark],
+    by_lo: &'static [SpanMark],
     ends: &'static [Ends],
 }
 
@@ -30,21 +30,21 @@ static ROWS: [Row; 5] = [
         start: 10,
         written: &[(11, 1, 4), (12, 2, 3)],
         by_hi: &[
-            Mark {
+            SpanMark {
                 at: Moment(3),
                 revision: 12,
             },
-            Mark {
+            SpanMark {
                 at: Moment(4),
                 revision: 12,
             },
         ],
         by_lo: &[
-            Mark {
+            SpanMark {
                 at: Moment(1),
                 revision: 11,
             },
-            Mark {
+            SpanMark {
                 at: Moment(2),
                 revision: 12,
             },
@@ -62,11 +62,11 @@ static ROWS: [Row; 5] = [
         name: "a write in [1, 2] and a read in [3, 4]",
         start: 10,
         written: &[(11, 1, 2)],
-        by_hi: &[Mark {
+        by_hi: &[SpanMark {
             at: Moment(2),
             revision: 11,
         }],
-        by_lo: &[Mark {
+        by_lo: &[SpanMark {
             at: Moment(1),
             revision: 11,
         }],
@@ -76,11 +76,11 @@ static ROWS: [Row; 5] = [
         name: "the greatest revision with the widest moments",
         start: 1,
         written: &[(MAX - 1, i128::MIN, i128::MAX)],
-        by_hi: &[Mark {
+        by_hi: &[SpanMark {
             at: Moment(i128::MAX),
             revision: MAX - 1,
         }],
-        by_lo: &[Mark {
+        by_lo: &[SpanMark {
             at: Moment(i128::MIN),
             revision: MAX - 1,
         }],
@@ -90,11 +90,11 @@ static ROWS: [Row; 5] = [
         name: "the greatest revision at one moment",
         start: 1,
         written: &[(MAX - 1, 5, 5)],
-        by_hi: &[Mark {
+        by_hi: &[SpanMark {
             at: Moment(5),
             revision: MAX - 1,
         }],
-        by_lo: &[Mark {
+        by_lo: &[SpanMark {
             at: Moment(5),
             revision: MAX - 1,
         }],

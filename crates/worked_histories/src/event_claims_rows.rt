@@ -1,7 +1,7 @@
 ghost use Rattle.std.specs.Prelude.{◌≡◌, ◌<◌, length};
 
 use crate::parts::Asked::MostRecent;
-use crate::parts::{Told, check, event, revision};
+use crate::parts::{ToldPart, check, event, revision};
 use base_types::{OutOfMemory, PlacedAnswer, Places, Reason, Revision};
 use clouds::Clouds;
 use event_claims::{Decisions, View, claim_of, placed_line};
@@ -41,18 +41,18 @@ impl Decisions for Unmoved {
 }
 
 // What the one event of a log says, the uid that it shows, and the code of its claim. There was never an object.
-static CASES: [(Told, &str, Option<Reason>); 11] = [
-    (Told::Absent, "u", None),
-    (Told::Present, "u", Some(Reason::U12)),
-    (Told::Seen, "u", Some(Reason::U10)),
-    (Told::Updated, "u", Some(Reason::U8)),
-    (Told::Removed, "", Some(Reason::U9)),
-    (Told::UnseenPods, "u", None),
-    (Told::NoneListed, "u", None),
-    (Told::SomeListed, "u", Some(Reason::U13)),
-    (Told::OtherLevel, "u", Some(Reason::U1)),
-    (Told::OmittedStage, "u", Some(Reason::U2)),
-    (Told::Allowed, "u", Some(Reason::U14)),
+static CASES: [(ToldPart, &str, Option<Reason>); 11] = [
+    (ToldPart::Absent, "u", None),
+    (ToldPart::Present, "u", Some(Reason::U12)),
+    (ToldPart::Seen, "u", Some(Reason::U10)),
+    (ToldPart::Updated, "u", Some(Reason::U8)),
+    (ToldPart::Removed, "", Some(Reason::U9)),
+    (ToldPart::UnseenPods, "u", None),
+    (ToldPart::NoneListed, "u", None),
+    (ToldPart::SomeListed, "u", Some(Reason::U13)),
+    (ToldPart::OtherLevel, "u", Some(Reason::U1)),
+    (ToldPart::OmittedStage, "u", Some(Reason::U2)),
+    (ToldPart::Allowed, "u", Some(Reason::U14)),
 ];
 
 /// What is known of the log besides its events: nothing was written, and nothing is hidden.
@@ -75,9 +75,9 @@ fn make_world(rt: &(impl Abort + AllocGlobal), start: Revision) -> World
 }
 
 // A write could not have found its revision.
-fn finding_fault(told: Told) -> Option<Reason> {
+fn finding_fault(told: ToldPart) -> Option<Reason> {
     match told {
-        Told::Updated => Some(Reason::U8),
+        ToldPart::Updated => Some(Reason::U8),
         _ => None,
     }
 }
@@ -113,9 +113,9 @@ fn answer_of(
 }
 
 // An event is placed where its claim has no code; that there was no object is so at the start.
-fn is_answer(told: Told, wanted: Option<Reason>, answer: Option<PlacedAnswer>) -> bool {
+fn is_answer(told: ToldPart, wanted: Option<Reason>, answer: Option<PlacedAnswer>) -> bool {
     match told {
-        Told::Absent => answer == Some(PlacedAnswer::At(10)),
+        ToldPart::Absent => answer == Some(PlacedAnswer::At(10)),
         _ => answer.is_some() == wanted.is_none(),
     }
 }
@@ -126,7 +126,7 @@ fn is_judged(
     rt: &(impl Abort + AllocGlobal),
     start: Revision,
     world: &World,
-    row: &(Told, &'static str, Option<Reason>),
+    row: &(ToldPart, &'static str, Option<Reason>),
 ) -> bool
     requires { world.now.windows.start ≡ start }
 {

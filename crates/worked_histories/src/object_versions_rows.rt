@@ -1,10 +1,10 @@
 use crate::parts::Asked::MostRecent;
-use crate::parts::{Row, Told, check, log, revision};
+use crate::parts::{Row, ToldPart, check, log, revision};
 use base_types::{OutOfMemory, Reason};
 use hash_seed::Seed;
 use node_number::NodeId;
 use object_past::{Maker, Removal, Version};
-use object_versions::{Bodies, Judged, LogPast, past_of};
+use object_versions::{Bodies, JudgedWrite, LogPast, past_of};
 use std::alloc::Global;
 use std::process::Abort;
 
@@ -12,15 +12,15 @@ use std::process::Abort;
 // object `a1` is removed, `a2` takes its place, and then `a1` comes back, which no API server does; its second removal
 // isn't looked for. `b2` is created over `b1`, which was never removed.
 static LOG: [Row; 9] = [
-    (Told::Created, "a", "a1", 11, MostRecent, 10, 20),
-    (Told::Replaced(11), "a", "a1", 12, MostRecent, 30, 50),
-    (Told::Updated, "a", "a1", 12, MostRecent, 30, 40),
-    (Told::Removed, "a", "a1", 0, MostRecent, 60, 70),
-    (Told::Created, "b", "b1", 14, MostRecent, 80, 90),
-    (Told::Created, "a", "a2", 16, MostRecent, 100, 110),
-    (Told::Created, "b", "b2", 18, MostRecent, 120, 130),
-    (Told::Created, "a", "a1", 19, MostRecent, 140, 150),
-    (Told::Removed, "a", "a1", 0, MostRecent, 160, 170),
+    (ToldPart::Created, "a", "a1", 11, MostRecent, 10, 20),
+    (ToldPart::Replaced(11), "a", "a1", 12, MostRecent, 30, 50),
+    (ToldPart::Updated, "a", "a1", 12, MostRecent, 30, 40),
+    (ToldPart::Removed, "a", "a1", 0, MostRecent, 60, 70),
+    (ToldPart::Created, "b", "b1", 14, MostRecent, 80, 90),
+    (ToldPart::Created, "a", "a2", 16, MostRecent, 100, 110),
+    (ToldPart::Created, "b", "b2", 18, MostRecent, 120, 130),
+    (ToldPart::Created, "a", "a1", 19, MostRecent, 140, 150),
+    (ToldPart::Removed, "a", "a1", 0, MostRecent, 160, 170),
 ];
 
 /// Bodies that ask for whatever they were answered with.
@@ -103,7 +103,7 @@ static JUDGED: [(u32, Option<Reason>); 7] = [
     (7, Some(Reason::U4)),
 ];
 
-fn is_judged(one: Option<&Judged>, row: &(u32, Option<Reason>)) -> bool {
+fn is_judged(one: Option<&JudgedWrite>, row: &(u32, Option<Reason>)) -> bool {
     let (number, making) = *row;
     match one {
         Some(one) => one.number == number && one.making == making,
@@ -111,7 +111,7 @@ fn is_judged(one: Option<&Judged>, row: &(u32, Option<Reason>)) -> bool {
     }
 }
 
-fn are_judged(judged: &[Judged]) -> bool {
+fn are_judged(judged: &[JudgedWrite]) -> bool {
     for at in 0..7usize {
         if !is_judged(judged.get(at), &JUDGED[at]) {
             return false;

@@ -65,7 +65,7 @@ pub fn cover(
 
 /// What an event of a log says of a config map.
 #[derive(Clone, Copy)]
-pub enum Told {
+pub enum ToldPart {
     Created,
     Updated,
     /// An update whose condition was this revision.
@@ -106,7 +106,7 @@ struct Object {
 
 /// What an event says, the name, the uid and the revision of its object, where in the history the answer may be, and
 /// the moments between which it was.
-pub type Row = (Told, &'static str, &'static str, u64, Asked, i128, i128);
+pub type Row = (ToldPart, &'static str, &'static str, u64, Asked, i128, i128);
 
 fn reading(rt: &impl Abort, asked: Asked) -> Reading {
     match asked {
@@ -162,48 +162,48 @@ fn removed(rt: &(impl Abort + AllocGlobal), object: &Object) -> Shown {
 }
 
 // The answer to a write, or to a request that neither writes nor reads.
-fn written(rt: &(impl Abort + AllocGlobal), told: Told, object: &Object) -> Shown {
+fn written(rt: &(impl Abort + AllocGlobal), told: ToldPart, object: &Object) -> Shown {
     match told {
-        Told::Created => made(rt, object, true),
-        Told::Updated | Told::Replaced(_) => made(rt, object, false),
-        Told::Removed => removed(rt, object),
-        Told::Unseen => Shown::Opaque {
+        ToldPart::Created => made(rt, object, true),
+        ToldPart::Updated | ToldPart::Replaced(_) => made(rt, object, false),
+        ToldPart::Removed => removed(rt, object),
+        ToldPart::Unseen => Shown::Opaque {
             cover: cover(rt, "configmaps", "d", object.name),
         },
-        Told::UnseenPods => Shown::Opaque {
+        ToldPart::UnseenPods => Shown::Opaque {
             cover: cover(rt, "pods", "*", "*"),
         },
         _ => Shown::Free,
     }
 }
 
-fn answer(rt: &(impl Abort + AllocGlobal), told: Told, object: &Object) -> Shown {
+fn answer(rt: &(impl Abort + AllocGlobal), told: ToldPart, object: &Object) -> Shown {
     match told {
-        Told::Absent => Shown::SawNone {
+        ToldPart::Absent => Shown::SawNone {
             key: key(rt, "configmaps", object.name),
         },
-        Told::Present => Shown::SawSome {
+        ToldPart::Present => Shown::SawSome {
             key: key(rt, "configmaps", object.name),
         },
-        Told::Seen => Shown::Saw {
+        ToldPart::Seen => Shown::Saw {
             item: item(rt, object),
         },
-        Told::NoneListed => listing(rt, Items::new(rt.alloc())),
-        Told::SomeListed => listing(rt, one_item(rt, object)),
+        ToldPart::NoneListed => listing(rt, Items::new(rt.alloc())),
+        ToldPart::SomeListed => listing(rt, one_item(rt, object)),
         _ => written(rt, told, object),
     }
 }
 
-fn wanted(told: Told) -> Option<Revision> {
+fn wanted(told: ToldPart) -> Option<Revision> {
     match told {
-        Told::Replaced(number) => Revision::new(number),
+        ToldPart::Replaced(number) => Revision::new(number),
         _ => None,
     }
 }
 
-fn decision(told: Told) -> Option<Decision> {
+fn decision(told: ToldPart) -> Option<Decision> {
     match told {
-        Told::Allowed => Some(Decision::Allow),
+        ToldPart::Allowed => Some(Decision::Allow),
         _ => None,
     }
 }
@@ -228,8 +228,8 @@ pub fn event(rt: &(impl Abort + AllocGlobal), line: u64, row: &Row) -> LogEvent
             uid: None,
         },
         answer: answer(rt, told, &object),
-        other_level: matches!(told, Told::OtherLevel),
-        omitted_stage: matches!(told, Told::OmittedStage),
+        other_level: matches!(told, ToldPart::OtherLevel),
+        omitted_stage: matches!(told, ToldPart::OmittedStage),
         decision: decision(told),
     }
 }

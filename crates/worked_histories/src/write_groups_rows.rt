@@ -1,6 +1,6 @@
 ghost use Rattle.std.specs.Prelude.{◌≡◌, ◌<◌, ◌^◌, length, All, AllPairs};
 
-use crate::parts::{Asked, Row, Told, check, event, key, log, revision};
+use crate::parts::{Asked, Row, ToldPart, check, event, key, log, revision};
 use Asked::{AnyVersion, Checkpoint, Exactly, MostRecent, NotOlderThan};
 use base_types::{Moment, Revision};
 use std::process::Abort;
@@ -13,16 +13,16 @@ use write_groups::{
 // Revision 11 belongs to `a`, whose unrecorded write may have begun before; `b` was answered with it too. Revision 12
 // was created, and revision 13 replaced 12. Three ends are equal. The checkpoints have no time.
 static LOG: [Row; 10] = [
-    (Told::Updated, "a", "a", 11, MostRecent, 100, 130),
-    (Told::Unseen, "a", "", 0, MostRecent, 50, 500),
-    (Told::Created, "b", "b", 12, MostRecent, 120, 140),
-    (Told::Updated, "b", "b", 11, MostRecent, 90, 140),
-    (Told::Updated, "a", "a", 11, MostRecent, 80, 160),
-    (Told::Unseen, "b", "", 0, MostRecent, 10, 140),
-    (Told::Updated, "a", "a", 10, MostRecent, 0, 20),
-    (Told::Replaced(12), "b", "b", 13, MostRecent, 150, 170),
-    (Told::Nothing, "", "", 0, Checkpoint(13), 0, 0),
-    (Told::Nothing, "", "", 0, Checkpoint(12), 0, 0),
+    (ToldPart::Updated, "a", "a", 11, MostRecent, 100, 130),
+    (ToldPart::Unseen, "a", "", 0, MostRecent, 50, 500),
+    (ToldPart::Created, "b", "b", 12, MostRecent, 120, 140),
+    (ToldPart::Updated, "b", "b", 11, MostRecent, 90, 140),
+    (ToldPart::Updated, "a", "a", 11, MostRecent, 80, 160),
+    (ToldPart::Unseen, "b", "", 0, MostRecent, 10, 140),
+    (ToldPart::Updated, "a", "a", 10, MostRecent, 0, 20),
+    (ToldPart::Replaced(12), "b", "b", 13, MostRecent, 150, 170),
+    (ToldPart::Nothing, "", "", 0, Checkpoint(13), 0, 0),
+    (ToldPart::Nothing, "", "", 0, Checkpoint(12), 0, 0),
 ];
 
 // The events in the order of judgement.
@@ -124,7 +124,7 @@ fn is_window(
     requires { windows.now.start ≡ start }
 {
     let (asked, low, high) = *row;
-    let event = event(rt, 1, &(Told::Unseen, "a", "", 0, asked, 135, 145));
+    let event = event(rt, 1, &(ToldPart::Unseen, "a", "", 0, asked, 135, 145));
     let window = window_of(windows, start, &event);
     drop(event);
     window == Window { low, high }

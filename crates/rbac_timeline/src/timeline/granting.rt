@@ -4,7 +4,7 @@ ghost use Rattle.rbac_timeline.specs.Kept.{MayGrantByRules, MustGrantByRules};
 ghost use Rattle.rbac_rules.specs.Matching.{Matches};
 ghost use Rattle.rbac_timeline.specs.Known.{writes_of};
 
-use crate::extent::Extent;
+use crate::extent::GrantExtent;
 use crate::history::{Content, Gap, Stored};
 use crate::kind::{is_kind, kind_of_key, reaches};
 use crate::reigns::Reigns;
@@ -15,27 +15,27 @@ use base_types::{ObjectKey, RequestAttrs, Text, User};
 use rbac_rules::{Binding, Subject, grants, subject_matches};
 
 // Whether an object may be there at a place, and whether it is for certain, by the removal of its last version.
-fn presence(gap: Option<Gap>, place: u64) -> Extent
+fn presence(gap: Option<Gap>, place: u64) -> GrantExtent
     ensures may { IsTrue result.may ↔ MatchOption gap ⊤ (λ gap. place < gap.high) }
     ensures must { IsTrue result.must ↔ MatchOption gap ⊤ (λ gap. place < gap.low) }
 {
     match gap {
-        Some(gap) => Extent {
+        Some(gap) => GrantExtent {
             may: place < gap.high,
             must: place < gap.low,
         },
-        None => Extent::certain(true),
+        None => GrantExtent::certain(true),
     }
 }
 
-fn rules_extent(content: &Content, attrs: &RequestAttrs) -> Extent
+fn rules_extent(content: &Content, attrs: &RequestAttrs) -> GrantExtent
     ensures may { IsTrue result.may ↔ MayGrantByRules attrs.now content.now }
     ensures must { IsTrue result.must ↔ MustGrantByRules attrs.now content.now }
 {
     match content {
-        Content::Rules(rules) => Extent::certain(grants(rules.as_slice(), attrs)),
-        Content::Bound(_, _) => Extent::UNSURE,
-        Content::Unreadable => Extent::UNSURE,
+        Content::Rules(rules) => GrantExtent::certain(grants(rules.as_slice(), attrs)),
+        Content::Bound(_, _) => GrantExtent::UNSURE,
+        Content::Unreadable => GrantExtent::UNSURE,
     }
 }
 
@@ -69,7 +69,7 @@ impl Timeline {
     ghost use Rattle.rbac_timeline.specs.Reigning.{AsGroup, Means, found_reigns};
     ghost use Rattle.rbac_timeline.specs.declared.reigns.Reign.{Reign};
 
-    fn presence(&self, key: &ObjectKey, stored: &Stored, place: u64) -> Extent
+    fn presence(&self, key: &ObjectKey, stored: &Stored, place: u64) -> GrantExtent
         ensures may { (v : RbacVersion) → v.key ≡ key.now → v.revision ≡ stored.now.revision
             → (IsTrue result.may ↔ IsNotGone self.now place v) }
         ensures must { (v : RbacVersion) → v.key ≡ key.now → v.revision ≡ stored.now.revision
@@ -79,18 +79,23 @@ impl Timeline {
         presence(self.removal(key, stored.revision), place)
     }
 
-    pub(crate) fn role_extent(&self, key: &ObjectKey, place: u64, attrs: &RequestAttrs) -> Extent
+    pub(crate) fn role_extent(
+        &self,
+        key: &ObjectKey,
+        place: u64,
+        attrs: &RequestAttrs,
+    ) -> GrantExtent
         ensures may { IsTrue result.may ↔ MayGrantByRole self.now key.now place attrs.now }
         ensures must { IsTrue result.must ↔ MustGrantByRole self.now key.now place attrs.now }
     {
         if self.clouds.clouded(key, place) {
-            return Extent::UNSURE;
+            return GrantExtent::UNSURE;
         }
         match self.latest(key, place) {
             Some(stored) => self
                 .presence(key, stored, place)
                 .and(rules_extent(&stored.content, attrs)),
-            None => Extent::NOTHING,
+            None => GrantExtent::NOTHING,
         }
     }
 
@@ -100,24 +105,24 @@ impl Timeline {
         link: Link,
         who: &User,
         attrs: &RequestAttrs,
-    ) -> Extent
+    ) -> GrantExtent
         ensures may { IsTrue result.may ↔ MayGrantByContent self.now link.way link.role_place
             who.now attrs.now content.now }
         ensures must { IsTrue result.must ↔ MustGrantByContent self.now link.way link.role_place
             who.now attrs.now content.now }
     {
         match content {
-            Content::Rules(_) => Extent::UNSURE,
+            Content::Rules(_) => GrantExtent::UNSURE,
             Content::Bound(binding, role) => {
                 if !is_kind(kind_of_key(role), link.way.roles()) {
-                    return Extent::NOTHING;
+                    return GrantExtent::NOTHING;
                 }
                 if !names(binding, who) {
-                    return Extent::NOTHING;
+                    return GrantExtent::NOTHING;
                 }
                 self.role_extent(role, link.role_place, attrs)
             }
-            Content::Unreadable => Extent::UNSURE,
+            Content::Unreadable => GrantExtent::UNSURE,
         }
     }
 
@@ -127,26 +132,26 @@ impl Timeline {
         link: Link,
         who: &User,
         attrs: &RequestAttrs,
-    ) -> Extent
+    ) -> GrantExtent
         ensures may { IsTrue result.may ↔ MayGrantByListed self.now link.way link.role_place
             link.binding_place who.now attrs.now key.now }
         ensures must { IsTrue result.must ↔ MustGrantByListed self.now link.way link.role_place
             link.binding_place who.now attrs.now key.now }
     {
         if !is_kind(kind_of_key(key), link.way.bindings()) {
-            return Extent::NOTHING;
+            return GrantExtent::NOTHING;
         }
         if !reaches(key, attrs) {
-            return Extent::NOTHING;
+            return GrantExtent::NOTHING;
         }
         if self.clouds.clouded(key, link.binding_place) {
-            return Extent::UNSURE;
+            return GrantExtent::UNSURE;
         }
         match self.latest(key, link.binding_place) {
             Some(stored) => self
                 .presence(key, stored, link.binding_place)
                 .and(self.content_extent(&stored.content, link, who, attrs)),
-            None => Extent::NOTHING,
+            None => GrantExtent::NOTHING,
         }
     }
 

@@ -8,7 +8,7 @@ ghost use Rattle.version_store.specs.LogTrees.{answer_trees, event_trees, with_t
 use crate::log::classifying::{Classified, classify_all};
 use crate::log::fault::BuildFault;
 use crate::log::selecting::Selectors;
-use crate::log::shown::{Told, tell};
+use crate::log::shown::{ToldAnswer, tell};
 use audit_event::Event;
 use base_types::OutOfMemory;
 use label_select::Selector;
@@ -55,7 +55,7 @@ fn logged_event(
         omitted_stage,
         decision,
     } = classified;
-    let Told { shown, selector } = tell(alloc, pool, answer)?;
+    let ToldAnswer { shown, selector } = tell(alloc, pool, answer)?;
     Ok(Logged {
         event: LogEvent {
             line,

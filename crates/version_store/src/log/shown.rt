@@ -122,16 +122,16 @@ fn moved_items(alloc: Global, pool: &mut Interner, objects: Snapshot) -> Result<
 
 /// An answer, and the label selector of a list.
 #[derive(Drop)]
-pub struct Told {
+pub struct ToldAnswer {
     pub shown: Shown,
     pub selector: Option<Selector>,
 }
 
-fn unselected(shown: Shown) -> Told
+fn unselected(shown: Shown) -> ToldAnswer
     ensures shown { result.shown ≡ shown }
     ensures selector { result.selector ≡ None }
 {
-    Told {
+    ToldAnswer {
         shown,
         selector: None,
     }
@@ -148,7 +148,7 @@ fn tell_list(
     whole: bool,
     objects: Snapshot,
     selector: Option<Selector>,
-) -> Result<Told, BuildFault>
+) -> Result<ToldAnswer, BuildFault>
     ensures shown { IfOk result (λ told. IsShownAs pool.new.trees
         (Answer.Listed group resource namespace revision whole objects selector) told.shown) }
     ensures selector { IfOk result (λ told. told.selector ≡ selector) }
@@ -167,14 +167,14 @@ fn tell_list(
         whole,
         items,
     };
-    Ok(Told {
+    Ok(ToldAnswer {
         shown: Shown::Listed { listing },
         selector,
     })
 }
 
 /// What an answer shows, once the trees of its objects are in the pool.
-pub fn tell(alloc: Global, pool: &mut Interner, answer: Answer) -> Result<Told, BuildFault>
+pub fn tell(alloc: Global, pool: &mut Interner, answer: Answer) -> Result<ToldAnswer, BuildFault>
     ensures shown { IfOk result (λ told. IsShownAs pool.new.trees answer told.shown) }
     ensures selector { IfOk result (λ told. told.selector ≡ selector_in answer) }
     ensures added { OnOk result (pool.new.trees ≡ with_trees pool.old.trees (answer_trees answer)) }

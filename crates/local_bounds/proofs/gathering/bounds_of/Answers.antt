@@ -1,6 +1,6 @@
 use Rattle.std.proofs.Common.{ap, sym, ◌∙◌}
 use Rattle.std.proofs.lemmas.List.{append-nil}
-use Rattle.local_bounds.specs.declared.asking.KeyAsking.TheVariants.{Free, Under}
+use Rattle.local_bounds.specs.declared.asking.KeyDemand.TheVariants.{Free, Under}
 use Rattle.local_bounds.proofs.Gathered.{bounds_more}
 use Rattle.local_bounds.proofs.gathering.bounds_of.Goals as goal
 use Rattle.local_bounds.proofs.gathering.bounds_of.Goals.{in-Free, in-Under+in_ok-push-in-Under}

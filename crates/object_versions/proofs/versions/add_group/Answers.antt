@@ -2,7 +2,7 @@ use Rattle.std.proofs.Common.{◌<◌, ◌∙◌, List, sym, subst}
 use Rattle.std.specs.Prelude.{All}
 use Rattle.object_past.specs.declared.version.Version.{Version}
 use Rattle.object_versions.specs.Written.{AreJudged, IsAnsweredAt, IsOfGroup}
-use Rattle.object_versions.specs.declared.maker.Judged.{Judged}
+use Rattle.object_versions.specs.declared.maker.JudgedWrite.{JudgedWrite}
 use Rattle.object_versions.proofs.versions.add_group.Goals as goal
 
 pub with-requires : goal.with-requires
@@ -22,5 +22,5 @@ returns g c =
       c.in_ok-members.ensures.numbers ∙ c.as_slice-numbers.ensures,
       (λ h of further answered. subst (λ l. AreJudged h events l more) c.as_slice-numbers.ensures
           (c.in_ok-members.ensures.judged h group.key group.revision of further c.latest-latest.ensures.latest (subst (All (IsAnsweredAt events group.key group.revision)) (sym c.as_slice-numbers.ensures) answered))),
-      (λ h of. c.in_ok-version.ensures.made h (subst (λ (l : List Judged). IsOfGroup c.args.log (g.B.Bodies.body c.args.bodies.now) group l h) (sym c.deref.ensures.value) of)),
+      (λ h of. c.in_ok-version.ensures.made h (subst (λ (l : List JudgedWrite). IsOfGroup c.args.log (g.B.Bodies.body c.args.bodies.now) group l h) (sym c.deref.ensures.value) of)),
     )

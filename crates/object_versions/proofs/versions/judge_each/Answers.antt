@@ -5,7 +5,7 @@ use Rattle.object_versions.proofs.Writing.{each_more, same_item_key, same_revisi
 use Rattle.object_versions.specs.Growing.{IsLatestIn}
 use Rattle.object_versions.specs.Modelled.{making_of}
 use Rattle.object_versions.specs.Written.{making_at, AreJudged, Extends}
-use Rattle.object_versions.specs.declared.maker.Judged.{Judged}
+use Rattle.object_versions.specs.declared.maker.JudgedWrite.{JudgedWrite}
 use Rattle.object_versions.proofs.versions.judge_each.Goals as goal
 
 pub loop-number-preserved : goal.loop-number-preserved
@@ -14,7 +14,7 @@ loop-number-preserved g c =
     let i = c.loop-number.number-index in
     let at : making_at c.args.log.events.now (get_or c.args.members.now i 0) ≡ Some m = c.write_at-making.ensures in
     let number : c.in_ok-judge.field-0.number ≡ get_or c.args.members.now i 0 = c.in_ok-judge.ensures.number ∙ number_is c.args.log.events.now (get_or c.args.members.now i 0) m at in (
-      ap (map (λ (one : Judged). one.number)) c.in_ok-push.ensures.items ∙ map-append (λ (one : Judged). one.number) c.loop-number.judged.items (c.in_ok-judge.field-0 ∷ [])
+      ap (map (λ (one : JudgedWrite). one.number)) c.in_ok-push.ensures.items ∙ map-append (λ (one : JudgedWrite). one.number) c.loop-number.judged.items (c.in_ok-judge.field-0 ∷ [])
           ∙ ap (λ l. l ++ c.in_ok-judge.field-0.number ∷ []) c.loop-number.invariant.0 ∙ ap (λ n. take i c.args.members.now ++ n ∷ []) number ∙ sym (take_more c.args.members.now i 0 c.loop-number-test.true),
       (λ h key revision of e latest answered.
           let at_revision = same_revision c.args.log.events.now key revision (get_or c.args.members.now i 0) m at (answered i 0 c.loop-number-test.true) in

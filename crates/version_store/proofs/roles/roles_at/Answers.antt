@@ -3,15 +3,15 @@ use Rattle.std.proofs.lemmas.Option.{slice_get_read}
 use Rattle.rbac_timeline.specs.declared.version.RbacVersion.{RbacVersion}
 use Rattle.write_groups.proofs.Lists.{made_one, made_none}
 use Rattle.version_store.specs.Roles.{rbac_version}
-use Rattle.version_store.specs.declared.roles.Turn.{Turn}
+use Rattle.version_store.specs.declared.roles.RoleTurn.{RoleTurn}
 use Rattle.version_store.proofs.roles.roles_at.Goals as goal
 use Rattle.version_store.proofs.roles.roles_at.Goals.{in-Some+in_ok-push, in_default}
 
 pub loop-turn-preserved : goal.loop-turn-preserved
 loop-turn-preserved c =
-    let f : Turn → Option RbacVersion = λ turn. option_and_then (rbac_version c.args.pool.now.trees) (slice_get c.args.versions.now turn.position) in
+    let f : RoleTurn → Option RbacVersion = λ turn. option_and_then (rbac_version c.args.pool.now.trees) (slice_get c.args.versions.now turn.position) in
     let within : c.turn-item.result.position < length c.args.versions.now =
-    subst (λ (t : Turn). t.position < length c.args.versions.now) (sym c.turn-item.is) (c.requires.within c.loop-turn.turn-index c.turn-item.result c.loop-turn-test.true) in
+    subst (λ (t : RoleTurn). t.position < length c.args.versions.now) (sym c.turn-item.is) (c.requires.within c.loop-turn.turn-index c.turn-item.result c.loop-turn-test.true) in
     let at : slice_get c.args.versions.now c.turn-item.result.position ≡ Some c.index-versions-turn.result =
     slice_get_read c.args.versions.now (length c.args.versions.now) c.turn-item.result.position c.index-versions-turn.result refl within c.index-versions-turn.is in
     elim c.match-branch-2.branch [

@@ -2,7 +2,7 @@ use Rattle.std.proofs.Common.{◌≡◌, ◌++◌, ◌∷◌, [], true, sym, ap,
 use Rattle.std.specs.Prelude.{◌↔◌, IsTrue}
 use Rattle.std.specs.HashSet as set
 use Rattle.object_versions.proofs.Keeping.{IsOwned, continued, begun, kept_more}
-use Rattle.object_versions.specs.Growing.{AddsUid, AreFlagged, AreKept, IsContinued, IsFirst, IsLastAt}
+use Rattle.object_versions.specs.Growing.{AddsUid, AreFlagged, AreVersionsKept, IsContinued, IsFirst, IsLastAt}
 use Rattle.object_versions.specs.declared.grown.Index.{Index}
 use Rattle.object_versions.specs.Owners.{owner_eq, owner_of}
 use Rattle.object_versions.proofs.grown.Index.add.Goals as goal
@@ -49,8 +49,8 @@ returns c =
     ] in
     let kept = kept_more versions old.firsts.items old.earlier.items old.last c.put_last.new.last old.owners index.owners old.uids index.uids
     version before is_first c.requires.kept c.requires.above c.in_ok-before.ensures.before c.in_ok-before.ensures.put owned in
-    let put = subst (λ l. AreKept (versions ++ version ∷ []) (old.firsts.items ++ is_first ∷ []) (old.earlier.items ++ before ∷ []) l index.owners index.uids) (sym last) kept in
+    let put = subst (λ l. AreVersionsKept (versions ++ version ∷ []) (old.firsts.items ++ is_first ∷ []) (old.earlier.items ++ before ∷ []) l index.owners index.uids) (sym last) kept in
     let flags : c.push.new.self.items ≡ old.firsts.items ++ is_first ∷ [] = c.in_ok-push.ensures.items ∙ ap (λ l. l.items ++ is_first ∷ []) firsts in
     let links : c.push-2.new.self.items ≡ old.earlier.items ++ before ∷ [] = c.in_ok-push-2.ensures.items ∙ ap (λ l. l.items ++ before ∷ []) earlier in
-    subst (λ l. AreKept (versions ++ version ∷ []) l c.push-2.new.self.items index.last index.owners index.uids) (sym flags)
-    (subst (λ l. AreKept (versions ++ version ∷ []) (old.firsts.items ++ is_first ∷ []) l index.last index.owners index.uids) (sym links) put)
+    subst (λ l. AreVersionsKept (versions ++ version ∷ []) l c.push-2.new.self.items index.last index.owners index.uids) (sym flags)
+    (subst (λ l. AreVersionsKept (versions ++ version ∷ []) (old.firsts.items ++ is_first ∷ []) l index.last index.owners index.uids) (sym links) put)

@@ -1,4 +1,4 @@
-use Rattle.local_bounds.proofs.asking.Asking.holds.Goals as goal
+use Rattle.local_bounds.proofs.asking.BoundDemand.holds.Goals as goal
 
 pub returns-in-Under : goal.returns-in-Under
 returns-in-Under c =

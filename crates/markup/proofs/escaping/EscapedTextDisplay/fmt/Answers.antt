@@ -1,7 +1,7 @@
 use Rattle.std.proofs.Common.{◌++◌, None, Some, append-nil, encode_utf8, rules, sym, ◌∙◌}
 use Rattle.std.proofs.Output.{has_written_append, has_written_of_eq}
 use Rattle.markup.proofs.EscapingFacts.{escaped_char, escaped_empty, escaped_step}
-use Rattle.markup.proofs.escaping.ToldDisplay.fmt.Goals as goal
+use Rattle.markup.proofs.escaping.EscapedTextDisplay.fmt.Goals as goal
 
 pub loop-c-preserved-in-Continue-1 : goal.loop-c-preserved-in-Continue-1
 loop-c-preserved-in-Continue-1 g c = λ plain.

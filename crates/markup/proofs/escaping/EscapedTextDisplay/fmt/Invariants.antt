@@ -2,7 +2,7 @@ use Rattle.std.proofs.Common.{◌≡◌, ◌++◌, ℕ, List}
 use Rattle.std.specs.Fmt.{HasWritten, IsPlainFormatter}
 use Rattle.std.specs.Str.Iter.{chars_rest}
 use Rattle.markup.specs.Escaping.{escaped}
-use Rattle.markup.proofs.escaping.ToldDisplay.fmt.Given as goal
+use Rattle.markup.proofs.escaping.EscapedTextDisplay.fmt.Given as goal
 
 abbrev pub invariant-loop-c : goal.invariant-loop-c
 invariant-loop-c g l =
