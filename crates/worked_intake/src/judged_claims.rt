@@ -122,6 +122,30 @@ fn each_event_enters_the_gate_once(rt: HostRuntime) {
     }
 }
 
+#[test]
+fn a_roll_counts_entries(rt: HostRuntime) {
+    let roll = Roll::of(&rt, 2);
+    roll.enter(1);
+    assert_so(&rt, !roll.is_once_each(), "one is missing");
+    roll.enter(0);
+    assert_so(&rt, roll.is_once_each(), "each once");
+    roll.enter(1);
+    assert_so(&rt, !roll.is_once_each(), "one came twice");
+    assert_so(&rt, roll.times(0) == 1 && roll.times(1) == 2, "times");
+    assert_so(&rt, roll.times(2) == 0, "no other");
+}
+
+#[test]
+fn a_meeting_is_of_two(rt: HostRuntime) {
+    let alone = Meeting::of(1);
+    assert_so(&rt, !alone.has_met(), "nobody came");
+    let meeting = Meeting::of(2);
+    meeting.enter(1);
+    assert_so(&rt, !meeting.has_met(), "the last one alone");
+    meeting.enter(0);
+    assert_so(&rt, meeting.has_met(), "both");
+}
+
 // Counts the claims that are taken from a source that watches a gate.
 fn count_watched(
     rt: &(impl Abort + AllocGlobal + Threads + Sync),
