@@ -14,7 +14,7 @@ use Rattle.log_picture.specs.Page.{IsLogPage}
 use Rattle.log_verdict.specs.Answers.{Answer, answer, outcome_status, refusal_answer}
 use Rattle.log_verdict.specs.Endings.{IsBrokenStatus, IsVerdictStatus}
 use Rattle.log_verdict.specs.Judging.{IsOutcomeOf}
-use Rattle.version_store.specs.Known.{Known}
+use Rattle.log_context.specs.Known.{Known}
 
 -- the finding tells what an outcome tells of the event that breaks
 pub record TellsFinding (finding : Finding) (line : ℕ) (audit_id : List ℕ) (reason : Reason) (low high : ℕ) (writes : List WriteLine) : Type 0 where

@@ -11,13 +11,13 @@ use context_intake::{Intake, Stop, read_context};
 use edge_io::Desk;
 use finding_picture::{Finding, finding_page};
 use judge_pool::Gate;
+use log_context::Context;
 use log_picture::log_page;
 use log_verdict::{Gates, Report, outcome_of, refusal_report, status_of};
 use std::alloc::Global;
 use std::marker::Sync;
 use std::mem::ManuallyDrop;
 use std::thread::Threads;
-use version_store::Context;
 
 /// Reads a setup and then a log from a desk, each by its name, judges the log, and gives the page of its verdict, with
 /// the status of the verdict; or the refusal of the two, as the judge says it. What they tell isn't freed: the program

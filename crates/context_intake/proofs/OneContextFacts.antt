@@ -10,10 +10,10 @@ use Rattle.log_intake.specs.Setup.{IsSetupRead}
 use Rattle.log_intake.proofs.OneReadingFacts.{one_reading}
 use Rattle.log_intake.proofs.OneSetupFacts.{one_setup}
 use Rattle.setup_file.specs.declared.setup.Setup.{Setup}
-use Rattle.version_store.specs.Histories.{history_of}
-use Rattle.version_store.specs.Known.{Known}
-use Rattle.version_store.specs.LogTrees.{pooled}
-use Rattle.version_store.proofs.OneHistory.{one_history}
+use Rattle.log_context.specs.Histories.{history_of}
+use Rattle.log_context.specs.Known.{Known}
+use Rattle.log_context.specs.LogTrees.{pooled}
+use Rattle.log_context.proofs.OneHistory.{one_history}
 use Rattle.context_intake.specs.Contexts.{IsContextOf, IsRefused, most_nodes, of_log, of_pool, of_setup, with_chains}
 use Rattle.context_intake.specs.Refusals.{IsLogRefused, IsSetupRefused, IsSetupStopOf, IsStopOf}
 use Rattle.context_intake.specs.declared.refusal.Refusal.{Refusal}

@@ -16,11 +16,11 @@ use Rattle.log_intake.specs.declared.stop.SetupStop.{SetupStop}
 use Rattle.log_intake.specs.declared.stop.SetupStop.TheVariants as setup_stop
 use Rattle.log_intake.proofs.LogFacts.{takes_nothing}
 use Rattle.setup_file.specs.declared.setup.Setup.{Setup}
-use Rattle.version_store.specs.Known.{Known}
-use Rattle.version_store.specs.LogTrees.{pooled}
-use Rattle.version_store.specs.Told.{IsTold}
-use Rattle.version_store.specs.declared.log.fault.BuildFault.{BuildFault}
-use Rattle.version_store.specs.declared.log.fault.BuildFault.TheVariants as build_fault
+use Rattle.log_context.specs.Known.{Known}
+use Rattle.log_context.specs.LogTrees.{pooled}
+use Rattle.log_context.specs.Told.{IsTold}
+use Rattle.log_context.specs.declared.log.fault.BuildFault.{BuildFault}
+use Rattle.log_context.specs.declared.log.fault.BuildFault.TheVariants as build_fault
 use Rattle.context_intake.specs.Built.{IsBuiltAs}
 use Rattle.context_intake.specs.Contexts.{IsFoundIn, IsToldBy, RefusesNothing, most_nodes, of_log, of_pool, of_setup, with_chains}
 use Rattle.context_intake.specs.Refusals.{IsSetupStopOf, IsStopOf}

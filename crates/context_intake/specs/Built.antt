@@ -1,8 +1,8 @@
 -- What a context tells that was built, or why it wasn't.
 use Rattle.std.specs.Prelude.{◌≡◌, Result, Ok, Err}
-use Rattle.version_store.specs.Known.{Known}
-use Rattle.version_store.specs.declared.log.fault.BuildFault.{BuildFault}
-use Rattle.version_store.specs.declared.log.fault.BuildFault.TheVariants.{PoolFull, OutOfMemory}
+use Rattle.log_context.specs.Known.{Known}
+use Rattle.log_context.specs.declared.log.fault.BuildFault.{BuildFault}
+use Rattle.log_context.specs.declared.log.fault.BuildFault.TheVariants.{PoolFull, OutOfMemory}
 use Rattle.context_intake.specs.declared.refusal.Limit.TheVariants.{PoolSize}
 use Rattle.context_intake.specs.declared.refusal.Refusal.TheVariants.{PastLimit}
 use Rattle.context_intake.specs.declared.told.Intake.{Intake}

@@ -5,9 +5,9 @@ use Rattle.log_intake.specs.Log.{IsLogRead}
 use Rattle.log_intake.specs.Setup.{IsSetupRead}
 use Rattle.page_chains.specs.Chains.{chains_of}
 use Rattle.setup_file.specs.declared.setup.Setup.{Setup}
-use Rattle.version_store.specs.Known.{Known}
-use Rattle.version_store.specs.LogTrees.{pooled}
-use Rattle.version_store.specs.Told.{IsTold}
+use Rattle.log_context.specs.Known.{Known}
+use Rattle.log_context.specs.LogTrees.{pooled}
+use Rattle.log_context.specs.Told.{IsTold}
 use Rattle.context_intake.specs.Refusals.{IsLogRefused, IsSetupRefused}
 use Rattle.context_intake.specs.declared.refusal.Limit.TheVariants.{PoolSize}
 use Rattle.context_intake.specs.declared.refusal.Refusal.{Refusal}

@@ -2,8 +2,8 @@
 
 ghost use Rattle.std.specs.Prelude.{◌≡◌, ℕ, List};
 ghost use Rattle.context_intake.specs.Contexts.{IsContextOf, IsRefused};
-ghost use Rattle.version_store.specs.Histories.{history_of};
-ghost use Rattle.version_store.specs.Known.{Known};
+ghost use Rattle.log_context.specs.Histories.{history_of};
+ghost use Rattle.log_context.specs.Known.{Known};
 
 use crate::refusal::Refusal;
 

@@ -15,12 +15,12 @@ use audit_event::Events;
 use edge_io::{Desk, piece_buffer};
 use hash_seed::Seed;
 use judge_pool::Gate;
+use log_context::{BuildFault, Context};
 use log_intake::{LogStop, SetupRead, SetupStop, read_log, read_setup_named};
 use setup_file::Setup;
 use std::alloc::Global;
 use std::marker::Sync;
 use std::thread::Threads;
-use version_store::{BuildFault, Context};
 
 /// Reads a setup and then a log from a desk, each by its name, and finds what they tell. Several threads decode the
 /// lines of a batch, of which each one's index enters the gate, and classify the events.

@@ -1,5 +1,5 @@
 use crate::refusal::Refusal;
-use version_store::Context;
+use log_context::Context;
 
 /// What a setup and a log tell.
 #[derive(Drop)]

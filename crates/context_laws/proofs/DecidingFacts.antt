@@ -12,13 +12,13 @@ use Rattle.rbac_timeline.specs.Deciding.{is_possible}
 use Rattle.rbac_timeline.specs.Decisions.{IsPossible}
 use Rattle.rbac_timeline.specs.Known as rbac
 use Rattle.rbac_timeline.specs.Sound.{AreSound}
-use Rattle.version_store.proofs.Built.{are_ends, nodes_within}
-use Rattle.version_store.proofs.LogLemmas.{look_left}
-use Rattle.version_store.proofs.RoleEnds.{roles_sound}
-use Rattle.version_store.specs.Histories.{decides_by, history_of}
-use Rattle.version_store.specs.Judged.{judged_decision, judged_user}
-use Rattle.version_store.specs.Known.{Known}
-use Rattle.version_store.specs.Told.{IsTold}
+use Rattle.log_context.proofs.Built.{are_ends, nodes_within}
+use Rattle.log_context.proofs.LogLemmas.{look_left}
+use Rattle.log_context.proofs.RoleEnds.{roles_sound}
+use Rattle.log_context.specs.Histories.{decides_by, history_of}
+use Rattle.log_context.specs.Judged.{judged_decision, judged_user}
+use Rattle.log_context.specs.Known.{Known}
+use Rattle.log_context.specs.Told.{IsTold}
 use Rattle.write_groups.specs.declared.event.LogEvent.{LogEvent}
 use Rattle.context_laws.specs.Deciding.{DecidesByChoice}
 

@@ -11,8 +11,8 @@ use Rattle.history_model.specs.Readable.{IsReadable}
 use Rattle.verdict_text.specs.Outcome.{explained_text}
 use Rattle.verdict_text.specs.Reading.{IsPlacement}
 use Rattle.verdict_text.specs.Words.{IsNumber}
-use Rattle.version_store.specs.Histories.{history_of}
-use Rattle.version_store.specs.Known.{Known}
+use Rattle.log_context.specs.Histories.{history_of}
+use Rattle.log_context.specs.Known.{Known}
 use Rattle.context_laws.proofs.PlacedNumbers.{event_at, fits_at, placement_is}
 use Rattle.context_laws.proofs.PlacedTexts.{AreShort, explained_short}
 use Rattle.context_laws.proofs.ToldNumbers.{told_few, told_lines, told_numbers, told_undecided}

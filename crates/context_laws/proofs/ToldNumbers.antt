@@ -19,12 +19,12 @@ use Rattle.log_intake.proofs.CheckpointFacts.{few_read}
 use Rattle.page_chains.specs.Chains.{chains_of}
 use Rattle.setup_file.specs.declared.setup.Checkpoint.{Checkpoint}
 use Rattle.setup_file.specs.declared.setup.Setup.{Setup}
-use Rattle.version_store.proofs.LogLemmas.{Standing, of_event, of_checkpoint, logged_length, standing}
-use Rattle.version_store.specs.Histories.{history_of}
-use Rattle.version_store.specs.Known.{Known}
-use Rattle.version_store.specs.Logged.{IsLogged, IsLoggedCheckpoint}
-use Rattle.version_store.specs.Readings as readings
-use Rattle.version_store.specs.Shown.{IsShownAs}
+use Rattle.log_context.proofs.LogLemmas.{Standing, of_event, of_checkpoint, logged_length, standing}
+use Rattle.log_context.specs.Histories.{history_of}
+use Rattle.log_context.specs.Known.{Known}
+use Rattle.log_context.specs.Logged.{IsLogged, IsLoggedCheckpoint}
+use Rattle.log_context.specs.Readings as readings
+use Rattle.log_context.specs.Shown.{IsShownAs}
 use Rattle.write_groups.proofs.Belonging.{IsLogged as IsLoggedAt, logged_from}
 use Rattle.write_groups.specs.Modelled.{answer_of, event_of, item_of, reading_of}
 use Rattle.write_groups.specs.declared.event.LogEvent.{LogEvent}

@@ -4,10 +4,10 @@ use Rattle.audit_event.specs.declared.event.Event.{Event}
 use Rattle.base_types.specs.declared.placed.Places.{Places}
 use Rattle.base_types.specs.declared.request.Decision.{Decision}
 use Rattle.rbac_timeline.specs.Decisions.{IsPossible}
-use Rattle.version_store.specs.Histories.{history_of}
-use Rattle.version_store.specs.Judged.{judged_decision, judged_user}
-use Rattle.version_store.specs.Known.{Known}
-use Rattle.version_store.specs.Told.{IsTold}
+use Rattle.log_context.specs.Histories.{history_of}
+use Rattle.log_context.specs.Judged.{judged_decision, judged_user}
+use Rattle.log_context.specs.Known.{Known}
+use Rattle.log_context.specs.Told.{IsTold}
 
 -- By the history that a context tells, caches at these places could give the judged decision of an event exactly
 -- where one possible state for each role and each binding makes an authorizer give it.

@@ -6,8 +6,8 @@ use Rattle.history_model.specs.Checking.{IsVerified}
 use Rattle.history_model.specs.Outcomes.{Explained, IsOutcome}
 use Rattle.verdict_text.specs.Outcome.{explained_text}
 use Rattle.verdict_text.specs.Reading.{IsPlacement}
-use Rattle.version_store.specs.Histories.{history_of}
-use Rattle.version_store.specs.Known.{Known}
+use Rattle.log_context.specs.Histories.{history_of}
+use Rattle.log_context.specs.Known.{Known}
 
 -- its text has at most so many bytes: 31 in the first line, 141 in that of each of 4,194,304 events, and 55 in that of
 -- each of 4,204,304 checkpoints

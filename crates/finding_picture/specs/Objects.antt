@@ -10,7 +10,7 @@ use Rattle.object_past.specs.declared.removal.Removal.{Removal}
 use Rattle.object_past.specs.declared.version.Maker.{Maker}
 use Rattle.object_past.specs.declared.version.Maker.TheVariants as maker
 use Rattle.object_past.specs.declared.version.Version.{Version}
-use Rattle.version_store.specs.Known.{Known, versions_of}
+use Rattle.log_context.specs.Known.{Known, versions_of}
 use Rattle.write_groups.specs.Lines.{line_at}
 use Rattle.write_groups.specs.declared.event.LogEvent.{LogEvent}
 use Rattle.write_groups.specs.declared.event.Shown.{Shown}

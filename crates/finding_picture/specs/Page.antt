@@ -1,7 +1,7 @@
 -- The page of an event that no placement explains.
 use Rattle.std.specs.Prelude.{List, ◌++◌, ℕ, codes}
 use Rattle.markup.specs.Frame.{begin_text, end_text}
-use Rattle.version_store.specs.Known.{Known}
+use Rattle.log_context.specs.Known.{Known}
 use Rattle.finding_picture.specs.Caches.{caches_text}
 use Rattle.finding_picture.specs.Heading.{heading_text}
 use Rattle.finding_picture.specs.Hiding.{hiding_section}

@@ -8,7 +8,7 @@ use Rattle.markup.specs.Limits.{rest_text}
 use Rattle.markup.specs.Pieces.{fixed, number, shown}
 use Rattle.markup.specs.declared.drawing.Axis.{Axis}
 use Rattle.object_past.specs.declared.version.Version.{Version}
-use Rattle.version_store.specs.Known.{Known}
+use Rattle.log_context.specs.Known.{Known}
 use Rattle.finding_picture.specs.Limits.{most_marks, most_segments}
 use Rattle.finding_picture.specs.Marks.{mark_text, places_axis}
 use Rattle.finding_picture.specs.Objects.{key_on}

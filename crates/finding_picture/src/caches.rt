@@ -7,11 +7,11 @@ use crate::finding::Finding;
 use crate::limits::MOST_ROWS;
 use crate::objects::push_maker;
 use base_types::{OutOfMemory, key_text};
+use log_context::Context;
 use markup::{EscapedText, first_of, push_rest};
 use object_past::{Removal, Version};
 use rbac_timeline::kind_of_key;
 use std::alloc::Global;
-use version_store::Context;
 use write_groups::{LogEvent, line_at};
 
 /// What stands before the range of the caches' places.

@@ -6,14 +6,14 @@ ghost use Rattle.write_groups.specs.Modelled.{event_of};
 ghost use Rattle.finding_picture.specs.Hiding.{cover_row, hidden_row, hides, hiding_in, hiding_rows, hiding_section};
 ghost use Rattle.finding_picture.specs.Hiding.{hiding_text, is_unrecorded, name_text, namespace_text, own_rows};
 ghost use Rattle.finding_picture.specs.Hiding.{unrecorded_in};
-ghost use Rattle.version_store.specs.Histories.{history_of};
+ghost use Rattle.log_context.specs.Histories.{history_of};
 
 use crate::limits::MOST_ROWS;
 use crate::objects::key_on;
 use base_types::{Cover, CoverName, ObjectKey, OutOfMemory, Text, covers};
+use log_context::Context;
 use markup::{EscapedText, first_of, push_rest};
 use std::alloc::Global;
-use version_store::Context;
 use write_groups::{LogEvent, Shown, window_of};
 
 /// What stands before the unrecorded writes of a log.

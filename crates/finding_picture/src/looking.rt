@@ -2,7 +2,7 @@ ghost use Rattle.std.specs.Prelude.{◌≡◌, ◌==◌, ◌<◌, AllPairs, find
 ghost use Rattle.finding_picture.specs.Looking.{event_on, user_on};
 
 use audit_event::Event;
-use version_store::Context;
+use log_context::Context;
 
 /// The event of the log with this line. That of a checkpoint has none.
 pub fn event_on(context: &Context, line: u64) -> Option<&Event>

@@ -4,9 +4,9 @@ ghost use Rattle.finding_picture.specs.Marks.{range_text, tick_text};
 
 use crate::looking::user_on;
 use base_types::{OutOfMemory, Text, WriteLine};
+use log_context::Context;
 use markup::{Axis, EscapedText};
 use object_past::Version;
-use version_store::Context;
 
 fn last_revision(versions: &[Version]) -> u64
     ensures { result ≡ last_revision versions.now }

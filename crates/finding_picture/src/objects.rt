@@ -3,15 +3,15 @@ ghost use Rattle.std.specs.List.{flat_map};
 ghost use Rattle.finding_picture.specs.Objects.{answer_key, key_on, logged_on, maker_text, object_name};
 ghost use Rattle.finding_picture.specs.Objects.{object_rows, object_section, object_text, removal_row, removals_of};
 ghost use Rattle.finding_picture.specs.Objects.{version_row};
-ghost use Rattle.version_store.specs.Known.{versions_of};
+ghost use Rattle.log_context.specs.Known.{versions_of};
 
 use crate::lasting::since;
 use crate::limits::{MOST_ROWS, MOST_VERSIONS};
 use base_types::{ObjectKey, OutOfMemory, key_text};
+use log_context::Context;
 use markup::{EscapedText, first_of, push_rest};
 use object_past::{Maker, Removal, Version};
 use std::alloc::Global;
-use version_store::Context;
 use write_groups::{LogEvent, Shown, line_at};
 
 /// The section of an event whose answer isn't one about a single object.

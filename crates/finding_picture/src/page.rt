@@ -12,9 +12,9 @@ use crate::request::push_request;
 use crate::rows::push_rows;
 use crate::times::push_times;
 use base_types::OutOfMemory;
+use log_context::Context;
 use markup::{push_begin, push_end};
 use std::alloc::Global;
-use version_store::Context;
 
 /// The page of an event that no placement explains: one document in HTML, with no script and nothing from elsewhere.
 /// Each text of the log stands in it escaped.

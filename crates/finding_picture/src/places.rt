@@ -8,10 +8,10 @@ use crate::marks::{places_axis, push_mark};
 use crate::objects::key_on;
 use crate::segments::{push_segments, versions_on};
 use base_types::{ObjectKey, OutOfMemory, WriteLine};
+use log_context::Context;
 use markup::{Axis, first_of, push_rest};
 use object_past::Version;
 use std::alloc::Global;
-use version_store::Context;
 
 /// What stands before how many writes are drawn.
 pub const BEFORE_PLACES: &str = r#"<h2>Places</h2>

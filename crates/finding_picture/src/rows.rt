@@ -7,8 +7,8 @@ use crate::limits::MOST_WRITES;
 use crate::looking::event_on;
 use audit_event::Event;
 use base_types::{OutOfMemory, Text, WriteLine};
+use log_context::Context;
 use markup::{EscapedText, first_of, push_moment, push_rest};
-use version_store::Context;
 
 /// Appends the table of the writes in the window.
 #[tactic(auto, unfolding(crate::specs::Rows::rows_text))]

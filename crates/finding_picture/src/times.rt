@@ -10,8 +10,8 @@ use crate::looking::event_on;
 use crate::marks::bar_width;
 use audit_event::Event;
 use base_types::{Moment, OutOfMemory, WriteLine};
+use log_context::Context;
 use markup::{Axis, first_of, moment_at, push_moment, push_rest};
-use version_store::Context;
 
 /// What stands before the event's span.
 pub const BEFORE_TIMES: &str = r#"<h2>Time</h2>

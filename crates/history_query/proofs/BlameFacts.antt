@@ -6,7 +6,7 @@ use Rattle.history_model.proofs.Members.{apart, at_in, in_at}
 use Rattle.base_types.specs.Meaning.{Meaning}
 use Rattle.base_types.specs.declared.key.ObjectKey.{ObjectKey}
 use Rattle.object_past.specs.declared.version.Version.{Version}
-use Rattle.version_store.specs.Known.{Known}
+use Rattle.log_context.specs.Known.{Known}
 use Rattle.history_query.proofs.Alike.{AreAlikeFrom, IsAlikeSince, IsAmong, IsFirstAlike, alike_more, alike_none, alike_past, alike_whole}
 use Rattle.history_query.specs.Appending.{Appends}
 use Rattle.history_query.specs.Blaming.{IsBlame, IsBlameOf, IsSameAt, IsSince, value_pointed}

@@ -8,7 +8,7 @@ use Rattle.base_types.specs.declared.request.User.{User}
 use Rattle.rbac_timeline.specs.Decisions.{IsPossible}
 use Rattle.rbac_timeline.specs.Known as rbac
 use Rattle.verdict_text.specs.Words.{ended}
-use Rattle.version_store.specs.Known.{Known}
+use Rattle.log_context.specs.Known.{Known}
 use Rattle.history_query.specs.Deciding.{IsCanText, IsCanTextBy, IsDecision, equal_places, possible_word}
 use Rattle.history_query.specs.Telling.{IsBelowStart, IsToldText}
 

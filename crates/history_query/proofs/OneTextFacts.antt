@@ -14,12 +14,12 @@ use Rattle.object_past.specs.Modelled.{version_of}
 use Rattle.object_past.specs.declared.version.Version.{Version}
 use Rattle.std.specs.declared.cmp.Ordering.TheVariants.{Less}
 use Rattle.verdict_text.specs.Words.{ended}
-use Rattle.version_store.proofs.OneHistory.{not_both_less, one_told, same_version}
-use Rattle.version_store.specs.Histories.{history_of}
-use Rattle.version_store.specs.Keyed.{AreKeys}
-use Rattle.version_store.specs.Known.{Known}
+use Rattle.log_context.proofs.OneHistory.{not_both_less, one_told, same_version}
+use Rattle.log_context.specs.Histories.{history_of}
+use Rattle.log_context.specs.Keyed.{AreKeys}
+use Rattle.log_context.specs.Known.{Known}
 use Rattle.write_groups.specs.declared.groups.Group.{Group}
-use Rattle.version_store.specs.Told.{IsTold as IsTruth}
+use Rattle.log_context.specs.Told.{IsTold as IsTruth}
 use Rattle.history_query.specs.Blaming.{IsBlame, IsPresentBlame, IsSince, since_text, value_pointed, value_text}
 use Rattle.history_query.specs.Deciding.{IsCanTextBy, IsDecision, possible_word}
 use Rattle.history_query.specs.OneText.{OneText}

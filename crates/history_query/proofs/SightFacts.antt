@@ -12,8 +12,8 @@ use Rattle.object_past.proofs.Searching.{find_none}
 use Rattle.object_past.specs.Modelled.{recorded, version_of}
 use Rattle.object_past.specs.declared.removal.Removal.{Removal}
 use Rattle.object_past.specs.declared.version.Version.{Version}
-use Rattle.version_store.specs.Histories.{history_of}
-use Rattle.version_store.specs.Known.{Known}
+use Rattle.log_context.specs.Histories.{history_of}
+use Rattle.log_context.specs.Known.{Known}
 use Rattle.history_query.specs.Sights.{IsRemovalOfLast, IsPresence, ObjectMayBeAbsent, ObjectMayBeThere, gone, not_yet}
 use Rattle.history_query.specs.Versions.{removal_behind}
 

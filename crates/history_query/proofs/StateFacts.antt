@@ -4,8 +4,8 @@ use Rattle.std.proofs.lemmas.List.{flat_map_more, take_more}
 use Rattle.std.proofs.lemmas.Slice.Zip.{all_zipped_more}
 use Rattle.std.specs.List.{AllZip, flat_map}
 use Rattle.base_types.specs.declared.key.ObjectKey.{ObjectKey}
-use Rattle.version_store.specs.Keyed.{AreKeys}
-use Rattle.version_store.specs.Known.{Known}
+use Rattle.log_context.specs.Keyed.{AreKeys}
+use Rattle.log_context.specs.Known.{Known}
 use Rattle.history_query.specs.Appending.{Appends}
 use Rattle.history_query.specs.Sights.{IsSight}
 use Rattle.history_query.specs.States.{IsKeyText, IsStateOf, key_text}

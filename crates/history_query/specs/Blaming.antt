@@ -6,7 +6,7 @@ use Rattle.base_types.specs.Meaning.{Meaning}
 use Rattle.base_types.specs.Pointers.{pointed}
 use Rattle.object_past.specs.declared.version.Version.{Version}
 use Rattle.verdict_text.specs.Words.{ended, spaced}
-use Rattle.version_store.specs.Known.{Known}
+use Rattle.log_context.specs.Known.{Known}
 use Rattle.write_groups.specs.declared.event.LogEvent.{LogEvent}
 use Rattle.history_query.specs.Showing.{clouded_text}
 use Rattle.history_query.specs.Sights.{IsSight}

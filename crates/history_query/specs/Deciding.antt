@@ -6,7 +6,7 @@ use Rattle.base_types.specs.declared.request.RequestAttrs.{RequestAttrs}
 use Rattle.base_types.specs.declared.request.User.{User}
 use Rattle.rbac_timeline.specs.Decisions.{IsPossible}
 use Rattle.verdict_text.specs.Words.{ended}
-use Rattle.version_store.specs.Known.{Known}
+use Rattle.log_context.specs.Known.{Known}
 use Rattle.history_query.specs.Telling.{IsBelowStart, IsToldText}
 
 abbrev pub equal_places : ℕ → Places

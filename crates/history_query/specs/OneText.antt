@@ -1,7 +1,7 @@
 -- A question has one answer, of a setup and the events of a log.
 use Rattle.std.specs.Prelude.{◌≡◌, ℕ, List}
-use Rattle.version_store.specs.Known.{Known}
-use Rattle.version_store.specs.Told.{IsTold}
+use Rattle.log_context.specs.Known.{Known}
+use Rattle.log_context.specs.Told.{IsTold}
 use Rattle.history_query.specs.Questions.{IsHistoryText}
 use Rattle.history_query.specs.declared.question.Question.{Question}
 

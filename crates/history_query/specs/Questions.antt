@@ -1,6 +1,6 @@
 -- The texts of the five questions.
 use Rattle.std.specs.Prelude.{ℕ, List}
-use Rattle.version_store.specs.Known.{Known}
+use Rattle.log_context.specs.Known.{Known}
 use Rattle.history_query.specs.Blaming.{IsBlameText}
 use Rattle.history_query.specs.Deciding.{IsCanText}
 use Rattle.history_query.specs.Showing.{IsShowText}

@@ -4,7 +4,7 @@ use Rattle.base_types.specs.declared.key.ObjectKey.{ObjectKey}
 use Rattle.base_types.specs.Meaning.{Meaning}
 use Rattle.object_past.specs.declared.version.Version.{Version}
 use Rattle.verdict_text.specs.Words.{ended, spaced}
-use Rattle.version_store.specs.Known.{Known}
+use Rattle.log_context.specs.Known.{Known}
 use Rattle.history_query.specs.Sights.{IsSight}
 use Rattle.history_query.specs.Telling.{IsToldText, IsUntold, json_at}
 use Rattle.history_query.specs.declared.sight.ObjectSight.{ObjectSight}

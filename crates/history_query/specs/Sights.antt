@@ -7,8 +7,8 @@ use Rattle.history_model.specs.Histories.{History}
 use Rattle.history_model.specs.States.{latest}
 use Rattle.object_past.specs.Modelled.{version_of}
 use Rattle.object_past.specs.declared.version.Version.{Version}
-use Rattle.version_store.specs.Histories.{history_of}
-use Rattle.version_store.specs.Known.{Known}
+use Rattle.log_context.specs.Histories.{history_of}
+use Rattle.log_context.specs.Known.{Known}
 use Rattle.history_query.specs.declared.sight.ObjectSight.{ObjectSight}
 use Rattle.history_query.specs.declared.sight.ObjectSight.TheVariants.{Clouded, Told}
 

@@ -5,8 +5,8 @@ use Rattle.base_types.specs.Keys.{key_spelling}
 use Rattle.base_types.specs.declared.key.ObjectKey.{ObjectKey}
 use Rattle.object_past.specs.declared.version.Version.{Version}
 use Rattle.verdict_text.specs.Words.{ended, spaced}
-use Rattle.version_store.specs.Keyed.{AreKeys}
-use Rattle.version_store.specs.Known.{Known}
+use Rattle.log_context.specs.Keyed.{AreKeys}
+use Rattle.log_context.specs.Known.{Known}
 use Rattle.history_query.specs.Sights.{IsSight}
 use Rattle.history_query.specs.Telling.{IsBelowStart, IsToldText}
 use Rattle.history_query.specs.declared.sight.ObjectSight.{ObjectSight}

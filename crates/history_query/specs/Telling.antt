@@ -10,7 +10,7 @@ use Rattle.object_past.specs.declared.version.Maker.TheVariants as maker
 use Rattle.serde_json.specs.Written.{compact_text}
 use Rattle.setup_file.specs.declared.setup.Setup.{Setup}
 use Rattle.verdict_text.specs.Words.{ended}
-use Rattle.version_store.specs.Known.{Known}
+use Rattle.log_context.specs.Known.{Known}
 use Rattle.write_groups.specs.Lines.{line_at}
 use Rattle.write_groups.specs.declared.event.LogEvent.{LogEvent}
 

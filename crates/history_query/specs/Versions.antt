@@ -7,7 +7,7 @@ use Rattle.base_types.specs.declared.key.ObjectKey.{ObjectKey}
 use Rattle.object_past.specs.declared.removal.Removal.{Removal}
 use Rattle.object_past.specs.declared.version.Version.{Version}
 use Rattle.verdict_text.specs.Words.{ended, spaced}
-use Rattle.version_store.specs.Known.{Known, versions_of}
+use Rattle.log_context.specs.Known.{Known, versions_of}
 use Rattle.write_groups.specs.Lines.{line_at}
 use Rattle.write_groups.specs.declared.event.LogEvent.{LogEvent}
 use Rattle.history_query.specs.Telling.{IsToldText, IsTracked, who_text}

@@ -9,11 +9,11 @@ use crate::sight::{ObjectSight, sight_of};
 use crate::telling::{append_piece, append_user, append_who, is_untold};
 use base_types::json::Pointer;
 use base_types::{Bytes, ObjectKey, OutOfMemory};
+use log_context::Context;
 use node_number::NodeId;
 use node_pool::Pool;
 use object_past::Version;
 use std::alloc::Global;
-use version_store::Context;
 
 /// The value that a pointer identifies in the object that may be at a place, and the write since which each version of
 /// that object has it.

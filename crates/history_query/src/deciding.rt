@@ -3,8 +3,8 @@ ghost use Rattle.history_query.specs.Deciding.{IsCanText, equal_places, possible
 
 use crate::telling::is_below_start;
 use base_types::{Bytes, OutOfMemory, Places, Possible, RequestAttrs, User};
+use log_context::Context;
 use std::alloc::Global;
-use version_store::Context;
 
 /// Which decisions an authorizer could have given on a request whose four caches all stood at a place.
 pub fn can(

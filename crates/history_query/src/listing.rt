@@ -5,9 +5,9 @@ ghost use Rattle.history_query.specs.Versions.{version_text, versions_text};
 use crate::sight::removal_behind;
 use crate::telling::{append_piece, append_who, is_tracked, line_at};
 use base_types::{Bytes, ObjectKey, OutOfMemory, escape};
+use log_context::Context;
 use object_past::{Removal, Version};
 use std::alloc::Global;
-use version_store::Context;
 use write_groups::LogEvent;
 
 /// All versions of a key by revision, each with its uid and who wrote it, and behind the last one of each object that

@@ -8,8 +8,8 @@ use crate::showing::show;
 use crate::standing::state;
 use base_types::json::Pointer;
 use base_types::{Bytes, ObjectKey, OutOfMemory, RequestAttrs, User};
+use log_context::Context;
 use std::alloc::Global;
-use version_store::Context;
 
 /// What is asked of a history. A place is a number from 1 to 18446744073709551615.
 #[derive(Drop)]

@@ -6,9 +6,9 @@ use crate::json::append_json;
 use crate::sight::{ObjectSight, sight_of};
 use crate::telling::{append_piece, is_untold};
 use base_types::{Bytes, ObjectKey, OutOfMemory};
+use log_context::Context;
 use object_past::Version;
 use std::alloc::Global;
-use version_store::Context;
 
 /// The object of a key as it may be at a place, with its revision, and whether it may be absent there.
 pub fn show(

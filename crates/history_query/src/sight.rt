@@ -3,8 +3,8 @@ ghost use Rattle.history_query.specs.Sights.{IsSight};
 ghost use Rattle.history_query.specs.Versions.{removal_behind};
 
 use base_types::ObjectKey;
+use log_context::Context;
 use object_past::{Past, Removal, Version, removal_at};
-use version_store::Context;
 
 /// What can be told of an object at a place.
 #[derive(Clone, Copy)]

@@ -4,14 +4,14 @@ ghost use Rattle.history_query.specs.Appending.{Appends};
 ghost use Rattle.history_query.specs.States.{IsKeyText, IsStateOf, IsStateText, key_text, presence_text};
 ghost use Rattle.history_query.specs.States.{presence_word};
 ghost use Rattle.verdict_text.specs.Words.{ended, spaced};
-ghost use Rattle.version_store.specs.Keyed.{AreKeys};
+ghost use Rattle.log_context.specs.Keyed.{AreKeys};
 
 use crate::sight::{ObjectSight, sight_of};
 use crate::telling::is_below_start;
 use base_types::{Bytes, ObjectKey, OutOfMemory, key_text};
+use log_context::Context;
 use object_past::Version;
 use std::alloc::Global;
-use version_store::Context;
 
 /// Which objects there may be at a place, by key, with their revisions.
 pub fn state(alloc: Global, context: &Context, place: u64) -> Result<Bytes, OutOfMemory>

@@ -6,10 +6,10 @@ ghost use Rattle.write_groups.specs.Lines.{line_at};
 
 use audit_event::Event;
 use base_types::{ObjectKey, OutOfMemory, Text, escape};
+use log_context::Context;
 use object_past::Maker;
 use setup_file::{Setup, Tracked};
 use std::alloc::{AllocError, Global};
-use version_store::Context;
 use write_groups::LogEvent;
 
 fn is_of(tracked: &Tracked, key: &ObjectKey) -> bool

@@ -9,8 +9,8 @@ use Rattle.log_verdict.specs.Verifying.{most_placement}
 use Rattle.log_verdict.specs.declared.verified.Verified.TheVariants.{Judged}
 use Rattle.serial_machine.specs.declared.checked.Checked.TheVariants.{Holds}
 use Rattle.verdict_text.specs.Outcome.{explained_text}
-use Rattle.version_store.specs.Histories.{history_of}
-use Rattle.version_store.specs.Known.{Known}
+use Rattle.log_context.specs.Histories.{history_of}
+use Rattle.log_context.specs.Known.{Known}
 use Rattle.kubepast.specs.PrintedHolds.{PrintedHolds}
 
 explained : (known : Known) (found : model.Outcome) (lines : List PlacedLine) → model.IsOutcome (history_of known) found → IsPrinted known found (Explained lines) → model.IsOutcome (history_of known) (model.Explained lines)

@@ -12,7 +12,7 @@ use Rattle.history_model.specs.Histories.{History}
 use Rattle.object_past.proofs.Looking.{from_map, in_map}
 use Rattle.object_past.specs.Modelled.{version_of}
 use Rattle.object_past.specs.declared.version.Version.{Version}
-use Rattle.object_versions.proofs.Finding.{AreNext, next_more, next_of}
+use Rattle.past_building.proofs.Finding.{AreNext, next_more, next_of}
 use Rattle.log_moments.specs.Nexts.{AreNexts, IsNextOf, number_before}
 use Rattle.log_moments.specs.Things.{IsLastNumber, before_next, no_end, without_end}
 

@@ -9,7 +9,7 @@ use Rattle.history_model.specs.Events.{Answer, Event, Item, Made, Removed, Opaqu
 use Rattle.history_model.specs.Histories.{History, IsEvent}
 use Rattle.history_model.specs.Readable.{IsReadable}
 use Rattle.history_model.specs.Words.{Word, Makes, Removes, At, Strays, Nothing, word}
-use Rattle.object_versions.proofs.Mapped.{pairs_push}
+use Rattle.past_building.proofs.Mapped.{pairs_push}
 use Rattle.log_moments.specs.Things.{AreThings, HasNumbers, HasNumbersAt, IsLastNumber, IsThingOf, ShowsVersion, before_next, greatest_for, without_end}
 use Rattle.log_moments.specs.declared.numbers.NumberRange.{NumberRange}
 use Rattle.strict_order.specs.declared.thing.Thing.{Thing}

@@ -8,8 +8,8 @@ use Rattle.history_model.specs.Events as model
 use Rattle.history_model.specs.Histories.{History, IsEvent}
 use Rattle.base_types.specs.Meaning.{Meaning}
 use Rattle.setup_file.specs.declared.setup.Setup.{Setup}
-use Rattle.version_store.proofs.LogLemmas.{Standing, of_event, of_checkpoint, standing}
-use Rattle.version_store.specs.Logged.{AreLogged}
+use Rattle.log_context.proofs.LogLemmas.{Standing, of_event, of_checkpoint, standing}
+use Rattle.log_context.specs.Logged.{AreLogged}
 use Rattle.write_groups.proofs.Belonging.{logged_from, IsLogged as IsLoggedAt}
 use Rattle.write_groups.specs.Modelled.{HasEvents}
 use Rattle.write_groups.specs.declared.event.LogEvent.{LogEvent}

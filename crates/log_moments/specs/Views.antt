@@ -10,7 +10,7 @@ use Rattle.log_moments.specs.declared.standing.RevisionStanding.{RevisionStandin
 use Rattle.log_moments.specs.declared.standing.RevisionStanding.TheVariants.{Writes, Shows, Lists, Nowhere}
 use Rattle.log_moments.specs.declared.view.LogView.{LogView}
 use Rattle.object_past.specs.Past.{HasPast}
-use Rattle.object_versions.specs.Modelled.{AreCloudsOf}
+use Rattle.past_building.specs.Modelled.{AreCloudsOf}
 use Rattle.strict_order.specs.declared.thing.Thing.{Thing}
 use Rattle.write_groups.specs.Modelled.{HasEvents, HasTimes, item_of, listing_of}
 

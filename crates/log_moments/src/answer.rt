@@ -1,13 +1,13 @@
 ghost use Rattle.std.specs.Prelude.{◌≡◌, IfOk};
 ghost use Rattle.history_model.specs.Histories.{History};
 ghost use Rattle.log_moments.specs.Answers.{IsStrictAnswer, answer_for, lines_of};
-ghost use Rattle.version_store.specs.Histories.{history_of};
+ghost use Rattle.log_context.specs.Histories.{history_of};
 
 use crate::things::things_of;
 use base_types::{Listed, Moment, OutOfMemory};
+use log_context::Context;
 use std::alloc::Global;
 use strict_order::{Moments, Thing, settle_moments};
-use version_store::Context;
 
 /// The line of a thing, and a moment of its event.
 #[derive(Clone, Copy, PartialEq, Eq)]

@@ -6,7 +6,7 @@ ghost use Rattle.history_model.specs.Words.{word};
 ghost use Rattle.log_moments.specs.Nexts.{number_before};
 ghost use Rattle.log_moments.specs.Things.{HasNumbers, ShowsList, ShowsVersion, greatest_for, no_end};
 ghost use Rattle.log_moments.specs.Views.{AreNumbers, IsLogViewOf};
-ghost use Rattle.object_versions.specs.Modelled.{AreCloudsOf};
+ghost use Rattle.past_building.specs.Modelled.{AreCloudsOf};
 ghost use Rattle.write_groups.specs.Modelled.{event_of, item_of, listing_of, reading_of};
 
 use crate::nexts::position_of;

@@ -4,7 +4,7 @@ ghost use Rattle.history_model.specs.Histories.{History};
 ghost use Rattle.history_model.specs.Readable.{IsReadable};
 ghost use Rattle.log_moments.specs.Things.{AreThings, IsThingOf};
 ghost use Rattle.log_moments.specs.Views.{IsFoundThing, IsLogViewOf};
-ghost use Rattle.version_store.specs.Histories.{history_of};
+ghost use Rattle.log_context.specs.Histories.{history_of};
 ghost use Rattle.write_groups.specs.Modelled.{event_of};
 
 use crate::nexts::nexts_of;
@@ -12,9 +12,9 @@ use crate::numbers::numbers_of;
 use crate::view::LogView;
 use crate::viewing::view_of;
 use base_types::{Listed, OutOfMemory};
+use log_context::Context;
 use std::alloc::Global;
 use strict_order::Thing;
-use version_store::Context;
 use write_groups::{LogEvent, Reading};
 
 /// Things by line.

@@ -4,10 +4,10 @@ ghost use Rattle.history_model.specs.Histories.{IsEvent};
 ghost use Rattle.history_model.specs.Readable.{IsReadable};
 ghost use Rattle.log_moments.specs.Nexts.{AreNexts};
 ghost use Rattle.log_moments.specs.Views.{IsLogViewOf};
-ghost use Rattle.version_store.specs.Histories.{history_of};
+ghost use Rattle.log_context.specs.Histories.{history_of};
 
 use crate::view::LogView;
-use version_store::Context;
+use log_context::Context;
 
 /// The log of a context, and what it tells; `nexts` has the position of each version's next one.
 pub fn view_of<'a>(context: &'a Context, nexts: &'a [Option<usize>]) -> LogView<'a>

@@ -16,8 +16,8 @@ use Rattle.log_picture.specs.declared.overview.Overview.{Overview}
 use Rattle.log_picture.specs.declared.revised.UnrecordedWrite.{UnrecordedWrite}
 use Rattle.markup.specs.Frame.{begin_text, end_text}
 use Rattle.markup.specs.declared.drawing.Axis.{Axis}
-use Rattle.version_store.specs.Histories.{history_of}
-use Rattle.version_store.specs.Known.{Known}
+use Rattle.log_context.specs.Histories.{history_of}
+use Rattle.log_context.specs.Known.{Known}
 use Rattle.write_groups.specs.Modelled.{event_of}
 use Rattle.write_groups.specs.declared.event.LogEvent.{LogEvent}
 

@@ -2,7 +2,7 @@ ghost use Rattle.std.specs.Prelude.{◌≡◌, ◌<◌, [], ◌∷◌, ◌++◌,
 ghost use Rattle.log_picture.specs.Page.{events_text, unrecorded_of, unrecorded_writes_in};
 ghost use Rattle.log_picture.specs.Page.{IsLogPage, OnePage, log_page_text};
 ghost use Rattle.log_picture.specs.Page.{objects_text, overview_of, revision_axis, sections_text, time_axis};
-ghost use Rattle.version_store.specs.Histories.{history_of};
+ghost use Rattle.log_context.specs.Histories.{history_of};
 
 use crate::changed::{Changed, append_changes, changes_of};
 use crate::counting::append_counts;
@@ -13,9 +13,9 @@ use crate::overview::{Overview, append_overview, first_receipt, greatest_revisio
 use crate::revised::{Drawn, UnrecordedWrite, append_history, written_of};
 use crate::spreading::each_of;
 use base_types::{OutOfMemory, PlacedLine, Placement};
+use log_context::Context;
 use markup::{Axis, push_begin, push_end};
 use std::alloc::Global;
-use version_store::Context;
 use write_groups::LogEvent;
 
 /// The page of an explained log, with the placement that explains it: one HTML text that needs nothing beside it, in

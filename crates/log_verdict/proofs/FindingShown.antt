@@ -8,9 +8,9 @@ use Rattle.history_model.specs.Events.{Event}
 use Rattle.history_model.specs.Histories.{History, IsEvent}
 use Rattle.history_model.specs.Outcomes.{AreWrites, shown_high, shown_low}
 use Rattle.history_model.specs.Windows.{high_end, low_end}
-use Rattle.version_store.specs.Answered.{names}
-use Rattle.version_store.specs.Histories.{history_of}
-use Rattle.version_store.specs.Known.{Known}
+use Rattle.log_context.specs.Answered.{names}
+use Rattle.log_context.specs.Histories.{history_of}
+use Rattle.log_context.specs.Known.{Known}
 use Rattle.window_writes.specs.Lines.{AreWriteLines}
 use Rattle.log_verdict.specs.Findings.{IsFindingOf}
 

@@ -16,9 +16,9 @@ use Rattle.log_moments.proofs.OneAnswer.{one_strict_answer}
 use Rattle.serial_machine.specs.Checks.{IsChecked}
 use Rattle.serial_machine.specs.declared.checked.Checked.{Checked}
 use Rattle.verdict_text.proofs.BegunFacts.{explained_agree}
-use Rattle.version_store.specs.Answered.{names}
-use Rattle.version_store.specs.Histories.{history_of}
-use Rattle.version_store.specs.Known.{Known}
+use Rattle.log_context.specs.Answered.{names}
+use Rattle.log_context.specs.Histories.{history_of}
+use Rattle.log_context.specs.Known.{Known}
 use Rattle.window_writes.specs.Lines.{write_line}
 use Rattle.log_verdict.specs.Answering.{IsHistory}
 use Rattle.log_verdict.specs.Judging.{IsJudged, IsOutcomeOf, IsPrinted}

@@ -11,8 +11,8 @@ use Rattle.base_types.specs.declared.claim.Reason.{Reason}
 use Rattle.base_types.specs.declared.placed.Outcome.{Outcome}
 use Rattle.base_types.specs.declared.placed.Outcome.TheVariants as printed
 use Rattle.base_types.specs.declared.placed.PlacedLine.{PlacedLine}
-use Rattle.claims.proofs.OneClaim.{claim_within}
-use Rattle.claims.specs.Claims.{IsClaimOf}
+use Rattle.context_claims.proofs.OneClaim.{claim_within}
+use Rattle.context_claims.specs.Claims.{IsClaimOf}
 use Rattle.history_model.proofs.Members.{all_at, all_from, at_in, in_at}
 use Rattle.history_model.proofs.OutcomeLaw.{breaks_is, fits_is, get_within}
 use Rattle.history_model.specs.Codes.{NeverHolds}
@@ -26,11 +26,11 @@ use Rattle.history_model.specs.Readable.{IsReadable}
 use Rattle.judge_pool.specs.Claims.{AreClaims}
 use Rattle.object_past.specs.Modelled.{recorded}
 use Rattle.object_past.specs.declared.removal.Removal.{Removal}
-use Rattle.placement.specs.Settled.{IsSettled}
-use Rattle.placement.specs.declared.settled.Settled.{Settled}
-use Rattle.placement.specs.declared.settled.Settled.TheVariants.{Fits, Breaks}
-use Rattle.version_store.specs.Histories.{history_of}
-use Rattle.version_store.specs.Known.{Known}
+use Rattle.place_choice.specs.Settled.{IsSettled}
+use Rattle.place_choice.specs.declared.settled.Settled.{Settled}
+use Rattle.place_choice.specs.declared.settled.Settled.TheVariants.{Fits, Breaks}
+use Rattle.log_context.specs.Histories.{history_of}
+use Rattle.log_context.specs.Known.{Known}
 use Rattle.write_groups.specs.Modelled.{event_of}
 use Rattle.log_verdict.specs.Findings.{ExplainsEach, IsFindingOf}
 use Rattle.log_verdict.specs.Judging.{IsOutcomeOf}

@@ -13,8 +13,8 @@ use Rattle.history_model.specs.Events.{Event}
 use Rattle.history_model.specs.Histories.{IsEvent}
 use Rattle.history_model.specs.Judging.{IsJudgedBefore}
 use Rattle.history_model.specs.Readable.{IsReadable}
-use Rattle.version_store.specs.Histories.{history_of}
-use Rattle.version_store.specs.Known.{Known}
+use Rattle.log_context.specs.Histories.{history_of}
+use Rattle.log_context.specs.Known.{Known}
 use Rattle.write_groups.proofs.Judging.{apart_moved}
 use Rattle.write_groups.specs.Modelled.{event_of}
 

@@ -13,8 +13,8 @@ use Rattle.history_model.specs.Local.{IsRightUnder}
 use Rattle.history_model.specs.Placed.{ArePlacedLines, IsPlacedLine}
 use Rattle.history_model.specs.Readable.{IsReadable}
 use Rattle.judge_pool.specs.Lines.{AreLines}
-use Rattle.version_store.specs.Histories.{history_of}
-use Rattle.version_store.specs.Known.{Known}
+use Rattle.log_context.specs.Histories.{history_of}
+use Rattle.log_context.specs.Known.{Known}
 use Rattle.window_writes.proofs.TurnShowing.{event_here}
 use Rattle.log_verdict.specs.Findings.{ExplainsEach}
 use Rattle.log_verdict.specs.Placing.{IsLineFound}

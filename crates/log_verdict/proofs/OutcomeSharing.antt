@@ -15,9 +15,9 @@ use Rattle.rbac_timeline.specs.contracts.timeline.Timeline.TheInside as timed
 use Rattle.setup_file.proofs.tracked_list.TrackedList.TheSendSync as resources
 use Rattle.setup_file.specs.contracts.setup.Setup as setup
 use Rattle.time_windows.specs.contracts.windows.Windows as windows
-use Rattle.version_store.proofs.log.Log.TheSendSync as log
-use Rattle.version_store.specs.contracts.context.Context as context
-use Rattle.version_store.specs.contracts.context.Context.TheInside as inside
+use Rattle.log_context.proofs.log.Log.TheSendSync as log
+use Rattle.log_context.specs.contracts.context.Context as context
+use Rattle.log_context.specs.contracts.context.Context.TheInside as inside
 use denote.Param.Send.{IsSync, sendable, view_sync}
 use denote.Param.SendFields.{declared_sync}
 

@@ -11,7 +11,7 @@ use Rattle.context_intake.specs.declared.told.Intake.{Intake}
 use Rattle.context_intake.specs.declared.told.Intake.TheVariants as told
 use Rattle.context_intake.proofs.OneContextFacts.{one_way}
 use Rattle.context_intake.proofs.ReadingFacts.{whole_untouched}
-use Rattle.version_store.specs.Known.{Known}
+use Rattle.log_context.specs.Known.{Known}
 use Rattle.log_verdict.specs.Taking.{IsReadToVerify, IsTextRead, ReadsSetupLogAndPlacement}
 use Rattle.log_verdict.specs.Verifying.{IsOfText, IsReadLast, IsVerified, IsVerifiedFrom, most_placement}
 use Rattle.log_verdict.specs.declared.verified.Verified.{Verified}

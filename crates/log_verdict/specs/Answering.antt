@@ -5,7 +5,7 @@ use Rattle.context_intake.specs.declared.told.Intake.{Intake}
 use Rattle.context_intake.specs.declared.told.Intake.TheVariants as told
 use Rattle.history_query.specs.Questions.{IsHistoryText}
 use Rattle.history_query.specs.declared.question.Question.{Question}
-use Rattle.version_store.specs.Known.{Known}
+use Rattle.log_context.specs.Known.{Known}
 use Rattle.log_verdict.specs.declared.asking.Answered.{Answered}
 use Rattle.log_verdict.specs.declared.asking.Answered.TheVariants.{Refused, History}
 

@@ -7,8 +7,8 @@ use Rattle.history_model.specs.Events.{Event}
 use Rattle.history_model.specs.Histories.{IsEvent, ranges}
 use Rattle.history_model.specs.Local.{IsRightUnder}
 use Rattle.history_model.specs.Outcomes.{AreWrites, Unexplained, Write, shown_low, shown_high}
-use Rattle.version_store.specs.Histories.{history_of}
-use Rattle.version_store.specs.Known.{Known}
+use Rattle.log_context.specs.Histories.{history_of}
+use Rattle.log_context.specs.Known.{Known}
 use Rattle.log_verdict.specs.Judging.{IsPrinted}
 
 -- the choice makes each event right

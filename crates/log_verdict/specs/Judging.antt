@@ -8,9 +8,9 @@ use Rattle.context_intake.specs.declared.told.Intake.TheVariants as told
 use Rattle.history_model.specs.Events.{Event}
 use Rattle.history_model.specs.Histories.{IsEvent}
 use Rattle.history_model.specs.Outcomes as model
-use Rattle.version_store.specs.Answered.{names}
-use Rattle.version_store.specs.Histories.{history_of}
-use Rattle.version_store.specs.Known.{Known}
+use Rattle.log_context.specs.Answered.{names}
+use Rattle.log_context.specs.Histories.{history_of}
+use Rattle.log_context.specs.Known.{Known}
 use Rattle.window_writes.specs.Lines.{write_line}
 use Rattle.log_verdict.specs.declared.judged.JudgedLog.{JudgedLog}
 use Rattle.log_verdict.specs.declared.judged.JudgedLog.TheVariants.{Refused, Verdict}

@@ -5,8 +5,8 @@ use Rattle.base_types.specs.declared.placed.PlacedLine.{PlacedLine}
 use Rattle.event_claims.specs.Lines.{IsLined}
 use Rattle.history_model.specs.Events.{Event}
 use Rattle.history_model.specs.Histories.{IsEvent, ranges}
-use Rattle.version_store.specs.Histories.{history_of}
-use Rattle.version_store.specs.Known.{Known}
+use Rattle.log_context.specs.Histories.{history_of}
+use Rattle.log_context.specs.Known.{Known}
 
 -- the line of the event of this number, if it is right under the choice
 abbrev pub IsLineFound : Known → List ℕ → ℕ → Option PlacedLine → Type 0

@@ -7,8 +7,8 @@ use Rattle.context_intake.specs.declared.told.Intake.{Intake}
 use Rattle.context_intake.specs.declared.told.Intake.TheVariants as told
 use Rattle.log_moments.specs.Answers.{IsStrictAnswer}
 use Rattle.log_moments.specs.declared.answer.StrictAnswer.{StrictAnswer}
-use Rattle.version_store.specs.Histories.{history_of}
-use Rattle.version_store.specs.Known.{Known}
+use Rattle.log_context.specs.Histories.{history_of}
+use Rattle.log_context.specs.Known.{Known}
 use Rattle.log_verdict.specs.Judging.{IsJudged, IsOutcomeOf}
 use Rattle.log_verdict.specs.declared.judged.JudgedLog.{JudgedLog}
 use Rattle.log_verdict.specs.declared.judged.JudgedLog.TheVariants as judged

@@ -8,8 +8,8 @@ use Rattle.context_intake.specs.declared.told.Intake.TheVariants as told
 use Rattle.serial_machine.specs.Checks.{IsChecked}
 use Rattle.verdict_text.specs.Outcome.{explained_text}
 use Rattle.verdict_text.specs.Reading.{IsFaultLine, IsPlacement}
-use Rattle.version_store.specs.Histories.{history_of}
-use Rattle.version_store.specs.Known.{Known}
+use Rattle.log_context.specs.Histories.{history_of}
+use Rattle.log_context.specs.Known.{Known}
 use Rattle.log_verdict.specs.declared.verified.Verified.{Verified}
 use Rattle.log_verdict.specs.declared.verified.Verified.TheVariants.{Refused, TooLong, Misspelt, Judged}
 

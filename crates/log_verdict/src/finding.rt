@@ -4,12 +4,12 @@ ghost use Rattle.history_model.specs.Histories.{IsEvent};
 ghost use Rattle.history_model.specs.Outcomes.{shown_low, shown_high};
 ghost use Rattle.history_model.specs.Readable.{IsReadable};
 ghost use Rattle.log_verdict.specs.Findings.{IsFindingOf};
-ghost use Rattle.version_store.specs.Histories.{history_of};
+ghost use Rattle.log_context.specs.Histories.{history_of};
 
 use base_types::{OutOfMemory, Outcome, Reason};
-use claims::decision_window;
+use context_claims::decision_window;
+use log_context::Context;
 use std::alloc::Global;
-use version_store::Context;
 use window_writes::writes_within;
 use write_groups::Window;
 

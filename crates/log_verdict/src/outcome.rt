@@ -3,17 +3,17 @@ ghost use Rattle.history_model.specs.Placed.{ArePlacedLines};
 ghost use Rattle.history_model.specs.Readable.{IsReadable};
 ghost use Rattle.log_verdict.specs.Findings.{ExplainsEach};
 ghost use Rattle.log_verdict.specs.Judging.{IsOutcomeOf};
-ghost use Rattle.version_store.specs.Histories.{history_of};
+ghost use Rattle.log_context.specs.Histories.{history_of};
 
 use crate::finding::unexplained;
 use crate::source::{ContextClaims, ContextLines};
 use base_types::{OutOfMemory, Outcome, Placement};
 use judge_pool::{Gate, claims_all, lines_all};
-use placement::{Settled, settle};
+use log_context::Context;
+use place_choice::{Settled, settle};
 use std::alloc::Global;
 use std::marker::Sync;
 use std::thread::Threads;
-use version_store::Context;
 
 /// What the events of a context come to. Several threads take their claims, and place them; each event enters the gate
 /// before its claim is taken.

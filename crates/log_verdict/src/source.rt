@@ -1,8 +1,8 @@
 use base_types::{Claim, OutOfMemory, PlacedLine};
-use claims::{claim, place};
+use context_claims::{claim, place};
 use judge_pool::{ClaimSource, LineSource};
+use log_context::Context;
 use std::alloc::Global;
-use version_store::Context;
 
 /// The claims of a context's events, the checkpoints among them.
 #[derive(Clone, Copy)]
@@ -12,8 +12,8 @@ pub struct ContextClaims<'a> {
 
 impl<'a> ClaimSource for ContextClaims<'a> {
     ghost use Rattle.std.specs.Prelude.{length};
-    ghost use Rattle.claims.specs.Claims.{IsClaimOf};
-    ghost use Rattle.claims.proofs.OneClaim.{one_claim};
+    ghost use Rattle.context_claims.specs.Claims.{IsClaimOf};
+    ghost use Rattle.context_claims.proofs.OneClaim.{one_claim};
 
     ghost events = { λ source. length source.context.now.log };
 

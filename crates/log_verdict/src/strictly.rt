@@ -11,12 +11,12 @@ use base_types::{OutOfMemory, Outcome};
 use context_intake::{Intake, Stop, read_context};
 use edge_io::Desk;
 use judge_pool::Gate;
+use log_context::Context;
 use log_moments::{StrictAnswer, strict_answer};
 use std::alloc::Global;
 use std::marker::Sync;
 use std::mem::ManuallyDrop;
 use std::thread::Threads;
-use version_store::Context;
 
 /// What a setup and a log come to where moments are asked for.
 #[derive(Drop)]

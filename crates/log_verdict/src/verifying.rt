@@ -12,13 +12,13 @@ use base_types::OutOfMemory;
 use context_intake::{Intake, Stop, read_context};
 use edge_io::{Desk, WholeStop, piece_buffer, read_whole};
 use judge_pool::Gate;
+use log_context::Context;
 use serial_machine::verify as check_again;
 use std::alloc::Global;
 use std::marker::Sync;
 use std::mem::ManuallyDrop;
 use std::thread::Threads;
 use verdict_text::{PlacementFault, read_placement};
-use version_store::Context;
 
 /// The text of a placement may have so many bytes.
 const MOST_PLACEMENT: usize = 1_073_741_824;

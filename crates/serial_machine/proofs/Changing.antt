@@ -18,7 +18,7 @@ use Rattle.history_model.specs.States.{Cut, Map}
 use Rattle.serial_machine.proofs.Unmade.{after_append, end_append}
 use Rattle.serial_machine.specs.Held.{HasMade, HasRooms, held, objects_in}
 use Rattle.serial_machine.specs.declared.machine.Machine.{Machine}
-use Rattle.version_store.specs.Uses.{AreUsesOf}
+use Rattle.log_context.specs.Uses.{AreUsesOf}
 
 -- the version of a revision is found
 pub found_by : (h : History) (v : Version) → IsReadable h → Contains h.versions v → find (λ w. w.revision == v.revision) h.versions ≡ Some v

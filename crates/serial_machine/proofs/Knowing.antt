@@ -7,8 +7,8 @@ use Rattle.object_past.specs.Modelled.{recorded, version_of}
 use Rattle.object_past.specs.Past.{HasPast, Recorded}
 use Rattle.serial_machine.proofs.Numbering.{numbered}
 use Rattle.time_windows.specs.History as timed
-use Rattle.version_store.specs.Histories.{history_of}
-use Rattle.version_store.specs.Known.{Known}
+use Rattle.log_context.specs.Histories.{history_of}
+use Rattle.log_context.specs.Known.{Known}
 use Rattle.write_groups.specs.Modelled.{HasEvents, HasTimes, event_of, span_of}
 use Rattle.write_groups.specs.declared.event.LogEvent.{LogEvent}
 

@@ -23,7 +23,7 @@ use Rattle.write_groups.proofs.Lists.{map_from, map_has}
 use Rattle.serial_machine.proofs.Changing.{found_by}
 use Rattle.serial_machine.specs.Held.{HasMade, held, objects_in}
 use Rattle.serial_machine.specs.declared.machine.Machine.{Machine}
-use Rattle.version_store.specs.Uses.{AreUsesOf}
+use Rattle.log_context.specs.Uses.{AreUsesOf}
 
 abbrev pub first_revision : History → ObjectKey → Option ℕ
 first_revision h key = option_map (λ (v : histories.Version). v.revision) (latest h.versions key h.start)

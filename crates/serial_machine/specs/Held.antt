@@ -8,7 +8,7 @@ use Rattle.history_model.specs.Machine.{Step, Put, after_all, snapshot_map, step
 use Rattle.history_model.specs.Readable.{IsReadable}
 use Rattle.history_model.specs.States.{Map, latest}
 use Rattle.serial_machine.specs.declared.machine.Machine.{Machine}
-use Rattle.version_store.specs.Uses.{AreUsesOf}
+use Rattle.log_context.specs.Uses.{AreUsesOf}
 
 -- the revision under a key, where the key is there and has one
 abbrev pub held : Option (Option ℕ) → Option ℕ

@@ -13,7 +13,7 @@ use Rattle.serial_machine.specs.Held.{objects_upto}
 use Rattle.serial_machine.specs.declared.scene.Scene.{Scene}
 use Rattle.serial_machine.specs.declared.step.Step.{Step}
 use Rattle.serial_machine.specs.declared.step.Step.TheVariants.{Put, Remove, Reply}
-use Rattle.version_store.specs.Histories.{history_of}
+use Rattle.log_context.specs.Histories.{history_of}
 use Rattle.write_groups.specs.Modelled.{event_of}
 
 abbrev pub step_of : Step → model.Step

@@ -6,13 +6,13 @@ ghost use Rattle.serial_machine.specs.Checks.{IsChecked};
 ghost use Rattle.serial_machine.specs.declared.checked.Checked.{Checked};
 ghost use Rattle.serial_machine.specs.Texts.{checked_text, code_text};
 ghost use Rattle.verdict_text.specs.Words.{ended, spaced};
-ghost use Rattle.version_store.specs.Histories.{history_of};
+ghost use Rattle.log_context.specs.Histories.{history_of};
 
 use crate::checking::check;
 use crate::fault::{CheckFault, WrongCode};
 use base_types::{Bytes, OutOfMemory, Placement};
+use log_context::Context;
 use std::alloc::{AllocError, Global};
-use version_store::Context;
 
 /// What a placement comes to that is checked.
 #[derive(Clone, Copy)]

@@ -1,7 +1,7 @@
 ghost use Rattle.std.specs.Prelude.{IfErr, IfOk};
 ghost use Rattle.history_model.specs.Checking.{IsVerified};
 ghost use Rattle.serial_machine.specs.Checks.{IsPlacementFault};
-ghost use Rattle.version_store.specs.Histories.{history_of};
+ghost use Rattle.log_context.specs.Histories.{history_of};
 
 use crate::decisions::first_undecided;
 use crate::fault::{CheckFault, WrongCode};
@@ -10,8 +10,8 @@ use crate::places::first_misplaced;
 use crate::standing::first_standing;
 use crate::steps::steps_fault;
 use base_types::{Placement, Reason};
+use log_context::Context;
 use std::alloc::Global;
-use version_store::Context;
 
 /// Runs through a placement by the serial API machine, and tells the first fault: the least line that the log or the
 /// placement lacks or whose words differ; the least line whose event no placement mends; the least line with a place

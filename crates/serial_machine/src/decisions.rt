@@ -3,12 +3,12 @@ ghost use Rattle.history_model.specs.Checking.{IsLeastLine, IsUndecidedAt, NoLin
 ghost use Rattle.history_model.specs.Events.{Event};
 ghost use Rattle.history_model.specs.Histories.{IsEvent};
 ghost use Rattle.serial_machine.specs.Places.{IsUndecided};
-ghost use Rattle.version_store.specs.Histories.{history_of};
+ghost use Rattle.log_context.specs.Histories.{history_of};
 
 use crate::places::line_places;
 use crate::words::event_count;
 use base_types::PlacedLine;
-use version_store::Context;
+use log_context::Context;
 
 // Whether the decision of the event of this number isn't given at its line's places.
 fn is_undecided(context: &Context, lines: &[PlacedLine], number: u32) -> bool

@@ -10,8 +10,8 @@ ghost use Rattle.serial_machine.specs.Held.{HasMade, HasRooms, end_of_steps, is_
 ghost use Rattle.serial_machine.specs.Made.{IsAstray, IsLineOf, IsLineMade, IsRightLine, IsStepAs, IsFaultOfLine};
 ghost use Rattle.serial_machine.specs.Made.{StandsBehind};
 ghost use Rattle.serial_machine.specs.Stepping.{step_of};
-ghost use Rattle.version_store.specs.Histories.{history_of};
-ghost use Rattle.version_store.specs.Uses.{AreUsesOf};
+ghost use Rattle.log_context.specs.Histories.{history_of};
+ghost use Rattle.log_context.specs.Uses.{AreUsesOf};
 ghost use Rattle.write_groups.specs.declared.event.LogEvent.{LogEvent};
 
 use crate::fault::{CheckFault, StepFault, WrongCode};
@@ -23,8 +23,8 @@ use crate::step::Step;
 use crate::verdicts::verdict;
 use crate::words::{PlacementWord, removal_by, word_at};
 use base_types::{PlacedLine, Reason};
+use log_context::Context;
 use object_past::Version;
-use version_store::Context;
 use write_groups::LogEvent;
 
 // The number of the event of this line.

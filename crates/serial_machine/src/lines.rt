@@ -8,11 +8,11 @@ ghost use Rattle.history_model.specs.Readable.{IsReadable};
 ghost use Rattle.history_model.specs.Words as model;
 ghost use Rattle.serial_machine.specs.Lines.{IsAlike, IsUnlike};
 ghost use Rattle.serial_machine.specs.Words.{SaysWord};
-ghost use Rattle.version_store.specs.Histories.{history_of};
+ghost use Rattle.log_context.specs.Histories.{history_of};
 
 use crate::words::{PlacementWord, event_count, word_at};
 use base_types::{Decision, PlacedAnswer, PlacedDecision, PlacedLine};
-use version_store::Context;
+use log_context::Context;
 
 fn has_answer_word(word: PlacementWord, answer: PlacedAnswer) -> bool
     ensures { (said : model.Word) → SaysWord said word → IsTrue result ↔ HasAnswerWord said answer }

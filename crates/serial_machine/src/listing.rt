@@ -2,7 +2,7 @@ ghost use Rattle.std.specs.Prelude.{◌↔◌, IfOk, IsTrue, All};
 ghost use Rattle.history_model.specs.Right.{IsLacked, IsListed, IsListRight};
 ghost use Rattle.serial_machine.specs.Held.{HasRooms};
 ghost use Rattle.serial_machine.specs.Stepping.{scene_objects};
-ghost use Rattle.version_store.specs.Histories.{history_of};
+ghost use Rattle.log_context.specs.Histories.{history_of};
 ghost use Rattle.write_groups.specs.Modelled.{item_of, listing_of};
 
 use crate::replies::is_shown;

@@ -8,14 +8,14 @@ ghost use Rattle.history_model.specs.Readable.{IsReadable};
 ghost use Rattle.object_past.specs.Modelled.{version_of};
 ghost use Rattle.serial_machine.specs.Held.{HasMade, HasRooms, held, objects_in, objects_of};
 ghost use Rattle.serial_machine.specs.Stepping.{IsOfHistory, step_of};
-ghost use Rattle.version_store.specs.Histories.{history_of};
+ghost use Rattle.log_context.specs.Histories.{history_of};
 
 use crate::step::Step;
 use base_types::{ObjectKey, OutOfMemory};
+use log_context::{Context, FirstUses};
 use object_past::Version;
 use std::alloc::Global;
 use std::collections::BTreeMap;
-use version_store::{Context, FirstUses};
 
 /// Of each key that ever has an object, the revision of the object that is there.
 pub type Objects = BTreeMap<ObjectKey, Option<u64>>;

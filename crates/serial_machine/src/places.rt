@@ -8,11 +8,11 @@ ghost use Rattle.history_model.specs.Placed.{answer_place, decision_places, line
 ghost use Rattle.history_model.specs.Windows.{decision_high, decision_low};
 ghost use Rattle.history_model.specs.Words as model;
 ghost use Rattle.serial_machine.specs.Places.{AreOutOfCaches, IsMisplaced};
-ghost use Rattle.version_store.specs.Histories.{history_of};
+ghost use Rattle.log_context.specs.Histories.{history_of};
 
 use crate::words::{PlacementWord, event_count, word_at};
 use base_types::{Moment, PlacedAnswer, PlacedDecision, PlacedLine, Places};
-use version_store::Context;
+use log_context::Context;
 use write_groups::{Window, highest, lowest};
 
 /// The place of an answer.

@@ -9,14 +9,14 @@ ghost use Rattle.history_model.specs.Words.{At, word};
 ghost use Rattle.object_past.specs.Modelled.{version_of};
 ghost use Rattle.serial_machine.specs.Held.{HasRooms};
 ghost use Rattle.serial_machine.specs.Stepping.{IsVerdictOn, scene_objects};
-ghost use Rattle.version_store.specs.Histories.{history_of};
+ghost use Rattle.log_context.specs.Histories.{history_of};
 ghost use Rattle.write_groups.specs.Modelled.{answer_of, conditions_of, event_of, item_of};
 
 use crate::listing::is_list_right;
 use crate::scene::Scene;
 use base_types::{ObjectKey, OutOfMemory, Reason};
+use log_context::Context;
 use object_past::Version;
-use version_store::Context;
 use write_groups::{Item, LogEvent, Preconditions, Shown};
 
 // Whether the version is the item.

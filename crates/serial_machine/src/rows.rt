@@ -8,15 +8,15 @@ ghost use Rattle.history_model.specs.Machine.{event_line, maker_line};
 ghost use Rattle.object_past.specs.Modelled.{maker_of, recorded, version_of};
 ghost use Rattle.serial_machine.specs.Ordered.{AreRows, AreRowsOf, IsInTurn, placed_at, placed_puts};
 ghost use Rattle.serial_machine.specs.Ordered.{placed_removals, placed_replies, row_step, step_turn_cmp};
-ghost use Rattle.version_store.specs.Histories.{history_of};
+ghost use Rattle.log_context.specs.Histories.{history_of};
 ghost use Rattle.write_groups.specs.Modelled.{HasEvents, event_of};
 
 use crate::places::line_place;
 use crate::step::{Step, event_at};
 use base_types::{OutOfMemory, PlacedAnswer, PlacedLine};
+use log_context::Context;
 use object_past::{Maker, Removal, Version};
 use std::alloc::Global;
-use version_store::Context;
 use write_groups::LogEvent;
 
 /// When a step is made: by place, writes before answers, then by line.

@@ -4,12 +4,12 @@ ghost use Rattle.history_model.specs.States.{latest};
 ghost use Rattle.object_past.specs.Modelled.{maker_of, version_of};
 ghost use Rattle.serial_machine.specs.Held.{has_no_maker, unmade};
 ghost use Rattle.serial_machine.specs.Stepping.{scene_objects};
-ghost use Rattle.version_store.specs.Histories.{history_of};
+ghost use Rattle.log_context.specs.Histories.{history_of};
 
 use crate::machine::Machine;
 use base_types::ObjectKey;
+use log_context::Context;
 use object_past::{Maker, Version};
-use version_store::Context;
 
 /// What a step is judged on: the objects of a machine, and in front of them the versions without a maker that come
 /// behind its last step and up to a place.

@@ -6,12 +6,12 @@ ghost use Rattle.history_model.specs.Histories.{History, IsEvent};
 ghost use Rattle.history_model.specs.Words.{word as event_word};
 ghost use Rattle.serial_machine.specs.Standing.{IsLeastCode};
 ghost use Rattle.serial_machine.specs.Words.{SaysWord};
-ghost use Rattle.version_store.specs.Histories.{history_of};
+ghost use Rattle.log_context.specs.Histories.{history_of};
 ghost use Rattle.write_groups.specs.Modelled.{event_of};
 
 use crate::words::{PlacementWord, event_count, word_at};
 use base_types::Reason;
-use version_store::Context;
+use log_context::Context;
 use write_groups::LogEvent;
 
 // The least code of an event that no placement mends: it isn't logged as the policy says, or it strays.

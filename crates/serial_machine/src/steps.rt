@@ -7,8 +7,8 @@ ghost use Rattle.serial_machine.specs.Held.{HasMade, HasRooms};
 ghost use Rattle.serial_machine.specs.Ordered.{row_step};
 ghost use Rattle.serial_machine.specs.Running.{IsFirstForbidden};
 ghost use Rattle.serial_machine.specs.Stepping.{IsOfHistory, IsVerdictOn, step_of};
-ghost use Rattle.version_store.specs.Histories.{history_of};
-ghost use Rattle.version_store.specs.Uses.{AreUsesOf};
+ghost use Rattle.log_context.specs.Histories.{history_of};
+ghost use Rattle.log_context.specs.Uses.{AreUsesOf};
 
 use crate::machine::Machine;
 use crate::rows::{Row, rows_of};
@@ -16,8 +16,8 @@ use crate::scene::Scene;
 use crate::step::Step;
 use crate::verdicts::verdict;
 use base_types::{OutOfMemory, PlacedLine, Reason};
+use log_context::Context;
 use std::alloc::Global;
-use version_store::Context;
 
 // Why the step isn't allowed on the objects that the machine holds.
 fn step_verdict(

@@ -5,8 +5,8 @@ ghost use Rattle.history_model.specs.Machine.{MayRemove, MeetsPreconditions};
 ghost use Rattle.object_past.specs.Modelled.{recorded, version_of};
 ghost use Rattle.serial_machine.specs.Held.{HasRooms};
 ghost use Rattle.serial_machine.specs.Stepping.{IsOfHistory, IsVerdictOn, scene_objects, step_of};
-ghost use Rattle.version_store.specs.Histories.{history_of};
-ghost use Rattle.version_store.specs.Uses.{AreUsesOf};
+ghost use Rattle.log_context.specs.Histories.{history_of};
+ghost use Rattle.log_context.specs.Uses.{AreUsesOf};
 ghost use Rattle.write_groups.specs.Met.{asks_uid};
 ghost use Rattle.write_groups.specs.Modelled.{event_of};
 
@@ -14,8 +14,8 @@ use crate::replies::reply_verdict;
 use crate::scene::Scene;
 use crate::step::{Step, event_at};
 use base_types::{ObjectKey, OutOfMemory, Range, Reason, Revision, Text};
+use log_context::Context;
 use object_past::{Maker, Removal, Version};
-use version_store::Context;
 use write_groups::LogEvent;
 
 // Why the version's maker can't have made it of the object before it.

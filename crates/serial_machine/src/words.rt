@@ -6,12 +6,12 @@ ghost use Rattle.history_model.specs.Words.{word, answer_word, is_by, removal_wo
 ghost use Rattle.object_past.specs.Modelled.{maker_of, version_of};
 ghost use Rattle.object_past.specs.Past.{HasPast};
 ghost use Rattle.serial_machine.specs.Words.{SaysWord, making};
-ghost use Rattle.version_store.specs.Histories.{history_of};
+ghost use Rattle.log_context.specs.Histories.{history_of};
 ghost use Rattle.write_groups.specs.Modelled.{event_of, item_of};
 
 use base_types::{Range, Revision, same_key};
+use log_context::Context;
 use object_past::{Maker, Past, Removal, Version, removal_at};
-use version_store::Context;
 use write_groups::{Item, LogEvent, Shown};
 
 /// What an event is in a placement.

@@ -3,7 +3,7 @@ use Rattle.std.proofs.Common.{◌≡◌, ℕ, ◌+◌, ◌<◌, Bool, true, fals
 use Rattle.std.proofs.lemmas.List.{get_or_default, map-append}
 use Rattle.std.proofs.lemmas.Option.{same_Some, slice_get_within}
 use Rattle.history_model.specs.Outcomes.{Write}
-use Rattle.version_store.specs.Known.{Known}
+use Rattle.log_context.specs.Known.{Known}
 use Rattle.write_groups.proofs.Lists.{made_one}
 use Rattle.window_writes.specs.Turns.{made_write, removed_write, write_of_turn}
 use Rattle.window_writes.specs.declared.writes.WriteTurn.{WriteTurn}

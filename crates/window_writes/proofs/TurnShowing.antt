@@ -21,9 +21,9 @@ use Rattle.object_past.specs.Modelled.{maker_of, recorded, version_of}
 use Rattle.object_past.specs.declared.removal.Removal.{Removal}
 use Rattle.object_past.specs.declared.version.Maker.TheVariants as made_by
 use Rattle.object_past.specs.declared.version.Version.{Version}
-use Rattle.version_store.specs.Histories.{history_of}
-use Rattle.version_store.specs.Known.{Known}
-use Rattle.version_store.specs.Membered.{AreMembersAt, grouped, lacking}
+use Rattle.log_context.specs.Histories.{history_of}
+use Rattle.log_context.specs.Known.{Known}
+use Rattle.log_context.specs.Membered.{AreMembersAt, grouped, lacking}
 use Rattle.write_groups.proofs.Lists.{map_has}
 use Rattle.write_groups.specs.Members.{IsGroupOf}
 use Rattle.write_groups.specs.Modelled.{event_of}

@@ -25,8 +25,8 @@ use Rattle.local_bounds.proofs.ListRight.{pairs_append}
 use Rattle.object_past.specs.Modelled.{recorded, version_of}
 use Rattle.object_past.specs.declared.removal.Removal.{Removal}
 use Rattle.object_past.specs.declared.version.Version.{Version}
-use Rattle.version_store.specs.Histories.{history_of}
-use Rattle.version_store.specs.Known.{Known}
+use Rattle.log_context.specs.Histories.{history_of}
+use Rattle.log_context.specs.Known.{Known}
 use Rattle.write_groups.proofs.Judging.{apart_moved}
 use Rattle.write_groups.proofs.Lists.{made_from, made_has, made_pairs, map_from, map_has, pairs_unmap}
 use Rattle.window_writes.proofs.TurnShowing.{event_here, removal_known, showing_line, version_made}

@@ -4,8 +4,8 @@ use Rattle.base_types.specs.Keys.{key_spelling}
 use Rattle.base_types.specs.declared.placed.WriteLine.{WriteLine}
 use Rattle.base_types.specs.declared.placed.WriteLine.TheVariants as written
 use Rattle.history_model.specs.Outcomes.{AreWrites, Write, MadeAt, RemovedIn}
-use Rattle.version_store.specs.Histories.{history_of}
-use Rattle.version_store.specs.Known.{Known}
+use Rattle.log_context.specs.Histories.{history_of}
+use Rattle.log_context.specs.Known.{Known}
 
 -- the write with its key in its one spelling
 abbrev pub write_line : Write → WriteLine

@@ -9,8 +9,8 @@ use Rattle.history_model.specs.Outcomes.{Write, MadeAt, RemovedIn}
 use Rattle.object_past.specs.Modelled.{maker_of}
 use Rattle.object_past.specs.declared.removal.Removal.{Removal}
 use Rattle.object_past.specs.declared.version.Version.{Version}
-use Rattle.version_store.specs.Histories.{history_of}
-use Rattle.version_store.specs.Known.{Known}
+use Rattle.log_context.specs.Histories.{history_of}
+use Rattle.log_context.specs.Known.{Known}
 use Rattle.window_writes.specs.contracts.writes.WriteTurnOrd.TheImpl as turn_ord
 use Rattle.window_writes.specs.declared.writes.WriteTurn.{WriteTurn}
 

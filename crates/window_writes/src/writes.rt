@@ -4,7 +4,7 @@ ghost use Rattle.std.specs.List.Sorted.{IsSorted};
 ghost use Rattle.history_model.specs.Makers.{IsMadeVersion};
 ghost use Rattle.history_model.specs.Readable.{IsReadable};
 ghost use Rattle.object_past.specs.Modelled.{version_of};
-ghost use Rattle.version_store.specs.Histories.{history_of};
+ghost use Rattle.log_context.specs.Histories.{history_of};
 ghost use Rattle.window_writes.specs.Lines.{AreWriteLines};
 ghost use Rattle.window_writes.specs.Lines.{write_line};
 ghost use Rattle.window_writes.specs.Turns.{made_write, removed_write, write_turn_order, write_of_turn, AreMadeTurns};
@@ -12,9 +12,9 @@ ghost use Rattle.window_writes.specs.Turns.{AreRemovedTurns, AreTurns, IsFirstWr
 ghost use Rattle.window_writes.specs.Turns.{IsMadeWithin, IsRemovedTurn, IsRemovedWithin, IsShownBy};
 
 use base_types::{OutOfMemory, WriteLine, WriteLines, key_text};
+use log_context::Context;
 use object_past::{Maker, Removal, Version};
 use std::alloc::Global;
-use version_store::Context;
 use write_groups::Window;
 
 /// What a write is listed by among those of a window: they come by place, those that made a revision before removals,

@@ -1,7 +1,7 @@
 ghost use Rattle.std.specs.Prelude.{◌≡◌, ◌∷◌, []};
 
 use base_types::{Bound, Claim, Listed, Range, Reason};
-use placement::{Settled, settle};
+use place_choice::{Settled, settle};
 use std::process::Abort;
 
 const MAX: u64 = u64::MAX;

@@ -6,8 +6,8 @@ mod clouds_rows;
 #[cfg(test)]
 mod event_claims_rows;
 #[cfg(test)]
-mod object_versions_rows;
-#[cfg(test)]
 mod parts;
+#[cfg(test)]
+mod past_building_rows;
 #[cfg(test)]
 mod write_groups_rows;

@@ -2,12 +2,12 @@ use crate::context_rows::{ROWS, Row, SEEN_EARLY};
 use crate::reading::{assert_text, check, context};
 use crate::setups::CHECKED;
 use base_types::{ObjectKey, Revision};
+use log_context::{Context, FirstUses};
 use node_number::NodeId;
 use std::marker::Sync;
 use std::process::Abort;
 use std::string::String;
 use std::thread::Threads;
-use version_store::{Context, FirstUses};
 
 fn push(rt: &impl Abort, text: &mut String, more: &str) {
     text.push_str(more).expect(rt, "memory");

@@ -3,12 +3,12 @@ ghost use Rattle.std.specs.Prelude.{◌<◌, length};
 use crate::claim_rows::{ROWS, Row};
 use crate::reading::{assert_text, check, context};
 use base_types::{Bound, PlacedAnswer};
-use claims::{claim, decision_window, place};
+use context_claims::{claim, decision_window, place};
+use log_context::Context;
 use std::marker::Sync;
 use std::process::Abort;
 use std::string::String;
 use std::thread::Threads;
-use version_store::Context;
 
 fn append_bounds(rt: &impl Abort, text: &mut String, bounds: &[Bound]) {
     for bound in bounds {

@@ -7,12 +7,12 @@ ghost use Rattle.audit_event.specs.Events.{IsSound};
 use crate::reading::{assert_text, check, event_of, push, setup_of};
 use audit_event::{Event, Events};
 use hash_seed::Seed;
+use log_context::log_of;
 use node_pool::Interner;
 use std::marker::Sync;
 use std::mem::forget;
 use std::process::Abort;
 use std::thread::Threads;
-use version_store::log_of;
 use write_groups::{LogEvent, Reading, Shown};
 
 // The log is from 10:00 to 11:00; clocks may be off by a second, and an authorizer's caches may be a second behind.

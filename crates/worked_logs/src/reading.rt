@@ -3,17 +3,17 @@
 ghost use Rattle.std.specs.Prelude.{◌≡◌, ◌<◌, ◌≤◌, ◌++◌, ◌∷◌, [], length, All};
 ghost use Rattle.audit_event.specs.Events.{IsSound};
 ghost use Rattle.setup_file.specs.Sound.{IsSound as IsSoundSetup};
-ghost use Rattle.version_store.specs.Log.{AreLines};
+ghost use Rattle.log_context.specs.Log.{AreLines};
 
 use audit_event::{Event, Events, read_item};
 use borrowed_json::{JsonValue, Scratch};
 use hash_seed::Seed;
+use log_context::{BuildFault, Context};
 use setup_file::{Setup, read_setup};
 use std::marker::Sync;
 use std::mem::ManuallyDrop;
 use std::process::Abort;
 use std::thread::Threads;
-use version_store::{BuildFault, Context};
 
 // A setup of these tests has no more bytes.
 const LONGEST_SETUP: usize = 1_000_000;

@@ -1,6 +1,6 @@
 use Rattle.std.proofs.Common.{◌≡◌, ◌++◌, map, take, string_bytes}
 use Rattle.std.specs.List.{flat_map}
-use Rattle.version_store.specs.Histories.{history_of}
+use Rattle.log_context.specs.Histories.{history_of}
 use Rattle.finding_picture.specs.Hiding.{hidden_row}
 use Rattle.finding_picture.proofs.hiding.push_hidden_rows.Given as goal
 

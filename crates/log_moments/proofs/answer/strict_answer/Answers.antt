@@ -3,7 +3,7 @@ use Rattle.std.proofs.lemmas.Result.{IfOk-weaker}
 use Rattle.log_moments.proofs.Settling.{strict_is}
 use Rattle.log_moments.specs.Answers.{answer_for}
 use Rattle.log_moments.specs.Things.{AreThings}
-use Rattle.version_store.specs.Histories.{history_of}
+use Rattle.log_context.specs.Histories.{history_of}
 use Rattle.log_moments.proofs.answer.strict_answer.Goals as goal
 
 pub returns : goal.returns

@@ -3,7 +3,7 @@ use Rattle.log_moments.proofs.Gathering.{things_in_time}
 use Rattle.log_moments.specs.Nexts.{AreNexts}
 use Rattle.log_moments.specs.Things.{AreThings}
 use Rattle.strict_order.specs.declared.thing.Thing.{Thing}
-use Rattle.version_store.specs.Histories.{history_of}
+use Rattle.log_context.specs.Histories.{history_of}
 use Rattle.log_moments.proofs.things.things_of.Goals as goal
 
 pub returns : goal.returns

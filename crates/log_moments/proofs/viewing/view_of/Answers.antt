@@ -1,7 +1,7 @@
 use Rattle.std.proofs.Common.{ap, map, refl, subst, sym}
 use Rattle.object_past.specs.Modelled.{recorded, version_of}
 use Rattle.setup_file.specs.declared.setup.Setup.{Setup}
-use Rattle.version_store.specs.Histories.{history_of}
+use Rattle.log_context.specs.Histories.{history_of}
 use Rattle.write_groups.specs.Modelled.{event_of, span_of}
 use Rattle.log_moments.proofs.Timing.{in_time}
 use Rattle.log_moments.specs.Nexts.{AreNexts}

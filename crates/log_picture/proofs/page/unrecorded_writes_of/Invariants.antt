@@ -1,7 +1,7 @@
 use Rattle.std.proofs.Common.{◌≡◌, take}
 use Rattle.log_picture.specs.Page.{unrecorded_writes_in}
 use Rattle.log_picture.proofs.page.unrecorded_writes_of.Given as goal
-use Rattle.version_store.specs.Histories.{history_of}
+use Rattle.log_context.specs.Histories.{history_of}
 
 -- the unrecorded writes so far
 abbrev pub invariant-loop-number : goal.invariant-loop-number

@@ -1,6 +1,6 @@
 use Rattle.std.proofs.Common.{◌≡◌, ◌+◌, None, length, ap, sym, ◌∙◌, subst, arith}
 use Rattle.std.proofs.lemmas.List.{length-map}
-use Rattle.version_store.specs.Histories.{history_of}
+use Rattle.log_context.specs.Histories.{history_of}
 use Rattle.write_groups.specs.Modelled.{event_of}
 use Rattle.log_verdict.proofs.OutcomePlacing.{ArePlacedUpTo, found_at, line_found, line_placed, placed_all, placed_before, placed_more, placed_none}
 use Rattle.log_verdict.proofs.OutcomeSharing.{context_shared}

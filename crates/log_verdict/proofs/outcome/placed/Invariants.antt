@@ -1,4 +1,4 @@
-use Rattle.version_store.specs.Histories.{history_of}
+use Rattle.log_context.specs.Histories.{history_of}
 use Rattle.log_verdict.proofs.OutcomePlacing.{ArePlacedUpTo}
 use Rattle.log_verdict.proofs.outcome.placed.Given as goal
 

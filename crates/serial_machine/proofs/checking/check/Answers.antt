@@ -4,7 +4,7 @@ use Rattle.base_types.specs.declared.claim.Reason.TheVariants.{U14}
 use Rattle.history_model.proofs.CheckLaw.{faultless_is}
 use Rattle.history_model.specs.Checking.{AreAllowed, IsFirstFault, IsStepFault, IsVerified, Judged, V1, V2, of_decisions, of_lines, of_places, of_policy, of_steps}
 use Rattle.serial_machine.proofs.checking.check.Goals as goal
-use Rattle.version_store.specs.Histories.{history_of}
+use Rattle.log_context.specs.Histories.{history_of}
 
 pub returns-in-Some-clause-wrong : goal.returns-in-Some-clause-wrong
 returns-in-Some-clause-wrong c =

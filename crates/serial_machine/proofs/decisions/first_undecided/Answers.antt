@@ -5,7 +5,7 @@ use Rattle.serial_machine.proofs.Firsts.{first_undecided_is, none_undecided, one
 use Rattle.serial_machine.proofs.Numbering.{some_event}
 use Rattle.serial_machine.proofs.decisions.first_undecided.Goals as goal
 use Rattle.serial_machine.specs.Places.{IsUndecided}
-use Rattle.version_store.specs.Histories.{history_of}
+use Rattle.log_context.specs.Histories.{history_of}
 use Rattle.write_groups.specs.Modelled.{event_of}
 
 pub loop-number-init : goal.loop-number-init

@@ -1,7 +1,7 @@
 use Rattle.serial_machine.proofs.Firsts.{NoneBefore}
 use Rattle.serial_machine.proofs.decisions.first_undecided.Given as goal
 use Rattle.serial_machine.specs.Places.{IsUndecided}
-use Rattle.version_store.specs.Histories.{history_of}
+use Rattle.log_context.specs.Histories.{history_of}
 
 abbrev pub invariant-loop-number : goal.invariant-loop-number
 invariant-loop-number l = NoneBefore (history_of l.context) (IsUndecided (history_of l.context) l.lines) l.number

@@ -1,5 +1,5 @@
 use Rattle.std.proofs.Common.{refl}
-use Rattle.version_store.specs.Histories.{history_of}
+use Rattle.log_context.specs.Histories.{history_of}
 use Rattle.serial_machine.proofs.Entering.{event_there, nothing_left, step_known, step_wrong, step_right}
 use Rattle.serial_machine.proofs.Telling.{untold}
 use Rattle.serial_machine.specs.Made.{astray, strays}

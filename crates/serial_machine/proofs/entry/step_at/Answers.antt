@@ -1,7 +1,7 @@
 use Rattle.std.proofs.Common.{◌==◌, find, refl, ap, ◌∙◌}
 use Rattle.object_past.specs.declared.removal.Removal.{Removal}
 use Rattle.object_past.specs.declared.version.Version.{Version}
-use Rattle.version_store.specs.Histories.{history_of}
+use Rattle.log_context.specs.Histories.{history_of}
 use Rattle.serial_machine.proofs.Entering.{made_step, unmade_step, removal_step, no_removal}
 use Rattle.serial_machine.proofs.entry.step_at.Goals as goal
 

@@ -5,7 +5,7 @@ use Rattle.history_model.specs.Checking.{DiffersAt, NoLine}
 use Rattle.serial_machine.proofs.Differing.{further_is, no_further, unlike_is}
 use Rattle.serial_machine.proofs.Numbering.{some_event}
 use Rattle.serial_machine.proofs.lines.first_difference.Goals as goal
-use Rattle.version_store.specs.Histories.{history_of}
+use Rattle.log_context.specs.Histories.{history_of}
 use Rattle.write_groups.specs.Modelled.{event_of}
 
 pub returns-in-Some-clause-some : goal.returns-in-Some-clause-some

@@ -1,7 +1,7 @@
 use Rattle.std.proofs.Common.{Bor}
 use Rattle.base_types.specs.declared.key.ObjectKey.{ObjectKey}
 use Rattle.history_model.specs.Right.{IsLacked}
-use Rattle.version_store.specs.Histories.{history_of}
+use Rattle.log_context.specs.Histories.{history_of}
 use Rattle.serial_machine.specs.Stepping.{scene_objects}
 use Rattle.serial_machine.proofs.Telling.{all_more, all_done, one_fails, untold}
 use Rattle.serial_machine.proofs.listing.are_lacked.Goals as goal

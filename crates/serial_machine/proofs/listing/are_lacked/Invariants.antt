@@ -1,6 +1,6 @@
 use Rattle.std.proofs.Common.{take, All}
 use Rattle.history_model.specs.Right.{IsLacked}
-use Rattle.version_store.specs.Histories.{history_of}
+use Rattle.log_context.specs.Histories.{history_of}
 use Rattle.serial_machine.specs.Stepping.{scene_objects}
 use Rattle.serial_machine.proofs.listing.are_lacked.Given as goal
 

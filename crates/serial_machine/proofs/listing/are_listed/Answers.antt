@@ -1,5 +1,5 @@
 use Rattle.history_model.specs.Right.{IsListed}
-use Rattle.version_store.specs.Histories.{history_of}
+use Rattle.log_context.specs.Histories.{history_of}
 use Rattle.write_groups.specs.Modelled.{item_of}
 use Rattle.write_groups.specs.declared.event.Item.{Item}
 use Rattle.serial_machine.specs.Stepping.{scene_objects}

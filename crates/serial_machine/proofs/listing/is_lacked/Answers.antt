@@ -1,7 +1,7 @@
 use Rattle.std.proofs.Common.{subst, not}
 use Rattle.std.specs.Prelude.{◌↔◌, IsTrue}
 use Rattle.history_model.specs.Right.{IsUnlistable}
-use Rattle.version_store.specs.Histories.{history_of}
+use Rattle.log_context.specs.Histories.{history_of}
 use Rattle.serial_machine.proofs.Telling.{first_holds, second_holds, second_told, false_told, untold}
 use Rattle.serial_machine.proofs.listing.is_lacked.Goals as goal
 

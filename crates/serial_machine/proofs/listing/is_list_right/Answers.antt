@@ -1,7 +1,7 @@
 use Rattle.std.proofs.Common.{◌≢◌, AllPairs, map, refl, sym, ap, subst, ◌∙◌}
 use Rattle.std.proofs.lemmas.Result.{IfOk-weaker}
 use Rattle.object_past.specs.Modelled.{version_of}
-use Rattle.version_store.specs.Histories.{history_of}
+use Rattle.log_context.specs.Histories.{history_of}
 use Rattle.write_groups.specs.declared.event.Item.{Item}
 use Rattle.serial_machine.specs.Stepping.{scene_objects}
 use Rattle.serial_machine.proofs.RightLists.{none_there, listed_of, distinct_of, right_of, others_of, lacked_of}

@@ -2,7 +2,7 @@ use Rattle.std.proofs.Common.{subst}
 use Rattle.std.specs.Prelude.{◌↔◌, IsTrue}
 use Rattle.std.proofs.lemmas.Result.{IfOk-weaker}
 use Rattle.history_model.specs.Right.{IsShown}
-use Rattle.version_store.specs.Histories.{history_of}
+use Rattle.log_context.specs.Histories.{history_of}
 use Rattle.write_groups.specs.Modelled.{item_of}
 use Rattle.serial_machine.proofs.Telling.{first_holds, neither, second_told, both_told, untold}
 use Rattle.serial_machine.proofs.listing.is_listed.Goals as goal

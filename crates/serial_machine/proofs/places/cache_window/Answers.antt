@@ -2,7 +2,7 @@ use Rattle.std.proofs.Common.{◌≡◌, ℕ, ◌∙◌, ap, pos, ◌-ℤ◌}
 use Rattle.history_model.specs.Windows.{decision_high, decision_low, lowest}
 use Rattle.serial_machine.proofs.Knowing.{has_times, item_event, same_item}
 use Rattle.serial_machine.proofs.places.cache_window.Goals as goal
-use Rattle.version_store.specs.Histories.{history_of}
+use Rattle.log_context.specs.Histories.{history_of}
 use Rattle.write_groups.specs.Modelled.{event_of}
 
 pub before-requires : goal.before-requires

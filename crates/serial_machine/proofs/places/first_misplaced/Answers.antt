@@ -5,7 +5,7 @@ use Rattle.serial_machine.proofs.Firsts.{first_misplaced_is, none_misplaced, one
 use Rattle.serial_machine.proofs.Numbering.{some_event}
 use Rattle.serial_machine.proofs.places.first_misplaced.Goals as goal
 use Rattle.serial_machine.specs.Places.{IsMisplaced}
-use Rattle.version_store.specs.Histories.{history_of}
+use Rattle.log_context.specs.Histories.{history_of}
 use Rattle.write_groups.specs.Modelled.{event_of}
 
 pub loop-number-init : goal.loop-number-init

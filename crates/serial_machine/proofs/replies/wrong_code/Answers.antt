@@ -1,6 +1,6 @@
 use Rattle.std.proofs.Common.{Some, sym, subst}
 use Rattle.history_model.specs.Machine.{Reply}
-use Rattle.version_store.specs.Histories.{history_of}
+use Rattle.log_context.specs.Histories.{history_of}
 use Rattle.write_groups.specs.Modelled.{event_of}
 use Rattle.serial_machine.specs.Stepping.{IsVerdictOn}
 use Rattle.serial_machine.proofs.Allowing.{code_by, wrong_code}

@@ -3,7 +3,7 @@ use Rattle.std.proofs.lemmas.List.{drop_all}
 use Rattle.history_model.specs.Machine.{Put}
 use Rattle.object_past.specs.Modelled.{version_of}
 use Rattle.setup_file.specs.declared.setup.Setup.{Setup}
-use Rattle.version_store.specs.Histories.{history_of}
+use Rattle.log_context.specs.Histories.{history_of}
 use Rattle.write_groups.specs.Modelled.{event_of}
 use Rattle.serial_machine.proofs.Gathering.{AreRowsBefore, rows_none, rows_more, rows_all, put_next, put_skipped}
 use Rattle.serial_machine.specs.Ordered.{placed_puts, puts_above}

@@ -1,6 +1,6 @@
 use Rattle.std.proofs.Common.{drop, map}
 use Rattle.object_past.specs.Modelled.{version_of}
-use Rattle.version_store.specs.Histories.{history_of}
+use Rattle.log_context.specs.Histories.{history_of}
 use Rattle.serial_machine.proofs.Gathering.{AreRowsBefore}
 use Rattle.serial_machine.specs.Ordered.{placed_puts, puts_above}
 use Rattle.serial_machine.proofs.rows.put_rows.Given as goal

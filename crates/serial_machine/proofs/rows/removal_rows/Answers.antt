@@ -2,7 +2,7 @@ use Rattle.std.proofs.Common.{drop, map, sym, ap, subst, ◌+◌, ◌∙◌}
 use Rattle.std.proofs.lemmas.List.{drop_all}
 use Rattle.history_model.specs.Machine.{Remove}
 use Rattle.object_past.specs.Modelled.{recorded}
-use Rattle.version_store.specs.Histories.{history_of}
+use Rattle.log_context.specs.Histories.{history_of}
 use Rattle.write_groups.specs.Modelled.{event_of}
 use Rattle.serial_machine.proofs.Gathering.{AreRowsBefore, rows_all, rows_more, rows_none, removal_next}
 use Rattle.serial_machine.specs.Ordered.{placed_removal, placed_removals}

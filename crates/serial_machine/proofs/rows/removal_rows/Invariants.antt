@@ -1,6 +1,6 @@
 use Rattle.std.proofs.Common.{drop, map}
 use Rattle.object_past.specs.Modelled.{recorded}
-use Rattle.version_store.specs.Histories.{history_of}
+use Rattle.log_context.specs.Histories.{history_of}
 use Rattle.serial_machine.proofs.Gathering.{AreRowsBefore}
 use Rattle.serial_machine.specs.Ordered.{placed_removal, placed_removals}
 use Rattle.serial_machine.proofs.rows.removal_rows.Given as goal

@@ -1,6 +1,6 @@
 use Rattle.std.proofs.Common.{drop, map, sym, ap, subst, ◌+◌, ◌∙◌}
 use Rattle.history_model.specs.Machine.{Reply}
-use Rattle.version_store.specs.Histories.{history_of}
+use Rattle.log_context.specs.Histories.{history_of}
 use Rattle.write_groups.specs.Modelled.{event_of}
 use Rattle.serial_machine.proofs.Gathering.{AreRowsBefore, rows_more, reply_next, reply_skipped}
 use Rattle.serial_machine.specs.Ordered.{placed_replies, replies_from}

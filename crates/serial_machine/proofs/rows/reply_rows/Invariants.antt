@@ -1,5 +1,5 @@
 use Rattle.std.proofs.Common.{drop, map}
-use Rattle.version_store.specs.Histories.{history_of}
+use Rattle.log_context.specs.Histories.{history_of}
 use Rattle.write_groups.specs.Modelled.{event_of}
 use Rattle.serial_machine.proofs.Gathering.{AreRowsBefore}
 use Rattle.serial_machine.specs.Ordered.{placed_replies, replies_from}

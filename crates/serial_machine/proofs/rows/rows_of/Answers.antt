@@ -1,5 +1,5 @@
 use Rattle.std.proofs.Common.{◌++◌, sym, ap, subst, ◌∙◌}
-use Rattle.version_store.specs.Histories.{history_of}
+use Rattle.log_context.specs.Histories.{history_of}
 use Rattle.serial_machine.proofs.Arranging.{rows_are}
 use Rattle.serial_machine.proofs.Gathering.{rows_join, both_ok}
 use Rattle.serial_machine.proofs.Placing.{placed_steps}

@@ -1,6 +1,6 @@
 use Rattle.std.proofs.Common.{◌-◌, sym, subst, ◌∙◌, arith}
 use Rattle.object_past.specs.Modelled.{version_of}
-use Rattle.version_store.specs.Histories.{history_of}
+use Rattle.log_context.specs.Histories.{history_of}
 use Rattle.serial_machine.proofs.Seeking.{AreUpto, upto_all, seek_end, seek_none, seek_old, seek_here, seek_on, last_upto}
 use Rattle.serial_machine.proofs.scene.last_unmade.Goals as goal
 

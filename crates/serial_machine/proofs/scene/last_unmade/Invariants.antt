@@ -1,4 +1,4 @@
-use Rattle.version_store.specs.Histories.{history_of}
+use Rattle.log_context.specs.Histories.{history_of}
 use Rattle.serial_machine.proofs.Seeking.{AreUpto}
 use Rattle.serial_machine.proofs.scene.last_unmade.Given as goal
 

@@ -3,7 +3,7 @@ use Rattle.history_model.specs.Checking.{HasStandingCode}
 use Rattle.serial_machine.proofs.Knowing.{item_event, same_item}
 use Rattle.serial_machine.proofs.standing.code_at.Goals as goal
 use Rattle.serial_machine.specs.Standing.{IsLeastCode}
-use Rattle.version_store.specs.Histories.{history_of}
+use Rattle.log_context.specs.Histories.{history_of}
 use Rattle.write_groups.specs.Modelled.{event_of}
 
 pub returns : goal.returns

@@ -6,7 +6,7 @@ use Rattle.history_model.specs.Checking.{HasCodeAt, HasSomeCodeAt, IsLeastLine}
 use Rattle.serial_machine.proofs.Firsts.{Stands, code_at, first_standing_is, least_at, none_standing, one_more}
 use Rattle.serial_machine.proofs.Numbering.{some_event}
 use Rattle.serial_machine.proofs.standing.first_standing.Goals as goal
-use Rattle.version_store.specs.Histories.{history_of}
+use Rattle.log_context.specs.Histories.{history_of}
 use Rattle.write_groups.specs.Modelled.{event_of}
 
 pub loop-number-init : goal.loop-number-init

@@ -1,5 +1,5 @@
 use Rattle.std.proofs.Common.{map, take, refl}
-use Rattle.version_store.specs.Histories.{history_of}
+use Rattle.log_context.specs.Histories.{history_of}
 use Rattle.history_model.proofs.Members.{all_at}
 use Rattle.serial_machine.proofs.Running.{run_begins, run_more, run_stops, run_all, row_in}
 use Rattle.serial_machine.specs.Ordered.{row_step}

@@ -1,6 +1,6 @@
 use Rattle.std.proofs.Common.{subst}
 use Rattle.std.proofs.lemmas.Result.{IfOk-weaker}
-use Rattle.version_store.specs.Histories.{history_of}
+use Rattle.log_context.specs.Histories.{history_of}
 use Rattle.serial_machine.specs.Stepping.{IsVerdictOn, step_of}
 use Rattle.serial_machine.proofs.Entering.{scene_here}
 use Rattle.serial_machine.proofs.steps.step_verdict.Goals as goal

@@ -1,5 +1,5 @@
 use Rattle.std.proofs.lemmas.Result.{IfOk-weaker}
-use Rattle.version_store.specs.Histories.{history_of}
+use Rattle.log_context.specs.Histories.{history_of}
 use Rattle.serial_machine.proofs.Running.{rows_known, forbidden_is, allowed_are, some_weaker, none_weaker}
 use Rattle.serial_machine.proofs.steps.steps_fault.Goals as goal
 

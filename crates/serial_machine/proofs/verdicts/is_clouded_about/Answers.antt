@@ -1,7 +1,7 @@
 use Rattle.std.proofs.Common.{subst}
 use Rattle.std.specs.Prelude.{◌↔◌, IsTrue}
 use Rattle.history_model.specs.Clouds.{IsCloudedWithin}
-use Rattle.version_store.specs.Histories.{history_of}
+use Rattle.log_context.specs.Histories.{history_of}
 use Rattle.serial_machine.proofs.Telling.{clouded_about}
 use Rattle.serial_machine.proofs.verdicts.is_clouded_about.Goals as goal
 

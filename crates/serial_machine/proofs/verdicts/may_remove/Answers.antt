@@ -1,5 +1,5 @@
 use Rattle.object_past.specs.Modelled.{recorded, version_of}
-use Rattle.version_store.specs.Histories.{history_of}
+use Rattle.log_context.specs.Histories.{history_of}
 use Rattle.write_groups.specs.Modelled.{event_of}
 use Rattle.serial_machine.specs.Stepping.{scene_objects}
 use Rattle.serial_machine.proofs.Telling.{nothing_to_remove, may_by, uid_same}

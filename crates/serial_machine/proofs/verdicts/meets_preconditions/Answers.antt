@@ -1,6 +1,6 @@
 use Rattle.std.proofs.Common.{◌∙◌, sym}
 use Rattle.object_past.specs.Modelled.{recorded}
-use Rattle.version_store.specs.Histories.{history_of}
+use Rattle.log_context.specs.Histories.{history_of}
 use Rattle.write_groups.specs.Modelled.{event_of}
 use Rattle.serial_machine.proofs.Telling.{no_uid, no_revision, uid_told, untold}
 use Rattle.serial_machine.proofs.verdicts.meets_preconditions.Goals as goal

@@ -2,7 +2,7 @@ use Rattle.std.proofs.Common.{ap, subst}
 use Rattle.std.proofs.lemmas.Result.{IfOk-weaker}
 use Rattle.history_model.specs.Making.{IsLeastFault}
 use Rattle.object_past.specs.Modelled.{maker_of, version_of}
-use Rattle.version_store.specs.Histories.{history_of}
+use Rattle.log_context.specs.Histories.{history_of}
 use Rattle.serial_machine.specs.Stepping.{scene_objects}
 use Rattle.serial_machine.proofs.Allowing.{put_judged, put_unjudged}
 use Rattle.serial_machine.proofs.verdicts.put_verdict.Goals as goal

@@ -1,5 +1,5 @@
 use Rattle.object_past.specs.Modelled.{recorded}
-use Rattle.version_store.specs.Histories.{history_of}
+use Rattle.log_context.specs.Histories.{history_of}
 use Rattle.write_groups.specs.Modelled.{event_of}
 use Rattle.serial_machine.specs.Stepping.{scene_objects}
 use Rattle.serial_machine.proofs.Allowing.{removal_allowed, removal_forbidden}

@@ -3,7 +3,7 @@ use Rattle.history_model.specs.Words.{word}
 use Rattle.serial_machine.proofs.Knowing.{has_past, same_item}
 use Rattle.serial_machine.proofs.words.word_at.Goals as goal
 use Rattle.serial_machine.specs.Words.{SaysWord}
-use Rattle.version_store.specs.Histories.{history_of}
+use Rattle.log_context.specs.Histories.{history_of}
 
 pub returns : goal.returns
 returns c = λ event there.

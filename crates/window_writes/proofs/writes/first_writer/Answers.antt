@@ -1,7 +1,7 @@
 use Rattle.std.proofs.Common.{◌<◌, length}
 use Rattle.std.proofs.lemmas.Option.{slice_get-get_or}
 use Rattle.object_past.specs.Modelled.{version_of}
-use Rattle.version_store.specs.Histories.{history_of}
+use Rattle.log_context.specs.Histories.{history_of}
 use Rattle.window_writes.proofs.TurnShowing.{first_is, members_some}
 use Rattle.window_writes.proofs.writes.first_writer.Goals as goal
 

@@ -4,7 +4,7 @@ use Rattle.std.proofs.lemmas.List.Elements.{All-push, All-weaker}
 use Rattle.std.proofs.lemmas.List.Quantifiers.{all_pairs_push}
 use Rattle.audit_event.specs.declared.event.Event.{Event}
 use Rattle.audit_event.specs.Events.{IsSound}
-use Rattle.version_store.specs.Logged.{last_line}
+use Rattle.log_context.specs.Logged.{last_line}
 use Rattle.worked_logs.proofs.reading.events.Goals as goal
 
 pub loop-told-preserved : goal.loop-told-preserved

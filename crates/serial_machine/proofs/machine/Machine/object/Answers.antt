@@ -2,7 +2,7 @@ use Rattle.std.proofs.Common.{◌==◌, find, refl, ap, ◌∙◌}
 use Rattle.std.specs.Prelude.{option_and_then}
 use Rattle.history_model.specs.Histories.{Version}
 use Rattle.object_past.specs.declared.version.Version as past
-use Rattle.version_store.specs.Histories.{history_of}
+use Rattle.log_context.specs.Histories.{history_of}
 use Rattle.serial_machine.proofs.Telling.{version_found}
 use Rattle.serial_machine.proofs.machine.Machine.object.Goals as goal
 

@@ -1,7 +1,7 @@
 use Rattle.std.proofs.Common.{◌++◌, ◌+◌, ◌<◌, ◌∷◌, [], Contains, map, take, drop, refl, append_assoc, append-nil, sym, subst, ap, ◌∙◌}
 use Rattle.history_model.specs.Machine.{Put}
 use Rattle.object_past.specs.Modelled.{version_of}
-use Rattle.version_store.specs.Histories.{history_of}
+use Rattle.log_context.specs.Histories.{history_of}
 use Rattle.write_groups.proofs.Lists.{map_has}
 use Rattle.serial_machine.specs.Held.{HasMade}
 use Rattle.serial_machine.proofs.Gathering.{rest_at}

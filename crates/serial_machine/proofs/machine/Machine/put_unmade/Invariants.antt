@@ -1,6 +1,6 @@
 use Rattle.std.proofs.Common.{◌++◌, List, take}
 use Rattle.history_model.specs.Machine.{Step}
-use Rattle.version_store.specs.Histories.{history_of}
+use Rattle.log_context.specs.Histories.{history_of}
 use Rattle.serial_machine.proofs.Lating.{late_in}
 use Rattle.serial_machine.specs.Held.{HasMade}
 use Rattle.serial_machine.proofs.machine.Machine.put_unmade.Given as goal

@@ -4,7 +4,7 @@ use Rattle.base_types.proofs.KeyLemmas.{key_from_parts}
 use Rattle.history_model.specs.Histories.{Version}
 use Rattle.history_model.specs.States.{latest}
 use Rattle.setup_file.specs.declared.setup.Setup.{Setup}
-use Rattle.version_store.specs.Histories.{history_of}
+use Rattle.log_context.specs.Histories.{history_of}
 use Rattle.serial_machine.proofs.Starting.{begun_none, begun_more, begun_all}
 use Rattle.serial_machine.proofs.Telling.{lent_revision}
 use Rattle.serial_machine.proofs.machine.Machine.start.Goals as goal

@@ -1,5 +1,5 @@
 use Rattle.std.proofs.Common.{take}
-use Rattle.version_store.specs.Histories.{history_of}
+use Rattle.log_context.specs.Histories.{history_of}
 use Rattle.serial_machine.proofs.Starting.{IsBegun}
 use Rattle.serial_machine.proofs.machine.Machine.start.Given as goal
 

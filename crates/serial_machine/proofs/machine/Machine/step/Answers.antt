@@ -1,5 +1,5 @@
 use Rattle.std.proofs.Common.{◌++◌}
-use Rattle.version_store.specs.Histories.{history_of}
+use Rattle.log_context.specs.Histories.{history_of}
 use Rattle.serial_machine.proofs.Entering.{line_made, line_nowhere}
 use Rattle.serial_machine.specs.Held.{end_of_steps, unmade_puts}
 use Rattle.serial_machine.specs.Stepping.{step_of}

@@ -1,5 +1,5 @@
 use Rattle.std.proofs.Common.{ap, ◌∙◌}
-use Rattle.version_store.specs.Histories.{history_of}
+use Rattle.log_context.specs.Histories.{history_of}
 use Rattle.serial_machine.specs.Held.{objects_of, or_else}
 use Rattle.serial_machine.proofs.scene.Scene.object.Goals as goal
 

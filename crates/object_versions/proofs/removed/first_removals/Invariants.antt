@@ -1,6 +1,0 @@
-use Rattle.std.proofs.Common.{take}
-use Rattle.object_versions.specs.Removals.{AreFirstRemovals}
-use Rattle.object_versions.proofs.removed.first_removals.Given as goal
-
-abbrev pub invariant-loop-number : goal.invariant-loop-number
-invariant-loop-number l = AreFirstRemovals l.events (take l.number-index l.order) l.removed

@@ -1,6 +1,0 @@
-use Rattle.std.proofs.Common.{◌≡◌, map, take}
-use Rattle.object_versions.specs.Written.{snapshot_version}
-use Rattle.object_versions.proofs.versions.begin.Given as goal
-
-abbrev pub invariant-loop-item : goal.invariant-loop-item
-invariant-loop-item l = l.grown ≡ map (λ item. snapshot_version item.now) (take l.item-index l.order)

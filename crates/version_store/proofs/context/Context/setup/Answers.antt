@@ -1,7 +1,0 @@
-use Rattle.std.proofs.Common.{subst}
-use Rattle.setup_file.specs.Sound.{IsSound}
-use Rattle.version_store.specs.Known.{Known}
-use Rattle.version_store.proofs.context.Context.setup.Goals as goal
-
-pub returns-clause-sound : goal.returns-clause-sound
-returns-clause-sound c = subst (λ (k : Known). IsSound k.setup) c.self.view_is c.self.invariant.setup

@@ -1,6 +1,0 @@
-use Rattle.std.proofs.Common.{take}
-use Rattle.version_store.specs.Makings.{AreMakingsOf}
-use Rattle.version_store.proofs.faults.makings_of.Given as goal
-
-abbrev pub invariant-loop-one : goal.invariant-loop-one
-invariant-loop-one l = AreMakingsOf (take l.one-index l.judged) l.makings

@@ -1,6 +1,0 @@
-use Rattle.std.proofs.Common.{◌≡◌, ◌++◌, drop}
-use Rattle.version_store.specs.Roles.{role_ends}
-use Rattle.version_store.proofs.roles.role_ends.Given as goal
-
-abbrev pub invariant-loop-removal : goal.invariant-loop-removal
-invariant-loop-removal l = l.ends ++ role_ends (drop l.removal-index l.removals) ≡ role_ends l.removals

@@ -1,6 +1,0 @@
-use Rattle.std.proofs.Common.{take}
-use Rattle.version_store.specs.Uses.{AreUses}
-use Rattle.version_store.proofs.uses.uses_of.Given as goal
-
-abbrev pub invariant-loop-version : goal.invariant-loop-version
-invariant-loop-version l = AreUses (take l.version-index l.versions) l.uses
