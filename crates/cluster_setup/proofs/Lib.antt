@@ -16,6 +16,7 @@ pub mod NoFloats
 pub mod NoMembers
 pub mod OneAnswerFacts
 pub mod Ranges
+pub mod ReadRanges
 pub mod Ruled
 pub mod Same
 pub mod SourceFacts

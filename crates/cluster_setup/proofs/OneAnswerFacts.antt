@@ -1,10 +1,14 @@
--- The same bytes come to one setup, and no setup is made of them for one reason.
-use Rattle.std.proofs.Common.{◌≡◌, ℕ, zero, suc, ◌+◌, ◌<◌, ◌⊎◌, inl, inr, Bool, true, List, [], ◌∷◌, length, take, slice_get, Option, Some, None, is_some, refl, sym, ap, subst, ◌∙◌, arith}
+-- The same bytes come to one setup, or no setup is made of them for one reason.
+use Rattle.std.proofs.Common.{◌≡◌, ℕ, zero, suc, ◌+◌, ◌<◌, ◌≤◌, ◌⊎◌, inl, inr, Bool, true, List, [], ◌∷◌, length, take, slice_get, Option, Some, None, is_some, refl, sym, ap, subst, ◌∙◌, arith}
+use Rattle.std.specs.List.{All}
+use Rattle.std.proofs.Math.Seq.{take-length}
 use Rattle.base_types.specs.Meaning.{Meaning}
+use Rattle.base_types.specs.Values.{InRange}
 use Rattle.base_types.proofs.Found.{same_some}
 use Rattle.setup_file.specs.declared.fault.SetupRule.{SetupRule}
 use Rattle.setup_file.specs.Reading.{IsTreeOf}
 use Rattle.timestamps.specs.Timestamps.{moment_of}
+use Rattle.cluster_setup.specs.declared.assembling.Given.{Given}
 use Rattle.cluster_setup.specs.declared.fault.FileFault.TheVariants.{Json}
 use Rattle.cluster_setup.specs.declared.fault.SetupRefusal.{SetupRefusal}
 use Rattle.cluster_setup.specs.declared.fault.SetupRefusal.TheVariants.{File}
@@ -13,6 +17,8 @@ use Rattle.cluster_setup.specs.Files.{start_word}
 use Rattle.cluster_setup.specs.Making.{setup_tree}
 use Rattle.cluster_setup.specs.OneSetupAnswer.{OneSetupAnswer}
 use Rattle.cluster_setup.specs.Refusing.{AreTrees, IsFirstBroken, first_refused}
+use Rattle.cluster_setup.proofs.AcceptedFewer.{accepted_fewer}
+use Rattle.cluster_setup.proofs.ReadRanges.{tree_in_range, trees_in_range}
 use Rattle.cluster_setup.proofs.Same.{same_tree}
 
 some_none : {A : Type 0} (found : Option A) (a : A) → found ≡ Some a → found ≡ None → ⊥
@@ -148,5 +154,50 @@ refusals_once time policy files authorize a b (inr (inr x)) (inl y) = absurd (is
 refusals_once time policy files authorize a b (inr (inr x)) (inr (inl y)) = absurd (y.2 x.given x.governed)
 refusals_once time policy files authorize a b (inr (inr x)) (inr (inr y)) = files_once time policy files authorize a b x y
 
+-- ---- a setup is made, or none is
+
+-- a setup that is accepted with the objects of all files is accepted with those of some at the front
+accepted_to : (revision time : List ℕ) (policy : Meaning) (trees : List Meaning) (authorize : Bool) (number : ℕ) → number ≤ length trees → InRange policy → All InRange trees
+    → IsAccepted (setup_tree revision time policy trees trees authorize) → IsAccepted (setup_tree revision time policy trees (take number trees) authorize)
+accepted_to revision time policy trees authorize number within policy_range range accepted =
+    let given : Given = record {
+      revision = record { ref_ptr = (0, 0); now = revision };
+      time = record { ref_ptr = (0, 0); now = time };
+      policy = record { ref_ptr = (0, 0); now = policy };
+      trees = record { ref_ptr = (0, 0); now = trees };
+      authorize = authorize;
+    } in
+    accepted_fewer given (length trees) number within policy_range range
+    (subst (λ l. IsAccepted (setup_tree revision time policy trees l authorize)) (sym (take-length trees)) accepted)
+
+-- so no file's objects break a rule then
+blamed_apart : (revision time : List ℕ) (policy : Meaning) (trees : List Meaning) (authorize : Bool) (refusal : SetupRefusal) → InRange policy → All InRange trees
+    → IsAccepted (setup_tree revision time policy trees trees authorize) → IsBlamed revision time policy trees authorize refusal → ⊥
+blamed_apart revision time policy trees authorize refusal policy_range range accepted b =
+    broken_apart (setup_tree revision time policy trees (take b.number trees) authorize) b.rule b.broken
+    (accepted_to revision time policy trees authorize b.number b.within policy_range range accepted)
+
+module _ (time : List ℕ) (policy : Meaning) (authorize : Bool) (policy_range : InRange policy) (text : List ℕ) (refusal : SetupRefusal) where
+  refused_apart : (trees : List Meaning) → All InRange trees → IsSetupText time policy trees authorize text → IsRefused time policy trees authorize refusal → ⊥
+  refused_apart trees range a (inl b) = some_none (first_refused trees trees) refusal b a.sound
+  refused_apart trees range a (inr (inl b)) = some_none (start_word trees) a.revision a.start b.1
+  refused_apart trees range a (inr (inr b)) =
+      let same : a.revision ≡ b.revision = same_some a.revision b.revision (sym a.start ∙ b.start) in
+      let accepted = subst (λ revision. IsAccepted (setup_tree revision time policy trees trees authorize)) same a.made.accepted in
+      blamed_apart b.revision time policy trees authorize refusal policy_range range accepted b.blamed
+
+  unread_apart : (files : List (List ℕ)) → IsReadOut time policy files authorize text → IsUnread time policy files authorize refusal → ⊥
+  unread_apart files a (inl b) = not_all_read files b.0 a.trees b.1 a.read
+  unread_apart files a (inr b) =
+      refused_apart b.0 (trees_in_range files b.0 b.1) (subst (λ trees. IsSetupText time policy trees authorize text) (same_trees files a.trees b.0 a.read b.1) a.made) b.2
+
+made_apart : (time policy : List ℕ) (files : List (List ℕ)) (authorize : Bool) (text : List ℕ) (refusal : SetupRefusal)
+    → IsMade time policy files authorize text → Refuses time policy files authorize refusal → ⊥
+made_apart time policy files authorize text refusal x (inl y) = is_none (moment_of time) y.1 x.timed
+made_apart time policy files authorize text refusal x (inr (inl y)) = y.2 x.given x.governed
+made_apart time policy files authorize text refusal x (inr (inr y)) =
+    let same = same_policy policy x.given y.given x.governed y.governed in
+    unread_apart time y.given authorize (tree_in_range policy y.given y.governed.0) text refusal files (subst (λ given. IsReadOut time given files authorize text) same x.made) y.cause
+
 pub one_setup_answer : OneSetupAnswer
-one_setup_answer = record { texts = texts_once; refusals = refusals_once }
+one_setup_answer = record { texts = texts_once; refusals = refusals_once; apart = made_apart }
