@@ -1,4 +1,5 @@
 pub mod Making
+pub mod OneAnswer
 pub mod Picturing
 pub mod Process
 pub mod Program

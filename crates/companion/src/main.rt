@@ -2,6 +2,7 @@
 #![tactic(auto)]
 
 mod ending;
+mod law;
 mod picturing;
 mod process;
 mod report;
