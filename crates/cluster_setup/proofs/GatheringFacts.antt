@@ -54,19 +54,19 @@ rose_later before between now counted rose = omega (arith, counted, rose)
 same_stop : {A : Type 0} (x y : WholeStop) → ◌≡◌ {A = Result A WholeStop} (Err x) (Err y) → x ≡ y
 same_stop x y e = cc
 
-no_stop : {A : Type 0} (value : A) (stop : WholeStop) → ◌≡◌ {A = Result A WholeStop} (Ok value) (Err stop) → ⊥
+pub no_stop : {A : Type 0} (value : A) (stop : WholeStop) → ◌≡◌ {A = Result A WholeStop} (Ok value) (Err stop) → ⊥
 no_stop value stop e = cc
 
-memory_apart : {A : Type 0} (stop : WholeStop) → stop ≢ OutOfMemory → ◌≡◌ {A = Result A WholeStop} (Err OutOfMemory) (Err stop) → ⊥
+pub memory_apart : {A : Type 0} (stop : WholeStop) → stop ≢ OutOfMemory → ◌≡◌ {A = Result A WholeStop} (Err OutOfMemory) (Err stop) → ⊥
 memory_apart stop apart e = apart (sym (same_stop OutOfMemory stop e))
 
 no_long : TooLong ≢ OutOfMemory
 no_long e = cc
 
-no_fault : ReadFault ≢ OutOfMemory
+pub no_fault : ReadFault ≢ OutOfMemory
 no_fault e = cc
 
-as_stop : {A B : Type 0} (x y : WholeStop) → ◌≡◌ {A = Result A WholeStop} (Err x) (Err y) → ◌≡◌ {A = Result B WholeStop} (Err x) (Err y)
+pub as_stop : {A B : Type 0} (x y : WholeStop) → ◌≡◌ {A = Result A WholeStop} (Err x) (Err y) → ◌≡◌ {A = Result B WholeStop} (Err x) (Err y)
 as_stop x y e = ap (λ (s : WholeStop). Err s) (same_stop x y e)
 
 stop_long : (stop : WholeStop) (bytes : List ℕ) → AnswersWhole most_file bytes (Err stop) → stop ≡ TooLong → most_file < length bytes

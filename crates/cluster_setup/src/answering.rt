@@ -1,7 +1,5 @@
-ghost use Rattle.std.specs.Prelude.{◌≡◌, ◌≢◌, ◌≤◌, ◌∷◌, ℕ, List, true, IfOk, IsErrOf, IsOk, OnOk, map, string_bytes};
-ghost use Rattle.edge_io.specs.Faults.{Rose};
-ghost use Rattle.cluster_setup.specs.Answering.{AnswersMade, IsMadeText};
-ghost use Rattle.cluster_setup.specs.Gathering.{AreAtEnd, LeavesOthers, TakesFiles, TellsAll};
+ghost use Rattle.std.specs.Prelude.{◌≡◌, ◌≢◌, ◌∷◌, true, IfOk, IsOk, map, string_bytes};
+ghost use Rattle.cluster_setup.specs.Answering.{IsMadeText, MakesSetup};
 ghost use Rattle.process_words.specs.Names.{are_distinct};
 ghost use Rattle.cluster_setup.specs.Telling.{refusal_words};
 ghost use Rattle.verdict_text.specs.Words.{ended};
@@ -33,19 +31,8 @@ pub fn make_named<D: Desk>(
     files: &[String],
 ) -> Result<MadeText, WholeStop>
     requires { are_distinct (policy.now ∷ map string_bytes files.now) ≡ true }
-    ensures answered { (told : List ℕ → List ℕ)
-        → TellsAll (policy.now ∷ map string_bytes files.now) (D.left desk.old) told
-        → AnswersMade authorize time.now (told policy.now) (map string_bytes files.now)
-        (map told (map string_bytes files.now)) result }
-    ensures whole { OnOk result (AreAtEnd (policy.now ∷ map string_bytes files.now)
-        (D.left desk.new)) }
-    ensures fault { IsErrOf result WholeStop.ReadFault
-        → Rose (D.faults desk.old) (D.faults desk.new) }
-    ensures counted { D.faults desk.old ≤ D.faults desk.new }
-    ensures taken { TakesFiles (policy.now ∷ map string_bytes files.now) (D.left desk.old)
-        (D.left desk.new) (IsErrOf result WholeStop.ReadFault) }
-    ensures others { LeavesOthers (policy.now ∷ map string_bytes files.now)
-        (D.left desk.old) (D.left desk.new) }
+    ensures { MakesSetup authorize time.now policy.now (map string_bytes files.now)
+        (D.left desk.old) (D.left desk.new) (D.faults desk.old) (D.faults desk.new) result }
 {
     match read_given(alloc, desk, policy, files) {
         Ok(given) => match made_text(alloc, authorize, time, files, &given) {

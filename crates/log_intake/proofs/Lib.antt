@@ -11,4 +11,5 @@ pub mod OneReadingFacts
 pub mod OneSetupFacts
 pub mod ReadFacts
 pub mod SetupFacts
+pub mod StepAnswers
 pub mod StepFacts

@@ -1,8 +1,10 @@
--- Batches of lines, which are admitted one after another.
-use Rattle.std.specs.Prelude.{◌≡◌, ◌+◌, ◌≤◌, ◌⊎◌, List, Result, Ok, Err, IfOk, IfErr, IsErr, IsErrOf}
+-- Batches of lines, which are admitted one after another, and of a line its events.
+use Rattle.std.specs.Prelude.{◌≡◌, ℕ, ◌+◌, ◌-◌, ◌<◌, ◌≤◌, ◌⊎◌, List, length, Result, Ok, Err, IfOk, IfErr, OnOk, IsErr, IsErrOf}
 use Rattle.std.specs.List.{AllZip}
 use Rattle.base_types.specs.declared.memory.OutOfMemory.{OutOfMemory}
 use Rattle.line_reader.specs.declared.line.Line.{Line}
+use Rattle.line_reader.specs.Lines.{longest_line}
+use Rattle.line_reader.specs.Reading.{line_value}
 use Rattle.audit_event.specs.declared.event.Event.{Event}
 use Rattle.batch_decode.specs.declared.decoded.Decoded.{Decoded}
 use Rattle.batch_decode.specs.Batches.{IsDecodedLine}
@@ -11,9 +13,44 @@ use Rattle.log_intake.specs.declared.stop.LogStop.{LogStop}
 use Rattle.log_intake.specs.declared.stop.LogStop.TheVariants.{ReadFault}
 use Rattle.log_intake.specs.Batches.{AreShort, line_values}
 use Rattle.log_intake.specs.Kept.{AreBefore}
-use Rattle.log_intake.specs.Log.{TakesLines, log_state}
-use Rattle.log_intake.specs.Numbering.{AreOrdered, last_number, most_extra}
+use Rattle.log_intake.specs.Log.{TakesEvent, TakesLine, TakesLines, log_state, numbered_events}
+use Rattle.log_intake.specs.Numbering.{AreOrdered, last_number, most_extra, most_items}
+use Rattle.log_intake.specs.Steps.{InOrder}
 use Rattle.log_intake.specs.Taking.{IsRefusal}
+
+-- an event was kept or repeats one that was, or its number is refused, or memory was wanted
+pub record AdmitsEvent {A : Type 0} (event : Event) (kept kept' : List Event) (answer : Result A LogStop) : Type 0 where
+  pub takes : OnOk answer (TakesEvent kept event (Ok kept'))
+  pub before : OnOk answer (AreBefore (event.line + 1) kept')
+  pub refused : IfErr answer (λ stop. IsRefusal stop → TakesEvent kept event (Err stop))
+  pub no_fault : IsErrOf answer ReadFault → ⊥
+
+-- so it is with events that have their numbers from the first on, one after another
+pub record AdmitsEvents {A : Type 0} (first : ℕ) (events kept kept' : List Event) (answer : Result A LogStop) : Type 0 where
+  pub takes : OnOk answer (InOrder TakesEvent kept (numbered_events first events) (Ok kept'))
+  pub before : OnOk answer (AreBefore (first + length events) kept')
+  pub refused : IfErr answer (λ stop. IsRefusal stop → InOrder TakesEvent kept (numbered_events first events) (Err stop))
+  pub no_fault : IsErrOf answer ReadFault → ⊥
+
+-- a line that may be admitted behind what is kept
+pub record IsLineNext (line : Line) (place : Place) (kept : List Event) : Type 0 where
+  pub short : length line.bytes ≤ longest_line
+  pub later : place.line < line.number
+  pub room : line.number + (place.extra + (most_items line.bytes - 1)) ≤ 1099511627776
+  pub before : AreBefore (place.line + place.extra + 1) kept
+
+-- the line was admitted
+pub record IsAdmitted (line : Line) (place place' : Place) (kept kept' : List Event) : Type 0 where
+  pub takes : TakesLine (log_state place.extra kept) (line_value line) (Ok (log_state place'.extra kept'))
+  pub number : place'.line ≡ line.number
+  pub extra : place'.extra ≤ place.extra + (most_items line.bytes - 1)
+  pub before : AreBefore (place'.line + place'.extra + 1) kept'
+
+-- the line was admitted, or a number of its is refused, or memory was wanted
+pub record AdmitsLine (line : Line) (place : Place) (kept kept' : List Event) (answer : Result Place LogStop) : Type 0 where
+  pub admitted : IfOk answer (λ after. IsAdmitted line place after kept kept')
+  pub refused : IfErr answer (λ stop. IsRefusal stop → TakesLine (log_state place.extra kept) (line_value line) (Err stop))
+  pub no_fault : IsErrOf answer ReadFault → ⊥
 
 -- lines that may be admitted behind what is kept
 pub record AreNext (lines : List Line) (place : Place) (kept : List Event) : Type 0 where

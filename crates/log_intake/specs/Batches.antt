@@ -8,6 +8,7 @@ use Rattle.base_types.specs.declared.memory.OutOfMemory.{OutOfMemory}
 use Rattle.log_intake.specs.declared.batch.Batch.{Batch}
 use Rattle.log_intake.specs.declared.batch.BatchEnd.{BatchEnd}
 use Rattle.log_intake.specs.declared.batch.BatchEnd.TheVariants.{GoesOn, Ended, Failed, LineTooLong, InputTooLong}
+use Rattle.log_intake.specs.declared.batch.Piece.{Piece}
 use Rattle.log_intake.specs.declared.stop.LogStop.{LogStop}
 use Rattle.log_intake.specs.declared.stop.LogStop.TheVariants as stop
 use Rattle.edge_io.specs.Faults.{Rose}
@@ -58,6 +59,13 @@ pub record TakesSome (old now : Option (List ℕ)) (before most : ℕ) : Type 0 
   pub few : length taken ≤ most
   pub within : before + length taken ≤ 1099511693312
 
+-- what a batch may be gathered with: room for a byte at least and for a piece at most, a log that may go on, and a reader to which more may come
+pub record MayGather (buffer : List ℕ) (before : ℕ) (reader : Reading) : Type 0 where
+  pub some : 0 < length buffer
+  pub piece : length buffer ≤ 65536
+  pub within : before ≤ 1099511627776
+  pub going : HoldsOpen reader
+
 -- a batch takes at most so many bytes
 abbrev pub most_gathered : ℕ
 most_gathered = 1376256
@@ -96,6 +104,15 @@ pub record TakesPiece (end : BatchEnd) (old now : Option (List ℕ)) (reader rea
   pub given : List NumberedLine
   pub gathers : Gathers end old now reader reader' given before taken 65536
   pub behind : lines' ≡ lines ++ given
+
+-- one read was made and what waits then was given, or memory was wanted
+pub record ReadsPiece (left left' : List ℕ → Option (List ℕ)) (name : List ℕ) (faults faults' : ℕ) (reader reader' : Reading) (lines lines' : List NumberedLine) (before : ℕ) (answer : Result Piece OutOfMemory) : Type 0 where
+  pub takes : IfOk answer (λ piece. TakesPiece piece.end (left name) (left' name) reader reader' lines lines' before piece.taken)
+  pub more : IfOk answer (λ piece. piece.end ≡ GoesOn → before < piece.taken)
+  pub fault : IfOk answer (λ piece. piece.end ≡ Failed → Rose faults faults')
+  pub memory : OnErr answer (TakesSome (left name) (left' name) before 65536)
+  pub counted : faults ≤ faults'
+  pub others : (other : List ℕ) → other ≢ name → left' other ≡ left other
 
 -- the line that had begun, if there is one, was the last
 pub record GivesLast (reader : Reading) (lines lines' : List NumberedLine) : Type 0 where

@@ -1,16 +1,10 @@
-ghost use Rattle.std.specs.Prelude.{◌≡◌, ◌+◌, ◌-◌, ◌<◌, ◌≤◌, ◌⊎◌, ◌^◌, Ok, Err, OnOk, IfOk, IfErr, IsOk, IsErr, IsErrOf};
-ghost use Rattle.std.specs.Prelude.{All, length};
+ghost use Rattle.std.specs.Prelude.{◌≡◌, ◌+◌, ◌<◌, ◌≤◌, ◌⊎◌, ◌^◌, Ok, Err, OnOk, IfOk, IfErr, IsOk, IsErr, All, length};
 ghost use Rattle.std.specs.List.{AllZip};
-ghost use Rattle.line_reader.specs.Lines.{longest_line};
-ghost use Rattle.line_reader.specs.Reading.{line_value};
 ghost use Rattle.audit_event.specs.Events.{IsSound};
 ghost use Rattle.batch_decode.specs.Batches.{IsDecodedLine};
+ghost use Rattle.log_intake.specs.Admitting.{AdmitsAndDecodes, AdmitsBoth, AdmitsEvent, AdmitsEvents, AdmitsLine};
+ghost use Rattle.log_intake.specs.Admitting.{AdmitsLines, AreNext, AreNextBehind, IsLineNext};
 ghost use Rattle.log_intake.specs.Kept.{AreBefore};
-ghost use Rattle.log_intake.specs.Log.{TakesEvent, TakesLine, log_state, numbered_events};
-ghost use Rattle.log_intake.specs.Numbering.{most_items};
-ghost use Rattle.log_intake.specs.Admitting.{AdmitsAndDecodes, AdmitsBoth, AdmitsLines, AreNext, AreNextBehind};
-ghost use Rattle.log_intake.specs.Steps.{InOrder};
-ghost use Rattle.log_intake.specs.Taking.{IsRefusal};
 
 use crate::stop::LogStop;
 use audit_event::{Admitted, Event, Events, Malformed, Seen, SeenFault};
@@ -172,22 +166,8 @@ fn admit_line(
     decoded: Decoded,
 ) -> Result<Place, LogStop>
     requires decoded { IsDecodedLine line.now decoded }
-    requires short { length line.now.bytes ≤ longest_line }
-    requires later { place.line < line.now.number }
-    requires room { line.now.number + (place.extra + (most_items line.now.bytes - 1))
-        ≤ 1099511627776 }
-    requires before { AreBefore (place.line + place.extra + 1) seen.old }
-    ensures takes { IfOk result
-        (λ after. TakesLine (log_state place.extra seen.old) (line_value line.now)
-        (Ok (log_state after.extra seen.new))) }
-    ensures line { IfOk result (λ after. after.line ≡ line.now.number) }
-    ensures extra { IfOk result
-        (λ after. after.extra ≤ place.extra + (most_items line.now.bytes - 1)) }
-    ensures before { IfOk result (λ after. AreBefore (after.line + after.extra + 1) seen.new) }
-    ensures refused { IfErr result
-        (λ stop. IsRefusal stop → TakesLine (log_state place.extra seen.old)
-        (line_value line.now) (Err stop)) }
-    ensures no_fault { IsErrOf result LogStop.ReadFault → ⊥ }
+    requires next { IsLineNext line.now place seen.old }
+    ensures { AdmitsLine line.now place seen.old seen.new result }
 {
     let Decoded {
         events,
@@ -216,12 +196,7 @@ fn admit_events(seen: &mut Seen, first: u64, events: Events) -> Result<(), LogSt
     requires from { 1 ≤ first }
     requires room { first + length events < 2 ^ 64 }
     requires before { AreBefore first seen.old }
-    ensures takes { OnOk result
-        (InOrder TakesEvent seen.old (numbered_events first events) (Ok seen.new)) }
-    ensures before { OnOk result (AreBefore (first + length events) seen.new) }
-    ensures refused { IfErr result (λ stop. IsRefusal stop → InOrder TakesEvent seen.old
-        (numbered_events first events) (Err stop)) }
-    ensures no_fault { IsErrOf result LogStop.ReadFault → ⊥ }
+    ensures { AdmitsEvents first events seen.old seen.new result }
 {
     let mut number = first;
     for event in events.into_vec() {
@@ -238,11 +213,7 @@ fn admit_event(seen: &mut Seen, number: u64, event: Event) -> Result<(), LogStop
     requires sound { IsSound event }
     requires from { 1 ≤ number }
     requires before { AreBefore number seen.old }
-    ensures takes { OnOk result (TakesEvent seen.old record event { line = number } (Ok seen.new)) }
-    ensures before { OnOk result (AreBefore (number + 1) seen.new) }
-    ensures refused { IfErr result (λ stop. IsRefusal stop
-        → TakesEvent seen.old record event { line = number } (Err stop)) }
-    ensures no_fault { IsErrOf result LogStop.ReadFault → ⊥ }
+    ensures { AdmitsEvent record event { line = number } seen.old seen.new result }
 {
     let mut event = event;
     event.line = number;

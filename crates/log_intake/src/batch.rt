@@ -1,9 +1,7 @@
-ghost use Rattle.std.specs.Prelude.{◌≡◌, ◌≢◌, ℕ, ◌+◌, ◌<◌, ◌≤◌, List, ◌↔◌, length, IfOk, IfErr, IsTrue, OnErr, OnOk};
-ghost use Rattle.std.specs.Prelude.{false};
-ghost use Rattle.edge_io.specs.Faults.{Rose};
+ghost use Rattle.std.specs.Prelude.{◌≡◌, ◌≢◌, ◌<◌, ◌≤◌, ◌↔◌, false, length, IfOk, IfErr, IsTrue, OnOk};
 ghost use Rattle.log_intake.specs.declared.batch.BatchEnd.TheVariants as ended;
 ghost use Rattle.log_intake.specs.Batches.{line_values, GathersBatch, GivesLast, GivesRest, HoldsOpen, IsStopAt};
-ghost use Rattle.log_intake.specs.Batches.{TakesPiece, TakesSome, fed_with};
+ghost use Rattle.log_intake.specs.Batches.{ReadsPiece, fed_with};
 
 use crate::stop::LogStop;
 use base_types::OutOfMemory;
@@ -131,17 +129,9 @@ fn take_piece<D: Desk>(
     requires piece { length buffer.old ≤ 65536 }
     requires within { taken ≤ MOST_INPUT }
     requires going { HoldsOpen reader.old }
-    ensures piece { IfOk result (λ piece. TakesPiece piece.end (D.left desk.old name.now)
-        (D.left desk.new name.now) reader.old reader.new (line_values lines.old.items)
-        (line_values lines.new.items) taken piece.taken) }
-    ensures more { IfOk result (λ piece. piece.end ≡ ended.GoesOn → taken < piece.taken) }
-    ensures fault { IfOk result
-        (λ piece. piece.end ≡ ended.Failed → Rose (D.faults desk.old) (D.faults desk.new)) }
-    ensures memory { OnErr result
-        (TakesSome (D.left desk.old name.now) (D.left desk.new name.now) taken 65536) }
-    ensures counted { D.faults desk.old ≤ D.faults desk.new }
-    ensures others { (other : List ℕ) → other ≢ name.now
-        → D.left desk.new other ≡ D.left desk.old other }
+    ensures reads { ReadsPiece (D.left desk.old) (D.left desk.new) name.now (D.faults desk.old)
+        (D.faults desk.new) reader.old reader.new (line_values lines.old.items)
+        (line_values lines.new.items) taken result }
     ensures buffer { length buffer.new ≡ length buffer.old }
 {
     let count = match desk.read(name, buffer) {

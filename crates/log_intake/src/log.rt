@@ -4,7 +4,7 @@ ghost use Rattle.std.specs.List.{AllZip};
 ghost use Rattle.audit_event.specs.Keeping.{AreKept};
 ghost use Rattle.batch_decode.specs.Batches.{IsDecodedLine};
 ghost use Rattle.log_intake.specs.Admitting.{AdmitsAndDecodes, AreNext};
-ghost use Rattle.log_intake.specs.Batches.{GathersBatch, HoldsOpen};
+ghost use Rattle.log_intake.specs.Batches.{GathersBatch, HoldsOpen, MayGather};
 ghost use Rattle.log_intake.specs.Taking.{ReadsLog};
 
 use crate::admitting::{DecodedBatch, Place, admit_and_decode, admit_rest, both};
@@ -151,10 +151,7 @@ fn advance<R: Threads + Sync, D: Desk, G: Gate>(
     requires few { length next.now.lines.items < 2 ^ 32 }
     requires decoded { AllZip IsDecodedLine front.old.lines.items front.old.decoded }
     requires ready { AreNext front.old.lines.items place seen.old }
-    requires some { 0 < length buffer.old }
-    requires piece { length buffer.old ≤ 65536 }
-    requires within { next.now.taken ≤ 1099511627776 }
-    requires going { HoldsOpen reader.old }
+    requires may_gather { MayGather buffer.old next.now.taken reader.old }
     ensures admits { AdmitsAndDecodes front.old.lines.items next.now.lines.items place seen.old
         seen.new result.0 result.1 }
     ensures gathers { GathersBatch (D.left desk.old) (D.left desk.new) name.now (D.faults desk.old)

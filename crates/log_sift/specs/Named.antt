@@ -1,5 +1,8 @@
 -- What a log comes to line by line, of its bytes alone.
-use Rattle.std.specs.Prelude.{◌≡◌, ⊤, ◌<◌, ◌≤◌, ℕ, Bool, true, false, List, All, Result, Ok, Err, length}
+use Rattle.std.specs.Prelude.{◌≡◌, ◌≢◌, ⊤, ◌<◌, ◌≤◌, ℕ, Bool, true, false, List, All, Option, Some, Result, Ok, Err, IfOk, OnOk, IsErrOf, length}
+use Rattle.std.specs.Io.KnownBytes.{IsAtEnd}
+use Rattle.edge_io.specs.Faults.{Rose}
+use Rattle.edge_io.specs.Whole.{TakesWhole}
 use Rattle.edge_io.specs.declared.whole.WholeStop.{WholeStop}
 use Rattle.edge_io.specs.declared.whole.WholeStop.TheVariants.{TooLong, ReadFault, OutOfMemory}
 use Rattle.log_sift.specs.Sifted.{IsSifting, LiesInLog, stretches_text}
@@ -37,3 +40,13 @@ AnswersSift left log (Ok found) = (length log ≤ most_log) × IsSiftText left l
 AnswersSift left log (Err TooLong) = most_log < length log
 AnswersSift left log (Err ReadFault) = ⊤
 AnswersSift left log (Err OutOfMemory) = ⊤
+
+-- what is answered to the name of a log, and what is taken of it; the faults are those of the desk
+pub record SiftsLog (left : Bool) (name : List ℕ) (old now : List ℕ → Option (List ℕ)) (faults_before faults_now : ℕ) (answer : Result SiftText WholeStop) : Type 0 where
+  pub answered : (bytes : List ℕ) → old name ≡ Some bytes → AnswersSift left bytes answer
+  pub within : IfOk answer AreStretchesWithin
+  pub whole : OnOk answer (IsAtEnd (now name))
+  pub fault : IsErrOf answer ReadFault → Rose faults_before faults_now
+  pub counted : faults_before ≤ faults_now
+  pub taken : TakesWhole most_log (old name) (now name) (IsErrOf answer ReadFault)
+  pub others : (other : List ℕ) → other ≢ name → now other ≡ old other

@@ -1,9 +1,8 @@
-ghost use Rattle.std.specs.Prelude.{◌≡◌, ◌≢◌, ◌≤◌, ℕ, List, Some, All, IfOk, IsErrOf, OnOk, OnErr, length};
-ghost use Rattle.std.specs.Io.KnownBytes.{Appends, IsAtEnd};
+ghost use Rattle.std.specs.Prelude.{◌≤◌, All, IfOk, OnOk, OnErr, length};
+ghost use Rattle.std.specs.Io.KnownBytes.{Appends};
 ghost use Rattle.edge_io.specs.Endings.{AppendsPart};
-ghost use Rattle.edge_io.specs.Faults.{HasCause, Rose};
-ghost use Rattle.edge_io.specs.Whole.{TakesWhole};
-ghost use Rattle.log_sift.specs.Named.{AnswersSift, AreStretchesWithin, IsSiftText, most_log, shown_text};
+ghost use Rattle.edge_io.specs.Faults.{HasCause};
+ghost use Rattle.log_sift.specs.Named.{AreStretchesWithin, IsSiftText, SiftsLog, most_log, shown_text};
 ghost use Rattle.log_sift.specs.Sifted.{LiesInLog, stretches_text};
 
 use crate::answer::{Stretch, Stretches};
@@ -32,17 +31,8 @@ pub fn sift_named<D: Desk>(
     log: &str,
     left: bool,
 ) -> Result<SiftText, WholeStop>
-    ensures answered { (bytes : List ℕ) → D.left desk.old log.now ≡ Some bytes
-        → AnswersSift left bytes result }
-    ensures within { IfOk result AreStretchesWithin }
-    ensures whole { OnOk result (IsAtEnd (D.left desk.new log.now)) }
-    ensures fault { IsErrOf result WholeStop.ReadFault
-        → Rose (D.faults desk.old) (D.faults desk.new) }
-    ensures counted { D.faults desk.old ≤ D.faults desk.new }
-    ensures taken { TakesWhole most_log (D.left desk.old log.now) (D.left desk.new log.now)
-        (IsErrOf result WholeStop.ReadFault) }
-    ensures others { (other : List ℕ) → other ≢ log.now
-        → D.left desk.new other ≡ D.left desk.old other }
+    ensures { SiftsLog left log.now (D.left desk.old) (D.left desk.new) (D.faults desk.old)
+        (D.faults desk.new) result }
 {
     let Ok(mut buffer) = piece_buffer(alloc) else {
         return Err(WholeStop::OutOfMemory);

@@ -1,12 +1,19 @@
-use Rattle.std.proofs.Common.{◌∙◌, ◌∷◌, ◌++◌, [], ap, arith, length-append}
+use Rattle.std.proofs.Common.{◌∙◌, ◌∷◌, ◌++◌, [], ap, arith, length-append, sym}
 use Rattle.std.specs.Vec.Iter.{into_iter_items}
 use Rattle.log_intake.proofs.EventFacts.{events_step, events_stopped, one_further}
+use Rattle.log_intake.proofs.StepAnswers.{events_admit}
 use Rattle.log_intake.proofs.admitting.admit_events.Goals as goal
 
-pub returns-in-Err-clause-refused : goal.returns-in-Err-clause-refused
-returns-in-Err-clause-refused c = λ refusal.
+pub returns-in-Err : goal.returns-in-Err
+returns-in-Err c =
     let l = c.loop-event.invariant in
-    events_stopped c.args.first c.loop-event.number c.args.seen.now c.loop-event.seen c.loop-event.yielded (into_iter_items c.next.new.self) c.args.events c.in-Some.event _ l.number l.takes (l.all ∙ ap (λ rest. c.loop-event.yielded ++ rest) c.in-Some.ensures.steps.0) (c.in-Err.ensures.refused refusal)
+    record {
+      takes = tt;
+      before = tt;
+      refused = λ refusal. events_stopped c.args.first c.loop-event.number c.args.seen.now c.loop-event.seen c.loop-event.yielded (into_iter_items c.next.new.self) c.args.events c.in-Some.event _ l.number l.takes
+          (l.all ∙ ap (λ rest. c.loop-event.yielded ++ rest) c.in-Some.ensures.steps.0) (c.in-Err.ensures.refused refusal);
+      no_fault = c.in-Err.ensures.no_fault;
+    }
 
 pub loop-event-preserved : goal.loop-event-preserved
 loop-event-preserved c =
@@ -18,3 +25,9 @@ loop-event-preserved c =
       takes = events_step c.args.first c.loop-event.number c.args.seen.now c.loop-event.seen c.admit_event.new.seen c.loop-event.yielded c.in-Some.event l.number l.takes c.in_default.ensures.takes;
       before = c.in_default.ensures.before;
     }
+
+pub returns : goal.returns
+returns c =
+    let l = c.loop-event.invariant in
+    events_admit _ c.args.first c.loop-event.number c.args.seen.now c.loop-event.seen c.args.events c.loop-event.yielded (into_iter_items c.loop-event.event-iterator) l.all
+    (sym c.loop-event.event-iterator.rest.ok.0 ∙ c.in-None.ensures.steps.0) l.number l.takes l.before

@@ -1,8 +1,7 @@
-use Rattle.std.proofs.Common.{◌≤◌, ◌∙◌, ap, Err, subst, sym, length}
+use Rattle.std.proofs.Common.{◌∙◌, ap, Err, subst, sym}
 use Rattle.std.specs.Vec.Iter.{into_iter_items}
-use Rattle.line_reader.specs.declared.line.Line.{Line}
-use Rattle.line_reader.specs.Lines.{longest_line}
 use Rattle.batch_decode.specs.Batches.{IsDecodedLine}
+use Rattle.log_intake.specs.Admitting.{IsLineNext}
 use Rattle.log_intake.proofs.LineFacts.{admits_all, admits_refused, all_admitted, line_admitted, line_refused, stands_next}
 use Rattle.log_intake.proofs.admitting.admit_lines.Goals as goal
 
@@ -11,10 +10,11 @@ admit_line-requires-clause-decoded c =
     let s = stands_next c.args.lines.now (into_iter_items c.loop-line.line-iterator) (into_iter_items c.next.new.self) c.in-Some.line c.args.place c.loop-line.place c.args.seen.now c.loop-line.seen c.loop-line.at c.loop-line.invariant c.in-Some.ensures.steps.0 in
     subst (λ l. IsDecodedLine l c.in-Some.line) (sym (c.index-lines-at.is ∙ s.index c.index-lines-at.result)) s.decodes
 
-pub admit_line-requires-clause-short : goal.admit_line-requires-clause-short
-admit_line-requires-clause-short c =
+pub admit_line-requires-clause-next : goal.admit_line-requires-clause-next
+admit_line-requires-clause-next c =
     let s = stands_next c.args.lines.now (into_iter_items c.loop-line.line-iterator) (into_iter_items c.next.new.self) c.in-Some.line c.args.place c.loop-line.place c.args.seen.now c.loop-line.seen c.loop-line.at c.loop-line.invariant c.in-Some.ensures.steps.0 in
-    subst (λ (l : Line). length l.bytes ≤ longest_line) (sym (c.index-lines-at.is ∙ s.index c.index-lines-at.result)) s.short
+    subst (λ l. IsLineNext l c.loop-line.place c.loop-line.seen) (sym (c.index-lines-at.is ∙ s.index c.index-lines-at.result))
+    (record { short = s.short; later = s.later; room = s.room; before = c.loop-line.invariant.before })
 
 pub returns-in-Err : goal.returns-in-Err
 returns-in-Err c =
@@ -29,7 +29,7 @@ loop-line-preserved c =
     let l = c.loop-line.invariant in
     let s = stands_next c.args.lines.now (into_iter_items c.loop-line.line-iterator) (into_iter_items c.next.new.self) c.in-Some.line c.args.place c.loop-line.place c.args.seen.now c.loop-line.seen c.loop-line.at l c.in-Some.ensures.steps.0 in
     line_admitted c.args.lines.now (into_iter_items c.loop-line.line-iterator) (into_iter_items c.next.new.self) c.in-Some.line c.args.place c.loop-line.place c.in-Ok.after c.args.seen.now c.loop-line.seen c.admit_line.new.seen c.loop-line.at c.index-lines-at.result l s (c.index-lines-at.is ∙ s.index c.index-lines-at.result)
-    c.in-Ok.ensures.takes c.in-Ok.ensures.line c.in-Ok.ensures.extra c.in-Ok.ensures.before
+    c.in-Ok.ensures.admitted.takes c.in-Ok.ensures.admitted.number c.in-Ok.ensures.admitted.extra c.in-Ok.ensures.admitted.before
 
 pub returns : goal.returns
 returns c =

@@ -30,11 +30,17 @@ advance-admitted-requires-clause-decoded g c κs _ = c.batches.invariant.read.de
 pub advance-admitted-requires-clause-ready : goal.advance-admitted-requires-clause-ready
 advance-admitted-requires-clause-ready g c κs _ = decoded_next _ _ _ _ c.batches.reader c.batches.seen c.batches.place c.batches.front c.batches.next c.batches.invariant.read
 
-pub advance-admitted-requires-clause-within : goal.advance-admitted-requires-clause-within
-advance-admitted-requires-clause-within g c κs _ = decoded_within _ _ _ _ c.batches.reader c.batches.seen c.batches.place c.batches.front c.batches.next c.batches.invariant.read
-
-pub advance-admitted-requires-clause-going : goal.advance-admitted-requires-clause-going
-advance-admitted-requires-clause-going g c κs _ = decoded_open _ _ _ _ c.batches.reader c.batches.seen c.batches.place c.batches.front c.batches.next c.batches.invariant.read (c.goes_on.ensures.0 c.batches-test.true)
+pub advance-admitted-requires-clause-may_gather : goal.advance-admitted-requires-clause-may_gather
+advance-admitted-requires-clause-may_gather g c κs _ =
+    let long = c.batches.auto.buffer in
+    let some = c.requires.some in
+    let piece = c.requires.piece in
+    record {
+      some = omega (arith, long, some);
+      piece = omega (arith, long, piece);
+      within = decoded_within _ _ _ _ c.batches.reader c.batches.seen c.batches.place c.batches.front c.batches.next c.batches.invariant.read;
+      going = decoded_open _ _ _ _ c.batches.reader c.batches.seen c.batches.place c.batches.front c.batches.next c.batches.invariant.read (c.goes_on.ensures.0 c.batches-test.true);
+    }
 
 pub returns-in-Err-all_three-clause-stopped : goal.returns-in-Err-all_three-clause-stopped
 returns-in-Err-all_three-clause-stopped g c =
