@@ -131,7 +131,7 @@ What to do: Leave such lines out with `kubepast sift`, and say so beside the ver
 /// `M10`
 pub const M10: &str =
     "M10: `user` isn't an object, or a `username` is no text, or `groups` isn't null or a list of
-texts; or the same of `impersonatedUser`.
+texts; or the same of an `impersonatedUser` that is there; null is none.
 
 How it comes about: An API server writes no such event: it was edited, or a program on the
 log's way rewrote it.

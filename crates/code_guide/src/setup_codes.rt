@@ -20,8 +20,8 @@ out of `resources` and `snapshot`.
 
 /// `S2`
 pub const S2: &str =
-    "S2: the setup isn't an object of `kind` `PastSetup`, lacks a member that is required, or has
-one that isn't known.
+    "S2: the setup isn't an object of `kind` `PastSetup`, lacks a required member other than
+`version`, or has one that isn't known.
 
 How it comes about: A member is misspelt; or `checkpoints` stands in a setup whose `version`
 is 1.

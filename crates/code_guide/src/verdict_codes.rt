@@ -122,14 +122,16 @@ pub const U10: &str =
 window.
 
 How it comes about: The last event of a write was lost, as of an apply with a body in YAML;
-a namespace or a pod was on its way out; or a read was answered by a cache without asking
-for one by `resourceVersion=0`.
+a namespace or a pod was on its way out; a read was answered by a cache without asking for
+one by `resourceVersion=0`; or the clocks of several servers differ by more than
+`slackNanos`.
 
 Look at: which revision the answer shows, who made it (`versions`), and the writes that the
 verdict lists.
 
-What to do: Where a write is missing, look for it in the other servers' logs. Where caches
-answer reads, judge the rest without them. Else an object, a revision or a time was changed.
+What to do: Set `slackNanos` to the greatest difference of the servers' clocks. Where a
+write is missing, look for it in the other servers' logs. Where caches answer reads, judge
+the rest without them. Else an object, a revision or a time was changed.
 ";
 
 /// `U11`
@@ -148,13 +150,14 @@ pub const U12: &str =
     "U12: the event found that an object is there, or was refused for a conflict, where that
 can't be.
 
-How it comes about: A create or a write by somebody else isn't in the log.
+How it comes about: A create or a write by somebody else isn't in the log; or the clocks of
+several servers differ by more than `slackNanos`.
 
 Look at: the answer's reason (`AlreadyExists`, `Conflict`), and what `show` prints for the
 object then.
 
-What to do: Look for the missing write in the other servers' logs, and for the object in the
-snapshot's lists.
+What to do: Set `slackNanos` to the greatest difference of the servers' clocks. Look for the
+missing write in the other servers' logs, and for the object in the snapshot's lists.
 ";
 
 /// `U13`
@@ -162,12 +165,14 @@ pub const U13: &str =
     "U13: the event is a list that lacks an object, shows one that wasn't there, twice, or against
 its selector, or shows another version of it; or a checkpoint that does.
 
-How it comes about: A write isn't in the log, as after a body in YAML; of a checkpoint: the
-backup is of another cluster or another time.
+How it comes about: A write isn't in the log, as after a body in YAML; the clocks of several
+servers differ by more than `slackNanos`; or, of a checkpoint, the backup is of another
+cluster or another time.
 
 Look at: the list's revision, and what `state` prints for that place: which object differs?
 
-What to do: Look for the missing write of that object. Else the list was changed.
+What to do: Set `slackNanos` to the greatest difference of the servers' clocks. Look for the
+missing write of that object. Else the list was changed.
 ";
 
 /// `U14`
