@@ -28,10 +28,14 @@ pub fn explained_examples()
 pub fn unexplained_examples()
     ensures seen_before_made { IsReadable seen_before_made × IsOutcome seen_before_made seen_before_made_outcome }
     ensures second_update { IsReadable second_update × IsOutcome second_update second_update_outcome }
-    ensures one_removal { IsReadable one_removal × IsOutcome one_removal one_removal_outcome }
-    ensures removal_without_place { IsReadable removal_without_place
-        × IsOutcome removal_without_place removal_without_place_outcome }
     ensures conflict { IsReadable conflict × IsOutcome conflict conflict_outcome }
     ensures hidden_no_more { IsReadable hidden_no_more × IsOutcome hidden_no_more hidden_no_more_outcome }
     ensures out_of_turn { IsReadable out_of_turn × IsOutcome out_of_turn out_of_turn_outcome }
+{}
+
+/// Unexplained ones about removals: two readers saw one removal at different places, and a removal has no place.
+pub fn removal_examples()
+    ensures one_removal { IsReadable one_removal × IsOutcome one_removal one_removal_outcome }
+    ensures removal_without_place { IsReadable removal_without_place
+        × IsOutcome removal_without_place removal_without_place_outcome }
 {}

@@ -14,6 +14,6 @@ pub use bounding::{
     shown_law, unplaced_law,
 };
 pub use checking::{fault_law, spelling_law, verified_law};
-pub use examples::{explained_examples, unexplained_examples};
+pub use examples::{explained_examples, removal_examples, unexplained_examples};
 pub use explaining::{explained_law, one_list_law, one_outcome_law, outcome_law, printed_law};
 pub use running::{locality_law, makings_law, removals_law, state_law};

@@ -1,5 +1,5 @@
-//! What is found of a cluster's setup and its log: the events in the terms of the model of history, with each tree of
-//! an object kept once.
+//! The context of a log: what a cluster's setup and its log say together, with the events in the terms of the model of
+//! history, and each tree of an object kept once.
 #![tactic(auto)]
 
 mod bodies;

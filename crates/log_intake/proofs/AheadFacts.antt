@@ -1,4 +1,4 @@
--- The batch that is admitted, the one that is decoded meanwhile, and the one that is gathered.
+-- The batch that is kept, the one that is decoded meanwhile, and the one that is gathered.
 use Rattle.std.proofs.Common.{◌≡◌, ℕ, ◌+◌, ◌-◌, ◌*◌, ◌^◌, ◌<◌, ◌≤◌, ◌⊎◌, inl, inr, List, [], ◌++◌, length, Option, Result, Ok, Err, IsOk, IsErr, false, true, refl, sym, ◌∙◌, ap, subst, arith}
 use Rattle.std.specs.List.{AllZip}
 use Rattle.std.proofs.lemmas.List.{append-nil, length-append, length-map}
@@ -13,14 +13,14 @@ use Rattle.batch_decode.specs.Batches.{IsDecodedLine}
 use Rattle.line_reader.specs.declared.line.Line.{Line}
 use Rattle.line_reader.specs.Lines.{NumberedLine}
 use Rattle.line_reader.specs.Reading.{Reading, line_value}
-use Rattle.log_intake.specs.declared.admitting.DecodedBatch.{DecodedBatch}
-use Rattle.log_intake.specs.declared.admitting.Place.{Place}
+use Rattle.log_intake.specs.declared.keeping.DecodedBatch.{DecodedBatch}
+use Rattle.log_intake.specs.declared.keeping.Place.{Place}
 use Rattle.log_intake.specs.declared.batch.Batch.{Batch}
 use Rattle.log_intake.specs.declared.batch.BatchEnd.{BatchEnd}
 use Rattle.log_intake.specs.declared.batch.BatchEnd.TheVariants.{GoesOn, Ended, Failed, LineTooLong, InputTooLong}
 use Rattle.log_intake.specs.declared.stop.LogStop.{LogStop}
 use Rattle.log_intake.specs.declared.stop.LogStop.TheVariants as stop
-use Rattle.log_intake.specs.Admitting.{AdmitsAndDecodes, AdmitsBoth, AdmitsLines, AllAdmitted, AreNext, AreNextBehind}
+use Rattle.log_intake.specs.Keeping.{KeepsAndDecodes, KeepsBoth, KeepsLines, AreLinesKept, AreNext, AreNextBehind}
 use Rattle.log_intake.specs.Batches.{Gathers, GathersBatch, HoldsOpen, IsStopAt, TakesSome, line_values}
 use Rattle.log_intake.specs.Taking.{ReadsLog, TakesLog}
 use Rattle.log_intake.proofs.BatchFacts.{gathers_nothing}
@@ -28,7 +28,7 @@ use Rattle.log_intake.proofs.AnswerFacts.{reads_ended, reads_failed, reads_long,
 use Rattle.log_intake.proofs.LogFacts.{HasReadLog, batch_next, batch_refused, few_lines, front_so_far}
 use Rattle.log_intake.proofs.ReadFacts.{limit_is}
 
--- the lines in front of a batch were admitted, and it was gathered
+-- the lines in front of a batch were kept, and it was gathered
 pub record HasGathered (old now : Option (List ℕ)) (faults faults' : ℕ) (reader' : Reading) (kept : List Event) (place : Place) (batch : Batch) : Type 0 where
   pub middle : Option (List ℕ)
   pub reader : Reading
@@ -38,7 +38,7 @@ pub record HasGathered (old now : Option (List ℕ)) (faults faults' : ℕ) (rea
   pub fault : batch.end ≡ Failed → Rose faults faults'
   pub counted : faults ≤ faults'
 
--- the lines in front of two batches were admitted, and the first of them was decoded
+-- the lines in front of two batches were kept, and the first of them was decoded
 pub record HasDecoded (old now : Option (List ℕ)) (faults faults' : ℕ) (reader' : Reading) (kept : List Event) (place : Place) (held : DecodedBatch) (batch : Batch) : Type 0 where
   pub middle : Option (List ℕ)
   pub reader : Reading
@@ -86,7 +86,7 @@ decoded_open old now faults faults' b kept place held batch h on = open_at batch
 pub decoded_within : (old now : Option (List ℕ)) (faults faults' : ℕ) (b : Reading) (kept : List Event) (place : Place) (held : DecodedBatch) (batch : Batch) → HasDecoded old now faults faults' b kept place held batch → batch.taken ≤ 1099511627776
 decoded_within old now faults faults' b kept place held batch h = h.gathers.within
 
--- what the admission of the one batch and the decoding of the other may rest on
+-- what the keeping of the one batch and the decoding of the other may rest on
 pub decoded_next : (old now : Option (List ℕ)) (faults faults' : ℕ) (b : Reading) (kept : List Event) (place : Place) (held : DecodedBatch) (batch : Batch) → HasDecoded old now faults faults' b kept place held batch → AreNext held.lines.items place kept
 decoded_next old now faults faults' b kept place held batch h = batch_next GoesOn old h.middle h.between h.reader h.behind kept place held.lines.items held.lines.items h.before h.at h.read h.first refl
 
@@ -155,7 +155,7 @@ takes_ahead old middle now next r b kept place lines before taken fine s g a nev
       front = s.front;
       batch = first ++ a.taken;
       taken = taken_then old middle next s.front (first ++ a.taken) s.told (taken_then middle now next first a.taken g.told a.told);
-      admitted = front_so_far old middle r kept place before s;
+      kept = front_so_far old middle r kept place before s;
       short = omega (arith, sum', few, few');
       within = rw (← limit_is) (omega (arith, sum, sum', sum'', long, counted, w));
       blameless = λ is. absurd (never is);
@@ -163,11 +163,11 @@ takes_ahead old middle now next r b kept place lines before taken fine s g a nev
 
 -- the batch that was decoded is refused, whatever came behind it
 refused_ahead : (old now next : Option (List ℕ)) (faults middle faults' : ℕ) (b : Reading) (kept kept' : List Event) (place : Place) (held : DecodedBatch) (batch : Batch) (why : LogStop) → (h : HasDecoded old now faults middle b kept place held batch) → TakesSome h.between next h.at 2752512
-    → AdmitsLines held.lines.items place kept kept' (Err why) → faults ≤ faults' → ReadsLog old next faults faults' (Err why)
-refused_ahead old now next faults middle faults' b kept kept' place held batch why h a admits counted =
-    let no_fault : why ≡ stop.ReadFault → ⊥ = λ same. admits.no_fault (ap Err same) in
+    → KeepsLines held.lines.items place kept kept' (Err why) → faults ≤ faults' → ReadsLog old next faults faults' (Err why)
+refused_ahead old now next faults middle faults' b kept kept' place held batch why h a keeps counted =
+    let no_fault : why ≡ stop.ReadFault → ⊥ = λ same. keeps.no_fault (ap Err same) in
     record {
-      answers = λ bytes told refusal. batch_refused GoesOn old h.middle h.between h.reader h.behind kept place (line_values held.lines.items) h.before h.at why bytes h.read h.first (admits.refused refusal) told;
+      answers = λ bytes told refusal. batch_refused GoesOn old h.middle h.between h.reader h.behind kept place (line_values held.lines.items) h.before h.at why bytes h.read h.first (keeps.refused refusal) told;
       sound = tt;
       whole = tt;
       fault = λ same. absurd (no_fault (let here : why ≡ stop.ReadFault = cc in here));
@@ -175,11 +175,11 @@ refused_ahead old now next faults middle faults' b kept kept' place held batch w
       taken = takes_ahead old h.middle h.between next h.reader h.behind kept place held.lines.items h.before h.at _ h.read h.first a (refused_bytes why no_fault);
     }
 
--- the batch that was decoded was admitted
-held_read : (old now : Option (List ℕ)) (faults faults' : ℕ) (b : Reading) (kept kept' : List Event) (place place' : Place) (held : DecodedBatch) (batch : Batch) → (h : HasDecoded old now faults faults' b kept place held batch) → AllAdmitted held.lines.items place place' kept kept' → HasReadLog old h.between h.behind kept' place' h.at
+-- the batch that was decoded was kept
+held_read : (old now : Option (List ℕ)) (faults faults' : ℕ) (b : Reading) (kept kept' : List Event) (place place' : Place) (held : DecodedBatch) (batch : Batch) → (h : HasDecoded old now faults faults' b kept place held batch) → AreLinesKept held.lines.items place place' kept kept' → HasReadLog old h.between h.behind kept' place' h.at
 held_read old now faults faults' b kept kept' place place' held batch h all = reads_on GoesOn old h.middle h.between h.reader h.behind kept kept' place place' held.lines.items held.lines.items h.before h.at refl h.read h.first refl all
 
-behind_held : (old now : Option (List ℕ)) (faults faults' : ℕ) (b : Reading) (kept kept' : List Event) (place place' : Place) (held : DecodedBatch) (batch : Batch) → HasDecoded old now faults faults' b kept place held batch → AllAdmitted held.lines.items place place' kept kept' → HasGathered old now faults faults' b kept' place' batch
+behind_held : (old now : Option (List ℕ)) (faults faults' : ℕ) (b : Reading) (kept kept' : List Event) (place place' : Place) (held : DecodedBatch) (batch : Batch) → HasDecoded old now faults faults' b kept place held batch → AreLinesKept held.lines.items place place' kept kept' → HasGathered old now faults faults' b kept' place' batch
 behind_held old now faults faults' b kept kept' place place' held batch h all = record {
   middle = h.between;
   reader = h.behind;
@@ -190,12 +190,12 @@ behind_held old now faults faults' b kept kept' place place' held batch h all = 
   counted = h.counted;
 }
 
--- it was admitted, and memory is wanted for what is behind it
-memory_ahead : (old now next : Option (List ℕ)) (faults middle faults' : ℕ) (b : Reading) (kept kept' : List Event) (place : Place) (held : DecodedBatch) (batch : Batch) (admitted : Result Place LogStop) → (h : HasDecoded old now faults middle b kept place held batch) → TakesSome h.between next h.at 2752512
-    → IsOk admitted → AdmitsLines held.lines.items place kept kept' admitted → faults ≤ faults' → ReadsLog old next faults faults' (Err stop.OutOfMemory)
-memory_ahead old now next faults middle faults' b kept kept' place held batch (Ok after) h a ok admits counted =
-    reads_some old h.between next faults faults' h.behind kept' after h.at (held_read old now faults middle b kept kept' place after held batch h admits.all) (some_within h.between next h.at 2752512 4259840 (omega arith) a) counted
-memory_ahead old now next faults middle faults' b kept kept' place held batch (Err why) h a ok admits counted = absurd (let no : false ≡ true = ok in cc)
+-- it was kept, and memory is wanted for what is behind it
+memory_ahead : (old now next : Option (List ℕ)) (faults middle faults' : ℕ) (b : Reading) (kept kept' : List Event) (place : Place) (held : DecodedBatch) (batch : Batch) (keeping : Result Place LogStop) → (h : HasDecoded old now faults middle b kept place held batch) → TakesSome h.between next h.at 2752512
+    → IsOk keeping → KeepsLines held.lines.items place kept kept' keeping → faults ≤ faults' → ReadsLog old next faults faults' (Err stop.OutOfMemory)
+memory_ahead old now next faults middle faults' b kept kept' place held batch (Ok after) h a ok keeps counted =
+    reads_some old h.between next faults faults' h.behind kept' after h.at (held_read old now faults middle b kept kept' place after held batch h keeps.all) (some_within h.between next h.at 2752512 4259840 (omega arith) a) counted
+memory_ahead old now next faults middle faults' b kept kept' place held batch (Err why) h a ok keeps counted = absurd (let no : false ≡ true = ok in cc)
 
 -- what was taken behind the batch that was decoded
 some_behind : (old : Option (List ℕ)) (left left' : List ℕ → Option (List ℕ)) (name : List ℕ) (faults middle faults' : ℕ) (b c : Reading) (kept : List Event) (place : Place) (held : DecodedBatch) (batch : Batch) (ahead : Result Batch OutOfMemory)
@@ -206,26 +206,26 @@ some_behind old left left' name faults middle faults' b c kept place held batch 
     (some_ahead left left' name middle faults' b c batch.taken ahead g)
 
 -- what stops a log while a batch is gathered
-pub decoded_stops : (old : Option (List ℕ)) (left left' : List ℕ → Option (List ℕ)) (name : List ℕ) (faults middle faults' : ℕ) (b c : Reading) (kept kept' : List Event) (place : Place) (held : DecodedBatch) (batch : Batch) (next : List Line) (admitted : Result Place LogStop) (decoded : Result (List Decoded) OutOfMemory)
-    → (ahead : Result Batch OutOfMemory) (why : LogStop) → batch.end ≡ GoesOn → HasDecoded old (left name) faults middle b kept place held batch → AdmitsAndDecodes held.lines.items next place kept kept' admitted decoded → GathersBatch left left' name middle faults' b c batch.taken ahead
-    → (admitted ≡ Err why) ⊎ (IsOk admitted × (IsErr decoded ⊎ IsErr ahead) × (why ≡ stop.OutOfMemory)) → ReadsLog old (left' name) faults faults' (Err why)
-decoded_stops old left left' name faults middle faults' b c kept kept' place held batch next admitted decoded ahead why on h front g (inl is) =
+pub decoded_stops : (old : Option (List ℕ)) (left left' : List ℕ → Option (List ℕ)) (name : List ℕ) (faults middle faults' : ℕ) (b c : Reading) (kept kept' : List Event) (place : Place) (held : DecodedBatch) (batch : Batch) (next : List Line) (keeping : Result Place LogStop) (decoded : Result (List Decoded) OutOfMemory)
+    → (ahead : Result Batch OutOfMemory) (why : LogStop) → batch.end ≡ GoesOn → HasDecoded old (left name) faults middle b kept place held batch → KeepsAndDecodes held.lines.items next place kept kept' keeping decoded → GathersBatch left left' name middle faults' b c batch.taken ahead
+    → (keeping ≡ Err why) ⊎ (IsOk keeping × (IsErr decoded ⊎ IsErr ahead) × (why ≡ stop.OutOfMemory)) → ReadsLog old (left' name) faults faults' (Err why)
+decoded_stops old left left' name faults middle faults' b c kept kept' place held batch next keeping decoded ahead why on h front g (inl is) =
     let before = h.counted in
     let more = g.counted in
     refused_ahead old (left name) (left' name) faults middle faults' b kept kept' place held batch why h (some_behind old left left' name faults middle faults' b c kept place held batch ahead on h g)
-    (subst (AdmitsLines held.lines.items place kept kept') is front.admits) (omega (arith, before, more))
-decoded_stops old left left' name faults middle faults' b c kept kept' place held batch next admitted decoded ahead why on h front g (inr (ok, none, is)) =
+    (subst (KeepsLines held.lines.items place kept kept') is front.keeps) (omega (arith, before, more))
+decoded_stops old left left' name faults middle faults' b c kept kept' place held batch next keeping decoded ahead why on h front g (inr (ok, none, is)) =
     let before = h.counted in
     let more = g.counted in
     subst (λ w. ReadsLog old (left' name) faults faults' (Err w)) (sym is)
-    (memory_ahead old (left name) (left' name) faults middle faults' b kept kept' place held batch admitted h (some_behind old left left' name faults middle faults' b c kept place held batch ahead on h g) ok front.admits (omega (arith, before, more)))
+    (memory_ahead old (left name) (left' name) faults middle faults' b kept kept' place held batch keeping h (some_behind old left left' name faults middle faults' b c kept place held batch ahead on h g) ok front.keeps (omega (arith, before, more)))
 
--- a batch was admitted, the next one decoded, and the one behind it gathered
-pub decoded_on : (old : Option (List ℕ)) (left left' : List ℕ → Option (List ℕ)) (name : List ℕ) (faults middle faults' : ℕ) (b c : Reading) (kept kept' : List Event) (place place' : Place) (held held' : DecodedBatch) (batch next : Batch) (list : List Decoded) (admitted : Result Place LogStop)
-    → (decoded : Result (List Decoded) OutOfMemory) (ahead : Result Batch OutOfMemory) → batch.end ≡ GoesOn → HasDecoded old (left name) faults middle b kept place held batch → AdmitsAndDecodes held.lines.items batch.lines.items place kept kept' admitted decoded → GathersBatch left left' name middle faults' b c batch.taken ahead
-    → held'.lines.items ≡ batch.lines.items → held'.decoded ≡ list → (admitted ≡ Ok place') × (decoded ≡ Ok list) × (ahead ≡ Ok next) → HasDecoded old (left' name) faults faults' c kept' place' held' next
-decoded_on old left left' name faults middle faults' b c kept kept' place place' held held' batch next list admitted decoded ahead on h front g lines listed all =
-    let admits : AllAdmitted held.lines.items place place' kept kept' = IfOk-at_ok (λ after. AllAdmitted held.lines.items place after kept kept') all.0 front.admits.all in
+-- a batch was kept, the next one decoded, and the one behind it gathered
+pub decoded_on : (old : Option (List ℕ)) (left left' : List ℕ → Option (List ℕ)) (name : List ℕ) (faults middle faults' : ℕ) (b c : Reading) (kept kept' : List Event) (place place' : Place) (held held' : DecodedBatch) (batch next : Batch) (list : List Decoded) (keeping : Result Place LogStop)
+    → (decoded : Result (List Decoded) OutOfMemory) (ahead : Result Batch OutOfMemory) → batch.end ≡ GoesOn → HasDecoded old (left name) faults middle b kept place held batch → KeepsAndDecodes held.lines.items batch.lines.items place kept kept' keeping decoded → GathersBatch left left' name middle faults' b c batch.taken ahead
+    → held'.lines.items ≡ batch.lines.items → held'.decoded ≡ list → (keeping ≡ Ok place') × (decoded ≡ Ok list) × (ahead ≡ Ok next) → HasDecoded old (left' name) faults faults' c kept' place' held' next
+decoded_on old left left' name faults middle faults' b c kept kept' place place' held held' batch next list keeping decoded ahead on h front g lines listed all =
+    let keeps : AreLinesKept held.lines.items place place' kept kept' = IfOk-at_ok (λ after. AreLinesKept held.lines.items place after kept kept') all.0 front.keeps.all in
     let a : GathersBatch left left' name middle faults' b c batch.taken (Ok next) = subst (GathersBatch left left' name middle faults' b c batch.taken) all.2 g in
     let zip : AllZip IsDecodedLine batch.lines.items list = IfOk-at_ok (AllZip IsDecodedLine batch.lines.items) all.1 front.decodes in
     let before = h.counted in
@@ -234,7 +234,7 @@ decoded_on old left left' name faults middle faults' b c kept kept' place place'
       middle = h.between;
       reader = h.behind;
       before = h.at;
-      read = held_read old (left name) faults middle b kept kept' place place' held batch h admits;
+      read = held_read old (left name) faults middle b kept kept' place place' held batch h keeps;
       between = left name;
       behind = b;
       at = batch.taken;
@@ -246,7 +246,7 @@ decoded_on old left left' name faults middle faults' b c kept kept' place place'
       counted = omega (arith, before, more);
     }
 
--- what the admission of the last batch may rest on
+-- what the keeping of the last batch may rest on
 gathered_next : (old now : Option (List ℕ)) (faults faults' : ℕ) (b : Reading) (kept : List Event) (place : Place) (batch : Batch) (slice : List Line) → HasGathered old now faults faults' b kept place batch → slice ≡ batch.lines.items → AreNext slice place kept
 gathered_next old now faults faults' b kept place batch slice h is = batch_next batch.end old h.middle now h.reader b kept place batch.lines.items slice h.before batch.taken h.read h.gathers is
 
@@ -278,20 +278,20 @@ fewer_left left left' name faults faults' b c batch next ahead on g is =
     (fewer next.end batch.taken next.taken a.more (omega (arith, counted)) a.gathers.within)
 
 -- the last batch is refused
-gathered_refused : (old now : Option (List ℕ)) (faults faults' : ℕ) (b : Reading) (kept kept' : List Event) (place : Place) (batch : Batch) (slice : List Line) (why : LogStop) → HasGathered old now faults faults' b kept place batch → slice ≡ batch.lines.items → AdmitsLines slice place kept kept' (Err why)
+gathered_refused : (old now : Option (List ℕ)) (faults faults' : ℕ) (b : Reading) (kept kept' : List Event) (place : Place) (batch : Batch) (slice : List Line) (why : LogStop) → HasGathered old now faults faults' b kept place batch → slice ≡ batch.lines.items → KeepsLines slice place kept kept' (Err why)
     → ReadsLog old now faults faults' (Err why)
-gathered_refused old now faults faults' b kept kept' place batch slice why h is admits =
-    reads_refused batch.end old h.middle now faults faults' h.reader b kept place batch.lines.items slice h.before batch.taken why h.read h.gathers is admits.refused (λ same. admits.no_fault (ap Err same)) h.counted
+gathered_refused old now faults faults' b kept kept' place batch slice why h is keeps =
+    reads_refused batch.end old h.middle now faults faults' h.reader b kept place batch.lines.items slice h.before batch.taken why h.read h.gathers is keeps.refused (λ same. keeps.no_fault (ap Err same)) h.counted
 
 -- the log ended behind it
-gathered_ended : (old now : Option (List ℕ)) (faults faults' : ℕ) (b : Reading) (kept kept' : List Event) (place place' : Place) (batch : Batch) (slice : List Line) → HasGathered old now faults faults' b kept place batch → slice ≡ batch.lines.items → AdmitsLines slice place kept kept' (Ok place')
+gathered_ended : (old now : Option (List ℕ)) (faults faults' : ℕ) (b : Reading) (kept kept' : List Event) (place place' : Place) (batch : Batch) (slice : List Line) → HasGathered old now faults faults' b kept place batch → slice ≡ batch.lines.items → KeepsLines slice place kept kept' (Ok place')
     → batch.end ≡ Ended → AreKept kept' → ReadsLog old now faults faults' (Ok kept')
-gathered_ended old now faults faults' b kept kept' place place' batch slice h is admits ended are =
-    reads_ended batch.end old h.middle now faults faults' h.reader b kept kept' kept' place place' batch.lines.items slice h.before batch.taken ended h.read h.gathers is admits.all refl are h.counted
+gathered_ended old now faults faults' b kept kept' place place' batch slice h is keeps ended are =
+    reads_ended batch.end old h.middle now faults faults' h.reader b kept kept' kept' place place' batch.lines.items slice h.before batch.taken ended h.read h.gathers is keeps.all refl are h.counted
 
 -- it ended otherwise
 stopped_at : (end : BatchEnd) (old now : Option (List ℕ)) (faults faults' : ℕ) (b : Reading) (kept kept' : List Event) (place place' : Place) (batch : Batch) (slice : List Line) (why : LogStop) → batch.end ≡ end → HasGathered old now faults faults' b kept place batch → slice ≡ batch.lines.items
-    → AllAdmitted slice place place' kept kept' → IsStopAt end why → ReadsLog old now faults faults' (Err why)
+    → AreLinesKept slice place place' kept kept' → IsStopAt end why → ReadsLog old now faults faults' (Err why)
 stopped_at GoesOn old now faults faults' b kept kept' place place' batch slice why end h is all at = absurd at
 stopped_at Ended old now faults faults' b kept kept' place place' batch slice why end h is all at = absurd at
 stopped_at Failed old now faults faults' b kept kept' place place' batch slice why end h is all at =
@@ -304,29 +304,29 @@ stopped_at InputTooLong old now faults faults' b kept kept' place place' batch s
     subst (λ w. ReadsLog old now faults faults' (Err w)) (sym at)
     (reads_past batch.end old h.middle now faults faults' h.reader b kept kept' place place' batch.lines.items slice h.before batch.taken end h.read h.gathers is all h.counted)
 
-gathered_stopped : (old now : Option (List ℕ)) (faults faults' : ℕ) (b : Reading) (kept kept' : List Event) (place place' : Place) (batch : Batch) (slice : List Line) (why : LogStop) → HasGathered old now faults faults' b kept place batch → slice ≡ batch.lines.items → AdmitsLines slice place kept kept' (Ok place')
+gathered_stopped : (old now : Option (List ℕ)) (faults faults' : ℕ) (b : Reading) (kept kept' : List Event) (place place' : Place) (batch : Batch) (slice : List Line) (why : LogStop) → HasGathered old now faults faults' b kept place batch → slice ≡ batch.lines.items → KeepsLines slice place kept kept' (Ok place')
     → IsStopAt batch.end why → ReadsLog old now faults faults' (Err why)
-gathered_stopped old now faults faults' b kept kept' place place' batch slice why h is admits at = stopped_at batch.end old now faults faults' b kept kept' place place' batch slice why refl h is admits.all at
+gathered_stopped old now faults faults' b kept kept' place place' batch slice why h is keeps at = stopped_at batch.end old now faults faults' b kept kept' place place' batch slice why refl h is keeps.all at
 
 -- one of the last two batches is refused, or memory is wanted for the last one
 pub rest_refused : (old now : Option (List ℕ)) (faults faults' : ℕ) (b : Reading) (kept kept' : List Event) (place : Place) (held : DecodedBatch) (batch : Batch) (slice : List Line) (why : LogStop) → HasDecoded old now faults faults' b kept place held batch → slice ≡ batch.lines.items
-    → AdmitsBoth held.lines.items slice place kept kept' (Err why) → ReadsLog old now faults faults' (Err why)
-rest_refused old now faults faults' b kept kept' place held batch slice why h is (inl (err, admits)) =
+    → KeepsBoth held.lines.items slice place kept kept' (Err why) → ReadsLog old now faults faults' (Err why)
+rest_refused old now faults faults' b kept kept' place held batch slice why h is (inl (err, keeps)) =
     refused_ahead old now now faults faults' faults' b kept kept' place held batch why h
-    (some_within h.between now h.at 1376256 2752512 (omega arith) (some_gathered batch.end h.between now h.behind b (line_values batch.lines.items) h.at batch.taken h.gathers)) admits h.counted
-rest_refused old now faults faults' b kept kept' place held batch slice why h is (inr (place', between, all, admits)) =
-    gathered_refused old now faults faults' b between kept' place' batch slice why (behind_held old now faults faults' b kept between place place' held batch h all) is admits
+    (some_within h.between now h.at 1376256 2752512 (omega arith) (some_gathered batch.end h.between now h.behind b (line_values batch.lines.items) h.at batch.taken h.gathers)) keeps h.counted
+rest_refused old now faults faults' b kept kept' place held batch slice why h is (inr (place', between, all, keeps)) =
+    gathered_refused old now faults faults' b between kept' place' batch slice why (behind_held old now faults faults' b kept between place place' held batch h all) is keeps
 
 -- the log ended behind them
 pub rest_ended : (old now : Option (List ℕ)) (faults faults' : ℕ) (b : Reading) (kept kept' : List Event) (place after : Place) (held : DecodedBatch) (batch : Batch) (slice : List Line) → HasDecoded old now faults faults' b kept place held batch → slice ≡ batch.lines.items
-    → AdmitsBoth held.lines.items slice place kept kept' (Ok after) → batch.end ≡ Ended → AreKept kept' → ReadsLog old now faults faults' (Ok kept')
-rest_ended old now faults faults' b kept kept' place after held batch slice h is (inl (err, admits)) ended are = absurd (let no : false ≡ true = err in cc)
-rest_ended old now faults faults' b kept kept' place after held batch slice h is (inr (place', between, all, admits)) ended are =
-    gathered_ended old now faults faults' b between kept' place' after batch slice (behind_held old now faults faults' b kept between place place' held batch h all) is admits ended are
+    → KeepsBoth held.lines.items slice place kept kept' (Ok after) → batch.end ≡ Ended → AreKept kept' → ReadsLog old now faults faults' (Ok kept')
+rest_ended old now faults faults' b kept kept' place after held batch slice h is (inl (err, keeps)) ended are = absurd (let no : false ≡ true = err in cc)
+rest_ended old now faults faults' b kept kept' place after held batch slice h is (inr (place', between, all, keeps)) ended are =
+    gathered_ended old now faults faults' b between kept' place' after batch slice (behind_held old now faults faults' b kept between place place' held batch h all) is keeps ended are
 
 -- it ended otherwise
 pub rest_stopped : (old now : Option (List ℕ)) (faults faults' : ℕ) (b : Reading) (kept kept' : List Event) (place after : Place) (held : DecodedBatch) (batch : Batch) (slice : List Line) (why : LogStop) → HasDecoded old now faults faults' b kept place held batch → slice ≡ batch.lines.items
-    → AdmitsBoth held.lines.items slice place kept kept' (Ok after) → IsStopAt batch.end why → ReadsLog old now faults faults' (Err why)
-rest_stopped old now faults faults' b kept kept' place after held batch slice why h is (inl (err, admits)) at = absurd (let no : false ≡ true = err in cc)
-rest_stopped old now faults faults' b kept kept' place after held batch slice why h is (inr (place', between, all, admits)) at =
-    gathered_stopped old now faults faults' b between kept' place' after batch slice why (behind_held old now faults faults' b kept between place place' held batch h all) is admits at
+    → KeepsBoth held.lines.items slice place kept kept' (Ok after) → IsStopAt batch.end why → ReadsLog old now faults faults' (Err why)
+rest_stopped old now faults faults' b kept kept' place after held batch slice why h is (inl (err, keeps)) at = absurd (let no : false ≡ true = err in cc)
+rest_stopped old now faults faults' b kept kept' place after held batch slice why h is (inr (place', between, all, keeps)) at =
+    gathered_stopped old now faults faults' b between kept' place' after batch slice why (behind_held old now faults faults' b kept between place place' held batch h all) is keeps at

@@ -5,7 +5,7 @@ use Rattle.audit_event.specs.declared.event.Event.{Event}
 use Rattle.audit_event.specs.Keeping.{AreKept}
 use Rattle.line_reader.specs.declared.line.Line.{Line}
 use Rattle.line_reader.specs.Reading.{Reading}
-use Rattle.log_intake.specs.declared.admitting.Place.{Place}
+use Rattle.log_intake.specs.declared.keeping.Place.{Place}
 use Rattle.log_intake.specs.declared.batch.BatchEnd.{BatchEnd}
 use Rattle.log_intake.specs.declared.batch.BatchEnd.TheVariants.{GoesOn, Ended, Failed, LineTooLong, InputTooLong}
 use Rattle.log_intake.specs.declared.stop.LogStop.{LogStop}
@@ -13,12 +13,12 @@ use Rattle.log_intake.specs.declared.stop.LogStop.TheVariants as stop
 use Rattle.log_intake.specs.Batches.{Gathers, TakesSome, line_values}
 use Rattle.log_intake.specs.Kept.{AreBefore}
 use Rattle.log_intake.specs.Log.{IsLogRead, TakesLines, log_state}
-use Rattle.log_intake.specs.Admitting.{AllAdmitted}
+use Rattle.log_intake.specs.Keeping.{AreLinesKept}
 use Rattle.log_intake.specs.Taking.{IsRefusal, ReadsLog, RefusesNothing}
 use Rattle.log_intake.proofs.LogFacts.{HasReadLog, batch_ended, batch_line_long, batch_past, batch_read, batch_refused, log_events, takes_batch, takes_ended, takes_failed, takes_nothing, takes_some}
 
-pub admitted_as : (slice lines : List Line) (place place' : Place) (kept kept' : List Event) → slice ≡ lines → AllAdmitted slice place place' kept kept' → AllAdmitted lines place place' kept kept'
-admitted_as slice lines place place' kept kept' is all = subst (λ l. AllAdmitted l place place' kept kept') is all
+pub kept_as : (slice lines : List Line) (place place' : Place) (kept kept' : List Event) → slice ≡ lines → AreLinesKept slice place place' kept kept' → AreLinesKept lines place place' kept kept'
+kept_as slice lines place place' kept kept' is all = subst (λ l. AreLinesKept l place place' kept kept') is all
 
 -- before any read
 pub reads_nothing : (old : Option (List ℕ)) (faults : ℕ) → ReadsLog old old faults faults (Err stop.OutOfMemory)
@@ -65,10 +65,10 @@ reads_refused end old middle now faults faults' r b kept place lines slice befor
 
 -- the input ended
 pub reads_ended : (end : BatchEnd) (old middle now : Option (List ℕ)) (faults faults' : ℕ) (r b : Reading) (kept kept' events : List Event) (place place' : Place) (lines slice : List Line) (before taken : ℕ) → end ≡ Ended → HasReadLog old middle r kept place before → Gathers end middle now r b (line_values lines) before taken 1376256
-    → slice ≡ lines → AllAdmitted slice place place' kept kept' → events ≡ kept' → AreKept events → faults ≤ faults' → ReadsLog old now faults faults' (Ok events)
-reads_ended end old middle now faults faults' r b kept kept' events place place' lines slice before taken ended s g is admitted finished are counted =
+    → slice ≡ lines → AreLinesKept slice place place' kept kept' → events ≡ kept' → AreKept events → faults ≤ faults' → ReadsLog old now faults faults' (Ok events)
+reads_ended end old middle now faults faults' r b kept kept' events place place' lines slice before taken ended s g is keeping finished are counted =
     let at_end : Gathers Ended middle now r b (line_values lines) before taken 1376256 = subst (λ e. Gathers e middle now r b (line_values lines) before taken 1376256) ended g in
-    let a = admitted_as slice lines place place' kept kept' is admitted in
+    let a = kept_as slice lines place place' kept kept' is keeping in
     record {
       answers = λ bytes told. subst (λ l. IsLogRead bytes (Ok l)) (sym finished) (batch_ended old middle now r b kept kept' place place' (line_values lines) before taken bytes s at_end a.takes told);
       sound = log_events Ended old middle now r b kept events place place' (line_values lines) before taken s at_end a.line a.extra (subst (AreBefore (place'.line + place'.extra + 1)) (sym finished) a.before) are;
@@ -80,23 +80,23 @@ reads_ended end old middle now faults faults' r b kept kept' events place place'
 
 -- a read failed
 pub reads_failed : (end : BatchEnd) (old middle now : Option (List ℕ)) (faults faults' : ℕ) (r b : Reading) (kept kept' : List Event) (place place' : Place) (lines slice : List Line) (before taken : ℕ) → end ≡ Failed → HasReadLog old middle r kept place before → Gathers end middle now r b (line_values lines) before taken 1376256
-    → slice ≡ lines → AllAdmitted slice place place' kept kept' → faults ≤ faults' → Rose faults faults' → ReadsLog old now faults faults' (Err stop.ReadFault)
-reads_failed end old middle now faults faults' r b kept kept' place place' lines slice before taken failed s g is admitted counted rose = record {
+    → slice ≡ lines → AreLinesKept slice place place' kept kept' → faults ≤ faults' → Rose faults faults' → ReadsLog old now faults faults' (Err stop.ReadFault)
+reads_failed end old middle now faults faults' r b kept kept' place place' lines slice before taken failed s g is keeping counted rose = record {
   answers = λ bytes told refusal. absurd refusal;
   sound = tt;
   whole = tt;
   fault = λ _. rose;
   counted = counted;
-  taken = takes_failed old middle now r b kept kept' place place' (line_values lines) before taken _ s (subst (λ e. Gathers e middle now r b (line_values lines) before taken 1376256) failed g) (admitted_as slice lines place place' kept kept' is admitted).takes;
+  taken = takes_failed old middle now r b kept kept' place place' (line_values lines) before taken _ s (subst (λ e. Gathers e middle now r b (line_values lines) before taken 1376256) failed g) (kept_as slice lines place place' kept kept' is keeping).takes;
 }
 
 -- a line is too long
 pub reads_long : (end : BatchEnd) (old middle now : Option (List ℕ)) (faults faults' : ℕ) (r b : Reading) (kept kept' : List Event) (place place' : Place) (lines slice : List Line) (before taken : ℕ) → end ≡ LineTooLong → HasReadLog old middle r kept place before → Gathers end middle now r b (line_values lines) before taken 1376256
-    → slice ≡ lines → AllAdmitted slice place place' kept kept' → faults ≤ faults' → ReadsLog old now faults faults' (Err stop.LineTooLong)
-reads_long end old middle now faults faults' r b kept kept' place place' lines slice before taken long s g is admitted counted =
+    → slice ≡ lines → AreLinesKept slice place place' kept kept' → faults ≤ faults' → ReadsLog old now faults faults' (Err stop.LineTooLong)
+reads_long end old middle now faults faults' r b kept kept' place place' lines slice before taken long s g is keeping counted =
     let here : Gathers LineTooLong middle now r b (line_values lines) before taken 1376256 = subst (λ e. Gathers e middle now r b (line_values lines) before taken 1376256) long g in
     record {
-      answers = λ bytes told refusal. batch_line_long old middle now r b kept kept' place place' (line_values lines) before taken bytes s here (admitted_as slice lines place place' kept kept' is admitted).takes told;
+      answers = λ bytes told refusal. batch_line_long old middle now r b kept kept' place place' (line_values lines) before taken bytes s here (kept_as slice lines place place' kept kept' is keeping).takes told;
       sound = tt;
       whole = tt;
       fault = λ same. absurd cc;
@@ -106,11 +106,11 @@ reads_long end old middle now faults faults' r b kept kept' place place' lines s
 
 -- the input is too long
 pub reads_past : (end : BatchEnd) (old middle now : Option (List ℕ)) (faults faults' : ℕ) (r b : Reading) (kept kept' : List Event) (place place' : Place) (lines slice : List Line) (before taken : ℕ) → end ≡ InputTooLong → HasReadLog old middle r kept place before → Gathers end middle now r b (line_values lines) before taken 1376256
-    → slice ≡ lines → AllAdmitted slice place place' kept kept' → faults ≤ faults' → ReadsLog old now faults faults' (Err stop.TooLong)
-reads_past end old middle now faults faults' r b kept kept' place place' lines slice before taken long s g is admitted counted =
+    → slice ≡ lines → AreLinesKept slice place place' kept kept' → faults ≤ faults' → ReadsLog old now faults faults' (Err stop.TooLong)
+reads_past end old middle now faults faults' r b kept kept' place place' lines slice before taken long s g is keeping counted =
     let here : Gathers InputTooLong middle now r b (line_values lines) before taken 1376256 = subst (λ e. Gathers e middle now r b (line_values lines) before taken 1376256) long g in
     record {
-      answers = λ bytes told refusal. batch_past old middle now r b kept kept' place place' (line_values lines) before taken bytes s here (admitted_as slice lines place place' kept kept' is admitted).takes told;
+      answers = λ bytes told refusal. batch_past old middle now r b kept kept' place place' (line_values lines) before taken bytes s here (kept_as slice lines place place' kept kept' is keeping).takes told;
       sound = tt;
       whole = tt;
       fault = λ same. absurd cc;
@@ -120,7 +120,7 @@ reads_past end old middle now faults faults' r b kept kept' place place' lines s
 
 -- the log goes on
 pub reads_on : (end : BatchEnd) (old middle now : Option (List ℕ)) (r b : Reading) (kept kept' : List Event) (place place' : Place) (lines slice : List Line) (before taken : ℕ) → end ≡ GoesOn → HasReadLog old middle r kept place before → Gathers end middle now r b (line_values lines) before taken 1376256
-    → slice ≡ lines → AllAdmitted slice place place' kept kept' → HasReadLog old now b kept' place' taken
-reads_on end old middle now r b kept kept' place place' lines slice before taken on s g is admitted =
-    let a = admitted_as slice lines place place' kept kept' is admitted in
+    → slice ≡ lines → AreLinesKept slice place place' kept kept' → HasReadLog old now b kept' place' taken
+reads_on end old middle now r b kept kept' place place' lines slice before taken on s g is keeping =
+    let a = kept_as slice lines place place' kept kept' is keeping in
     batch_read old middle now r b kept kept' place place' (line_values lines) before taken s (subst (λ e. Gathers e middle now r b (line_values lines) before taken 1376256) on g) a.takes a.line a.extra a.before

@@ -1,9 +1,9 @@
-pub mod AdmitFacts
 pub mod AheadFacts
 pub mod AnswerFacts
 pub mod BatchFacts
 pub mod CheckpointFacts
 pub mod EventFacts
+pub mod KeepFacts
 pub mod LineFacts
 pub mod LogFacts
 pub mod NumberFacts

@@ -1,4 +1,4 @@
--- How far the lines of a batch were admitted.
+-- How far the lines of a batch were kept.
 use Rattle.std.proofs.Common.{◌≡◌, ℕ, ◌+◌, ◌-◌, ◌<◌, ◌≤◌, List, [], ◌∷◌, ◌++◌, length, get_or, Ok, Err, refl, sym, ◌∙◌, ap, subst, arith, length-append, append_assoc}
 use Rattle.std.specs.List.{AllZip}
 use Rattle.std.proofs.lemmas.List.{append-nil, map-append, get_or_at}
@@ -9,20 +9,20 @@ use Rattle.line_reader.proofs.LineFacts.{All-head, All-tail}
 use Rattle.audit_event.specs.declared.event.Event.{Event}
 use Rattle.batch_decode.specs.declared.decoded.Decoded.{Decoded}
 use Rattle.batch_decode.specs.Batches.{IsDecodedLine}
-use Rattle.log_intake.specs.declared.admitting.Place.{Place}
+use Rattle.log_intake.specs.declared.keeping.Place.{Place}
 use Rattle.log_intake.specs.declared.stop.LogStop.{LogStop}
 use Rattle.log_intake.specs.declared.stop.LogStop.TheVariants.{ReadFault}
 use Rattle.log_intake.specs.Batches.{AreShort, line_values}
 use Rattle.log_intake.specs.Kept.{AreBefore}
 use Rattle.log_intake.specs.Log.{TakesLine, TakesLines, log_state}
 use Rattle.log_intake.specs.Numbering.{AreOrdered, last_number, most_extra, most_items}
-use Rattle.log_intake.specs.Admitting.{AdmitsLines, AllAdmitted}
+use Rattle.log_intake.specs.Keeping.{KeepsLines, AreLinesKept}
 use Rattle.log_intake.specs.Taking.{IsRefusal}
 use Rattle.log_intake.proofs.NumberFacts.{last_number-append, most_extra-append, ordered_less}
 use Rattle.log_intake.proofs.StepFacts.{in_order_push, in_order_stopped}
 
--- the lines before these were admitted
-pub record HasAdmitted (lines : List Line) (rest : List Decoded) (place place' : Place) (kept kept' : List Event) (at : ℕ) : Type 0 where
+-- the lines before these were kept
+pub record HasKept (lines : List Line) (rest : List Decoded) (place place' : Place) (kept kept' : List Event) (at : ℕ) : Type 0 where
   pub front : List Line
   pub back : List Line
   pub all : lines ≡ front ++ back
@@ -35,9 +35,9 @@ pub record HasAdmitted (lines : List Line) (rest : List Decoded) (place place' :
   pub extra : place'.extra ≤ most_extra place.extra (line_values front)
   pub before : AreBefore (place'.line + place'.extra + 1) kept'
 
-pub none_admitted : (lines : List Line) (rest decoded : List Decoded) (place : Place) (kept : List Event) → rest ≡ decoded → AllZip IsDecodedLine lines decoded → AreShort (line_values lines)
-    → AreOrdered place.line place.extra (line_values lines) → AreBefore (place.line + place.extra + 1) kept → HasAdmitted lines rest place place kept kept 0
-none_admitted lines rest decoded place kept is zip short ordered before = record {
+pub none_kept : (lines : List Line) (rest decoded : List Decoded) (place : Place) (kept : List Event) → rest ≡ decoded → AllZip IsDecodedLine lines decoded → AreShort (line_values lines)
+    → AreOrdered place.line place.extra (line_values lines) → AreBefore (place.line + place.extra + 1) kept → HasKept lines rest place place kept kept 0
+none_kept lines rest decoded place kept is zip short ordered before = record {
   front = [];
   back = lines;
   all = refl;
@@ -84,18 +84,18 @@ stands lines front (line ∷ others) decoded more at place all count zip short o
   ordered = ordered.2;
 }
 
-pub stands_next : (lines : List Line) (rest more : List Decoded) (decoded : Decoded) (place place' : Place) (kept kept' : List Event) (at : ℕ) → (h : HasAdmitted lines rest place place' kept kept' at) → rest ≡ decoded ∷ more → StandsNext lines h.front h.back decoded more at place'
+pub stands_next : (lines : List Line) (rest more : List Decoded) (decoded : Decoded) (place place' : Place) (kept kept' : List Event) (at : ℕ) → (h : HasKept lines rest place place' kept kept' at) → rest ≡ decoded ∷ more → StandsNext lines h.front h.back decoded more at place'
 stands_next lines rest more decoded place place' kept kept' at h is =
     stands lines h.front h.back decoded more at place' h.all h.count (subst (AllZip IsDecodedLine h.back) is h.decoded) h.short h.ordered
 
 values_push : (front : List Line) (line : Line) → line_values (front ++ line ∷ []) ≡ line_values front ++ line_value line ∷ []
 values_push front line = map-append line_value front (line ∷ [])
 
--- the next line is admitted
-pub line_admitted : (lines : List Line) (rest more : List Decoded) (decoded : Decoded) (place place' place'' : Place) (kept kept' kept'' : List Event) (at : ℕ) (line : Line) → (h : HasAdmitted lines rest place place' kept kept' at) → (s : StandsNext lines h.front h.back decoded more at place') → line ≡ s.line
+-- the next line is kept
+pub line_kept : (lines : List Line) (rest more : List Decoded) (decoded : Decoded) (place place' place'' : Place) (kept kept' kept'' : List Event) (at : ℕ) (line : Line) → (h : HasKept lines rest place place' kept kept' at) → (s : StandsNext lines h.front h.back decoded more at place') → line ≡ s.line
     → TakesLine (log_state place'.extra kept') (line_value line) (Ok (log_state place''.extra kept'')) → place''.line ≡ line.number → place''.extra ≤ place'.extra + (most_items line.bytes - 1) → AreBefore (place''.line + place''.extra + 1) kept''
-    → HasAdmitted lines more place place'' kept kept'' (at + 1)
-line_admitted lines rest more decoded place place' place'' kept kept' kept'' at line h s is step number extra before =
+    → HasKept lines more place place'' kept kept'' (at + 1)
+line_kept lines rest more decoded place place' place'' kept kept' kept'' at line h s is step number extra before =
     let grown = h.extra in
     let bound : place''.extra ≤ place'.extra + (most_items s.line.bytes - 1) = subst (λ (l : Line). place''.extra ≤ place'.extra + (most_items l.bytes - 1)) is extra in
     let numbered : place''.line ≡ s.line.number = subst (λ (l : Line). place''.line ≡ l.number) is number in
@@ -119,7 +119,7 @@ line_admitted lines rest more decoded place place' place'' kept kept' kept'' at 
     }
 
 -- the next line is refused, whatever comes behind it
-pub line_refused : (lines : List Line) (rest more : List Decoded) (decoded : Decoded) (place place' : Place) (kept kept' : List Event) (at : ℕ) (line : Line) (stop : LogStop) → (h : HasAdmitted lines rest place place' kept kept' at) → (s : StandsNext lines h.front h.back decoded more at place') → line ≡ s.line
+pub line_refused : (lines : List Line) (rest more : List Decoded) (decoded : Decoded) (place place' : Place) (kept kept' : List Event) (at : ℕ) (line : Line) (stop : LogStop) → (h : HasKept lines rest place place' kept kept' at) → (s : StandsNext lines h.front h.back decoded more at place') → line ≡ s.line
     → TakesLine (log_state place'.extra kept') (line_value line) (Err stop) → TakesLines (log_state place.extra kept) (line_values lines) (Err stop)
 line_refused lines rest more decoded place place' kept kept' at line stop h s is step =
     let cut : line_values lines ≡ line_values h.front ++ line_value s.line ∷ line_values s.others =
@@ -133,8 +133,8 @@ nothing_back [] rest none zip = refl
 nothing_back (line ∷ back) [] none zip = absurd zip
 nothing_back (line ∷ back) (decoded ∷ rest) none zip = absurd (omega (arith, none))
 
-pub all_admitted : (lines : List Line) (rest : List Decoded) (place place' : Place) (kept kept' : List Event) (at : ℕ) → HasAdmitted lines rest place place' kept kept' at → length rest ≡ 0 → AllAdmitted lines place place' kept kept'
-all_admitted lines rest place place' kept kept' at h none =
+pub lines_kept : (lines : List Line) (rest : List Decoded) (place place' : Place) (kept kept' : List Event) (at : ℕ) → HasKept lines rest place place' kept kept' at → length rest ≡ 0 → AreLinesKept lines place place' kept kept'
+lines_kept lines rest place place' kept kept' at h none =
     let whole : h.front ≡ lines = sym (h.all ∙ ap (λ b. h.front ++ b) (nothing_back h.back rest none h.decoded) ∙ append-nil h.front) in
     record {
       takes = subst (λ l. TakesLines (log_state place.extra kept) (line_values l) (Ok (log_state place'.extra kept'))) whole h.takes;
@@ -143,16 +143,16 @@ all_admitted lines rest place place' kept kept' at h none =
       before = h.before;
     }
 
-pub admits_all : (lines : List Line) (place place' : Place) (kept kept' : List Event) → AllAdmitted lines place place' kept kept' → AdmitsLines lines place kept kept' (Ok place')
-admits_all lines place place' kept kept' all = record {
+pub keeps_all : (lines : List Line) (place place' : Place) (kept kept' : List Event) → AreLinesKept lines place place' kept kept' → KeepsLines lines place kept kept' (Ok place')
+keeps_all lines place place' kept kept' all = record {
   all = all;
   refused = tt;
   no_fault = λ is. absurd (let no : Ok place' ≡ Err ReadFault = is in cc);
 }
 
-pub admits_refused : (lines : List Line) (place : Place) (kept kept' : List Event) (stop : LogStop) → (IsRefusal stop → TakesLines (log_state place.extra kept) (line_values lines) (Err stop)) → (stop ≡ ReadFault → ⊥)
-    → AdmitsLines lines place kept kept' (Err stop)
-admits_refused lines place kept kept' stop refused fault = record {
+pub keeps_refused : (lines : List Line) (place : Place) (kept kept' : List Event) (stop : LogStop) → (IsRefusal stop → TakesLines (log_state place.extra kept) (line_values lines) (Err stop)) → (stop ≡ ReadFault → ⊥)
+    → KeepsLines lines place kept kept' (Err stop)
+keeps_refused lines place kept kept' stop refused fault = record {
   all = tt;
   refused = refused;
   no_fault = λ is. fault (let same : stop ≡ ReadFault = (let e : Err stop ≡ Err ReadFault = is in cc) in same);

@@ -7,7 +7,7 @@ use Rattle.audit_event.specs.Keeping.{AreKept}
 use Rattle.line_reader.specs.declared.line.Line.{Line}
 use Rattle.line_reader.specs.Lines.{NumberedLine, lines_of, lines_from}
 use Rattle.line_reader.specs.Reading.{Reading, Continues, new_reading}
-use Rattle.log_intake.specs.declared.admitting.Place.{Place}
+use Rattle.log_intake.specs.declared.keeping.Place.{Place}
 use Rattle.log_intake.specs.declared.batch.BatchEnd.{BatchEnd}
 use Rattle.log_intake.specs.declared.batch.BatchEnd.TheVariants.{GoesOn, Ended, Failed, LineTooLong, InputTooLong}
 use Rattle.log_intake.specs.declared.stop.LogStop.{LogStop}
@@ -16,7 +16,7 @@ use Rattle.log_intake.specs.Batches.{EndsBatch, Gathers, HoldsOpen, TakesSome, f
 use Rattle.log_intake.specs.Kept.{AreBefore, AreLogEvents}
 use Rattle.log_intake.specs.Log.{IsLogRead, TakesLine, TakesLines, log_state, nothing_read}
 use Rattle.log_intake.specs.Numbering.{AreOrdered, last_number, most_extra}
-use Rattle.log_intake.specs.Admitting.{AreNext}
+use Rattle.log_intake.specs.Keeping.{AreNext}
 use Rattle.edge_io.specs.Whole.{HasTaken}
 use Rattle.log_intake.specs.Taking.{HoldsNoRefusal, TakesLog}
 use Rattle.log_intake.proofs.BatchFacts.{continues_then, waiting}
@@ -25,7 +25,7 @@ use Rattle.log_intake.proofs.ReadFacts.{front_holds, given_refuse, limit_is, log
 use Rattle.log_intake.proofs.StepFacts.{in_order_then}
 use Rattle.edge_io.proofs.TakenFacts.{taken_all, taken_as, taken_nothing, taken_then}
 
--- `front` was taken and admitted
+-- `front` was taken and kept
 pub record HasReadLog (old now : Option (List ℕ)) (reader : Reading) (kept : List Event) (place : Place) (taken : ℕ) : Type 0 where
   pub front : List ℕ
   pub long : length front ≡ taken
@@ -229,7 +229,7 @@ takes_batch end old middle now r b kept place given before taken failed s g fine
       front = s.front;
       batch = g.fed ++ g.past;
       taken = taken_then old middle now s.front (g.fed ++ g.past) s.told g.told;
-      admitted = front_so_far old middle r kept place before s;
+      kept = front_so_far old middle r kept place before s;
       short = (let few = g.few in omega (arith, few));
       within = rw (← limit_is) (omega (arith, sum, sum', long, counted, w, piece));
       blameless = fine;
@@ -265,7 +265,7 @@ takes_some old middle now r kept place before failed s g fine =
       front = s.front;
       batch = g.taken;
       taken = taken_then old middle now s.front g.taken s.told g.told;
-      admitted = front_so_far old middle r kept place before s;
+      kept = front_so_far old middle r kept place before s;
       short = g.few;
       within = rw (← limit_is) (omega (arith, sum, long, w));
       blameless = λ no. absurd (fine no);
@@ -279,7 +279,7 @@ takes_nothing old failed =
       front = [];
       batch = [];
       taken = taken_nothing old;
-      admitted = holds;
+      kept = holds;
       short = omega arith;
       within = rw (← limit_is) (omega arith);
       blameless = λ _. holds;
@@ -309,7 +309,7 @@ log_events end old middle now r b kept events place place' given before taken s 
       few = are.few;
     }
 
--- what the admission of a batch may rest on, whose lines are those of a slice
+-- what the keeping of a batch may rest on, whose lines are those of a slice
 pub batch_next : (end : BatchEnd) (old middle now : Option (List ℕ)) (r b : Reading) (kept : List Event) (place : Place) (lines slice : List Line) (before taken : ℕ) → HasReadLog old middle r kept place before → Gathers end middle now r b (line_values lines) before taken 1376256 → slice ≡ lines → AreNext slice place kept
 batch_next end old middle now r b kept place lines slice before taken s g is =
     subst (λ l. AreNext l place kept) (sym is) record { short = g.short; ordered = batch_ordered end old middle now r b kept place (line_values lines) before taken s g; before = s.before }

@@ -1,5 +1,5 @@
-pub mod Admitting
 pub mod Batches
+pub mod Keeping
 pub mod Kept
 pub mod Log
 pub mod Numbering

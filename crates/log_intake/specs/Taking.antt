@@ -50,7 +50,7 @@ pub record TakesLog (old now : Option (List ℕ)) (fine : Type 0) : Type 0 where
   pub front : List ℕ
   pub batch : List ℕ
   pub taken : HasTaken old now (front ++ batch)
-  pub admitted : HoldsNoRefusal front
+  pub kept : HoldsNoRefusal front
   pub short : length batch ≤ most_batch
   pub within : length (front ++ batch) ≤ most_input + 65536
   pub blameless : fine → HoldsNoRefusal (front ++ batch)

@@ -13,7 +13,7 @@ use std::alloc::Global;
 const MOST_INPUT: usize = 1_099_511_627_776;
 
 /// A batch ends where so many bytes were taken: 20 pieces. So it has less than 21, and three batches, of which one is
-/// admitted, one decoded and one gathered, less than 63.
+/// kept, one decoded and one gathered, less than 63.
 const BATCH: usize = 1_310_720;
 
 /// How the bytes of a batch end.

@@ -2,8 +2,8 @@
 //! decode at once.
 #![tactic(auto)]
 
-mod admitting;
 mod batch;
+mod keeping;
 mod law;
 mod log;
 mod setup;

@@ -3,12 +3,12 @@ ghost use Rattle.std.specs.Prelude.{length};
 ghost use Rattle.std.specs.List.{AllZip};
 ghost use Rattle.audit_event.specs.Keeping.{AreKept};
 ghost use Rattle.batch_decode.specs.Batches.{IsDecodedLine};
-ghost use Rattle.log_intake.specs.Admitting.{AdmitsAndDecodes, AreNext};
 ghost use Rattle.log_intake.specs.Batches.{GathersBatch, HoldsOpen, MayGather};
+ghost use Rattle.log_intake.specs.Keeping.{AreNext, KeepsAndDecodes};
 ghost use Rattle.log_intake.specs.Taking.{ReadsLog};
 
-use crate::admitting::{DecodedBatch, Place, admit_and_decode, admit_rest, both};
 use crate::batch::{Batch, gather};
+use crate::keeping::{DecodedBatch, Place, both, keep_and_decode, keep_rest};
 use crate::stop::LogStop;
 use audit_event::{Events, Seen};
 use base_types::OutOfMemory;
@@ -21,7 +21,7 @@ use std::alloc::Global;
 use std::marker::Sync;
 use std::thread::{Threads, join_mut};
 
-// How far a log was advanced: one batch was admitted, the next one decoded, and the one behind that gathered.
+// How far a log was advanced: one batch was kept, the next one decoded, and the one behind that gathered.
 #[derive(Drop)]
 struct Advanced {
     place: Place,
@@ -30,7 +30,7 @@ struct Advanced {
 }
 
 /// Reads the events of a log from a desk, by name, in batches of lines. Several threads decode a batch; each line's
-/// index in it enters the gate before the line is decoded. While the events of one batch are admitted, the next one is
+/// index in it enters the gate before the line is decoded. While the events of one batch are kept, the next one is
 /// decoded, and the one behind that is taken from the desk. A batch that is refused is refused whatever the desk met
 /// behind it, a failed read say. The hashes of audit IDs begin with the seed.
 pub fn read_log<R: Threads + Sync, D: Desk, G: Gate>(
@@ -60,7 +60,7 @@ pub fn read_log<R: Threads + Sync, D: Desk, G: Gate>(
     }
 }
 
-// Admits the events of a log, of which none is kept yet, batch by batch.
+// Keeps the events of a log, of which none is kept yet, batch by batch.
 #[tactic(auto, using(crate::proofs::LogFacts::nothing_read_from))]
 fn read_batches<R: Threads + Sync, D: Desk, G: Gate>(
     rt: &R,
@@ -97,7 +97,7 @@ fn read_batches<R: Threads + Sync, D: Desk, G: Gate>(
         decoded: DecodedList::new(alloc),
     };
     'batches: while next.end.goes_on() {
-        let (admitted, decoded, gathered) = advance(
+        let (kept, decoded, gathered) = advance(
             rt,
             alloc,
             &next,
@@ -110,7 +110,7 @@ fn read_batches<R: Threads + Sync, D: Desk, G: Gate>(
             &mut reader,
             buffer,
         );
-        match all_three(admitted, decoded, gathered) {
+        match all_three(kept, decoded, gathered) {
             Ok(after) => {
                 place = after.place;
                 front = DecodedBatch {
@@ -123,13 +123,13 @@ fn read_batches<R: Threads + Sync, D: Desk, G: Gate>(
         }
     }
     let last = next.lines.as_slice();
-    match admit_rest(rt, alloc, last, gate, place, &mut front, seen) {
+    match keep_rest(rt, alloc, last, gate, place, &mut front, seen) {
         Ok(_) => next.end.answer(),
         Err(stop) => Err(stop),
     }
 }
 
-// Admits the events of the batch in front and decodes the next one, while this thread takes the one behind that from
+// Keeps the events of the batch in front and decodes the next one, while this thread takes the one behind that from
 // the desk.
 fn advance<R: Threads + Sync, D: Desk, G: Gate>(
     rt: &R,
@@ -152,20 +152,20 @@ fn advance<R: Threads + Sync, D: Desk, G: Gate>(
     requires decoded { AllZip IsDecodedLine front.old.lines.items front.old.decoded }
     requires ready { AreNext front.old.lines.items place seen.old }
     requires may_gather { MayGather buffer.old next.now.taken reader.old }
-    ensures admits { AdmitsAndDecodes front.old.lines.items next.now.lines.items place seen.old
+    ensures keeps { KeepsAndDecodes front.old.lines.items next.now.lines.items place seen.old
         seen.new result.0 result.1 }
     ensures gathers { GathersBatch (D.left desk.old) (D.left desk.new) name.now (D.faults desk.old)
         (D.faults desk.new) reader.old reader.new next.now.taken result.2 }
 {
     let lines = next.lines.as_slice();
     let taken = next.taken;
-    let mut admit = || -> (Result<Place, LogStop>, Result<DecodedList, OutOfMemory>)
+    let mut keep = || -> (Result<Place, LogStop>, Result<DecodedList, OutOfMemory>)
         requires few { length lines.now < 2 ^ 32 }
         requires decoded { AllZip IsDecodedLine front.now.lines.items front.now.decoded }
         requires ready { AreNext front.now.lines.items place seen.now }
-        ensures { AdmitsAndDecodes front.entry.now.lines.items lines.entry.now place
+        ensures { KeepsAndDecodes front.entry.now.lines.items lines.entry.now place
             seen.entry.now seen.exit.now result.0 result.1 }
-    { admit_and_decode(rt, alloc, lines, gate, place, front, seen) };
+    { keep_and_decode(rt, alloc, lines, gate, place, front, seen) };
     let mut gather_next = || -> Result<Batch, OutOfMemory>
         requires some { 0 < length buffer.now }
         requires piece { length buffer.now ≤ 65536 }
@@ -175,22 +175,22 @@ fn advance<R: Threads + Sync, D: Desk, G: Gate>(
             (D.faults desk.entry.now) (D.faults desk.exit.now) reader.entry.now reader.exit.now
             taken result }
     { gather(alloc, desk, name, reader, taken, buffer) };
-    let ((admitted, decoded), gathered) = join_mut(rt, &mut admit, &mut gather_next);
-    (admitted, decoded, gathered)
+    let ((kept, decoded), gathered) = join_mut(rt, &mut keep, &mut gather_next);
+    (kept, decoded, gathered)
 }
 
-// What goes on behind a batch that was admitted. A refusal in it comes before want of memory for those behind it.
+// What goes on behind a batch that was kept. A refusal in it comes before want of memory for those behind it.
 fn all_three(
-    admitted: Result<Place, LogStop>,
+    kept: Result<Place, LogStop>,
     decoded: Result<DecodedList, OutOfMemory>,
     gathered: Result<Batch, OutOfMemory>,
 ) -> Result<Advanced, LogStop>
-    ensures ok { IfOk result (λ after. (admitted ≡ Ok after.place) × (decoded ≡ Ok after.decoded)
+    ensures ok { IfOk result (λ after. (kept ≡ Ok after.place) × (decoded ≡ Ok after.decoded)
         × (gathered ≡ Ok after.gathered)) }
-    ensures err { IfErr result (λ stop. (admitted ≡ Err stop)
-        ⊎ (IsOk admitted × (IsErr decoded ⊎ IsErr gathered) × (stop ≡ LogStop.OutOfMemory))) }
+    ensures err { IfErr result (λ stop. (kept ≡ Err stop)
+        ⊎ (IsOk kept × (IsErr decoded ⊎ IsErr gathered) × (stop ≡ LogStop.OutOfMemory))) }
 {
-    let step = match both(admitted, decoded) {
+    let step = match both(kept, decoded) {
         Ok(step) => step,
         Err(stop) => {
             drop(gathered);

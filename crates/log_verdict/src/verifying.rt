@@ -66,9 +66,8 @@ fn verified_of<D: Desk>(
     ensures whole { IfOk result (λ verified. (setup log : Option (List ℕ))
         → IsReadFor told.now setup log → IsReadToVerify verified setup log
         (D.left desk.old placement.now) (D.left desk.new placement.now)) }
-    ensures fault { IsErrOf result Stop.ReadFault
-        → IsOfContext told.now × Rose (D.faults desk.old) (D.faults desk.new) }
-    ensures counted { D.faults desk.old ≤ D.faults desk.new }
+    ensures faults { (D.faults desk.old ≤ D.faults desk.new) × (IsErrOf result Stop.ReadFault
+        → IsOfContext told.now × Rose (D.faults desk.old) (D.faults desk.new)) }
     ensures taken { TakesWhole most_placement (D.left desk.old placement.now)
         (D.left desk.new placement.now) (IsErrOf result Stop.ReadFault) }
     ensures left { (IsOfContext told.now → ⊥)

@@ -1,4 +1,5 @@
-//! The past of each object: its versions with their makers, cut into incarnations, and the removals that ended these.
+//! Builds the past of each object that a log shows: its versions with their makers, cut into incarnations, and the
+//! removals that ended these.
 #![tactic(auto)]
 
 mod bodies;

@@ -1,8 +1,6 @@
 use Rattle.history_model.proofs.Worked.Conflicts
 use Rattle.history_model.proofs.Worked.HiddenWrite
-use Rattle.history_model.proofs.Worked.OneRemoval
 use Rattle.history_model.proofs.Worked.OutOfTurn
-use Rattle.history_model.proofs.Worked.RemovalWithoutPlace
 use Rattle.history_model.proofs.Worked.SeenBeforeMade
 use Rattle.history_model.proofs.Worked.UnchangedUpdate
 use Rattle.history_model.proofs.examples.unexplained_examples.Goals as goal
@@ -12,12 +10,6 @@ returns-clause-seen_before_made c = (SeenBeforeMade.readable_seen_before_made, S
 
 pub returns-clause-second_update : goal.returns-clause-second_update
 returns-clause-second_update c = (UnchangedUpdate.readable_second_update, UnchangedUpdate.second)
-
-pub returns-clause-one_removal : goal.returns-clause-one_removal
-returns-clause-one_removal c = (OneRemoval.readable_one_removal, OneRemoval.outcome)
-
-pub returns-clause-removal_without_place : goal.returns-clause-removal_without_place
-returns-clause-removal_without_place c = (RemovalWithoutPlace.readable_removal_without_place, RemovalWithoutPlace.outcome)
 
 pub returns-clause-conflict : goal.returns-clause-conflict
 returns-clause-conflict c = (Conflicts.readable_conflict, Conflicts.refused_outcome)

@@ -21,17 +21,17 @@ batches-init g c = record {
   others = c.in-Ok-gather.ensures.others;
 }
 
-pub advance-admitted-requires-clause-few : goal.advance-admitted-requires-clause-few
-advance-admitted-requires-clause-few g c κs _ = decoded_few _ _ _ _ c.batches.reader c.batches.seen c.batches.place c.batches.front c.batches.next c.batches.next.lines.items c.batches.invariant.read refl
+pub advance-kept-requires-clause-few : goal.advance-kept-requires-clause-few
+advance-kept-requires-clause-few g c κs _ = decoded_few _ _ _ _ c.batches.reader c.batches.seen c.batches.place c.batches.front c.batches.next c.batches.next.lines.items c.batches.invariant.read refl
 
-pub advance-admitted-requires-clause-decoded : goal.advance-admitted-requires-clause-decoded
-advance-admitted-requires-clause-decoded g c κs _ = c.batches.invariant.read.decodes
+pub advance-kept-requires-clause-decoded : goal.advance-kept-requires-clause-decoded
+advance-kept-requires-clause-decoded g c κs _ = c.batches.invariant.read.decodes
 
-pub advance-admitted-requires-clause-ready : goal.advance-admitted-requires-clause-ready
-advance-admitted-requires-clause-ready g c κs _ = decoded_next _ _ _ _ c.batches.reader c.batches.seen c.batches.place c.batches.front c.batches.next c.batches.invariant.read
+pub advance-kept-requires-clause-ready : goal.advance-kept-requires-clause-ready
+advance-kept-requires-clause-ready g c κs _ = decoded_next _ _ _ _ c.batches.reader c.batches.seen c.batches.place c.batches.front c.batches.next c.batches.invariant.read
 
-pub advance-admitted-requires-clause-may_gather : goal.advance-admitted-requires-clause-may_gather
-advance-admitted-requires-clause-may_gather g c κs _ =
+pub advance-kept-requires-clause-may_gather : goal.advance-kept-requires-clause-may_gather
+advance-kept-requires-clause-may_gather g c κs _ =
     let long = c.batches.auto.buffer in
     let some = c.requires.some in
     let piece = c.requires.piece in
@@ -44,40 +44,40 @@ advance-admitted-requires-clause-may_gather g c κs _ =
 
 pub returns-in-Err-all_three-clause-stopped : goal.returns-in-Err-all_three-clause-stopped
 returns-in-Err-all_three-clause-stopped g c =
-    decoded_stops _ (g.D.Desk.left c.batches.desk) (g.D.Desk.left c.advance-admitted.new.desk) c.args.name.now _ _ _ c.batches.reader c.advance-admitted.new.reader c.batches.seen c.advance-admitted.new.seen c.batches.place c.batches.front c.batches.next c.batches.next.lines.items _ _ _ c.in-Err-all_three.stop
-    (c.goes_on.ensures.0 c.batches-test.true) c.batches.invariant.read c.advance-admitted.ensures.admits c.advance-admitted.ensures.gathers c.in-Err-all_three.ensures.err
+    decoded_stops _ (g.D.Desk.left c.batches.desk) (g.D.Desk.left c.advance-kept.new.desk) c.args.name.now _ _ _ c.batches.reader c.advance-kept.new.reader c.batches.seen c.advance-kept.new.seen c.batches.place c.batches.front c.batches.next c.batches.next.lines.items _ _ _ c.in-Err-all_three.stop
+    (c.goes_on.ensures.0 c.batches-test.true) c.batches.invariant.read c.advance-kept.ensures.keeps c.advance-kept.ensures.gathers c.in-Err-all_three.ensures.err
 
 pub batches-smaller : goal.batches-smaller
 batches-smaller g c =
-    fewer_left (g.D.Desk.left c.batches.desk) (g.D.Desk.left c.advance-admitted.new.desk) c.args.name.now _ _ c.batches.reader c.advance-admitted.new.reader c.batches.next c.in-Ok-all_three.after.gathered _ (c.goes_on.ensures.0 c.batches-test.true) c.advance-admitted.ensures.gathers c.in-Ok-all_three.ensures.ok.2
+    fewer_left (g.D.Desk.left c.batches.desk) (g.D.Desk.left c.advance-kept.new.desk) c.args.name.now _ _ c.batches.reader c.advance-kept.new.reader c.batches.next c.in-Ok-all_three.after.gathered _ (c.goes_on.ensures.0 c.batches-test.true) c.advance-kept.ensures.gathers c.in-Ok-all_three.ensures.ok.2
 
 pub batches-preserved : goal.batches-preserved
 batches-preserved g c = record {
-  read = decoded_on _ (g.D.Desk.left c.batches.desk) (g.D.Desk.left c.advance-admitted.new.desk) c.args.name.now _ _ _ c.batches.reader c.advance-admitted.new.reader c.batches.seen c.advance-admitted.new.seen c.batches.place c.in-Ok-all_three.after.place c.batches.front record { lines = c.batches.next.lines; decoded = c.in-Ok-all_three.after.decoded } c.batches.next c.in-Ok-all_three.after.gathered c.in-Ok-all_three.after.decoded _ _ _
-      (c.goes_on.ensures.0 c.batches-test.true) c.batches.invariant.read c.advance-admitted.ensures.admits c.advance-admitted.ensures.gathers refl refl c.in-Ok-all_three.ensures.ok;
-  others = λ other differs. c.advance-admitted.ensures.gathers.others other differs ∙ c.batches.invariant.others other differs;
+  read = decoded_on _ (g.D.Desk.left c.batches.desk) (g.D.Desk.left c.advance-kept.new.desk) c.args.name.now _ _ _ c.batches.reader c.advance-kept.new.reader c.batches.seen c.advance-kept.new.seen c.batches.place c.in-Ok-all_three.after.place c.batches.front record { lines = c.batches.next.lines; decoded = c.in-Ok-all_three.after.decoded } c.batches.next c.in-Ok-all_three.after.gathered c.in-Ok-all_three.after.decoded _ _ _
+      (c.goes_on.ensures.0 c.batches-test.true) c.batches.invariant.read c.advance-kept.ensures.keeps c.advance-kept.ensures.gathers refl refl c.in-Ok-all_three.ensures.ok;
+  others = λ other differs. c.advance-kept.ensures.gathers.others other differs ∙ c.batches.invariant.others other differs;
 }
 
-pub admit_rest-requires-clause-few : goal.admit_rest-requires-clause-few
-admit_rest-requires-clause-few g c κs _ = decoded_few _ _ _ _ c.batches.reader c.batches.seen c.batches.place c.batches.front c.batches.next c.as_slice-last.result.now c.batches.invariant.read c.as_slice-last.ensures.value
+pub keep_rest-requires-clause-few : goal.keep_rest-requires-clause-few
+keep_rest-requires-clause-few g c κs _ = decoded_few _ _ _ _ c.batches.reader c.batches.seen c.batches.place c.batches.front c.batches.next c.as_slice-last.result.now c.batches.invariant.read c.as_slice-last.ensures.value
 
-pub admit_rest-requires-clause-decoded : goal.admit_rest-requires-clause-decoded
-admit_rest-requires-clause-decoded g c κs _ = c.batches.invariant.read.decodes
+pub keep_rest-requires-clause-decoded : goal.keep_rest-requires-clause-decoded
+keep_rest-requires-clause-decoded g c κs _ = c.batches.invariant.read.decodes
 
-pub admit_rest-requires-clause-ready : goal.admit_rest-requires-clause-ready
-admit_rest-requires-clause-ready g c κs _ = decoded_next _ _ _ _ c.batches.reader c.batches.seen c.batches.place c.batches.front c.batches.next c.batches.invariant.read
+pub keep_rest-requires-clause-ready : goal.keep_rest-requires-clause-ready
+keep_rest-requires-clause-ready g c κs _ = decoded_next _ _ _ _ c.batches.reader c.batches.seen c.batches.place c.batches.front c.batches.next c.batches.invariant.read
 
-pub admit_rest-requires-clause-behind : goal.admit_rest-requires-clause-behind
-admit_rest-requires-clause-behind g c κs _ = decoded_behind _ _ _ _ c.batches.reader c.batches.seen c.batches.place c.batches.front c.batches.next c.as_slice-last.result.now c.batches.invariant.read c.as_slice-last.ensures.value
+pub keep_rest-requires-clause-behind : goal.keep_rest-requires-clause-behind
+keep_rest-requires-clause-behind g c κs _ = decoded_behind _ _ _ _ c.batches.reader c.batches.seen c.batches.place c.batches.front c.batches.next c.as_slice-last.result.now c.batches.invariant.read c.as_slice-last.ensures.value
 
-pub returns-in-Ok-admit_rest-clause-whole : goal.returns-in-Ok-admit_rest-clause-whole
-returns-in-Ok-admit_rest-clause-whole g c =
-    on_ok c.answer.result _ _ (λ ended are. rest_ended _ _ _ _ c.batches.reader c.batches.seen c.admit_rest.new.seen c.batches.place c.in-Ok-admit_rest.field-0 c.batches.front c.batches.next c.as_slice-last.result.now c.batches.invariant.read c.as_slice-last.ensures.value c.in-Ok-admit_rest.ensures ended are) c.answer.ensures.whole
+pub returns-in-Ok-keep_rest-clause-whole : goal.returns-in-Ok-keep_rest-clause-whole
+returns-in-Ok-keep_rest-clause-whole g c =
+    on_ok c.answer.result _ _ (λ ended are. rest_ended _ _ _ _ c.batches.reader c.batches.seen c.keep_rest.new.seen c.batches.place c.in-Ok-keep_rest.field-0 c.batches.front c.batches.next c.as_slice-last.result.now c.batches.invariant.read c.as_slice-last.ensures.value c.in-Ok-keep_rest.ensures ended are) c.answer.ensures.whole
 
-pub returns-in-Ok-admit_rest-clause-stopped : goal.returns-in-Ok-admit_rest-clause-stopped
-returns-in-Ok-admit_rest-clause-stopped g c =
-    IfErr-weaker c.answer.result _ _ (λ why at. rest_stopped _ _ _ _ c.batches.reader c.batches.seen c.admit_rest.new.seen c.batches.place c.in-Ok-admit_rest.field-0 c.batches.front c.batches.next c.as_slice-last.result.now why c.batches.invariant.read c.as_slice-last.ensures.value c.in-Ok-admit_rest.ensures at) c.answer.ensures.stopped
+pub returns-in-Ok-keep_rest-clause-stopped : goal.returns-in-Ok-keep_rest-clause-stopped
+returns-in-Ok-keep_rest-clause-stopped g c =
+    IfErr-weaker c.answer.result _ _ (λ why at. rest_stopped _ _ _ _ c.batches.reader c.batches.seen c.keep_rest.new.seen c.batches.place c.in-Ok-keep_rest.field-0 c.batches.front c.batches.next c.as_slice-last.result.now why c.batches.invariant.read c.as_slice-last.ensures.value c.in-Ok-keep_rest.ensures at) c.answer.ensures.stopped
 
 pub returns-clause-stopped : goal.returns-clause-stopped
 returns-clause-stopped g c =
-    rest_refused _ _ _ _ c.batches.reader c.batches.seen c.admit_rest.new.seen c.batches.place c.batches.front c.batches.next c.as_slice-last.result.now c.in-Err-admit_rest.stop c.batches.invariant.read c.as_slice-last.ensures.value c.in-Err-admit_rest.ensures
+    rest_refused _ _ _ _ c.batches.reader c.batches.seen c.keep_rest.new.seen c.batches.place c.batches.front c.batches.next c.as_slice-last.result.now c.in-Err-keep_rest.stop c.batches.invariant.read c.as_slice-last.ensures.value c.in-Err-keep_rest.ensures

@@ -40,10 +40,10 @@ returns-clause-reads g c =
     let same_log = behind.others c.args.log.now (λ e. c.requires.not_log (sym e)) in
     let same_told = c.deref.ensures ∙ c.new-told.ensures in
     record {
-      fault = λ is. rose_from _ _ _ reads.counted (behind.fault is).1;
-      counted = (let first = reads.counted in let second = behind.counted in omega (arith, first, second));
+      fault = λ is. rose_from _ _ _ reads.counted (behind.faults.1 is).1;
+      counted = (let first = reads.counted in let second = behind.faults.0 in omega (arith, first, second));
       taken = taken_upto c.args.setup.now c.args.log.now (g.D.Desk.left c.args.desk.now) (g.D.Desk.left c.read_context.new.desk) (g.D.Desk.left c.verified_of.new.desk) (RefusesNothing c.read_context.result) _ same_setup same_log
-          (λ is. context_nothing c.read_context.result c.in_ok-found.found c.in_ok-found.was (subst IsOfContext same_told (behind.fault is).0)) reads.taken;
+          (λ is. context_nothing c.read_context.result c.in_ok-found.found c.in_ok-found.was (subst IsOfContext same_told (behind.faults.1 is).0)) reads.taken;
       placement_taken = whole_from _ _ _ _ _ _ untouched (λ is. is) behind.taken;
       placement_left = λ s l refusal ts tl refused. behind.left (λ context. refused_told s l refusal c.in_ok-found.found refused (c.in_ok-found.ensures.told s l ts tl) (subst IsOfContext same_told context)) ∙ untouched;
       placement_after = read_last c.in_ok-found.found (g.D.Desk.left c.verified_of.new.desk c.args.setup.now) (g.D.Desk.left c.verified_of.new.desk c.args.log.now) (g.D.Desk.left c.args.desk.now c.args.placement.now) (g.D.Desk.left c.verified_of.new.desk c.args.placement.now)

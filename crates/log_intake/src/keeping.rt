@@ -2,8 +2,8 @@ ghost use Rattle.std.specs.Prelude.{◌≡◌, ◌+◌, ◌<◌, ◌≤◌, ◌�
 ghost use Rattle.std.specs.List.{AllZip};
 ghost use Rattle.audit_event.specs.Events.{IsSound};
 ghost use Rattle.batch_decode.specs.Batches.{IsDecodedLine};
-ghost use Rattle.log_intake.specs.Admitting.{AdmitsAndDecodes, AdmitsBoth, AdmitsEvent, AdmitsEvents, AdmitsLine};
-ghost use Rattle.log_intake.specs.Admitting.{AdmitsLines, AreNext, AreNextBehind, IsLineNext};
+ghost use Rattle.log_intake.specs.Keeping.{AreNext, AreNextBehind, IsLineNext, KeepsAndDecodes, KeepsBoth};
+ghost use Rattle.log_intake.specs.Keeping.{KeepsEvent, KeepsEvents, KeepsLine, KeepsLines};
 ghost use Rattle.log_intake.specs.Kept.{AreBefore};
 
 use crate::stop::LogStop;
@@ -29,14 +29,14 @@ pub struct Place {
     pub extra: u64,
 }
 
-/// The lines of a batch that were decoded, and wait to be admitted.
+/// The lines of a batch that were decoded, and wait to be kept.
 #[derive(Drop)]
 pub struct DecodedBatch {
     pub lines: Vec<Line>,
     pub decoded: DecodedList,
 }
 
-/// What goes on behind lines that were admitted.
+/// What goes on behind lines that were kept.
 #[derive(Drop)]
 pub struct Step<T> {
     pub place: Place,
@@ -44,9 +44,9 @@ pub struct Step<T> {
     pub ahead: T,
 }
 
-/// Admits the events of the batch in front, and takes its decoding, while other threads decode the lines of the next
+/// Keeps the events of the batch in front, and takes its decoding, while other threads decode the lines of the next
 /// one.
-pub fn admit_and_decode<R: Threads + Sync, G: Gate>(
+pub fn keep_and_decode<R: Threads + Sync, G: Gate>(
     rt: &R,
     alloc: Global,
     next: &[Line],
@@ -58,25 +58,25 @@ pub fn admit_and_decode<R: Threads + Sync, G: Gate>(
     requires few { length next.now < 2 ^ 32 }
     requires decoded { AllZip IsDecodedLine front.old.lines.items front.old.decoded }
     requires ready { AreNext front.old.lines.items place seen.old }
-    ensures { AdmitsAndDecodes front.old.lines.items next.now place seen.old seen.new result.0
+    ensures { KeepsAndDecodes front.old.lines.items next.now place seen.old seen.new result.0
         result.1 }
 {
     let mut decode = move || -> Result<DecodedList, OutOfMemory>
         requires { length next.now < 2 ^ 32 }
         ensures { IfOk result (AllZip IsDecodedLine next.entry.now) }
     { decode_all(rt, alloc, next, gate) };
-    let mut admit = || -> Result<Place, LogStop>
+    let mut keep = || -> Result<Place, LogStop>
         requires { AllZip IsDecodedLine front.now.lines.items front.now.decoded
             × AreNext front.now.lines.items place seen.now }
-        ensures { AdmitsLines front.entry.now.lines.items place seen.entry.now seen.exit.now
+        ensures { KeepsLines front.entry.now.lines.items place seen.entry.now seen.exit.now
             result }
-    { admit_decoded(alloc, place, front, seen) };
-    let (decoded, admitted) = join_mut(rt, &mut decode, &mut admit);
-    (admitted, decoded)
+    { keep_decoded(alloc, place, front, seen) };
+    let (decoded, kept) = join_mut(rt, &mut decode, &mut keep);
+    (kept, decoded)
 }
 
-// Admits the events of a batch that was decoded, and takes its decoding.
-fn admit_decoded(
+// Keeps the events of a batch that was decoded, and takes its decoding.
+fn keep_decoded(
     alloc: Global,
     place: Place,
     batch: &mut DecodedBatch,
@@ -84,14 +84,14 @@ fn admit_decoded(
 ) -> Result<Place, LogStop>
     requires decoded { AllZip IsDecodedLine batch.old.lines.items batch.old.decoded }
     requires next { AreNext batch.old.lines.items place seen.old }
-    ensures { AdmitsLines batch.old.lines.items place seen.old seen.new result }
+    ensures { KeepsLines batch.old.lines.items place seen.old seen.new result }
 {
     let decoded = mem::replace(&mut batch.decoded, DecodedList::new(alloc));
-    admit_lines(place, batch.lines.as_slice(), decoded, seen)
+    keep_lines(place, batch.lines.as_slice(), decoded, seen)
 }
 
-/// Admits the events of the batch in front, and then those of the last one, which is decoded meanwhile.
-pub fn admit_rest<R: Threads + Sync, G: Gate>(
+/// Keeps the events of the batch in front, and then those of the last one, which is decoded meanwhile.
+pub fn keep_rest<R: Threads + Sync, G: Gate>(
     rt: &R,
     alloc: Global,
     last: &[Line],
@@ -104,25 +104,25 @@ pub fn admit_rest<R: Threads + Sync, G: Gate>(
     requires decoded { AllZip IsDecodedLine front.old.lines.items front.old.decoded }
     requires ready { AreNext front.old.lines.items place seen.old }
     requires behind { AreNextBehind front.old.lines.items last.now place seen.old }
-    ensures { AdmitsBoth front.old.lines.items last.now place seen.old seen.new result }
+    ensures { KeepsBoth front.old.lines.items last.now place seen.old seen.new result }
 {
-    let (admitted, decoded) = admit_and_decode(rt, alloc, last, gate, place, front, seen);
-    match both(admitted, decoded) {
-        Ok(step) => admit_lines(step.place, last, step.ahead, seen),
+    let (kept, decoded) = keep_and_decode(rt, alloc, last, gate, place, front, seen);
+    match both(kept, decoded) {
+        Ok(step) => keep_lines(step.place, last, step.ahead, seen),
         Err(stop) => Err(stop),
     }
 }
 
-/// What goes on behind lines that were admitted. A refusal of theirs comes before want of memory for what is ahead.
+/// What goes on behind lines that were kept. A refusal of theirs comes before want of memory for what is ahead.
 pub fn both<T: Drop>(
-    admitted: Result<Place, LogStop>,
+    kept: Result<Place, LogStop>,
     ahead: Result<T, OutOfMemory>,
 ) -> Result<Step<T>, LogStop>
-    ensures ok { IfOk result (λ step. (admitted ≡ Ok step.place) × (ahead ≡ Ok step.ahead)) }
-    ensures err { IfErr result (λ stop. (admitted ≡ Err stop)
-        ⊎ (IsOk admitted × IsErr ahead × (stop ≡ LogStop.OutOfMemory))) }
+    ensures ok { IfOk result (λ step. (kept ≡ Ok step.place) × (ahead ≡ Ok step.ahead)) }
+    ensures err { IfErr result (λ stop. (kept ≡ Err stop)
+        ⊎ (IsOk kept × IsErr ahead × (stop ≡ LogStop.OutOfMemory))) }
 {
-    let place = match admitted {
+    let place = match kept {
         Ok(place) => place,
         Err(stop) => {
             drop(ahead);
@@ -135,8 +135,8 @@ pub fn both<T: Drop>(
     }
 }
 
-// Admits the events of lines that were decoded.
-fn admit_lines(
+// Keeps the events of lines that were decoded.
+fn keep_lines(
     place: Place,
     lines: &[Line],
     decoded: DecodedList,
@@ -144,12 +144,12 @@ fn admit_lines(
 ) -> Result<Place, LogStop>
     requires decoded { AllZip IsDecodedLine lines.now decoded }
     requires next { AreNext lines.now place seen.old }
-    ensures { AdmitsLines lines.now place seen.old seen.new result }
+    ensures { KeepsLines lines.now place seen.old seen.new result }
 {
     let mut place = place;
     let mut at = 0;
     for line in decoded.into_vec() {
-        match admit_line(seen, place, &lines[at], line) {
+        match keep_line(seen, place, &lines[at], line) {
             Ok(after) => place = after,
             Err(stop) => return Err(stop),
         }
@@ -158,16 +158,11 @@ fn admit_lines(
     Ok(place)
 }
 
-// Admits the events of a line, up to its fault.
-fn admit_line(
-    seen: &mut Seen,
-    place: Place,
-    line: &Line,
-    decoded: Decoded,
-) -> Result<Place, LogStop>
+// Keeps the events of a line, up to its fault.
+fn keep_line(seen: &mut Seen, place: Place, line: &Line, decoded: Decoded) -> Result<Place, LogStop>
     requires decoded { IsDecodedLine line.now decoded }
     requires next { IsLineNext line.now place seen.old }
-    ensures { AdmitsLine line.now place seen.old seen.new result }
+    ensures { KeepsLine line.now place seen.old seen.new result }
 {
     let Decoded {
         events,
@@ -175,7 +170,7 @@ fn admit_line(
         fault,
     } = decoded;
     let first = line.number + place.extra;
-    if let Err(stop) = admit_events(seen, first, events) {
+    if let Err(stop) = keep_events(seen, first, events) {
         return Err(stop);
     }
     match fault {
@@ -190,17 +185,17 @@ fn admit_line(
     }
 }
 
-// Admits events, which have their numbers from the first on.
-fn admit_events(seen: &mut Seen, first: u64, events: Events) -> Result<(), LogStop>
+// Keeps events, which have their numbers from the first on.
+fn keep_events(seen: &mut Seen, first: u64, events: Events) -> Result<(), LogStop>
     requires sound { All IsSound events }
     requires from { 1 ≤ first }
     requires room { first + length events < 2 ^ 64 }
     requires before { AreBefore first seen.old }
-    ensures { AdmitsEvents first events seen.old seen.new result }
+    ensures { KeepsEvents first events seen.old seen.new result }
 {
     let mut number = first;
     for event in events.into_vec() {
-        if let Err(stop) = admit_event(seen, number, event) {
+        if let Err(stop) = keep_event(seen, number, event) {
             return Err(stop);
         }
         number += 1;
@@ -209,11 +204,11 @@ fn admit_events(seen: &mut Seen, first: u64, events: Events) -> Result<(), LogSt
 }
 
 // Keeps an event under its number, or drops it where it repeats one that was kept.
-fn admit_event(seen: &mut Seen, number: u64, event: Event) -> Result<(), LogStop>
+fn keep_event(seen: &mut Seen, number: u64, event: Event) -> Result<(), LogStop>
     requires sound { IsSound event }
     requires from { 1 ≤ number }
     requires before { AreBefore number seen.old }
-    ensures { AdmitsEvent record event { line = number } seen.old seen.new result }
+    ensures { KeepsEvent record event { line = number } seen.old seen.new result }
 {
     let mut event = event;
     event.line = number;

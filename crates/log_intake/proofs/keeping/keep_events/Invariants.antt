@@ -3,7 +3,7 @@ use Rattle.std.specs.Vec.Iter.{into_iter_items}
 use Rattle.log_intake.specs.Kept.{AreBefore}
 use Rattle.log_intake.specs.Log.{TakesEvent, numbered_events}
 use Rattle.log_intake.specs.Steps.{InOrder}
-use Rattle.log_intake.proofs.admitting.admit_events.Given as goal
+use Rattle.log_intake.proofs.keeping.keep_events.Given as goal
 
 abbrev pub invariant-loop-event : goal.invariant-loop-event
 invariant-loop-event l = record {

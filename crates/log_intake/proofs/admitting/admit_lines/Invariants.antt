@@ -1,6 +1,0 @@
-use Rattle.std.specs.Vec.Iter.{into_iter_items}
-use Rattle.log_intake.proofs.LineFacts.{HasAdmitted}
-use Rattle.log_intake.proofs.admitting.admit_lines.Given as goal
-
-abbrev pub invariant-loop-line : goal.invariant-loop-line
-invariant-loop-line l = HasAdmitted l.lines (into_iter_items l.line-iterator) l.initial.place l.place l.initial.seen l.seen l.at
