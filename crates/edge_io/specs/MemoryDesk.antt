@@ -1,5 +1,5 @@
 -- Desks in memory: what they hold, and which of their reads fail.
-use Rattle.std.specs.Prelude.{ℕ, List, map}
+use Rattle.std.specs.Prelude.{◌≡◌, ◌↔◌, ℕ, ◌+◌, ◌-◌, ◌^◌, ◌≤◌, List, Contains, map, min, Result, IfOk, OnOk, IsErr, IsOk}
 use Rattle.edge_io.specs.Files.{HeldFile}
 use Rattle.edge_io.specs.declared.files.InputFile.{InputFile}
 
@@ -25,3 +25,25 @@ pub record SteadyState : Type 0 where
 
 abbrev pub new_steady : List InputFile → ℕ → SteadyState
 new_steady files cut = record { files = map held_of files; cut = cut }
+
+-- what a read does besides to a desk of which some calls fail
+pub record ReadsInTurn {E : Type 0} (before now : DeskState) (result : Result ℕ E) : Type 0 where
+  -- no more bytes are given than was said at the start
+  pub cut : IfOk result (λ n. n ≤ before.cut)
+  -- each call counts, up to the last number
+  pub calls : now.calls ≡ min (before.calls + 1) (2 ^ 64 - 1)
+  -- a call fails exactly where its number was given
+  pub fails : IsErr result ↔ Contains before.failing now.calls
+  -- a call that doesn't fail leaves the count of faults
+  pub spared : OnOk result (now.faults ≡ before.faults)
+  -- what was said at the start stays
+  pub settings : (now.cut ≡ before.cut) × (now.failing ≡ before.failing)
+
+-- what a read does besides to a desk whose reads never fail
+pub record ReadsSteadily {E : Type 0} (before now : SteadyState) (result : Result ℕ E) : Type 0 where
+  -- no more bytes are given than was said at the start
+  pub cut : IfOk result (λ n. n ≤ before.cut)
+  -- no read fails
+  pub works : IsOk result
+  -- what was said at the start stays
+  pub settings : now.cut ≡ before.cut

@@ -1,9 +1,10 @@
-ghost use Rattle.std.specs.Prelude.{◌≡◌, ◌≢◌, ◌↔◌, ℕ, ◌<◌, ◌≤◌, ◌+◌, ◌-◌, ◌^◌, List, Some, length, min, ◌⊎◌, IfOk};
-ghost use Rattle.std.specs.Prelude.{IsErr, IsOk, OnOk, Contains, vec_len, vec_capacity};
+ghost use Rattle.std.specs.Prelude.{◌≡◌, ◌≢◌, ℕ, ◌<◌, ◌≤◌, List, Some, length, IfOk};
 ghost use Rattle.std.specs.Io.{ReadsAtMost};
 ghost use Rattle.std.specs.Io.KnownBytes.{ReadConsumes, WriteAppends};
 ghost use Rattle.edge_io.specs.Faults.{HasCause};
 ghost use Rattle.edge_io.specs.Files.{left_of};
+ghost use Rattle.edge_io.specs.MemoryDesk.{ReadsInTurn, ReadsSteadily};
+ghost use Rattle.edge_io.specs.MemorySink.{WritesInTurn};
 
 use crate::edge::{Desk, DeskFailed, Sink, SinkFailed};
 use crate::files::{InputFiles, OpenFile, give_named, open_files};
@@ -78,11 +79,7 @@ impl Desk for MemoryDesk {
         ensures others { (other : List ℕ) → other ≢ name.now
             → left_of self.new.files other ≡ left_of self.old.files other }
         ensures cause { HasCause self.old.faults self.new.faults result }
-        ensures cut { IfOk result (λ n. n ≤ self.old.cut) }
-        ensures calls { self.new.calls ≡ min (self.old.calls + 1) (2 ^ 64 - 1) }
-        ensures fails { IsErr result ↔ Contains self.old.failing self.new.calls }
-        ensures spared { OnOk result (self.new.faults ≡ self.old.faults) }
-        ensures settings { (self.new.cut ≡ self.old.cut) × (self.new.failing ≡ self.old.failing) }
+        ensures counted { ReadsInTurn self.old self.new result }
     {
         self.calls = self.calls.saturating_add(1);
         if self.failing.contains(&self.calls) {
@@ -139,9 +136,7 @@ impl Desk for SteadyDesk {
         ensures others { (other : List ℕ) → other ≢ name.now
             → left_of self.new.files other ≡ left_of self.old.files other }
         ensures cause { HasCause 0 0 result }
-        ensures cut { IfOk result (λ n. n ≤ self.old.cut) }
-        ensures works { IsOk result }
-        ensures settings { self.new.cut ≡ self.old.cut }
+        ensures steady { ReadsSteadily self.old self.new result }
     {
         Ok(give_named(&mut self.files, name, self.cut, into))
     }
@@ -174,7 +169,8 @@ impl Model for MemorySink {
       faults = s.faults;
     } };
 
-    ghost invariant = { λ s. (0 < s.cut) × (SINK_ROOM ≤ vec_capacity s.bytes) × (vec_len s.bytes ≤ SINK_ROOM) };
+    ghost invariant = { λ s. (0 < s.cut) × (SINK_ROOM ≤ vec_capacity s.bytes)
+        × (vec_len s.bytes ≤ SINK_ROOM) };
 }
 
 impl MemorySink {
@@ -212,12 +208,7 @@ impl Sink for MemorySink {
         ensures bound { IfOk result (λ n. (0 < n) × (n ≤ length piece.now)) }
         ensures bytes { WriteAppends (Some self.old.bytes) (Some self.new.bytes) result piece.now }
         ensures cause { HasCause self.old.faults self.new.faults result }
-        ensures cut { IfOk result (λ n. n ≤ self.old.cut) }
-        ensures calls { self.new.calls ≡ min (self.old.calls + 1) (2 ^ 64 - 1) }
-        ensures fails { IsErr result ↔ (Contains self.old.failing self.new.calls
-            ⊎ (SINK_ROOM ≤ length self.old.bytes)) }
-        ensures spared { OnOk result (self.new.faults ≡ self.old.faults) }
-        ensures settings { (self.new.cut ≡ self.old.cut) × (self.new.failing ≡ self.old.failing) }
+        ensures counted { WritesInTurn self.old self.new result }
     {
         self.calls = self.calls.saturating_add(1);
         if self.failing.contains(&self.calls) {

@@ -1,11 +1,11 @@
--- How far the members of a target stand before a name.
-use Rattle.std.specs.Prelude.{◌≡◌, ℕ, List, [], ◌∷◌, Option, Some, None}
+-- How far a walk over the members of a target is, and which of them stand before a name.
+use Rattle.std.specs.Prelude.{◌≡◌, ℕ, ◌≤◌, List, [], ◌∷◌, ◌++◌, length, drop, Option, Some, None}
 use Rattle.std.specs.List.{AllByRecursion}
 use Rattle.std.specs.Ordering.{nat_cmp}
 use Rattle.std.specs.Cmp.Lexicographic.{slice_cmp}
 use Rattle.std.specs.declared.cmp.Ordering.TheVariants.{Less}
 use Rattle.base_types.specs.Meaning.{Meaning}
-use Rattle.base_types.specs.Names.{names}
+use Rattle.base_types.specs.Names.{names, AreSorted}
 
 -- each of these names is below the name
 abbrev pub AllBelow : List ℕ → List (List ℕ × Meaning) → Type 0
@@ -27,3 +27,10 @@ abbrev pub behind : Option Meaning → List (List ℕ × Meaning) → List (List
 behind None ms = ms
 behind (Some v) [] = []
 behind (Some v) (m ∷ ms) = ms
+
+-- how far a walk over old members is: the made ones stand in for those before `at`
+pub record HasWalkedTo (at : ℕ) (made old : List (List ℕ × Meaning)) : Type 0 where
+  -- no place behind the last is meant
+  pub within : at ≤ length old
+  -- the made members and those still to come stand in order
+  pub sorted : AreSorted (made ++ drop at old)

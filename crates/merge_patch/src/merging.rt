@@ -1,17 +1,20 @@
-ghost use Rattle.std.specs.Prelude.{◌≡◌, ◌++◌, ◌≤◌, ℕ, List, IfOk, OnOk, IsTrue, ◌↔◌, option_map, drop, length};
+ghost use Rattle.std.specs.Prelude.{◌≡◌, ◌++◌, ◌≤◌, ℕ, List, IfOk, OnOk, IsTrue, ◌↔◌};
+ghost use Rattle.std.specs.Prelude.{option_map, drop, length};
 ghost use Rattle.std.specs.Ordering.{nat_cmp};
 ghost use Rattle.std.specs.Cmp.Lexicographic.{slice_cmp};
 ghost use Rattle.std.specs.declared.cmp.Ordering.TheVariants.{Less};
 ghost use Rattle.base_types.specs.Meaning.{fields_of};
 ghost use Rattle.base_types.specs.Names.{AreSorted};
 ghost use Rattle.merge_patch.specs.Merging.{object_of, merged, merged_fields, changed};
-ghost use Rattle.merge_patch.specs.Walking.{AllBelow, StartsNotBelow, IsFirstValue, behind};
+ghost use Rattle.merge_patch.specs.Walking.{AllBelow, HasWalkedTo};
+ghost use Rattle.merge_patch.specs.Walking.{StartsNotBelow, IsFirstValue, behind};
 
 use base_types::json::{Member, MemberList, Node, Tree, copy};
 use base_types::{OutOfMemory, Text};
 use std::alloc::Global;
 
-/// The target after a merge patch (RFC 7386, now RFC 7396, section 2). It costs one walk over target and patch.
+/// The target after a merge patch (RFC 7386, now RFC 7396, section 2). It costs one walk over
+/// target and patch.
 #[cycle(merge)]
 pub fn merge(alloc: Global, target: Option<&Tree>, patch: &Tree) -> Result<Tree, OutOfMemory>
     ensures { IfOk result (λ made. made ≡ merged (option_map (λ t. t.now) target.entry) patch.now) }
@@ -61,8 +64,8 @@ fn merge_members(
     Ok(MemberList { all })
 }
 
-// One name and value of the patch: the members before it are copied, and its own is put behind them. `all`
-// holds the members up to those from `at` on.
+// One name and value of the patch: the members before it are copied, and its own is put behind
+// them. `all` holds the members up to those from `at` on.
 #[cycle(merge)]
 fn merge_member(
     alloc: Global,
@@ -71,13 +74,11 @@ fn merge_member(
     at: usize,
     change: &Member,
 ) -> Result<usize, OutOfMemory>
-    requires within { at ≤ length old.now }
-    requires sorted { AreSorted (all.old.items ++ drop at old.now) }
+    requires walked { HasWalkedTo at all.old.items old.now }
     requires below { AllBelow change.now.0 all.old.items }
-    ensures within { IfOk result (λ next. next ≤ length old.now) }
+    ensures walked { IfOk result (λ next. HasWalkedTo next all.new.items old.now) }
     ensures merged { IfOk result (λ next. fields_of (all.new.items ++ drop next old.now)
         ≡ changed change.now (fields_of (all.old.items ++ drop at old.now))) }
-    ensures sorted { IfOk result (λ next. AreSorted (all.new.items ++ drop next old.now)) }
     ensures below { OnOk result ((name : List ℕ) → slice_cmp nat_cmp change.now.0 name ≡ Less
         → AllBelow name all.new.items) }
 {
@@ -92,7 +93,8 @@ fn merge_member(
     Ok(next)
 }
 
-// The members from `at` on that stand before a name are copied. The answer is the place of the next one.
+// The members from `at` on that stand before a name are copied. The answer is the place of the
+// next one.
 fn copy_below(
     alloc: Global,
     all: &mut Vec<Member>,

@@ -25,7 +25,7 @@ merge_member-returns-then-is_null-clause-merged t c =
     let value = option_map (λ t. t.now) c.take_named-next.result.0 in
     let named : c.change.inside.name ≡ change.0 = ap (λ m. m.0) c.change.view_is in
     let valued : c.change.inside.value ≡ change.1 = ap (λ m. m.1) c.change.view_is in
-    let sorted : AreSorted (done ++ l) = subst AreSorted (sym c.in_ok-at.ensures.kept) c.requires.sorted in
+    let sorted : AreSorted (done ++ l) = subst AreSorted (sym c.in_ok-at.ensures.kept) c.requires.walked.sorted in
     let below : AllBelow change.0 done = subst (λ n. AllBelow n done) named (c.in_ok-at.ensures.below (subst (λ n. AllBelow n c.args.all.now.items) (sym named) c.requires.below)) in
     let starts : StartsNotBelow change.0 l = subst (λ n. StartsNotBelow n l) named c.in_ok-at.ensures.next in
     let first : IsFirstValue change.0 l value = subst (λ n. IsFirstValue n l value) named c.take_named-next.ensures.value in
@@ -33,12 +33,15 @@ merge_member-returns-then-is_null-clause-merged t c =
     ap (λ more. fields_of (done ++ more)) c.take_named-next.ensures.next ∙ dropped change.0 change.1 value done l sorted below starts first null
     ∙ ap (λ ms. changed change (fields_of ms)) c.in_ok-at.ensures.kept
 
-pub merge_member-returns-then-is_null-clause-sorted : goal.merge_member-returns-then-is_null-clause-sorted
-merge_member-returns-then-is_null-clause-sorted t c =
+pub merge_member-returns-then-is_null-clause-walked : goal.merge_member-returns-then-is_null-clause-walked
+merge_member-returns-then-is_null-clause-walked t c =
     let l = drop c.in_ok-at.at c.args.old.now in
     let done = c.copy_below.new.all.items in
-    let sorted : AreSorted (done ++ l) = subst AreSorted (sym c.in_ok-at.ensures.kept) c.requires.sorted in
-    subst (λ more. AreSorted (done ++ more)) (sym c.take_named-next.ensures.next) (sorted_dropped c.args.change.now.0 _ done l sorted)
+    let sorted : AreSorted (done ++ l) = subst AreSorted (sym c.in_ok-at.ensures.kept) c.requires.walked.sorted in
+    record {
+      within = c.take_named-next.ensures.within;
+      sorted = subst (λ more. AreSorted (done ++ more)) (sym c.take_named-next.ensures.next) (sorted_dropped c.args.change.now.0 _ done l sorted);
+    }
 
 pub merge_member-returns-then-is_null-clause-below : goal.merge_member-returns-then-is_null-clause-below
 merge_member-returns-then-is_null-clause-below t c = λ name lt.
@@ -60,7 +63,7 @@ merge_member-returns-clause-merged t c =
     let value = option_map (λ t. t.now) c.take_named-next.result.0 in
     let named : c.change.inside.name ≡ change.0 = ap (λ m. m.0) c.change.view_is in
     let valued : c.change.inside.value ≡ change.1 = ap (λ m. m.1) c.change.view_is in
-    let sorted : AreSorted (done ++ l) = subst AreSorted (sym c.in_ok-at.ensures.kept) c.requires.sorted in
+    let sorted : AreSorted (done ++ l) = subst AreSorted (sym c.in_ok-at.ensures.kept) c.requires.walked.sorted in
     let below : AllBelow change.0 done = subst (λ n. AllBelow n done) named (c.in_ok-at.ensures.below (subst (λ n. AllBelow n c.args.all.now.items) (sym named) c.requires.below)) in
     let starts : StartsNotBelow change.0 l = subst (λ n. StartsNotBelow n l) named c.in_ok-at.ensures.next in
     let first : IsFirstValue change.0 l value = subst (λ n. IsFirstValue n l value) named c.take_named-next.ensures.value in
@@ -72,21 +75,24 @@ merge_member-returns-clause-merged t c =
     (λ i. fields_of (pushed i ++ c.take_named-next.ensures.next i)) ∙ put_between change.0 change.1 w value done l sorted below starts first other made
     ∙ ap (λ ms. changed change (fields_of ms)) c.in_ok-at.ensures.kept
 
-pub merge_member-returns-clause-sorted : goal.merge_member-returns-clause-sorted
-merge_member-returns-clause-sorted t c =
+pub merge_member-returns-clause-walked : goal.merge_member-returns-clause-walked
+merge_member-returns-clause-walked t c =
     let change = c.args.change.now in
     let l = drop c.in_ok-at.at c.args.old.now in
     let done = c.copy_below.new.all.items in
     let value = option_map (λ t. t.now) c.take_named-next.result.0 in
     let named : c.change.inside.name ≡ change.0 = ap (λ m. m.0) c.change.view_is in
-    let sorted : AreSorted (done ++ l) = subst AreSorted (sym c.in_ok-at.ensures.kept) c.requires.sorted in
+    let sorted : AreSorted (done ++ l) = subst AreSorted (sym c.in_ok-at.ensures.kept) c.requires.walked.sorted in
     let below : AllBelow change.0 done = subst (λ n. AllBelow n done) named (c.in_ok-at.ensures.below (subst (λ n. AllBelow n c.args.all.now.items) (sym named) c.requires.below)) in
     let starts : StartsNotBelow change.0 l = subst (λ n. StartsNotBelow n l) named c.in_ok-at.ensures.next in
     let first : IsFirstValue change.0 l value = subst (λ n. IsFirstValue n l value) named c.take_named-next.ensures.value in
     let same : c.in_ok-name.name ≡ change.0 = search rules in
     let w = c.in_ok-value.value in
     let pushed : c.push.new.self.items ≡ done ++ (change.0, w) ∷ [] = c.in_ok-push.ensures.items ∙ ap (λ n. done ++ (n, w) ∷ []) same in
-    subst AreSorted (λ i. sym pushed i ++ sym c.take_named-next.ensures.next i) (sorted_put change.0 w value done l sorted below starts first)
+    record {
+      within = c.take_named-next.ensures.within;
+      sorted = subst AreSorted (λ i. sym pushed i ++ sym c.take_named-next.ensures.next i) (sorted_put change.0 w value done l sorted below starts first);
+    }
 
 pub merge_member-returns-clause-below : goal.merge_member-returns-clause-below
 merge_member-returns-clause-below t c = λ name lt.
@@ -107,7 +113,7 @@ merge_members-merge_member-requires t c =
     let smaller = field_smaller whole l.change-index c.change-item.result c.loop-change-test.true in
     let small : nodes c.change-item.result.1 + 1 < fields_nodes (fields_of c.args.changes.now) =
     subst (λ ms. nodes c.change-item.result.1 + 1 < fields_nodes (fields_of ms)) (sym all) (subst (λ (x : List ℕ × Meaning). nodes x.1 + 1 < fields_nodes (fields_of whole)) (sym c.change-item.is) smaller) in
-    (omega arith, (l.invariant.within, (l.invariant.sorted, below_this whole l.all.items l.change-index c.change-item.result c.loop-change-test.true c.change-item.is l.invariant.below)))
+    (omega arith, (l.invariant.walked, below_this whole l.all.items l.change-index c.change-item.result c.loop-change-test.true c.change-item.is l.invariant.below))
 
 pub merge_members-loop-change-preserved : goal.merge_members-loop-change-preserved
 merge_members-loop-change-preserved t c =
@@ -115,8 +121,7 @@ merge_members-loop-change-preserved t c =
     let whole = c.deref-change-items.result.now in
     let sorted = subst AreSorted (sym c.deref-change-items.ensures.value) c.changes.invariant in
     let done = c.in_ok-at.ensures in record {
-      within = done.within;
+      walked = done.walked;
       merged = done.merged ∙ ap (changed c.change-item.result) l.invariant.merged ∙ merged_more (fields_of c.args.old.now) whole l.change-index c.change-item.result c.loop-change-test.true c.change-item.is;
-      sorted = done.sorted;
       below = below_later c.change-item.result.0 (drop (l.change-index + 1) whole) c.merge_member.new.all.items (later_changes whole l.change-index c.change-item.result sorted c.loop-change-test.true c.change-item.is) done.below;
     }
