@@ -1,5 +1,5 @@
 -- A tree that is there adds nothing.
-use Rattle.std.proofs.Common.{◌≡◌, ℕ, zero, suc, Bool, true, false, ◌||◌, List, [], ◌∷◌, ◌++◌, Option, Some, None, IfSome, slice_get, option_map, fold, refl, sym, ap, ◌∙◌}
+use Rattle.std.proofs.Common.{◌≡◌, ℕ, ◌<◌, ◌≤◌, zero, suc, Bool, true, false, ◌||◌, List, [], ◌∷◌, ◌++◌, length, Ok, Option, Some, None, IfSome, slice_get, option_map, fold, refl, sym, ap, subst, ◌∙◌, arith}
 use Rattle.std.specs.Prelude.{if◌then◌else◌}
 use Rattle.std.specs.List.{list_any}
 use Rattle.base_types.specs.Meaning.{Meaning, null, flag, whole, words, items, members}
@@ -7,6 +7,7 @@ use Rattle.base_types.specs.Same.{same, same-Decides}
 use Rattle.node_pool.specs.Flat.{Flat, flat_null, flat_flag, flat_whole, flat_words}
 use Rattle.node_pool.specs.Kept.{Kept, seen, AreLevelsKept}
 use Rattle.node_pool.specs.Leaves.{leaf_of}
+use Rattle.node_pool.specs.Placing.{PlacesTree}
 use Rattle.node_pool.specs.Subtrees.{inside, interned, with_tree}
 use Rattle.node_pool.specs.Within.{tree_of}
 use Rattle.node_pool.proofs.Stores.{seen-level}
@@ -54,6 +55,18 @@ standing-number limit ns ps p (Some n) old kept is at = sym (seen-level limit n 
 pub standing-placed : (ts : List Meaning) (t : Meaning) (r : Option ℕ) → IfSome r (λ n. slice_get ts n ≡ Some t) → IfSome r (λ n. with_tree ts t ≡ ts)
 standing-placed ts t None at = tt
 standing-placed ts t (Some n) at = stays ts t n at
+
+-- what `place` says of it, where nothing is done
+pub places-standing : (old : Kept) (t : Meaning) (n : ℕ) → slice_get old.trees n ≡ Some t → with_tree old.trees t ≡ old.trees → length old.trees ≤ old.limit → PlacesTree old old t (Ok n)
+places-standing old t n number placed room = record {
+  limit = refl;
+  names = refl;
+  placed = sym placed;
+  number = number;
+  fits = subst (λ ts. length ts ≤ old.limit) (sym placed) room;
+  full = (λ e. absurd (cc), λ above. let over : old.limit < length old.trees = subst (λ ts. old.limit < length ts) placed above in absurd (omega arith));
+  refused = tt;
+}
 
 -- a value that has nothing within it, at the number of its level
 pub leaf-number : (limit : ℕ) (ns : List (List ℕ)) (ps : List Flat) (t : Meaning) (r : Option ℕ) (old : Kept) → AreLevelsKept limit ns ps → seen limit ns ps ≡ old

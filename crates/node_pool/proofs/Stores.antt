@@ -1,12 +1,13 @@
 -- What the functions of a store show of its names and levels.
-use Rattle.std.proofs.Common.{◌≡◌, ℕ, ◌<◌, ◌≤◌, true, List, [], length, take, Result, Ok, Err, OnOk, OnErr, IfOk, Option, Some, None, IfSome, slice_get, option_map, refl, sym, ap, subst, ◌∙◌, arith, ◌+◌, Bor, option_copied}
+use Rattle.std.proofs.Common.{◌≡◌, ℕ, ◌<◌, ◌≤◌, ◌↔◌, true, List, [], length, take, Result, Ok, Err, OnOk, OnErr, IfOk, Option, Some, None, IfSome, slice_get, option_map, refl, sym, ap, subst, ◌∙◌, arith, ◌+◌, Bor, option_copied}
 use Rattle.std.proofs.lemmas.List.{append-nil}
 use Rattle.indexmap.specs.IndexSet.{insert_key}
 use Rattle.node_pool.specs.declared.fault.PoolFault.{PoolFault}
 use Rattle.node_pool.specs.declared.fault.PoolFault.TheVariants.{Full}
 use Rattle.node_pool.specs.Flat.{Flat, flat_eq, flat_eq-Decides}
 use Rattle.node_pool.specs.Kept.{Kept, seen, AreLevelsKept, Grows}
-use Rattle.node_pool.specs.Subtrees.{with_tree, Begins}
+use Rattle.node_pool.specs.Placing.{PlacesTree}
+use Rattle.node_pool.specs.Subtrees.{Begins}
 use Rattle.node_pool.specs.Within.{tree_of, trees_from, IsWithin}
 use Rattle.node_pool.proofs.Levels.{trees_from-length, trees_from-take, trees_from-at, AreWithin-at}
 use Rattle.node_pool.proofs.Adding.{kept-insert, trees-insert, length-insert, number-insert, trees-names}
@@ -54,13 +55,6 @@ if-copied P (Some b) found is holds = subst (λ f. IfSome f P) (sym is) holds
 pub stored : (ps : List Flat) (n : ℕ) (p q : Flat) → slice_get ps n ≡ Some q → flat_eq p q ≡ true → slice_get ps n ≡ Some p
 stored ps n p q at same = at ∙ ap Some (sym ((flat_eq-Decides p q).0 same))
 
--- what `place` says
-pub record Placed (old new : Kept) (p : Flat) (r : Result ℕ PoolFault) : Type 0 where
-  pub placed : OnOk r (new.trees ≡ with_tree old.trees (tree_of old.names old.trees p))
-  pub number : IfOk r (λ n. slice_get new.trees n ≡ Some (tree_of old.names old.trees p))
-  pub fits : OnOk r (length (with_tree old.trees (tree_of old.names old.trees p)) ≤ old.limit)
-  pub full : r ≡ Err Full → old.limit < length (with_tree old.trees (tree_of old.names old.trees p))
-
 pub within-seen : (limit : ℕ) (ns : List (List ℕ)) (ps : List Flat) (p : Flat) (old : Kept) → seen limit ns ps ≡ old → IsWithin old.names (length old.trees) p → IsWithin ns (length (trees_from ns [] ps)) p
 within-seen limit ns ps p old is w = subst (λ (o : Kept). IsWithin o.names (length o.trees) p) (sym is) w
 
@@ -69,31 +63,34 @@ pub kept-place : (limit : ℕ) (ns : List (List ℕ)) (ps ps' : List Flat) (p : 
 kept-place limit ns ps ps' p (Ok n) kept w keys fits refused = subst (AreLevelsKept limit ns) (sym keys) (kept-insert limit ns ps p kept w fits)
 kept-place limit ns ps ps' p (Err e) kept w keys fits refused = subst (AreLevelsKept limit ns) (sym refused) kept
 
+full-like : (r : Result ℕ PoolFault) (limit k l : ℕ) → k ≡ l → (r ≡ Err Full) ↔ (limit < k) → (r ≡ Err Full) ↔ (limit < l)
+full-like r limit k l same full = subst (λ m. (r ≡ Err Full) ↔ (limit < m)) same full
+
 placed-seen : (limit : ℕ) (ns : List (List ℕ)) (ps ps' : List Flat) (p : Flat) (r : Result ℕ PoolFault) → AreLevelsKept limit ns ps → IsWithin ns (length (trees_from ns [] ps)) p
-    → OnOk r (ps' ≡ insert_key flat_eq ps p) → IfOk r (λ n. slice_get ps' n ≡ Some p) → OnOk r (length (insert_key flat_eq ps p) ≤ limit) → (r ≡ Err Full → limit < length (insert_key flat_eq ps p))
-    → Placed (seen limit ns ps) (seen limit ns ps') p r
-placed-seen limit ns ps ps' p (Ok n) kept w keys at fits full = record {
+    → OnOk r (ps' ≡ insert_key flat_eq ps p) → IfOk r (λ n. slice_get ps' n ≡ Some p) → OnOk r (length (insert_key flat_eq ps p) ≤ limit) → (r ≡ Err Full) ↔ (limit < length (insert_key flat_eq ps p)) → OnErr r (ps' ≡ ps)
+    → PlacesTree (seen limit ns ps) (seen limit ns ps') (tree_of ns (trees_from ns [] ps) p) r
+placed-seen limit ns ps ps' p (Ok n) kept w keys at fits full refused = record {
+  limit = refl;
+  names = refl;
   placed = ap (trees_from ns []) keys ∙ trees-insert limit ns ps p kept w;
   number = ap (λ l. slice_get (trees_from ns [] l) n) keys ∙ number-insert limit ns ps p n kept w (subst (λ l. slice_get l n ≡ Some p) keys at);
   fits = subst (λ k. k ≤ limit) (length-insert limit ns ps p kept w) fits;
-  full = λ e. absurd (cc);
+  full = full-like (Ok n) limit _ _ (length-insert limit ns ps p kept w) full;
+  refused = tt;
 }
-placed-seen limit ns ps ps' p (Err f) kept w keys at fits full = record {
+placed-seen limit ns ps ps' p (Err f) kept w keys at fits full refused = record {
+  limit = refl;
+  names = refl;
   placed = tt;
   number = tt;
   fits = tt;
-  full = λ e. subst (λ k. limit < k) (length-insert limit ns ps p kept w) (full e);
+  full = full-like (Err f) limit _ _ (length-insert limit ns ps p kept w) full;
+  refused = ap (trees_from ns []) refused;
 }
 
+-- what `inserted` says of the levels, as `place` says it of the trees
 pub place-seen : (limit : ℕ) (ns : List (List ℕ)) (ps ps' : List Flat) (p : Flat) (r : Result ℕ PoolFault) (old : Kept) → AreLevelsKept limit ns ps → seen limit ns ps ≡ old → IsWithin old.names (length old.trees) p
-    → OnOk r (ps' ≡ insert_key flat_eq ps p) → IfOk r (λ n. slice_get ps' n ≡ Some p) → OnOk r (length (insert_key flat_eq ps p) ≤ limit) → (r ≡ Err Full → limit < length (insert_key flat_eq ps p))
-    → Placed old (seen limit ns ps') p r
-place-seen limit ns ps ps' p r old kept is w keys at fits full =
-    subst (λ o. Placed o (seen limit ns ps') p r) is (placed-seen limit ns ps ps' p r kept (within-seen limit ns ps p old is w) keys at fits full)
-
--- a tree that is one too many is refused as such
-pub place-above : (limit : ℕ) (ns : List (List ℕ)) (ps : List Flat) (p : Flat) (r : Result ℕ PoolFault) (old : Kept) → AreLevelsKept limit ns ps → seen limit ns ps ≡ old → IsWithin old.names (length old.trees) p
-    → (limit < length (insert_key flat_eq ps p) → r ≡ Err Full) → old.limit < length (with_tree old.trees (tree_of old.names old.trees p)) → r ≡ Err Full
-place-above limit ns ps p r old kept is w above =
-    subst (λ (o : Kept). o.limit < length (with_tree o.trees (tree_of o.names o.trees p)) → r ≡ Err Full) is
-    (λ lt. above (subst (λ k. limit < k) (sym (length-insert limit ns ps p kept (within-seen limit ns ps p old is w))) lt))
+    → OnOk r (ps' ≡ insert_key flat_eq ps p) → IfOk r (λ n. slice_get ps' n ≡ Some p) → OnOk r (length (insert_key flat_eq ps p) ≤ limit) → (r ≡ Err Full) ↔ (limit < length (insert_key flat_eq ps p)) → OnErr r (ps' ≡ ps)
+    → PlacesTree old (seen limit ns ps') (tree_of old.names old.trees p) r
+place-seen limit ns ps ps' p r old kept is w keys at fits full refused =
+    subst (λ (o : Kept). PlacesTree o (seen limit ns ps') (tree_of o.names o.trees p) r) is (placed-seen limit ns ps ps' p r kept (within-seen limit ns ps p old is w) keys at fits full refused)

@@ -1,8 +1,9 @@
-ghost use Rattle.std.specs.Prelude.{◌≡◌, ◌<◌, ◌≤◌, [], Some, Err, length, take, slice_get, OnOk, OnErr, IfOk, IfSome};
+ghost use Rattle.std.specs.Prelude.{◌≡◌, ◌<◌, ◌≤◌, ◌↔◌, [], Some, Err, length, take, slice_get, OnOk, OnErr, IfOk, IfSome};
 ghost use Rattle.indexmap.specs.IndexSet.{insert_key};
 ghost use Rattle.packed_tree.specs.Showing.{meaning_of};
 ghost use Rattle.node_pool.specs.Flat.{flat_eq};
 ghost use Rattle.node_pool.specs.Kept.{Grows};
+ghost use Rattle.node_pool.specs.Placing.{PlacesTree};
 ghost use Rattle.node_pool.specs.Pooled.{AreDistinct};
 ghost use Rattle.node_pool.specs.Subtrees.{Begins, interned, with_tree};
 ghost use Rattle.node_pool.specs.Within.{IsWithin, tree_of};
@@ -136,21 +137,8 @@ impl GrowingStore {
     /// As `place`. The number that is guessed is the answer where it has this level: a tree that is there adds nothing.
     pub fn place_near(&mut self, near: Option<u32>, level: Level) -> Result<u32, PoolFault>
         requires within { IsWithin self.old.names (length self.old.trees) level }
-        ensures limit { self.new.limit ≡ self.old.limit }
-        ensures names { self.new.names ≡ self.old.names }
-        ensures placed { OnOk result (self.new.trees ≡ with_tree self.old.trees
-            (tree_of self.old.names self.old.trees level)) }
-        ensures number { IfOk result (λ n. slice_get self.new.trees n ≡ Some
-            (tree_of self.old.names self.old.trees level)) }
-        ensures fits { OnOk result
-            (length (with_tree self.old.trees (tree_of self.old.names self.old.trees
-            level)) ≤ self.old.limit) }
-        ensures full { result ≡ Err PoolFault.Full
-            → self.old.limit < length (with_tree self.old.trees
-            (tree_of self.old.names self.old.trees level)) }
-        ensures above { self.old.limit < length (with_tree self.old.trees
-            (tree_of self.old.names self.old.trees level)) → result ≡ Err PoolFault.Full }
-        ensures refused { OnErr result (self.new.trees ≡ self.old.trees) }
+        ensures { PlacesTree self.old self.new
+            (tree_of self.old.names self.old.trees level) result }
     {
         if let Some(number) = self.standing(near, &level) {
             return Ok(number);
@@ -171,21 +159,8 @@ impl GrowingStore {
     // The number of a level's tree, which is a new one where the tree is new.
     fn place(&mut self, level: Level) -> Result<u32, PoolFault>
         requires within { IsWithin self.old.names (length self.old.trees) level }
-        ensures limit { self.new.limit ≡ self.old.limit }
-        ensures names { self.new.names ≡ self.old.names }
-        ensures placed { OnOk result (self.new.trees ≡ with_tree self.old.trees
-            (tree_of self.old.names self.old.trees level)) }
-        ensures number { IfOk result (λ n. slice_get self.new.trees n ≡ Some
-            (tree_of self.old.names self.old.trees level)) }
-        ensures fits { OnOk result
-            (length (with_tree self.old.trees (tree_of self.old.names self.old.trees
-            level)) ≤ self.old.limit) }
-        ensures full { result ≡ Err PoolFault.Full
-            → self.old.limit < length (with_tree self.old.trees
-            (tree_of self.old.names self.old.trees level)) }
-        ensures above { self.old.limit < length (with_tree self.old.trees
-            (tree_of self.old.names self.old.trees level)) → result ≡ Err PoolFault.Full }
-        ensures refused { OnErr result (self.new.trees ≡ self.old.trees) }
+        ensures { PlacesTree self.old self.new
+            (tree_of self.old.names self.old.trees level) result }
     {
         inserted(&mut self.levels, self.limit, level)
     }
@@ -244,10 +219,8 @@ fn inserted(
     ensures keys { OnOk result (levels.new.keys ≡ insert_key flat_eq levels.old.keys level) }
     ensures number { IfOk result (λ n. slice_get levels.new.keys n ≡ Some level) }
     ensures fits { OnOk result (length (insert_key flat_eq levels.old.keys level) ≤ limit) }
-    ensures full { result ≡ Err PoolFault.Full
-        → limit < length (insert_key flat_eq levels.old.keys level) }
-    ensures above { limit < length (insert_key flat_eq levels.old.keys level)
-        → result ≡ Err PoolFault.Full }
+    ensures full { (result ≡ Err PoolFault.Full)
+        ↔ (limit < length (insert_key flat_eq levels.old.keys level)) }
     ensures refused { OnErr result (levels.new.keys ≡ levels.old.keys) }
 {
     if levels.len() < limit as usize {

@@ -88,7 +88,7 @@ add-returns-clause-full t c =
     let m = meaning_of c.show-shown.result in
     let p = tree_of mid.names mid.trees c.in_ok-level.level in
     let same : with_tree mid.trees p ≡ interned o.trees c.args.value.now = placed-interned o.trees mid.trees m p l.added l.stands ∙ ap (interned o.trees) c.show-shown.ensures in
-    λ refused. full-at (with_tree mid.trees p) (interned o.trees c.args.value.now) mid.limit o.limit same l.grows.limit (c.place_near.ensures.full refused)
+    λ refused. full-at (with_tree mid.trees p) (interned o.trees c.args.value.now) mid.limit o.limit same l.grows.limit (c.place_near.ensures.full.0 refused)
 
 pub level_of-returns-in-Null-clause-grows : goal.level_of-returns-in-Null-clause-grows
 level_of-returns-in-Null-clause-grows t c = Grows-refl c.args.store.now

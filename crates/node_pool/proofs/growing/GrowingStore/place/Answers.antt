@@ -1,4 +1,4 @@
-use Rattle.node_pool.proofs.Stores.{within-seen, kept-place, place-seen, place-above}
+use Rattle.node_pool.proofs.Stores.{within-seen, kept-place, place-seen}
 use Rattle.node_pool.proofs.growing.GrowingStore.place.Goals as goal
 
 pub invariant_of-self : goal.invariant_of-self
@@ -8,31 +8,8 @@ invariant_of-self c =
     kept-place s.limit s.names.keys s.levels.keys c.inserted.new.levels.keys c.args.level c.inserted.result c.self.invariant
     (within-seen s.limit s.names.keys s.levels.keys c.args.level c.args.self.now c.self.view_is c.requires.within) e.keys e.fits e.refused
 
-pub returns-clause-placed : goal.returns-clause-placed
-returns-clause-placed c =
+pub returns : goal.returns
+returns c =
     let s = c.self.inside in
     let e = c.inserted.ensures in
-    (place-seen s.limit s.names.keys s.levels.keys c.inserted.new.levels.keys c.args.level c.inserted.result c.args.self.now c.self.invariant c.self.view_is c.requires.within e.keys e.number e.fits e.full).placed
-
-pub returns-clause-number : goal.returns-clause-number
-returns-clause-number c =
-    let s = c.self.inside in
-    let e = c.inserted.ensures in
-    (place-seen s.limit s.names.keys s.levels.keys c.inserted.new.levels.keys c.args.level c.inserted.result c.args.self.now c.self.invariant c.self.view_is c.requires.within e.keys e.number e.fits e.full).number
-
-pub returns-clause-fits : goal.returns-clause-fits
-returns-clause-fits c =
-    let s = c.self.inside in
-    let e = c.inserted.ensures in
-    (place-seen s.limit s.names.keys s.levels.keys c.inserted.new.levels.keys c.args.level c.inserted.result c.args.self.now c.self.invariant c.self.view_is c.requires.within e.keys e.number e.fits e.full).fits
-
-pub returns-clause-full : goal.returns-clause-full
-returns-clause-full c =
-    let s = c.self.inside in
-    let e = c.inserted.ensures in
-    (place-seen s.limit s.names.keys s.levels.keys c.inserted.new.levels.keys c.args.level c.inserted.result c.args.self.now c.self.invariant c.self.view_is c.requires.within e.keys e.number e.fits e.full).full
-
-pub returns-clause-above : goal.returns-clause-above
-returns-clause-above c =
-    let s = c.self.inside in
-    place-above s.limit s.names.keys s.levels.keys c.args.level c.inserted.result c.args.self.now c.self.invariant c.self.view_is c.requires.within c.inserted.ensures.above
+    place-seen s.limit s.names.keys s.levels.keys c.inserted.new.levels.keys c.args.level c.inserted.result c.args.self.now c.self.invariant c.self.view_is c.requires.within e.keys e.number e.fits e.full e.refused
