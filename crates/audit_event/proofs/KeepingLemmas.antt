@@ -6,12 +6,12 @@ use Rattle.std.proofs.Math.Seq.{get_or-append_seam}
 use Rattle.std.proofs.lemmas.Bool.{cases_lt}
 use Rattle.std.proofs.lemmas.List.Elements.{All-nil, All-cons, All-push, Contains-get_or}
 use Rattle.audit_event.specs.declared.event.Event.{Event}
-use Rattle.audit_event.specs.declared.seen.Admitted.{Admitted}
-use Rattle.audit_event.specs.declared.seen.Admitted.TheVariants.{Fresh, Repeat}
+use Rattle.audit_event.specs.declared.seen.Sighting.{Sighting}
+use Rattle.audit_event.specs.declared.seen.Sighting.TheVariants.{Fresh, Repeat}
 use Rattle.audit_event.specs.declared.seen.Identity.{Identity}
 use Rattle.audit_event.specs.declared.fault.SeenFault.{SeenFault}
 use Rattle.audit_event.specs.declared.fault.SeenFault.TheVariants.{Differs, OutOfMemory}
-use Rattle.audit_event.specs.Keeping.{identity_of, AreOfOneStage, WasKept, Judges, Admits, AreKept}
+use Rattle.audit_event.specs.Keeping.{identity_of, AreOfOneStage, WasKept, Judges, KeepsFirst, AreKept}
 
 pairs_push : {X : Type 0} (R : X → X → Type 0) (xs : List X) (y : X) → AllPairs R xs → All (λ x. R x y) xs → AllPairs R (xs ++ y ∷ [])
 pairs_push R xs y pairs last i j d below within =
@@ -36,13 +36,13 @@ kept_push kept event are later room fresh = record {
   few = (let long = length-append kept (event ∷ []) in omega arith);
 }
 
--- what `admit` leaves are the kept events of a log
-pub kept_after : (kept : List Event) (event : Event) (answer : Result Admitted SeenFault) (after : List Event) → AreKept kept → All (λ other. other.line < event.line) kept
-    → length kept < 2 ^ 32 - 1 → Admits kept event answer after → AreKept after
-kept_after kept event (Ok Fresh) after are later room admits = subst AreKept (sym admits.1) (kept_push kept event are later room admits.0)
-kept_after kept event (Ok Repeat) after are later room admits = subst AreKept (sym admits.1) are
-kept_after kept event (Err (Differs line)) after are later room admits = subst AreKept (sym admits.1) are
-kept_after kept event (Err OutOfMemory) after are later room admits = subst AreKept (sym admits) are
+-- what `keep` leaves are the kept events of a log
+pub kept_after : (kept : List Event) (event : Event) (answer : Result Sighting SeenFault) (after : List Event) → AreKept kept → All (λ other. other.line < event.line) kept
+    → length kept < 2 ^ 32 - 1 → KeepsFirst kept event answer after → AreKept after
+kept_after kept event (Ok Fresh) after are later room keeps = subst AreKept (sym keeps.1) (kept_push kept event are later room keeps.0)
+kept_after kept event (Ok Repeat) after are later room keeps = subst AreKept (sym keeps.1) are
+kept_after kept event (Err (Differs line)) after are later room keeps = subst AreKept (sym keeps.1) are
+kept_after kept event (Err OutOfMemory) after are later room keeps = subst AreKept (sym keeps) are
 
 left_false : (a b : Bool) → (a || b) ≡ false → a ≡ false
 left_false true b is = absurd (true≢false is)
@@ -69,30 +69,30 @@ stands_at (event ∷ rest) zero identity is = (omega arith, λ d. cc)
 stands_at (event ∷ rest) (suc at) identity is = let later = stands_at rest at identity is in (omega arith, later.1)
 
 -- what is judged of the event that was kept of an event's request and stage
-pub judged : (kept : List Event) (event found : Event) (at : ℕ) (answer : Result Admitted SeenFault) (after : List Event)
-    → at < length kept → found ≡ get_or kept at found → AreOfOneStage found event → Judges found event answer → after ≡ kept → Admits kept event answer after
+pub judged : (kept : List Event) (event found : Event) (at : ℕ) (answer : Result Sighting SeenFault) (after : List Event)
+    → at < length kept → found ≡ get_or kept at found → AreOfOneStage found event → Judges found event answer → after ≡ kept → KeepsFirst kept event answer after
 judged kept event found at answer after within is one judges same = by answer judges
   where
     was : WasKept kept event found
     was = record { among = subst (λ e. Contains kept e) (sym is) (Contains-get_or kept at found within); one = one }
 
-    by : (answer : Result Admitted SeenFault) → Judges found event answer → Admits kept event answer after
+    by : (answer : Result Sighting SeenFault) → Judges found event answer → KeepsFirst kept event answer after
     by (Ok Fresh) judges = absurd judges
     by (Ok Repeat) judges = ((found, was, judges), same)
     by (Err (Differs line)) judges = ((found, was, judges.0, judges.1), same)
     by (Err OutOfMemory) judges = absurd judges
 
 -- after an event whose line is below a number, all kept lines are below it where they were
-pub lines_below : (number : ℕ) (kept : List Event) (event : Event) (answer : Result Admitted SeenFault) (after : List Event) → Admits kept event answer after
+pub lines_below : (number : ℕ) (kept : List Event) (event : Event) (answer : Result Sighting SeenFault) (after : List Event) → KeepsFirst kept event answer after
     → event.line < number → All (λ other. other.line < number) kept → All (λ other. other.line < number) after
-lines_below number kept event (Ok Fresh) after admits below all = subst (All (λ (other : Event). other.line < number)) (sym admits.1) (All-push (λ (other : Event). other.line < number) kept event all below)
-lines_below number kept event (Ok Repeat) after admits below all = subst (All (λ (other : Event). other.line < number)) (sym admits.1) all
-lines_below number kept event (Err (Differs line)) after admits below all = subst (All (λ (other : Event). other.line < number)) (sym admits.1) all
-lines_below number kept event (Err OutOfMemory) after admits below all = subst (All (λ (other : Event). other.line < number)) (sym admits) all
+lines_below number kept event (Ok Fresh) after keeps below all = subst (All (λ (other : Event). other.line < number)) (sym keeps.1) (All-push (λ (other : Event). other.line < number) kept event all below)
+lines_below number kept event (Ok Repeat) after keeps below all = subst (All (λ (other : Event). other.line < number)) (sym keeps.1) all
+lines_below number kept event (Err (Differs line)) after keeps below all = subst (All (λ (other : Event). other.line < number)) (sym keeps.1) all
+lines_below number kept event (Err OutOfMemory) after keeps below all = subst (All (λ (other : Event). other.line < number)) (sym keeps) all
 
 -- at most one event more is kept
-pub one_more : (kept : List Event) (event : Event) (answer : Result Admitted SeenFault) (after : List Event) → Admits kept event answer after → length after ≤ length kept + 1
-one_more kept event (Ok Fresh) after admits = let long = length-append kept (event ∷ []) in let same = ap length admits.1 in omega arith
-one_more kept event (Ok Repeat) after admits = let same = ap length admits.1 in omega arith
-one_more kept event (Err (Differs line)) after admits = let same = ap length admits.1 in omega arith
-one_more kept event (Err OutOfMemory) after admits = let same = ap length admits in omega arith
+pub one_more : (kept : List Event) (event : Event) (answer : Result Sighting SeenFault) (after : List Event) → KeepsFirst kept event answer after → length after ≤ length kept + 1
+one_more kept event (Ok Fresh) after keeps = let long = length-append kept (event ∷ []) in let same = ap length keeps.1 in omega arith
+one_more kept event (Ok Repeat) after keeps = let same = ap length keeps.1 in omega arith
+one_more kept event (Err (Differs line)) after keeps = let same = ap length keeps.1 in omega arith
+one_more kept event (Err OutOfMemory) after keeps = let same = ap length keeps in omega arith

@@ -1,5 +1,5 @@
 -- The first rule that a value breaks, rule after rule.
-use Rattle.std.proofs.Common.{◌≡◌, ℕ, ◌+◌, ◌<◌, ◌≤◌, Bool, true, List, Option, Some, IsSome, refl, sym, ap, subst, ◌∙◌, inl, inr, ◌==◌, if◌then◌else◌, arith, rules}
+use Rattle.std.proofs.Common.{◌≡◌, ℕ, ◌+◌, ◌<◌, ◌≤◌, Bool, List, Option, Some, IsSome, refl, sym, ap, subst, ◌∙◌, inl, inr, ◌==◌, if◌then◌else◌, arith, rules}
 use Rattle.std.proofs.Math.Nat.{eq-or-lt_of_le}
 use Rattle.std.proofs.lemmas.Bool.{cases_lt}
 use Rattle.serde_json.specs.Data.{Data}
@@ -11,13 +11,11 @@ use Rattle.audit_event.specs.declared.fault.Malformed.TheVariants.{M1, M2, M3, M
 use Rattle.audit_event.specs.declared.fault.EventFault.{EventFault}
 use Rattle.audit_event.specs.declared.fault.EventFault.TheVariants.{Malformed as Broken}
 use Rattle.audit_event.specs.declared.fault.EventFault.TheVariants as Fault
-use Rattle.audit_event.specs.declared.times.Times.{Times}
-use Rattle.base_types.specs.declared.request.Level.{Level}
-use Rattle.base_types.specs.declared.request.RequestAttrs.{RequestAttrs}
-use Rattle.base_types.specs.declared.request.Stage.{Stage}
-use Rattle.audit_event.specs.Events.{fault_for, IsUnreadable, IsCauseFrom, IsRequestOf}
+use Rattle.audit_event.specs.declared.reading.Recording.{Recording}
+use Rattle.audit_event.specs.declared.reading.Request.{Request}
+use Rattle.audit_event.specs.Events.{fault_for, IsUnreadable, IsCauseFrom}
 use Rattle.audit_event.specs.Levels.{level_in, stage_in}
-use Rattle.audit_event.specs.Numbers.{has_whole_numbers}
+use Rattle.audit_event.specs.Recorded.{IsRecordingOf, IsRequestRead}
 use Rattle.audit_event.specs.Rules.{rank, Keeps, BreaksFrom, audit_id_in, uri_in}
 use Rattle.audit_event.specs.Times.{times_in}
 
@@ -83,23 +81,21 @@ has : {A : Type 0} (found : Option A) (x : A) → found ≡ Some x → IsSome fo
 has found x is = search rules
 
 -- the rules on when and how much
-pub recording_kept : (value : Data) (level : Level) (stage : Stage) (times : Times) → level_in value ≡ Some level → stage_in value ≡ Some stage → times_in value ≡ Some times → has_whole_numbers value ≡ true
-    → (heading : Data → Bool) → KeptFrom 3 7 value heading
-recording_kept value level stage times has_level has_stage has_times whole heading =
+pub recording_kept : (value : Data) (recording : Recording) → IsRecordingOf value recording → (heading : Data → Bool) → KeptFrom 3 7 value heading
+recording_kept value recording is heading =
     kept_more 3 M6 value heading
     (kept_more 3 M5 value heading
     (kept_more 3 M4 value heading
-    (kept_more 3 M3 value heading (kept_none 3 value heading) (has (level_in value) level has_level))
-    (has (stage_in value) stage has_stage))
-    (has (times_in value) times has_times))
-    whole
+    (kept_more 3 M3 value heading (kept_none 3 value heading) (has (level_in value) recording.level is.level))
+    (has (stage_in value) recording.stage is.stage))
+    (has (times_in value) recording.times is.times))
+    is.numbers
 
 -- and those on the request
-pub request_kept : (value : Data) (audit_id : List ℕ) (attrs : RequestAttrs) → audit_id_in value ≡ Some audit_id → IsRequestOf value attrs
-    → (heading : Data → Bool) → KeptFrom 3 7 value heading → KeptFrom 3 10 value heading
-request_kept value audit_id attrs has_id request heading kept =
+pub request_kept : (value : Data) (request : Request) → IsRequestRead value request → (heading : Data → Bool) → KeptFrom 3 7 value heading → KeptFrom 3 10 value heading
+request_kept value request is heading kept =
     kept_more 3 M9 value heading
     (kept_more 3 M8 value heading
-    (kept_more 3 M7 value heading kept (has (audit_id_in value) audit_id has_id))
-    (has (uri_in value) request.uri request.has_uri))
-    (record { verb = request.verb; uri = request.uri; has_verb = request.has_verb; has_uri = request.has_uri; readable = request.readable })
+    (kept_more 3 M7 value heading kept (has (audit_id_in value) request.audit_id is.audit_id))
+    (has (uri_in value) is.attrs.uri is.attrs.has_uri))
+    (record { verb = is.attrs.verb; uri = is.attrs.uri; has_verb = is.attrs.has_verb; has_uri = is.attrs.has_uri; readable = is.attrs.readable })

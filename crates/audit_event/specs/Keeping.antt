@@ -2,8 +2,8 @@
 use Rattle.std.specs.Prelude.{◌≡◌, ◌<◌, ◌^◌, List, [], ◌∷◌, ◌++◌, length, All, AllPairs, Contains, Result, Ok, Err}
 use Rattle.base_types.specs.declared.request.RequestAttrs.{RequestAttrs}
 use Rattle.audit_event.specs.declared.event.Event.{Event}
-use Rattle.audit_event.specs.declared.seen.Admitted.{Admitted}
-use Rattle.audit_event.specs.declared.seen.Admitted.TheVariants.{Fresh, Repeat}
+use Rattle.audit_event.specs.declared.seen.Sighting.{Sighting}
+use Rattle.audit_event.specs.declared.seen.Sighting.TheVariants.{Fresh, Repeat}
 use Rattle.audit_event.specs.declared.seen.Identity.{Identity}
 use Rattle.audit_event.specs.declared.fault.SeenFault.{SeenFault}
 use Rattle.audit_event.specs.declared.fault.SeenFault.TheVariants.{Differs, OutOfMemory}
@@ -55,7 +55,7 @@ pub record SameButLine (a b : Event) : Type 0 where
   pub answer : SameAnswer a b
 
 -- what is answered to an event, of the one that was kept of its request and stage
-abbrev pub Judges : Event → Event → Result Admitted SeenFault → Type 0
+abbrev pub Judges : Event → Event → Result Sighting SeenFault → Type 0
 Judges kept event (Ok Fresh) = ⊥
 Judges kept event (Ok Repeat) = SameButLine kept event
 Judges kept event (Err (Differs line)) = (kept.line ≡ line) × (¬ SameButLine kept event)
@@ -67,12 +67,12 @@ pub record WasKept (kept : List Event) (event found : Event) : Type 0 where
   pub one : AreOfOneStage found event
 
 -- the kept events before an event, what is answered to it, and the kept events after
-abbrev pub Admits : List Event → Event → Result Admitted SeenFault → List Event → Type 0
-Admits kept event (Ok Fresh) after = All (λ other. ¬ AreOfOneStage other event) kept × (after ≡ kept ++ event ∷ [])
-Admits kept event (Ok Repeat) after = ((found : Event) × WasKept kept event found × SameButLine found event) × (after ≡ kept)
-Admits kept event (Err (Differs line)) after =
+abbrev pub KeepsFirst : List Event → Event → Result Sighting SeenFault → List Event → Type 0
+KeepsFirst kept event (Ok Fresh) after = All (λ other. ¬ AreOfOneStage other event) kept × (after ≡ kept ++ event ∷ [])
+KeepsFirst kept event (Ok Repeat) after = ((found : Event) × WasKept kept event found × SameButLine found event) × (after ≡ kept)
+KeepsFirst kept event (Err (Differs line)) after =
     ((found : Event) × WasKept kept event found × (found.line ≡ line) × (¬ SameButLine found event)) × (after ≡ kept)
-Admits kept event (Err OutOfMemory) after = after ≡ kept
+KeepsFirst kept event (Err OutOfMemory) after = after ≡ kept
 
 -- the events that a log keeps
 pub record AreKept (events : List Event) : Type 0 where

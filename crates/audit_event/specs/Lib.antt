@@ -6,6 +6,7 @@ pub mod Keeping
 pub mod Levels
 pub mod Members
 pub mod Numbers
+pub mod Recorded
 pub mod Rules
 pub mod Statuses
 pub mod Times

@@ -91,10 +91,10 @@ impl From<OutOfMemory> for EventFault {
     }
 }
 
-/// Why an event isn't admitted.
+/// Why an event isn't kept.
 #[derive(Clone, Copy, Debug, PartialEq, Eq, Error)]
 pub enum SeenFault {
-    /// It differs from the event of its audit ID and stage that was admitted in this line.
+    /// It differs from the event of its audit ID and stage that was kept in this line.
     #[error("the event differs from that of line {line}")]
     Differs { line: u64 },
     #[error("out of memory")]

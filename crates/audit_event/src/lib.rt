@@ -20,4 +20,4 @@ pub use event::{Body, Event, Events, Status};
 pub use fault::{EventFault, Malformed, SeenFault};
 pub use heading::is_of_kind;
 pub use reading::{read_event, read_item, read_value};
-pub use seen::{Admitted, Seen};
+pub use seen::{Seen, Sighting};

@@ -1,17 +1,12 @@
-ghost use Rattle.std.specs.Prelude.{◌≡◌, ℕ, Some, IfOk, IfErr, OnOk, true};
+ghost use Rattle.std.specs.Prelude.{◌≡◌, ℕ, Some, IfOk, IfErr, OnOk};
 ghost use Rattle.borrowed_json.specs.View.{view};
 ghost use Rattle.request_attrs.specs.Attributes.{attributes};
 ghost use Rattle.request_attrs.specs.Refusals.{IsReadable};
-ghost use Rattle.audit_event.specs.Bodies.{request_in, response_in, IsSoundBody};
-ghost use Rattle.audit_event.specs.Events.{HasFieldsOf, IsRequestOf, IsEventOf, IsEventOfLine, IsCauseFrom};
+ghost use Rattle.audit_event.specs.Events.{HasFieldsOf, IsEventOf, IsEventOfLine, IsCauseFrom};
 ghost use Rattle.audit_event.specs.Events.{IsCause, IsLineCause, IsUnreadable, IsSound, fault_for};
 ghost use Rattle.audit_event.specs.Headings.{is_event, is_item};
-ghost use Rattle.audit_event.specs.Levels.{level_in, stage_in};
-ghost use Rattle.audit_event.specs.Numbers.{has_whole_numbers};
-ghost use Rattle.audit_event.specs.Rules.{audit_id_in};
-ghost use Rattle.audit_event.specs.Statuses.{code_in, status_in};
-ghost use Rattle.audit_event.specs.Times.{times_in, AreSound};
-ghost use Rattle.audit_event.specs.Users.{users_in};
+ghost use Rattle.audit_event.specs.Recorded.{ArePartiesOf, IsExchangeOf, IsRecordingOf};
+ghost use Rattle.audit_event.specs.Recorded.{IsRequestRead, IsToldBy};
 
 use crate::bodies::read_body;
 use crate::decision::decision_of;
@@ -40,11 +35,7 @@ struct Recording {
 
 // Reads what the rules from `M3` to `M6` are about.
 fn read_recording(value: &JsonValue<'_>) -> Result<Recording, EventFault>
-    ensures level { IfOk result (λ found. level_in (view value.now) ≡ Some found.level) }
-    ensures stage { IfOk result (λ found. stage_in (view value.now) ≡ Some found.stage) }
-    ensures times { IfOk result (λ found. times_in (view value.now) ≡ Some found.times) }
-    ensures sound { IfOk result (λ found. AreSound found.times.received.0 found.times.staged.0) }
-    ensures numbers { OnOk result (has_whole_numbers (view value.now) ≡ true) }
+    ensures recording { IfOk result (IsRecordingOf (view value.now)) }
     ensures cause { IfErr result (IsCauseFrom 3 (view value.now)) }
 {
     let Some(level) = level_of(value) else {
@@ -117,8 +108,7 @@ impl Request {
 
 // Reads what the rules from `M7` to `M9` are about.
 fn read_request(alloc: Global, value: &JsonValue<'_>) -> Result<Request, EventFault>
-    ensures audit_id { IfOk result (λ found. audit_id_in (view value.now) ≡ Some found.audit_id) }
-    ensures attrs { IfOk result (λ found. IsRequestOf (view value.now) found.attrs) }
+    ensures request { IfOk result (IsRequestRead (view value.now)) }
     ensures cause { IfErr result (IsCauseFrom 7 (view value.now)) }
 {
     let Some(audit_id) = filled_at(value, "auditID") else {
@@ -145,9 +135,7 @@ struct Parties {
 
 // Reads what the rules `M10` and `M11` are about.
 fn read_parties(alloc: Global, value: &JsonValue<'_>) -> Result<Parties, EventFault>
-    ensures users { IfOk result (λ found. users_in (view value.now)
-        ≡ Some (found.user, found.impersonated)) }
-    ensures code { IfOk result (λ found. code_in (view value.now) ≡ Some found.code) }
+    ensures parties { IfOk result (ArePartiesOf (view value.now)) }
     ensures cause { IfErr result (IsCauseFrom 10 (view value.now)) }
 {
     let Some((user, impersonated)) = read_users(alloc, value)? else {
@@ -178,11 +166,7 @@ fn read_exchange(
     stage: Stage,
     code: Option<u16>,
 ) -> Result<Exchange, OutOfMemory>
-    ensures status { IfOk result (λ found. found.status ≡ status_in stage code (view value.now)) }
-    ensures request { IfOk result (λ found. found.request ≡ request_in (view value.now)) }
-    ensures sound_request { IfOk result (λ found. IsSoundBody found.request) }
-    ensures response { IfOk result (λ found. found.response ≡ response_in (view value.now)) }
-    ensures sound_response { IfOk result (λ found. IsSoundBody found.response) }
+    ensures { IfOk result (IsExchangeOf (view value.now) stage code) }
 {
     let request = read_body(alloc, present(value, "requestObject"))?;
     let response = read_body(alloc, present(value, "responseObject"))?;
@@ -203,17 +187,7 @@ struct Told {
 
 // Reads what the rules from `M10` on are about, and what none is about.
 fn read_told(alloc: Global, value: &JsonValue<'_>, stage: Stage) -> Result<Told, EventFault>
-    ensures users { IfOk result (λ told. users_in (view value.now) ≡ Some (
-      told.parties.user,
-      told.parties.impersonated,
-    )) }
-    ensures code { IfOk result (λ told. code_in (view value.now) ≡ Some told.parties.code) }
-    ensures status { IfOk result (λ told. told.exchange.status
-        ≡ status_in stage told.parties.code (view value.now)) }
-    ensures request { IfOk result (λ told. told.exchange.request ≡ request_in (view value.now)) }
-    ensures sound_request { IfOk result (λ told. IsSoundBody told.exchange.request) }
-    ensures response { IfOk result (λ told. told.exchange.response ≡ response_in (view value.now)) }
-    ensures sound_response { IfOk result (λ told. IsSoundBody told.exchange.response) }
+    ensures told { IfOk result (IsToldBy (view value.now) stage) }
     ensures cause { IfErr result (IsCauseFrom 10 (view value.now)) }
 {
     let parties = read_parties(alloc, value)?;
@@ -229,22 +203,9 @@ fn assemble(
     request: Request,
     told: Told,
 ) -> Event
-    requires level { level_in (view value.now) ≡ Some recording.level }
-    requires stage { stage_in (view value.now) ≡ Some recording.stage }
-    requires times { times_in (view value.now) ≡ Some recording.times }
-    requires sound { AreSound recording.times.received.0 recording.times.staged.0 }
-    requires numbers { has_whole_numbers (view value.now) ≡ true }
-    requires audit_id { audit_id_in (view value.now) ≡ Some request.audit_id }
-    requires attrs { IsRequestOf (view value.now) request.attrs }
-    requires users { users_in (view value.now) ≡ Some
-        (told.parties.user, told.parties.impersonated) }
-    requires code { code_in (view value.now) ≡ Some told.parties.code }
-    requires status { told.exchange.status ≡ status_in recording.stage told.parties.code
-        (view value.now) }
-    requires sent { told.exchange.request ≡ request_in (view value.now) }
-    requires sound_sent { IsSoundBody told.exchange.request }
-    requires answered { told.exchange.response ≡ response_in (view value.now) }
-    requires sound_answered { IsSoundBody told.exchange.response }
+    requires recording { IsRecordingOf (view value.now) recording }
+    requires request { IsRequestRead (view value.now) request }
+    requires told { IsToldBy (view value.now) recording.stage told }
     ensures fields { HasFieldsOf (view value.now) line result }
     ensures sound { IsSound result }
 {
@@ -279,7 +240,8 @@ fn read_fields(alloc: Global, value: &JsonValue<'_>, line: u64) -> Result<Event,
     Ok(assemble(value, line, recording, request, told))
 }
 
-/// The event of a JSON value, or the first rule from `M2` on that it breaks. Unknown members are ignored.
+/// The event of a JSON value, or the first rule from `M2` on that it breaks. Unknown members are
+/// ignored.
 pub fn read_value(alloc: Global, value: &JsonValue<'_>, line: u64) -> Result<Event, EventFault>
     ensures event { IfOk result (IsEventOf is_event (view value.now) line) }
     ensures sound { IfOk result IsSound }
@@ -291,8 +253,8 @@ pub fn read_value(alloc: Global, value: &JsonValue<'_>, line: u64) -> Result<Eve
     read_fields(alloc, value, line)
 }
 
-/// The event of an item of an EventList, or the first rule from `M2` on that it breaks. An item without
-/// `kind` and `apiVersion` is taken for an event.
+/// The event of an item of an EventList, or the first rule from `M2` on that it breaks. An item
+/// without `kind` and `apiVersion` is taken for an event.
 pub fn read_item(alloc: Global, value: &JsonValue<'_>, line: u64) -> Result<Event, EventFault>
     ensures event { IfOk result (IsEventOf is_item (view value.now) line) }
     ensures sound { IfOk result IsSound }

@@ -1,7 +1,8 @@
-ghost use Rattle.std.specs.Prelude.{◌≡◌, ◌<◌, ◌-◌, ◌^◌, ◌↔◌, [], ◌++◌, ◌∷◌, IfOk, IsTrue, All, length, map};
-ghost use Rattle.std.specs.Prelude.{vec_len, vec_capacity};
-ghost use Rattle.audit_event.specs.Keeping.{identity_of, SameOrigin, SamePath, SameObject, SameRequest, SameAnswer};
-ghost use Rattle.audit_event.specs.Keeping.{SameButLine, Judges, Admits, AreKept};
+ghost use Rattle.std.specs.Prelude.{◌≡◌, ◌<◌, ◌-◌, ◌^◌, ◌↔◌, [], ◌++◌, ◌∷◌, IfOk, IsTrue, All};
+ghost use Rattle.std.specs.Prelude.{length, map, vec_len, vec_capacity};
+ghost use Rattle.audit_event.specs.Keeping.{identity_of, SameOrigin, SamePath, SameObject};
+ghost use Rattle.audit_event.specs.Keeping.{SameRequest, SameAnswer, SameButLine};
+ghost use Rattle.audit_event.specs.Keeping.{Judges, KeepsFirst, AreKept};
 
 use crate::event::{Body, Event, Events};
 use crate::fault::SeenFault;
@@ -14,7 +15,7 @@ use std::marker::Model;
 
 /// What became of an event.
 #[derive(Clone, Copy, Debug, PartialEq, Eq)]
-pub enum Admitted {
+pub enum Sighting {
     /// It is the first of its audit ID and stage, and is kept.
     Fresh,
     /// It repeats the one that was kept, and is dropped.
@@ -48,7 +49,8 @@ impl Model for Seen {
 
     ghost view = { λ s. s.kept.items };
 
-    ghost invariant = { λ s. AreKept s.kept.items × (s.identities.keys ≡ map identity_of s.kept.items) };
+    ghost invariant = { λ s. AreKept s.kept.items
+        × (s.identities.keys ≡ map identity_of s.kept.items) };
 }
 
 fn has_same_origin(a: &Event, b: &Event) -> bool
@@ -149,18 +151,18 @@ fn repeats(a: &Event, b: &Event) -> bool
 }
 
 // What is answered to an event, of the one that was kept of its request and stage.
-fn judge(kept: &Event, event: &Event) -> Result<Admitted, SeenFault>
+fn judge(kept: &Event, event: &Event) -> Result<Sighting, SeenFault>
     ensures { Judges kept.now event.now result }
 {
     if repeats(kept, event) {
-        Ok(Admitted::Repeat)
+        Ok(Sighting::Repeat)
     } else {
         Err(SeenFault::Differs { line: kept.line })
     }
 }
 
-// Keeps an event, for which there is room.
-fn keep(kept: &mut Vec<Event>, event: Event)
+// Puts an event behind the kept ones, where there is room.
+fn append(kept: &mut Vec<Event>, event: Event)
     requires { vec_len kept.old < vec_capacity kept.old }
     ensures { kept.new.items ≡ kept.old.items ++ event ∷ [] }
 {
@@ -170,15 +172,15 @@ fn keep(kept: &mut Vec<Event>, event: Event)
     }
 }
 
-// Admits an event. The identities stand beside the events that they are of.
-fn admit(
+// Keeps an event, or drops or refuses it. The identities stand beside the events that they are of.
+fn keep(
     identities: &mut IndexSet<Identity, Seeded>,
     kept: &mut Vec<Event>,
     event: Event,
-) -> Result<Admitted, SeenFault>
+) -> Result<Sighting, SeenFault>
     requires { identities.old.keys ≡ map identity_of kept.old.items }
     ensures identities { identities.new.keys ≡ map identity_of kept.new.items }
-    ensures admits { Admits kept.old.items event result kept.new.items }
+    ensures keeps { KeepsFirst kept.old.items event result kept.new.items }
 {
     let audit_id = event.audit_id.clone()?;
     let identity = Identity {
@@ -188,8 +190,8 @@ fn admit(
     kept.reserve(1)?;
     let (at, is_fresh) = identities.insert_full(identity)?;
     if is_fresh {
-        keep(kept, event);
-        return Ok(Admitted::Fresh);
+        append(kept, event);
+        return Ok(Sighting::Fresh);
     }
     judge(&kept[at], &event)
 }
@@ -205,14 +207,14 @@ impl Seen {
         })
     }
 
-    /// Keeps an event, or drops it where it repeats a kept one; refuses it where it differs from the kept
-    /// one of its audit ID and stage. After a refusal the kept events are as before.
-    pub fn admit(&mut self, event: Event) -> Result<Admitted, SeenFault>
+    /// Keeps an event, or drops it where it repeats a kept one; refuses it where it differs from the
+    /// kept one of its audit ID and stage. After a refusal the kept events are as before.
+    pub fn keep(&mut self, event: Event) -> Result<Sighting, SeenFault>
         requires later { All (λ other. other.line < event.line) self.old }
         requires room { length self.old < 2 ^ 32 - 1 }
-        ensures { Admits self.old event result self.new }
+        ensures { KeepsFirst self.old event result self.new }
     {
-        admit(&mut self.identities, &mut self.kept, event)
+        keep(&mut self.identities, &mut self.kept, event)
     }
 
     /// How many events are kept.

@@ -7,7 +7,7 @@ ghost use Rattle.log_intake.specs.Keeping.{KeepsEvent, KeepsEvents, KeepsLine, K
 ghost use Rattle.log_intake.specs.Kept.{AreBefore};
 
 use crate::stop::LogStop;
-use audit_event::{Admitted, Event, Events, Malformed, Seen, SeenFault};
+use audit_event::{Event, Events, Malformed, Seen, SeenFault, Sighting};
 use base_types::OutOfMemory;
 use batch_decode::{Decoded, DecodedList, decode_all};
 use judge_pool::Gate;
@@ -212,9 +212,9 @@ fn keep_event(seen: &mut Seen, number: u64, event: Event) -> Result<(), LogStop>
 {
     let mut event = event;
     event.line = number;
-    match seen.admit(event) {
-        Ok(Admitted::Repeat) => Ok(()),
-        Ok(Admitted::Fresh) => within_limit(seen.count()),
+    match seen.keep(event) {
+        Ok(Sighting::Repeat) => Ok(()),
+        Ok(Sighting::Fresh) => within_limit(seen.count()),
         Err(SeenFault::Differs { .. }) => Err(LogStop::Malformed {
             line: number,
             code: Malformed::M12,

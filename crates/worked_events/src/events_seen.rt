@@ -1,7 +1,7 @@
 ghost use Rattle.std.specs.Prelude.{◌≡◌, ◌+◌, ◌≤◌, ◌<◌, ◌^◌, ◌-◌, All, length};
 
 use crate::given::{assert_so, line_of, push};
-use audit_event::{Admitted, Event, Seen, SeenFault, read_event};
+use audit_event::{Event, Seen, SeenFault, Sighting, read_event};
 use hash_seed::Seed;
 use std::process::Abort;
 
@@ -20,45 +20,45 @@ fn event_at(rt: &(impl Abort + AllocGlobal), number: u64, more: &str) -> Event
     read_event(rt.alloc(), &line).expect(rt, "an event")
 }
 
-fn admit_at(
+fn keep_at(
     rt: &(impl Abort + AllocGlobal),
     seen: &mut Seen,
     number: u64,
     more: &str,
-) -> Result<Admitted, SeenFault>
+) -> Result<Sighting, SeenFault>
     requires lines { All (λ other. other.line < number) seen.old }
     requires room { length seen.old < 2 ^ 32 - 1 }
     ensures lines { All (λ other. other.line < number + 1) seen.new }
     ensures room { length seen.new ≤ length seen.old + 1 }
 {
     let event = event_at(rt, number, more);
-    seen.admit(event)
+    seen.keep(event)
 }
 
 #[test]
 fn repeats_and_differences(rt: HostRuntime) {
     let mut seen = Seen::new(rt.alloc(), Seed::of(b"")).expect(&rt, "memory");
-    let fresh = admit_at(&rt, &mut seen, 1, "");
-    assert_so(&rt, fresh == Ok(Admitted::Fresh), "line 1");
-    let repeated = admit_at(&rt, &mut seen, 2, r#""x":1,"#);
-    assert_so(&rt, repeated == Ok(Admitted::Repeat), "line 2");
-    let differs = admit_at(&rt, &mut seen, 3, r#""responseObject":[1.5],"#);
+    let fresh = keep_at(&rt, &mut seen, 1, "");
+    assert_so(&rt, fresh == Ok(Sighting::Fresh), "line 1");
+    let repeated = keep_at(&rt, &mut seen, 2, r#""x":1,"#);
+    assert_so(&rt, repeated == Ok(Sighting::Repeat), "line 2");
+    let differs = keep_at(&rt, &mut seen, 3, r#""responseObject":[1.5],"#);
     assert_so(
         &rt,
         differs == Err(SeenFault::Differs { line: 1 }),
         "line 3",
     );
-    let other_stage = admit_at(&rt, &mut seen, 4, r#""stage":"Panic","#);
-    assert_so(&rt, other_stage == Ok(Admitted::Fresh), "line 4");
+    let other_stage = keep_at(&rt, &mut seen, 4, r#""stage":"Panic","#);
+    assert_so(&rt, other_stage == Ok(Sighting::Fresh), "line 4");
     assert_so(&rt, seen.count() == 2, "kept");
 }
 
 #[test]
 fn unread_bodies_repeat(rt: HostRuntime) {
     let mut seen = Seen::new(rt.alloc(), Seed::of(b"")).expect(&rt, "memory");
-    let fresh = admit_at(&rt, &mut seen, 1, r#""responseObject":[1.5],"#);
-    assert_so(&rt, fresh == Ok(Admitted::Fresh), "line 1");
-    let repeated = admit_at(&rt, &mut seen, 2, r#""responseObject":{"a":-0},"#);
-    assert_so(&rt, repeated == Ok(Admitted::Repeat), "line 2");
+    let fresh = keep_at(&rt, &mut seen, 1, r#""responseObject":[1.5],"#);
+    assert_so(&rt, fresh == Ok(Sighting::Fresh), "line 1");
+    let repeated = keep_at(&rt, &mut seen, 2, r#""responseObject":{"a":-0},"#);
+    assert_so(&rt, repeated == Ok(Sighting::Repeat), "line 2");
     assert_so(&rt, seen.finish().len() == 1, "kept");
 }

@@ -7,16 +7,18 @@ use Rattle.audit_event.proofs.reading.read_fields.Goals as goal
 
 pub returns-in_err-request-clause-cause : goal.returns-in_err-request-clause-cause
 returns-in_err-request-clause-cause c =
+    let value = view c.args.value.now in
     let found = c.in_ok-recording in
-    let kept = recording_kept (view c.args.value.now) found.recording.level found.recording.stage found.recording.times found.ensures.level found.ensures.stage found.ensures.times found.ensures.numbers in
-    let cause : IsCauseFrom 3 (view c.args.value.now) c.in_err-request.field-0.0 = later_cause 3 7 (view c.args.value.now) c.in_err-request.field-0.0 kept c.in_err-request.ensures.cause in
+    let kept = recording_kept value found.recording found.ensures.recording in
+    let cause : IsCauseFrom 3 value c.in_err-request.field-0.0 = later_cause 3 7 value c.in_err-request.field-0.0 kept c.in_err-request.ensures.cause in
     search (rules, cause)
 
 pub returns-in_err-told-clause-cause : goal.returns-in_err-told-clause-cause
 returns-in_err-told-clause-cause c =
+    let value = view c.args.value.now in
     let found = c.in_ok-recording in
     let request = c.in_ok-request in
-    let recorded = recording_kept (view c.args.value.now) found.recording.level found.recording.stage found.recording.times found.ensures.level found.ensures.stage found.ensures.times found.ensures.numbers in
-    let kept = λ (heading : Data → Bool). request_kept (view c.args.value.now) request.request.audit_id request.request.attrs request.ensures.audit_id request.ensures.attrs heading (recorded heading) in
-    let cause : IsCauseFrom 3 (view c.args.value.now) c.in_err-told.field-0.0 = later_cause 3 10 (view c.args.value.now) c.in_err-told.field-0.0 kept c.in_err-told.ensures.cause in
+    let recorded = recording_kept value found.recording found.ensures.recording in
+    let kept = λ (heading : Data → Bool). request_kept value request.request request.ensures.request heading (recorded heading) in
+    let cause : IsCauseFrom 3 value c.in_err-told.field-0.0 = later_cause 3 10 value c.in_err-told.field-0.0 kept c.in_err-told.ensures.cause in
     search (rules, cause)

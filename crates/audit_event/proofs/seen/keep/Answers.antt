@@ -4,7 +4,7 @@ use Rattle.audit_event.specs.Keeping.{identity_of}
 use Rattle.audit_event.specs.contracts.seen.IdentityPartialEq.TheImpl as same
 use Rattle.audit_event.specs.declared.seen.Identity.{Identity}
 use Rattle.audit_event.proofs.KeepingLemmas.{none_of_stage, judged, stands_at}
-use Rattle.audit_event.proofs.seen.admit.Goals as goal
+use Rattle.audit_event.proofs.seen.keep.Goals as goal
 
 not_true : (b : Bool) → not b ≡ true → b ≡ false
 not_true true is = sym is
@@ -13,15 +13,15 @@ not_true false is = refl
 tells : (x y : Identity) → x ≡ y → same.eq-value.it x y ≡ true
 tells x y is = search rules
 
-pub returns-then-is_fresh-clause-admits : goal.returns-then-is_fresh-clause-admits
-returns-then-is_fresh-clause-admits c =
+pub returns-then-is_fresh-clause-keeps : goal.returns-then-is_fresh-clause-keeps
+returns-then-is_fresh-clause-keeps c =
     let kept = c.args.kept.now.items in
     let event = c.args.event in
     let identity : Identity = record { audit_id = c.in_ok-audit_id.audit_id; stage = event.stage } in
     let is : identity ≡ identity_of event = (λ i. record { audit_id = c.in_ok-audit_id.ensures.cases i; stage = event.stage }) in
     let absent : list_any (same.eq-value.it identity) c.args.identities.now.keys ≡ false = not_true _ (sym c.in_ok-at.ensures.added ∙ c.if-is_fresh.true) in
     let none : list_any (same.eq-value.it (identity_of event)) (map identity_of kept) ≡ false = rw (is, c.requires) at absent in
-    (none_of_stage same.eq-value.it tells kept event none, c.keep.ensures ∙ ap (λ l. l ++ event ∷ []) c.reserve.ensures.items)
+    (none_of_stage same.eq-value.it tells kept event none, c.append.ensures ∙ ap (λ l. l ++ event ∷ []) c.reserve.ensures.items)
 
 not_false : (b : Bool) → not b ≡ false → b ≡ true
 not_false true is = refl
@@ -30,8 +30,8 @@ not_false false is = sym is
 means : (x y : Identity) → same.eq-value.it x y ≡ true → x ≡ y
 means x y is = search rules
 
-pub returns-clause-admits : goal.returns-clause-admits
-returns-clause-admits c =
+pub returns-clause-keeps : goal.returns-clause-keeps
+returns-clause-keeps c =
     let kept = c.args.kept.now.items in
     let keys = c.args.identities.now.keys in
     let event = c.args.event in

@@ -1,5 +1,0 @@
-use Rattle.audit_event.proofs.KeepingLemmas.{kept_after}
-use Rattle.audit_event.proofs.seen.Seen.admit.Goals as goal
-
-pub invariant_of-self : goal.invariant_of-self
-invariant_of-self c = (kept_after c.self.inside.kept.items c.args.event c.admit.result c.admit.new.kept.items c.self.invariant.0 (rw (← c.self.view_is) at c.requires.later) (rw (← c.self.view_is) at c.requires.room) c.admit.ensures.admits, c.admit.ensures.identities)
