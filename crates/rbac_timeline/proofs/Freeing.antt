@@ -10,7 +10,7 @@ use Rattle.clouds.specs.FirstPlace.{HoldsNowhere, IsLeastPlace}
 use Rattle.rbac_timeline.specs.declared.lasting.Until.{Until}
 use Rattle.rbac_timeline.specs.declared.search.RoleCache.TheVariants.{Cluster, Plain}
 use Rattle.rbac_timeline.specs.Decisions.{AreWithin}
-use Rattle.rbac_timeline.specs.Freed.{AreFirstFrom, IsBarred, IsBarredClusterRole, IsFreed}
+use Rattle.rbac_timeline.specs.Freed.{AreFirstFrom, IsBarred, IsBarredClusterRole, IsFreed, IsWithin}
 use Rattle.rbac_timeline.specs.Known.{Known}
 use Rattle.rbac_timeline.specs.Lasting.{HoldsUntil, LastsUntil}
 use Rattle.rbac_timeline.specs.Searched.{AreFirstOf, IsFreeAt, IsFreeCluster, lesser_places}
@@ -50,6 +50,22 @@ module _ (barred : ℕ → ℕ → Type 0) (bindings low high : ℕ) where
     below = AreBarred-all (λ binding role. barred role binding) bindings low high place last next (turned until) is past so_far (HoldsUntil-turned barred place bindings high until block);
     here = tt;
   }
+
+-- a range in which some place lies has its first place not behind its last one
+pub IsWithin-range : (low high place : ℕ) → IsWithin low high place → low ≤ high
+IsWithin-range low high place within =
+    let from : low ≤ place = within.from in
+    let upto : place ≤ high = within.upto in
+    omega arith
+
+-- the nearer one of the places up to which two caches of roles were searched
+pub IsWithin-nearer : (P Q : ℕ → ℕ → Type 0) (bindings low high : ℕ) (p q : Option ℕ) (a b last : ℕ) → last ≡ min a b → IsFreed P bindings low high p a → IsFreed Q bindings low high q b
+    → IsWithin bindings high last
+IsWithin-nearer P Q bindings low high p q a b last is p_freed q_freed =
+    let a_from : bindings ≤ a = p_freed.below.from in
+    let a_upto : a ≤ high = p_freed.below.upto in
+    let b_from : bindings ≤ b = q_freed.below.from in
+    record { from = omega arith; upto = omega arith }
 
 -- where something lasts, or nothing is there
 pub bar_some : (P Q : ℕ → ℕ → Type 0) (first second high : ℕ) (until : Option Until) → is_some until ≡ true → ((a b : ℕ) → P a b → Q a b) → LastsUntil P first second high until → LastsUntil Q first second high until

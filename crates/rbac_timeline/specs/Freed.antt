@@ -34,6 +34,13 @@ abbrev pub IsBarred : Known → User → RequestAttrs → ℕ → ℕ → RoleCa
 IsBarred known who attrs low high Plain roles bindings = MustGrantInWay known Roles roles bindings who attrs
 IsBarred known who attrs low high Cluster cluster_roles bindings = IsBarredClusterRole known who attrs low high cluster_roles bindings
 
+-- the place is one of a range
+pub record IsWithin (low high place : ℕ) : Type 0 where
+  -- it isn't before the first place
+  pub from : low ≤ place
+  -- nor behind the last one
+  pub upto : place ≤ high
+
 -- the least free places with the role bindings from one place up to another
 abbrev pub AreFirstFrom : Known → User → RequestAttrs → ℕ → ℕ → ℕ → ℕ → Option Places → Type 0
 AreFirstFrom known who attrs low high bindings last places = AreFirstOf (λ p. (bindings ≤ p.bindings) × ((p.bindings ≤ last) × IsFreeAt known who attrs p)) low high places

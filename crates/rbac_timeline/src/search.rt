@@ -1,7 +1,8 @@
 ghost use Rattle.std.specs.Prelude.{◌≡◌, ◌≤◌, ◌↔◌, IfNone, IfSome, IsTrue, MatchOption};
 ghost use Rattle.rbac_timeline.specs.declared.way.Way.TheVariants.{ClusterBindings, ClusterRoles, Roles};
 ghost use Rattle.rbac_timeline.specs.Extents.{MustGrantInWay};
-ghost use Rattle.rbac_timeline.specs.Freed.{AreFirstFree, AreFirstFrom, IsBarred, IsBarredClusterRole, IsFreed};
+ghost use Rattle.rbac_timeline.specs.Freed.{AreFirstFree, AreFirstFrom, IsBarred};
+ghost use Rattle.rbac_timeline.specs.Freed.{IsBarredClusterRole, IsFreed, IsWithin};
 ghost use Rattle.rbac_timeline.specs.Lasting.{LastsUntil};
 ghost use Rattle.rbac_timeline.specs.Searched.{AreFirstOf, IsFreeAt, MayGrantAt, MayGrantBy};
 ghost use Rattle.rbac_timeline.specs.Searched.{all_at, lesser_places, with_cluster_bindings, with_cluster_roles};
@@ -229,15 +230,12 @@ impl<'a> Asked<'a> {
     // The least free places with the role bindings at this place, which no others are before with the role
     // bindings up to the last one: roles and cluster roles don't ask for each other there.
     fn free_from(&self, free_bindings: &mut FreeBindings, bindings: u64) -> FreeFrom
-        requires range { self.now.low ≤ self.now.high }
-        requires from { self.now.low ≤ bindings }
-        requires upto { bindings ≤ self.now.high }
+        requires within { IsWithin self.now.low self.now.high bindings }
         requires remembered { AreFirstFree self.now.timeline.now self.now.who.now
             self.now.attrs.now self.now.low self.now.high free_bindings.old }
         ensures places { AreFirstFrom self.now.timeline.now self.now.who.now self.now.attrs.now
             self.now.low self.now.high bindings result.last result.places }
-        ensures from { bindings ≤ result.last }
-        ensures upto { result.last ≤ self.now.high }
+        ensures last { IsWithin bindings self.now.high result.last }
         ensures remembered { AreFirstFree self.now.timeline.now self.now.who.now
             self.now.attrs.now self.now.low self.now.high free_bindings.new }
     {
