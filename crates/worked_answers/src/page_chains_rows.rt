@@ -39,8 +39,8 @@ const EMPTY: &str = r#"{"kind":"ConfigMapList","metadata":{"resourceVersion":"10
 const EMPTY_LATER: &str =
     r#"{"kind":"ConfigMapList","metadata":{"resourceVersion":"11"},"items":[]}"#;
 
-// The chains that lists make, each with its name and the names of its objects; and the lists, each with its URI, when it
-// was answered, and the answer.
+// The chains that lists make, each with its name and the names of its objects; and the lists, each with its URI, when
+// it was answered, and the answer.
 static LOGS: [(&str, &[(&str, &str, &str)]); 15] = [
     (
         "pages:1=ab ",

@@ -12,7 +12,8 @@ use std::process::Abort;
 // A value that may be sent to threads and shared by them.
 fn shared<T: Send + Sync>(_value: &T) {}
 
-// Texts that are put in where there is room for two trees, the number that each gets, and how many trees there are then.
+// Texts that are put in where there is room for two trees, the number that each gets, and how many trees there are
+// then.
 static NUMBERS: [(&str, Result<NodeId, PoolFault>, u32); 5] = [
     (r#""x""#, Ok(NodeId(0)), 1),
     (r#"["x"]"#, Ok(NodeId(1)), 2),
