@@ -108,12 +108,14 @@ strategic merge patches, set `objectPatch` to `recorded`. Else a body was change
 /// `U9`
 pub const U9: &str = "U9: the event removed an object that can't have been there to be removed.
 
-How it comes about: A namespace was deleted, or pods were, at once by several requests.
+How it comes about: A namespace was deleted, or pods were, at once by several requests; or
+the object's create isn't in the log.
 
 Look at: all deletes of the object, and the reads that show it behind the first of them.
 
 What to do: Don't track namespaces that are deleted within the log, nor pods that are
-deleted at once. Else a second delete of one object was put in.
+deleted at once. Look for the create in the other servers' logs. Else a second delete of
+one object was put in.
 ";
 
 /// `U10`

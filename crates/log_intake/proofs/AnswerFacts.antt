@@ -1,5 +1,6 @@
 -- What is answered to a log, once a batch of it was gathered.
-use Rattle.std.proofs.Common.{◌≡◌, ℕ, ◌+◌, ◌≤◌, List, Option, Ok, Err, refl, sym, subst, arith}
+use Rattle.std.proofs.Common.{◌≡◌, ℕ, ◌+◌, ◌≤◌, List, Option, Result, Ok, Err, refl, sym, subst, arith}
+use Rattle.std.specs.Result.{IfErr, IsErrAnd}
 use Rattle.edge_io.specs.Faults.{Rose}
 use Rattle.audit_event.specs.declared.event.Event.{Event}
 use Rattle.audit_event.specs.Keeping.{AreKept}
@@ -16,6 +17,15 @@ use Rattle.log_intake.specs.Log.{IsLogRead, TakesLines, log_state}
 use Rattle.log_intake.specs.Keeping.{AreLinesKept}
 use Rattle.log_intake.specs.Taking.{IsRefusal, ReadsLog, RefusesNothing}
 use Rattle.log_intake.proofs.LogFacts.{HasReadLog, batch_ended, batch_line_long, batch_past, batch_read, batch_refused, log_events, takes_batch, takes_ended, takes_failed, takes_nothing, takes_some}
+
+-- what holds of a stop holds of the answer that passes it on
+pub stop_passed : {T : Type 0} (answer : Result T LogStop) (why : LogStop) (P : LogStop → Type 0) → IsErrAnd answer (λ e. e ≡ why) → P why → IfErr answer P
+stop_passed {T} (Ok value) why P is holds = tt
+stop_passed {T} (Err e) why P is holds = subst P (sym is) holds
+
+pub stop_answered : {T : Type 0} (answer : Result T LogStop) (why : LogStop) (P : Result T LogStop → Type 0) → IsErrAnd answer (λ e. e ≡ why) → P (Err why) → P answer
+stop_answered {T} (Ok value) why P is holds = absurd is
+stop_answered {T} (Err e) why P is holds = subst (λ w. P (Err w)) (sym is) holds
 
 pub kept_as : (slice lines : List Line) (place place' : Place) (kept kept' : List Event) → slice ≡ lines → AreLinesKept slice place place' kept kept' → AreLinesKept lines place place' kept kept'
 kept_as slice lines place place' kept kept' is all = subst (λ l. AreLinesKept l place place' kept kept') is all

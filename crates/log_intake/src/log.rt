@@ -50,14 +50,9 @@ pub fn read_log<R: Threads + Sync, D: Desk, G: Gate>(
     ensures others { (other : List ℕ) → other ≢ name.now
         → D.left desk.new other ≡ D.left desk.old other }
 {
-    let mut seen = match Seen::new(alloc, seed) {
-        Ok(seen) => seen,
-        Err(OutOfMemory) => return Err(LogStop::OutOfMemory),
-    };
-    match read_batches(rt, alloc, desk, name, buffer, &mut seen, gate) {
-        Ok(()) => Ok(seen.finish()),
-        Err(stop) => Err(stop),
-    }
+    let mut seen = Seen::new(alloc, seed)?;
+    read_batches(rt, alloc, desk, name, buffer, &mut seen, gate)?;
+    Ok(seen.finish())
 }
 
 // Keeps the events of a log, of which none is kept yet, batch by batch.
@@ -83,14 +78,8 @@ fn read_batches<R: Threads + Sync, D: Desk, G: Gate>(
     ensures others { (other : List ℕ) → other ≢ name.now
         → D.left desk.new other ≡ D.left desk.old other }
 {
-    let mut reader = match LineReader::new(alloc) {
-        Ok(reader) => reader,
-        Err(OutOfMemory) => return Err(LogStop::OutOfMemory),
-    };
-    let mut next = match gather(alloc, desk, name, &mut reader, 0, buffer) {
-        Ok(batch) => batch,
-        Err(OutOfMemory) => return Err(LogStop::OutOfMemory),
-    };
+    let mut reader = LineReader::new(alloc)?;
+    let mut next = gather(alloc, desk, name, &mut reader, 0, buffer)?;
     let mut place = Place { line: 0, extra: 0 };
     let mut front = DecodedBatch {
         lines: Vec::new(alloc),
@@ -110,23 +99,17 @@ fn read_batches<R: Threads + Sync, D: Desk, G: Gate>(
             &mut reader,
             buffer,
         );
-        match all_three(kept, decoded, gathered) {
-            Ok(after) => {
-                place = after.place;
-                front = DecodedBatch {
-                    lines: next.lines,
-                    decoded: after.decoded,
-                };
-                next = after.gathered;
-            }
-            Err(stop) => return Err(stop),
-        }
+        let after = all_three(kept, decoded, gathered)?;
+        place = after.place;
+        front = DecodedBatch {
+            lines: next.lines,
+            decoded: after.decoded,
+        };
+        next = after.gathered;
     }
     let last = next.lines.as_slice();
-    match keep_rest(rt, alloc, last, gate, place, &mut front, seen) {
-        Ok(_) => next.end.answer(),
-        Err(stop) => Err(stop),
-    }
+    keep_rest(rt, alloc, last, gate, place, &mut front, seen)?;
+    next.end.answer()
 }
 
 // Keeps the events of the batch in front and decodes the next one, while this thread takes the one behind that from

@@ -1,4 +1,5 @@
 use audit_event::Malformed;
+use base_types::OutOfMemory;
 use setup_file::SetupRule;
 use thiserror::Error;
 
@@ -23,6 +24,17 @@ pub enum LogStop {
     ReadFault,
     #[error("out of memory")]
     OutOfMemory,
+}
+
+impl From<OutOfMemory> for LogStop {
+    ghost use Rattle.log_intake.specs.declared.stop.LogStop.TheVariants.{OutOfMemory as Wanted};
+    ghost use Rattle.std.specs.Prelude.{◌≡◌};
+
+    ghost from_gives = { λ _ stop. stop ≡ Wanted };
+
+    fn from(_: OutOfMemory) -> LogStop {
+        LogStop::OutOfMemory
+    }
 }
 
 /// Why there is no setup.
