@@ -4,7 +4,7 @@ use Rattle.std.specs.Prelude.{option_map, is_some}
 use Rattle.std.proofs.lemmas.Bool.{false≢true}
 use Rattle.std.proofs.lemmas.List.{append-nil, take_more, take-append-drop}
 use Rattle.std.proofs.lemmas.List.Elements.{filter-append}
-use Rattle.base_types.specs.declared.request.Pair.{Pair}
+use Rattle.base_types.specs.declared.kubernetes.request.Pair.{Pair}
 use Rattle.answer_class.specs.Lists.{one_at_most}
 
 -- none, or one

@@ -4,8 +4,8 @@ use Rattle.std.specs.Prelude.{ℕ, ◌&&◌, ◌||◌, Bool, true, false, not, L
 use Rattle.base_types.specs.Meaning.{Meaning}
 use Rattle.base_types.specs.Parts.{member_of}
 use Rattle.base_types.specs.Texts.{◌>>=◌, filled_at}
-use Rattle.base_types.specs.declared.key.ObjectKey.{ObjectKey}
-use Rattle.base_types.specs.declared.request.RequestAttrs.{RequestAttrs}
+use Rattle.base_types.specs.declared.kubernetes.key.ObjectKey.{ObjectKey}
+use Rattle.base_types.specs.declared.kubernetes.request.RequestAttrs.{RequestAttrs}
 use Rattle.audit_event.specs.declared.event.Event.{Event}
 use Rattle.audit_event.specs.declared.event.Status.{Status}
 use Rattle.setup_file.specs.declared.lists.ListRead.{ListRead}

@@ -3,10 +3,10 @@ use Rattle.std.specs.Prelude.{ℕ, Bool, true, false, List, [], Option, Some, No
 use Rattle.base_types.specs.Meaning.{Meaning}
 use Rattle.base_types.specs.Parts.{member_of}
 use Rattle.base_types.specs.Texts.{◌>>=◌, filled_at}
-use Rattle.base_types.specs.declared.key.Cover.{Cover}
-use Rattle.base_types.specs.declared.key.CoverName.{CoverName}
-use Rattle.base_types.specs.declared.key.CoverName.TheVariants.{Exact, Prefix, Any}
-use Rattle.base_types.specs.declared.request.RequestAttrs.{RequestAttrs}
+use Rattle.base_types.specs.declared.kubernetes.key.Cover.{Cover}
+use Rattle.base_types.specs.declared.kubernetes.key.CoverName.{CoverName}
+use Rattle.base_types.specs.declared.kubernetes.key.CoverName.TheVariants.{Exact, Prefix, Any}
+use Rattle.base_types.specs.declared.kubernetes.request.RequestAttrs.{RequestAttrs}
 use Rattle.audit_event.specs.declared.event.Event.{Event}
 use Rattle.setup_file.specs.declared.setup.Tracked.{Tracked}
 use Rattle.audit_event.specs.Bodies.{kept}

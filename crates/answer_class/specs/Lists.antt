@@ -5,8 +5,8 @@ use Rattle.base_types.specs.Parts.{member_of}
 use Rattle.base_types.specs.Texts.{◌>>=◌, revision_at}
 use Rattle.label_select.specs.Readings.{selector_of}
 use Rattle.label_select.specs.declared.selector.Requirement.{Requirement}
-use Rattle.base_types.specs.declared.request.Pair.{Pair}
-use Rattle.base_types.specs.declared.request.RequestAttrs.{RequestAttrs}
+use Rattle.base_types.specs.declared.kubernetes.request.Pair.{Pair}
+use Rattle.base_types.specs.declared.kubernetes.request.RequestAttrs.{RequestAttrs}
 use Rattle.audit_event.specs.declared.event.Event.{Event}
 use Rattle.base_types.specs.Revisions.{revision_of}
 use Rattle.setup_file.specs.Lists.{list_of}

@@ -1,12 +1,12 @@
 -- What an audited request asks for (Kubernetes API concepts, "Resource URIs"; "Authorization", "Request verbs").
 use Rattle.std.specs.Prelude.{ℕ, ◌==◌, ◌&&◌, Bool, true, false, not, List, length, Option, Some, None, find, bytes_eq, codes, if◌then◌else◌, nat_le, option_map}
 use Rattle.std.specs.List.{list_any}
-use Rattle.base_types.specs.declared.request.Level.{Level}
-use Rattle.base_types.specs.declared.request.Level.TheVariants.{Metadata, Request, RequestResponse}
-use Rattle.base_types.specs.declared.request.Pair.{Pair}
-use Rattle.base_types.specs.declared.request.RequestAttrs.{RequestAttrs}
-use Rattle.base_types.specs.declared.request.Stage.{Stage}
-use Rattle.base_types.specs.declared.request.Stage.TheVariants.{Received, Started, Complete, Panic}
+use Rattle.base_types.specs.declared.kubernetes.request.Level.{Level}
+use Rattle.base_types.specs.declared.kubernetes.request.Level.TheVariants.{Metadata, Request, RequestResponse}
+use Rattle.base_types.specs.declared.kubernetes.request.Pair.{Pair}
+use Rattle.base_types.specs.declared.kubernetes.request.RequestAttrs.{RequestAttrs}
+use Rattle.base_types.specs.declared.kubernetes.request.Stage.{Stage}
+use Rattle.base_types.specs.declared.kubernetes.request.Stage.TheVariants.{Received, Started, Complete, Panic}
 use Rattle.setup_file.specs.Requests.{subresource_named}
 use Rattle.setup_file.specs.declared.setup.Subresource.{Subresource}
 use Rattle.setup_file.specs.declared.setup.Tracked.{Tracked}

@@ -1,6 +1,6 @@
 -- Which events of a log are kept: the first of each audit ID and stage. What repeats it is dropped.
 use Rattle.std.specs.Prelude.{◌≡◌, ◌<◌, ◌^◌, List, [], ◌∷◌, ◌++◌, length, All, AllPairs, Contains, Result, Ok, Err}
-use Rattle.base_types.specs.declared.request.RequestAttrs.{RequestAttrs}
+use Rattle.base_types.specs.declared.kubernetes.request.RequestAttrs.{RequestAttrs}
 use Rattle.audit_event.specs.declared.event.Event.{Event}
 use Rattle.audit_event.specs.declared.seen.Sighting.{Sighting}
 use Rattle.audit_event.specs.declared.seen.Sighting.TheVariants.{Fresh, Repeat}

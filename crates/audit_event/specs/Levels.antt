@@ -1,10 +1,10 @@
 -- The level and the stage of an audit event (Kubernetes "Auditing").
 use Rattle.std.specs.Prelude.{ℕ, List, Option, Some, None, option_and_then, bytes_eq, codes, if◌then◌else◌}
 use Rattle.serde_json.specs.Data.{Data}
-use Rattle.base_types.specs.declared.request.Level.{Level}
-use Rattle.base_types.specs.declared.request.Level.TheVariants.{Metadata, Request, RequestResponse}
-use Rattle.base_types.specs.declared.request.Stage.{Stage}
-use Rattle.base_types.specs.declared.request.Stage.TheVariants.{Received, Started, Complete, Panic}
+use Rattle.base_types.specs.declared.kubernetes.request.Level.{Level}
+use Rattle.base_types.specs.declared.kubernetes.request.Level.TheVariants.{Metadata, Request, RequestResponse}
+use Rattle.base_types.specs.declared.kubernetes.request.Stage.{Stage}
+use Rattle.base_types.specs.declared.kubernetes.request.Stage.TheVariants.{Received, Started, Complete, Panic}
 use Rattle.audit_event.specs.Members.{text_at}
 
 abbrev pub level_named : List ℕ → Option Level

@@ -1,7 +1,7 @@
 -- What the parts of an event owe to its JSON value, before the event is put together of them.
 use Rattle.std.specs.Prelude.{◌≡◌, ℕ, true, Option, Some}
 use Rattle.serde_json.specs.Data.{Data}
-use Rattle.base_types.specs.declared.request.Stage.{Stage}
+use Rattle.base_types.specs.declared.kubernetes.request.Stage.{Stage}
 use Rattle.audit_event.specs.declared.reading.Exchange.{Exchange}
 use Rattle.audit_event.specs.declared.reading.Parties.{Parties}
 use Rattle.audit_event.specs.declared.reading.Recording.{Recording}

@@ -3,8 +3,8 @@ use Rattle.std.specs.Prelude.{ℕ, ◌==◌, ◌&&◌, Bool, Option, Some, None,
 use Rattle.serde_json.specs.Data.{Data}
 use Rattle.serde_json.specs.Find.{get, as_number, as_u64, as_object}
 use Rattle.base_types.specs.Texts.{◌>>=◌}
-use Rattle.base_types.specs.declared.request.Stage.{Stage}
-use Rattle.base_types.specs.declared.request.Stage.TheVariants.{Received, Started, Complete, Panic}
+use Rattle.base_types.specs.declared.kubernetes.request.Stage.{Stage}
+use Rattle.base_types.specs.declared.kubernetes.request.Stage.TheVariants.{Received, Started, Complete, Panic}
 use Rattle.audit_event.specs.declared.event.Status.{Status}
 use Rattle.audit_event.specs.Bodies.{is_kept, response_in}
 use Rattle.audit_event.specs.Members.{says, present, text_or_empty}

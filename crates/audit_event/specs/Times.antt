@@ -1,7 +1,7 @@
 -- When a request was received and when the event's stage was reached.
 use Rattle.std.specs.Prelude.{ℕ, ℤ, ◌≤ℤ◌, int_lt, List, Option, Some, None, option_and_then, codes, if◌then◌else◌}
 use Rattle.serde_json.specs.Data.{Data}
-use Rattle.base_types.specs.declared.revision.Moment.{Moment}
+use Rattle.base_types.specs.declared.kubernetes.revision.Moment.{Moment}
 use Rattle.audit_event.specs.declared.times.Times.{Times}
 use Rattle.audit_event.specs.Members.{text_at}
 use Rattle.base_types.specs.Moments.{IsMoment}

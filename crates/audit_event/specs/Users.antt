@@ -3,7 +3,7 @@ use Rattle.std.specs.Prelude.{ℕ, List, [], ◌∷◌, Option, Some, None, opti
 use Rattle.serde_json.specs.Data.{Data, Items, no_items, item}
 use Rattle.serde_json.specs.Find.{get, as_str, as_array, as_object}
 use Rattle.base_types.specs.Texts.{◌>>=◌}
-use Rattle.base_types.specs.declared.request.User.{User}
+use Rattle.base_types.specs.declared.kubernetes.request.User.{User}
 use Rattle.audit_event.specs.Members.{present}
 
 -- the texts of a list of which each item is a text

@@ -3,8 +3,8 @@ use Rattle.std.proofs.Common.{◌≡◌, ℕ, ◌+◌, ◌<◌, List, [], ◌∷
 use Rattle.base_types.specs.Meaning.{Meaning}
 use Rattle.base_types.specs.Parts.{member_of}
 use Rattle.base_types.specs.Texts.{◌>>=◌, text_at, texts_at}
-use Rattle.base_types.specs.declared.request.PolicyLevel.{PolicyLevel}
-use Rattle.base_types.specs.declared.request.StageSet.{StageSet}
+use Rattle.base_types.specs.declared.kubernetes.request.PolicyLevel.{PolicyLevel}
+use Rattle.base_types.specs.declared.kubernetes.request.StageSet.{StageSet}
 use Rattle.audit_policy.specs.declared.policy.AuditRule.{AuditRule}
 use Rattle.audit_policy.specs.declared.policy.GroupResources.{GroupResources}
 use Rattle.audit_policy.specs.declared.reading.Callers.{Callers}

@@ -1,10 +1,10 @@
 -- What is a policy (Kubernetes `audit.k8s.io/v1`, Policy and PolicyRule). Unknown members are ignored; a list that is
 -- missing is empty.
 use Rattle.std.specs.Prelude.{◌≡◌, ⊤, ℕ, ◌+◌, ◌-◌, ◌^◌, Bool, true, false, ◌&&◌, not, List, [], ◌∷◌, Option, Some, None, Result, Ok, Err, min, bytes_eq, codes, if◌then◌else◌}
-use Rattle.base_types.specs.declared.request.StageSet.{StageSet}
-use Rattle.base_types.specs.declared.request.Level.TheVariants.{Metadata, Request, RequestResponse}
-use Rattle.base_types.specs.declared.request.PolicyLevel.{PolicyLevel}
-use Rattle.base_types.specs.declared.request.PolicyLevel.TheVariants.{NoLevel, Set}
+use Rattle.base_types.specs.declared.kubernetes.request.StageSet.{StageSet}
+use Rattle.base_types.specs.declared.kubernetes.request.Level.TheVariants.{Metadata, Request, RequestResponse}
+use Rattle.base_types.specs.declared.kubernetes.request.PolicyLevel.{PolicyLevel}
+use Rattle.base_types.specs.declared.kubernetes.request.PolicyLevel.TheVariants.{NoLevel, Set}
 use Rattle.base_types.specs.Meaning.{Meaning}
 use Rattle.base_types.specs.Parts.{member_of, text_of, items_of, members_of}
 use Rattle.base_types.specs.Texts.{◌>>=◌, texts_at, text_at}

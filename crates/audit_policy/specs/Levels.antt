@@ -1,11 +1,11 @@
 -- The level that a policy gives a request, and the stages that it omits (Kubernetes "Auditing", "Audit policy": the
 -- first matching rule sets the audit level).
 use Rattle.std.specs.Prelude.{◌||◌, Option, Some, None, find}
-use Rattle.base_types.specs.declared.request.RequestAttrs.{RequestAttrs}
-use Rattle.base_types.specs.declared.request.User.{User}
-use Rattle.base_types.specs.declared.request.StageSet.{StageSet}
-use Rattle.base_types.specs.declared.request.PolicyLevel.{PolicyLevel}
-use Rattle.base_types.specs.declared.request.PolicyLevel.TheVariants.{NoLevel}
+use Rattle.base_types.specs.declared.kubernetes.request.RequestAttrs.{RequestAttrs}
+use Rattle.base_types.specs.declared.kubernetes.request.User.{User}
+use Rattle.base_types.specs.declared.kubernetes.request.StageSet.{StageSet}
+use Rattle.base_types.specs.declared.kubernetes.request.PolicyLevel.{PolicyLevel}
+use Rattle.base_types.specs.declared.kubernetes.request.PolicyLevel.TheVariants.{NoLevel}
 use Rattle.audit_policy.specs.declared.policy.AuditRule.{AuditRule}
 use Rattle.audit_policy.specs.declared.policy.Policy.{Policy}
 use Rattle.audit_policy.specs.Matches.{rule_matches}

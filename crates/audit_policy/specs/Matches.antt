@@ -2,8 +2,8 @@
 use Rattle.std.specs.Prelude.{◌==◌, ◌&&◌, ◌||◌, Bool, not, List, ℕ, length, bytes_eq, codes}
 use Rattle.std.specs.List.{list_any}
 use Rattle.base_types.specs.Matching.{has_text, path_matches, combined}
-use Rattle.base_types.specs.declared.request.RequestAttrs.{RequestAttrs}
-use Rattle.base_types.specs.declared.request.User.{User}
+use Rattle.base_types.specs.declared.kubernetes.request.RequestAttrs.{RequestAttrs}
+use Rattle.base_types.specs.declared.kubernetes.request.User.{User}
 use Rattle.audit_policy.specs.declared.policy.AuditRule.{AuditRule}
 use Rattle.audit_policy.specs.declared.policy.GroupResources.{GroupResources}
 

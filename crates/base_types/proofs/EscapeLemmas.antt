@@ -9,7 +9,7 @@ use lib.Utf8.{next, encode, encodes, scalar, scalars, scalar_cases}
 use Rattle.percent_encoding.specs.AsciiSet.{should_percent_encode}
 use Rattle.percent_encoding.specs.Percent.{percent_encode, percent_decode, percent_encode_byte}
 use Rattle.percent_encoding.proofs.PercentLemmas.{IsByte, percent_encode_escaped, percent_encode_kept, percent_encode-nil, round_trip}
-use Rattle.base_types.specs.declared.escaping.TheConstants.{ESCAPED}
+use Rattle.base_types.specs.declared.foundation.escaping.TheConstants.{ESCAPED}
 use Rattle.base_types.specs.Escapes.{is_plain, escaped_byte, escaped}
 use Rattle.base_types.specs.Keys.{HasNoSlash}
 

@@ -4,7 +4,7 @@ use Rattle.std.specs.Prelude.{Option, Some, None, IfSome, IfNone}
 use Rattle.std.specs.Borrow.{Bor}
 use Rattle.std.proofs.lemmas.Str.Pattern.{IsSplitOnceResult, split_parts}
 use Rattle.std.proofs.lemmas.List.Elements.{All-head, All-tail, All-from_get_or}
-use Rattle.base_types.specs.declared.key.ObjectKey.{ObjectKey}
+use Rattle.base_types.specs.declared.kubernetes.key.ObjectKey.{ObjectKey}
 use Rattle.base_types.specs.Escapes.{escaped}
 use Rattle.base_types.specs.Keys.{HasNoSlash, IsCut, IsJoined, key_spelling}
 use Rattle.base_types.proofs.EscapeLemmas.{no_slash-escaped, escaped_injective, escaped_nonempty, escaped-nil}

@@ -1,8 +1,8 @@
 -- A choice of one place for each removal of a log, and the bounds that it meets.
 use Rattle.std.specs.Prelude.{ℕ, ◌≤◌, List, All, slice_index}
 use Rattle.std.specs.List.{AllZip}
-use Rattle.base_types.specs.declared.claim.Bound.{Bound}
-use Rattle.base_types.specs.declared.claim.Range.{Range}
+use Rattle.base_types.specs.declared.verdict.claim.Bound.{Bound}
+use Rattle.base_types.specs.declared.verdict.claim.Range.{Range}
 
 -- a place that a removal may have
 abbrev pub IsPlaceOf : Range → ℕ → Type 0

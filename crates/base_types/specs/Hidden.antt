@@ -1,6 +1,6 @@
 -- Where an unrecorded write may have changed an object.
 use Rattle.std.specs.Prelude.{◌≡◌, ◌<◌, ℕ, List, Contains}
-use Rattle.base_types.specs.declared.key.ObjectKey.{ObjectKey}
+use Rattle.base_types.specs.declared.kubernetes.key.ObjectKey.{ObjectKey}
 
 -- An unrecorded write happened behind `low` and up to `high`, and may have changed the key's object. It may have happened by
 -- this place, and no version of the key behind the write's window shows the object again.

@@ -1,7 +1,7 @@
 -- The key of an object and its one spelling, GROUP/RESOURCE/NAMESPACE/NAME.
 use Rattle.std.specs.Prelude.{◌≡◌, ◌≢◌, ℕ, Bool, ◌&&◌, List, [], ◌∷◌, ◌++◌, map, All, IsUtf8, bytes_eq}
 use Rattle.std.specs.List.{join_with_byte}
-use Rattle.base_types.specs.declared.key.ObjectKey.{ObjectKey}
+use Rattle.base_types.specs.declared.kubernetes.key.ObjectKey.{ObjectKey}
 use Rattle.base_types.specs.Escapes.{escaped}
 
 -- Two keys name one object where their four texts are equal (Kubernetes API concepts, "Resource URIs").

@@ -1,6 +1,6 @@
 -- The order of four caches' places.
 use Rattle.std.specs.Prelude.{◌≡◌, ◌<◌, ◌≤◌, ◌⊎◌, ℕ}
-use Rattle.base_types.specs.declared.placed.Places.{Places}
+use Rattle.base_types.specs.declared.verdict.placed.Places.{Places}
 
 -- the first number is the lesser one, or they are the same and the rest decides
 abbrev pub ComesFirst : ℕ → ℕ → Type 0 → Type 0

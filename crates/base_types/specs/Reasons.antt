@@ -1,7 +1,7 @@
 -- The codes U1 to U14 of what can't be explained, by their numbers.
 use Rattle.std.specs.Prelude.{ℕ}
-use Rattle.base_types.specs.declared.claim.Reason.{Reason}
-use Rattle.base_types.specs.declared.claim.Reason.TheVariants.{U1, U2, U3, U4, U5, U6, U7, U8, U9, U10, U11, U12, U13, U14}
+use Rattle.base_types.specs.declared.verdict.claim.Reason.{Reason}
+use Rattle.base_types.specs.declared.verdict.claim.Reason.TheVariants.{U1, U2, U3, U4, U5, U6, U7, U8, U9, U10, U11, U12, U13, U14}
 
 -- the number in a code's name, by which codes are compared
 abbrev pub code_number : Reason → ℕ

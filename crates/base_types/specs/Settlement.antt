@@ -1,9 +1,9 @@
 -- What it is to settle the claims of all events: the least choice that explains all, or the first event that breaks.
 use Rattle.std.specs.Prelude.{◌≡◌, ℕ, ◌+◌, ◌≤◌, ◌⊎◌, List, Some, None, IfSome, All, slice_get, take}
 use Rattle.std.specs.List.{AllZip}
-use Rattle.base_types.specs.declared.claim.Claim.{Claim}
-use Rattle.base_types.specs.declared.claim.Range.{Range}
-use Rattle.base_types.specs.declared.claim.Reason.{Reason}
+use Rattle.base_types.specs.declared.verdict.claim.Claim.{Claim}
+use Rattle.base_types.specs.declared.verdict.claim.Range.{Range}
+use Rattle.base_types.specs.declared.verdict.claim.Reason.{Reason}
 use Rattle.base_types.specs.Choices.{IsChoice, MeetsAll}
 use Rattle.base_types.specs.Reasons.{code_number}
 

@@ -1,31 +1,18 @@
 //! Numbers, keys, attributes, claims and placements: the words that all other crates share.
 #![tactic(auto)]
 
-mod claim;
-mod escaping;
+mod foundation;
 pub mod json;
-mod key;
-mod listed;
-mod matching;
-mod memory;
-mod placed;
-mod request;
-mod revision;
-mod shared;
-mod text;
+mod kubernetes;
+mod verdict;
 
-pub use claim::{Bound, Bounds, Claim, Claims, Range, Reason};
-pub use escaping::escape;
-pub use key::{Cover, CoverName, ObjectKey, covers, exact_key, key_text, read_key, same_key};
-pub use listed::Listed;
-pub use matching::{has_text, is_combined, path_matches};
-pub use memory::OutOfMemory;
-pub use placed::{
-    Outcome, PlacedAnswer, PlacedDecision, PlacedLine, Placement, Places, WriteLine, WriteLines,
+pub use foundation::{Bytes, Listed, OutOfMemory, Shared, Text, Texts, escape};
+pub use kubernetes::{
+    Cover, CoverName, Decision, Level, Moment, ObjectKey, Pair, Pairs, PolicyLevel, Possible,
+    RequestAttrs, Revision, Stage, StageSet, User, covers, exact_key, has_text, is_combined,
+    key_text, path_matches, read_key, read_revision, revision_of, same_key,
 };
-pub use request::{
-    Decision, Level, Pair, Pairs, PolicyLevel, Possible, RequestAttrs, Stage, StageSet, User,
+pub use verdict::{
+    Bound, Bounds, Claim, Claims, Outcome, PlacedAnswer, PlacedDecision, PlacedLine, Placement,
+    Places, Range, Reason, WriteLine, WriteLines,
 };
-pub use revision::{Moment, Revision, read_revision, revision_of};
-pub use shared::Shared;
-pub use text::{Bytes, Text, Texts};

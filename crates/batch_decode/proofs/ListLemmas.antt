@@ -3,7 +3,7 @@ use Rattle.std.proofs.Common.{◌≡◌, ℕ, zero, suc, ◌+◌, ◌≤◌, ◌
 use Rattle.std.proofs.lemmas.List.Elements.{All-push}
 use Rattle.std.proofs.lemmas.Option.{slice_get-get_or}
 use Rattle.std.specs.Prelude.{All, IfSome, IfOk, codes}
-use Rattle.base_types.specs.declared.memory.OutOfMemory.{OutOfMemory}
+use Rattle.base_types.specs.declared.foundation.memory.OutOfMemory.{OutOfMemory}
 use Rattle.line_reader.specs.declared.line.Line.{Line}
 use Rattle.serde_json.specs.Data.{Data, Items, array}
 use Rattle.serde_json.specs.Find.{get, as_array}

@@ -4,8 +4,8 @@ use Rattle.std.specs.List.{Any}
 use Rattle.std.proofs.lemmas.List.{map-append}
 use Rattle.base_types.proofs.Quantifiers.{Any-map, Any-unmap, Any-weaker}
 use Rattle.base_types.specs.Covers.{Covers}
-use Rattle.base_types.specs.declared.key.Cover.{Cover}
-use Rattle.base_types.specs.declared.key.ObjectKey.{ObjectKey}
+use Rattle.base_types.specs.declared.kubernetes.key.Cover.{Cover}
+use Rattle.base_types.specs.declared.kubernetes.key.ObjectKey.{ObjectKey}
 use Rattle.clouds.specs.declared.mark.Mark.{Mark}
 use Rattle.clouds.specs.declared.span.OpaqueSpan.{OpaqueSpan}
 use Rattle.clouds.specs.FirstPlace.{HoldsNowhere, IsFirstPlace}

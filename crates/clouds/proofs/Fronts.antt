@@ -12,9 +12,9 @@ use Rattle.std.proofs.lemmas.List.{get_or-take, length-append, length-take, take
 use Rattle.std.proofs.lemmas.Option.{none-some}
 use Rattle.base_types.proofs.Quantifiers.{Any-contains, Any-head, Any-weaker}
 use Rattle.base_types.specs.Covers.{Covers, TakesName}
-use Rattle.base_types.specs.declared.key.CoverName.{CoverName}
-use Rattle.base_types.specs.declared.key.CoverName.TheVariants.{Exact, Prefix, Any as AnyName}
-use Rattle.base_types.specs.declared.key.ObjectKey.{ObjectKey}
+use Rattle.base_types.specs.declared.kubernetes.key.CoverName.{CoverName}
+use Rattle.base_types.specs.declared.kubernetes.key.CoverName.TheVariants.{Exact, Prefix, Any as AnyName}
+use Rattle.base_types.specs.declared.kubernetes.key.ObjectKey.{ObjectKey}
 use Rattle.clouds.specs.declared.span.OpaqueSpan.{OpaqueSpan}
 use Rattle.clouds.specs.declared.wide.Folder.{Folder}
 use Rattle.clouds.specs.declared.wide.Scope.{Scope}

@@ -1,6 +1,6 @@
 -- The first clouded places at or behind the revisions of a key.
 use Rattle.std.specs.Prelude.{◌≤◌, ℕ, List, Option, Some, None, Contains}
-use Rattle.base_types.specs.declared.key.ObjectKey.{ObjectKey}
+use Rattle.base_types.specs.declared.kubernetes.key.ObjectKey.{ObjectKey}
 use Rattle.clouds.specs.Clouds.{IsClouded}
 use Rattle.clouds.specs.FirstPlace.{IsLeastPlace}
 use Rattle.clouds.specs.Hiding.{revision_of}

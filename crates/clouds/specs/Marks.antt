@@ -1,7 +1,7 @@
 -- Spans of one cover, in order.
 use Rattle.std.specs.Prelude.{◌≡◌, ◌<◌, ◌≤◌, ℕ, List, length, map, slice_index_or}
 use Rattle.std.specs.List.Sorted.{IsNonDecreasingBy}
-use Rattle.base_types.specs.declared.key.Cover.{Cover}
+use Rattle.base_types.specs.declared.kubernetes.key.Cover.{Cover}
 use Rattle.clouds.specs.declared.mark.Mark.{Mark}
 use Rattle.clouds.specs.declared.span.OpaqueSpan.{OpaqueSpan}
 

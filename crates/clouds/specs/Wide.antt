@@ -7,9 +7,9 @@ use Rattle.std.specs.Ordering.{nat_cmp}
 use Rattle.std.specs.declared.cmp.Ordering.{Ordering}
 use Rattle.std.specs.declared.vec.Vec.{Vec}
 use Rattle.base_types.specs.Covers.{Covers}
-use Rattle.base_types.specs.declared.key.CoverName.{CoverName}
-use Rattle.base_types.specs.declared.key.CoverName.TheVariants.{Exact, Prefix, Any as AnyName}
-use Rattle.base_types.specs.declared.key.ObjectKey.{ObjectKey}
+use Rattle.base_types.specs.declared.kubernetes.key.CoverName.{CoverName}
+use Rattle.base_types.specs.declared.kubernetes.key.CoverName.TheVariants.{Exact, Prefix, Any as AnyName}
+use Rattle.base_types.specs.declared.kubernetes.key.ObjectKey.{ObjectKey}
 use Rattle.clouds.specs.contracts.wide.FolderOrd.TheImpl as folder_ord
 use Rattle.clouds.specs.contracts.wide.ScopeOrd.TheImpl as scope_ord
 use Rattle.clouds.specs.declared.span.OpaqueSpan.{OpaqueSpan}

@@ -1,7 +1,7 @@
 ghost use Rattle.std.specs.Prelude.{◌≡◌, ◌⊎◌, ◌∷◌, [], List, IfOk, OnOk, Contains, map};
 ghost use Rattle.std.specs.List.Sorted.{IsNonDecreasing, IsPermutation};
 ghost use Rattle.std.specs.Option.{option_copied};
-ghost use Rattle.base_types.specs.declared.key.ObjectKey.{ObjectKey};
+ghost use Rattle.base_types.specs.declared.kubernetes.key.ObjectKey.{ObjectKey};
 ghost use Rattle.clouds.specs.declared.span.OpaqueSpan.{OpaqueSpan};
 ghost use Rattle.clouds.specs.Filed.{AreFiled, AreRecorded, IsNoneFiled};
 ghost use Rattle.clouds.specs.FirstClouded.{AreFirstClouded};

@@ -2,9 +2,9 @@
 use Rattle.std.specs.Prelude.{◌≡◌, ◌<◌, ◌==◌, ℕ, Bool, List, [], ◌∷◌, Option, Some, None, bytes_eq, codes, decimal, if◌then◌else◌}
 use Rattle.std.specs.List.{slice_split}
 use Rattle.base_types.specs.Keys.{IsNamed, key_spelling}
-use Rattle.base_types.specs.declared.key.ObjectKey.{ObjectKey}
-use Rattle.base_types.specs.declared.request.RequestAttrs.{RequestAttrs}
-use Rattle.base_types.specs.declared.request.User.{User}
+use Rattle.base_types.specs.declared.kubernetes.key.ObjectKey.{ObjectKey}
+use Rattle.base_types.specs.declared.kubernetes.request.RequestAttrs.{RequestAttrs}
+use Rattle.base_types.specs.declared.kubernetes.request.User.{User}
 use Rattle.history_query.specs.declared.question.Question.{Question}
 use Rattle.history_query.specs.declared.question.Question.TheVariants.{Show, Versions, State, Blame, Can}
 use Rattle.base_types.specs.Pointers.{pointer_of}

@@ -1,11 +1,11 @@
 -- A setup and a log have one page.
 use Rattle.std.proofs.Common.{◌≡◌, ◌++◌, ℕ, List, Option, Some, None, inl, inr, refl, sym, ◌∙◌, ap, subst}
-use Rattle.base_types.specs.declared.claim.Reason.{Reason}
-use Rattle.base_types.specs.declared.key.ObjectKey.{ObjectKey}
-use Rattle.base_types.specs.declared.placed.Outcome.{Outcome}
-use Rattle.base_types.specs.declared.placed.Outcome.TheVariants.{Explained, Unexplained}
-use Rattle.base_types.specs.declared.placed.PlacedLine.{PlacedLine}
-use Rattle.base_types.specs.declared.placed.WriteLine.{WriteLine}
+use Rattle.base_types.specs.declared.verdict.claim.Reason.{Reason}
+use Rattle.base_types.specs.declared.kubernetes.key.ObjectKey.{ObjectKey}
+use Rattle.base_types.specs.declared.verdict.placed.Outcome.{Outcome}
+use Rattle.base_types.specs.declared.verdict.placed.Outcome.TheVariants.{Explained, Unexplained}
+use Rattle.base_types.specs.declared.verdict.placed.PlacedLine.{PlacedLine}
+use Rattle.base_types.specs.declared.verdict.placed.WriteLine.{WriteLine}
 use Rattle.context_intake.proofs.OneContextFacts.{one_context, one_refusal, one_way}
 use Rattle.finding_picture.specs.Caches.{caches_section, caches_text}
 use Rattle.finding_picture.specs.Heading.{heading_text, verdict_text}

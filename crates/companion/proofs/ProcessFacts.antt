@@ -1,6 +1,6 @@
 -- How the process ends, by how its call ended.
 use Rattle.std.proofs.Common.{◌≡◌, ℕ, List, Option, Some, None, Result, Ok, Err, String, Vec, map, string_bytes, Global, inl, refl, sym, ◌∙◌, ap, subst}
-use Rattle.base_types.specs.declared.memory.OutOfMemory.{OutOfMemory}
+use Rattle.base_types.specs.declared.foundation.memory.OutOfMemory.{OutOfMemory}
 use Rattle.std.specs.Io.KnownBytes.{Keeps}
 use Rattle.edge_io.specs.Endings.{Ends}
 use Rattle.log_verdict.specs.Endings.{IsAnswered}

@@ -1,9 +1,9 @@
 -- What a setup and a log come to as a page, of their bytes alone.
 use Rattle.std.specs.Prelude.{◌≡◌, ◌⊎◌, ℕ, List}
-use Rattle.base_types.specs.declared.claim.Reason.{Reason}
-use Rattle.base_types.specs.declared.placed.Outcome.{Outcome}
-use Rattle.base_types.specs.declared.placed.Outcome.TheVariants.{Explained, Unexplained}
-use Rattle.base_types.specs.declared.placed.WriteLine.{WriteLine}
+use Rattle.base_types.specs.declared.verdict.claim.Reason.{Reason}
+use Rattle.base_types.specs.declared.verdict.placed.Outcome.{Outcome}
+use Rattle.base_types.specs.declared.verdict.placed.Outcome.TheVariants.{Explained, Unexplained}
+use Rattle.base_types.specs.declared.verdict.placed.WriteLine.{WriteLine}
 use Rattle.context_intake.specs.Contexts.{IsContextOf, IsRefused}
 use Rattle.context_intake.specs.declared.refusal.Refusal.{Refusal}
 use Rattle.context_intake.specs.declared.told.Intake.{Intake}

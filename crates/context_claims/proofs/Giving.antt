@@ -2,7 +2,7 @@
 use Rattle.std.proofs.Common.{ℕ, Bool, Option}
 use Rattle.std.specs.Prelude.{IfSome, IfNone}
 use Rattle.base_types.specs.PlaceOrder.{AreLeastPlaces}
-use Rattle.base_types.specs.declared.placed.Places.{Places}
+use Rattle.base_types.specs.declared.verdict.placed.Places.{Places}
 use Rattle.event_claims.proofs.Options.{if_some, if_none}
 use Rattle.event_claims.specs.Given.{IsGivenAt, AreNoneWithin}
 use Rattle.log_context.specs.Given.{IsGivenWithin, AreNoneGiven}

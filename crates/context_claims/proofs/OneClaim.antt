@@ -2,8 +2,8 @@
 use Rattle.std.proofs.Common.{◌≡◌, ℕ, ◌<◌, Some, All, length, slice_get, ap, ◌∙◌}
 use Rattle.std.specs.Prelude.{option_map}
 use Rattle.std.proofs.lemmas.Option.{slice_get-map}
-use Rattle.base_types.specs.declared.claim.Bound.{Bound}
-use Rattle.base_types.specs.declared.claim.Claim.{Claim}
+use Rattle.base_types.specs.declared.verdict.claim.Bound.{Bound}
+use Rattle.base_types.specs.declared.verdict.claim.Claim.{Claim}
 use Rattle.context_claims.specs.Claims.{IsClaimOf}
 use Rattle.event_claims.proofs.Answering.{bounds_within}
 use Rattle.event_claims.proofs.Sameness as of_history

@@ -1,6 +1,6 @@
 -- The claim of an event of a context.
 use Rattle.std.specs.Prelude.{ℕ}
-use Rattle.base_types.specs.declared.claim.Claim.{Claim}
+use Rattle.base_types.specs.declared.verdict.claim.Claim.{Claim}
 use Rattle.history_model.specs.Events.{Event}
 use Rattle.history_model.specs.Exact.{IsExactClaim}
 use Rattle.history_model.specs.Histories.{IsEvent}

@@ -1,6 +1,6 @@
 -- How a context judges the selectors of lists, and decisions.
 use Rattle.std.specs.Prelude.{ℕ, Bool}
-use Rattle.base_types.specs.declared.placed.Places.{Places}
+use Rattle.base_types.specs.declared.verdict.placed.Places.{Places}
 use Rattle.context_claims.specs.declared.judge.ContextJudge.{ContextJudge}
 use Rattle.log_context.specs.Histories.{history_of}
 

@@ -1,7 +1,7 @@
 -- The placement of an explained log can be written and read, and is verified.
 use Rattle.std.proofs.Common.{ℕ, ◌≤◌, List, length, subst, arith}
 use Rattle.base_types.specs.Choices.{IsChoice}
-use Rattle.base_types.specs.declared.placed.PlacedLine.{PlacedLine}
+use Rattle.base_types.specs.declared.verdict.placed.PlacedLine.{PlacedLine}
 use Rattle.context_intake.specs.Contexts.{IsContextOf}
 use Rattle.history_model.specs.Checking as checking
 use Rattle.history_model.specs.Histories.{History, ranges}

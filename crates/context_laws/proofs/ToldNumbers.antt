@@ -4,7 +4,7 @@ use Rattle.std.specs.Prelude.{⊤}
 use Rattle.std.proofs.lemmas.List.{length-map}
 use Rattle.std.proofs.lemmas.Option.{slice_get_within}
 use Rattle.base_types.specs.Revisions.{IsRevision, revision_of}
-use Rattle.base_types.specs.declared.request.RequestAttrs.{RequestAttrs}
+use Rattle.base_types.specs.declared.kubernetes.request.RequestAttrs.{RequestAttrs}
 use Rattle.base_types.specs.Meaning.{Meaning}
 use Rattle.audit_event.specs.declared.event.Event.{Event}
 use Rattle.answer_class.specs.Classes.{class_of}

@@ -1,8 +1,8 @@
 -- The decisions of a log, as a choice of states gives them.
 use Rattle.std.specs.Prelude.{◌≡◌, ◌↔◌, ℕ, true, Some, slice_get}
 use Rattle.audit_event.specs.declared.event.Event.{Event}
-use Rattle.base_types.specs.declared.placed.Places.{Places}
-use Rattle.base_types.specs.declared.request.Decision.{Decision}
+use Rattle.base_types.specs.declared.verdict.placed.Places.{Places}
+use Rattle.base_types.specs.declared.kubernetes.request.Decision.{Decision}
 use Rattle.rbac_timeline.specs.Decisions.{IsPossible}
 use Rattle.log_context.specs.Histories.{history_of}
 use Rattle.log_context.specs.Judged.{judged_decision, judged_user}

@@ -1,6 +1,6 @@
 -- What the placement of an explained log comes to.
 use Rattle.std.specs.Prelude.{◌≤◌, ℕ, List, length}
-use Rattle.base_types.specs.declared.placed.PlacedLine.{PlacedLine}
+use Rattle.base_types.specs.declared.verdict.placed.PlacedLine.{PlacedLine}
 use Rattle.context_intake.specs.Contexts.{IsContextOf}
 use Rattle.history_model.specs.Checking.{IsVerified}
 use Rattle.history_model.specs.Outcomes.{Explained, IsOutcome}

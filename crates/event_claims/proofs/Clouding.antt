@@ -1,7 +1,7 @@
 -- Clouds from one place to another.
 use Rattle.std.proofs.Common.{◌≡◌, ℕ, Bool, Option, Some, None, sym, ◌∙◌, true≢false}
 use Rattle.std.specs.Prelude.{◌↔◌, IsTrue, IfSome, IfNone, is_some}
-use Rattle.base_types.specs.declared.key.ObjectKey.{ObjectKey}
+use Rattle.base_types.specs.declared.kubernetes.key.ObjectKey.{ObjectKey}
 use Rattle.clouds.specs.Clouds as cloud
 use Rattle.clouds.specs.FirstPlace.{IsLeastPlace, HoldsNowhere}
 use Rattle.clouds.specs.Writes.{Writes}

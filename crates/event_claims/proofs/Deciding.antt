@@ -1,7 +1,7 @@
 -- Decisions and the places at which they could be given.
 use Rattle.std.proofs.Common.{◌≡◌, ℕ, ◌≤◌, Bool, sym, ◌∙◌, subst}
 use Rattle.base_types.specs.PlaceOrder.{AreLeastPlaces}
-use Rattle.base_types.specs.declared.placed.Places.{Places}
+use Rattle.base_types.specs.declared.verdict.placed.Places.{Places}
 use Rattle.history_model.specs.Decisions.{IsCachePlace, IsDecidedAt}
 use Rattle.history_model.specs.Events.{Event}
 use Rattle.history_model.specs.Histories.{History}

@@ -1,6 +1,6 @@
 -- Why an event fails, by the verdicts on its parts.
 use Rattle.std.proofs.Common.{◌≡◌, ℕ, ◌⊎◌, Option, Some, None, inl, inr, refl, sym, ◌∙◌, subst, true≢false}
-use Rattle.base_types.specs.declared.claim.Reason.{Reason}
+use Rattle.base_types.specs.declared.verdict.claim.Reason.{Reason}
 use Rattle.history_model.specs.Codes as codes
 use Rattle.history_model.specs.Codes.{HasCode}
 use Rattle.history_model.specs.Events.{Event, Answer, Made, Removed, Opaque, Saw, SawNone, SawSome, SawOther, Listed, Free, Aside}

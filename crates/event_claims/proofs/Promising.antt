@@ -1,8 +1,8 @@
 -- An event is right under a choice exactly where its claim doesn't fail and the choice meets its bounds.
 use Rattle.std.proofs.Common.{◌≡◌, ℕ, ◌↔◌, List, Option, Some, None, inl, inr, refl, subst}
 use Rattle.base_types.specs.Choices.{IsChoice, MeetsAll}
-use Rattle.base_types.specs.declared.claim.Claim.{Claim}
-use Rattle.base_types.specs.declared.claim.Reason.{Reason}
+use Rattle.base_types.specs.declared.verdict.claim.Claim.{Claim}
+use Rattle.base_types.specs.declared.verdict.claim.Reason.{Reason}
 use Rattle.event_claims.proofs.Sameness.{right_no_code}
 use Rattle.history_model.specs.Events.{Event}
 use Rattle.history_model.specs.Exact.{SometimesHolds, IsFailure, AreExactBounds, IsExactClaim}

@@ -3,7 +3,7 @@ use Rattle.std.proofs.Common.{◌≡◌, ℕ, ◌≤◌, List, Option, Some, Non
 use Rattle.std.specs.Prelude.{option_map}
 use Rattle.std.proofs.lemmas.Option.{slice_get-map, same_Some}
 use Rattle.base_types.specs.Reasons.{code_number}
-use Rattle.base_types.specs.declared.claim.Reason.TheVariants.{U7}
+use Rattle.base_types.specs.declared.verdict.claim.Reason.TheVariants.{U7}
 use Rattle.history_model.specs.Events.{Event}
 use Rattle.history_model.specs.Histories as model
 use Rattle.history_model.specs.Histories.{History}

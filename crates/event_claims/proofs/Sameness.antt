@@ -4,10 +4,10 @@ use Rattle.std.specs.Prelude.{option_map}
 use Rattle.std.proofs.lemmas.Bool.Decides.{eqb_tells}
 use Rattle.std.proofs.lemmas.Option.{slice_get-map, slice_get_within, same_Some}
 use Rattle.base_types.specs.Choices.{IsChoice, IsPlaceOf, Meets, MeetsAll}
-use Rattle.base_types.specs.declared.claim.Bound.{Bound}
-use Rattle.base_types.specs.declared.claim.Claim.{Claim}
-use Rattle.base_types.specs.declared.claim.Range.{Range}
-use Rattle.base_types.specs.declared.claim.Reason.{Reason}
+use Rattle.base_types.specs.declared.verdict.claim.Bound.{Bound}
+use Rattle.base_types.specs.declared.verdict.claim.Claim.{Claim}
+use Rattle.base_types.specs.declared.verdict.claim.Range.{Range}
+use Rattle.base_types.specs.declared.verdict.claim.Reason.{Reason}
 use Rattle.history_model.proofs.CodeLemmas.{same_code}
 use Rattle.history_model.proofs.Members.{not_in_none, here, there, in_cons, all_at, all_from, apart}
 use Rattle.history_model.proofs.OpenBounds.{open_is}

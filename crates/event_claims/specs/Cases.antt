@@ -1,6 +1,6 @@
 -- An event of a history that is judged.
 use Rattle.std.specs.Prelude.{ℕ, Option}
-use Rattle.base_types.specs.declared.claim.Reason.{Reason}
+use Rattle.base_types.specs.declared.verdict.claim.Reason.{Reason}
 use Rattle.event_claims.specs.declared.case.Case.{Case}
 use Rattle.history_model.specs.Events.{Event}
 use Rattle.history_model.specs.Histories.{History, IsEvent}

@@ -1,8 +1,8 @@
 -- What is known of an event's decision.
 use Rattle.std.specs.Prelude.{◌≡◌, ℕ, Some, None}
 use Rattle.base_types.specs.PlaceOrder.{AreLeastPlaces}
-use Rattle.base_types.specs.declared.placed.Places.{Places}
-use Rattle.base_types.specs.declared.request.Decision.{Decision}
+use Rattle.base_types.specs.declared.verdict.placed.Places.{Places}
+use Rattle.base_types.specs.declared.kubernetes.request.Decision.{Decision}
 use Rattle.event_claims.specs.declared.decided.Decided.{Decided}
 use Rattle.event_claims.specs.declared.decided.Decided.TheVariants.{Unasked, Impossible, Given}
 use Rattle.history_model.specs.Decisions.{IsDecidedAt}

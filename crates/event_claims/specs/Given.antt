@@ -1,6 +1,6 @@
 -- The least four places at which a decision could be given.
 use Rattle.std.specs.Prelude.{◌≡◌, ◌≤◌, ℕ, Bool, true}
-use Rattle.base_types.specs.declared.placed.Places.{Places}
+use Rattle.base_types.specs.declared.verdict.placed.Places.{Places}
 
 abbrev pub IsWithin : (low high place : ℕ) → Type 0
 IsWithin low high place = (low ≤ place) × (place ≤ high)

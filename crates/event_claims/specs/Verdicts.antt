@@ -1,7 +1,7 @@
 -- Whether something is right, and else the least code that tells why it isn't.
 use Rattle.std.specs.Prelude.{◌≤◌, Option, Some, None, nat_le, if◌then◌else◌}
 use Rattle.base_types.specs.Reasons.{code_number}
-use Rattle.base_types.specs.declared.claim.Reason.{Reason}
+use Rattle.base_types.specs.declared.verdict.claim.Reason.{Reason}
 
 -- the lesser of two codes, where there are some
 abbrev pub lesser : Option Reason → Option Reason → Option Reason

@@ -1,6 +1,6 @@
 -- The history of which a log and what it tells are known.
 use Rattle.std.specs.Prelude.{◌≡◌, ◌^◌, ◌≤ℤ◌, ℕ, neg_ℤ, pos, Bool}
-use Rattle.base_types.specs.declared.placed.Places.{Places}
+use Rattle.base_types.specs.declared.verdict.placed.Places.{Places}
 use Rattle.event_claims.specs.declared.view.View.{View}
 use Rattle.history_model.specs.Events.{Event}
 use Rattle.history_model.specs.Histories.{History, IsEvent}

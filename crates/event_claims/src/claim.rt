@@ -1,6 +1,6 @@
 ghost use Rattle.std.specs.Prelude.{◌≡◌, ◌<◌, ◌⊎◌, ◌↔◌, ℕ, List, None, length, All, IfOk};
 ghost use Rattle.base_types.specs.Choices.{IsChoice, MeetsAll};
-ghost use Rattle.base_types.specs.declared.claim.Claim.{Claim};
+ghost use Rattle.base_types.specs.declared.verdict.claim.Claim.{Claim};
 ghost use Rattle.event_claims.specs.Cases.{IsCaseOf, IsFaultAt};
 ghost use Rattle.event_claims.specs.Standing.{IsOfPolicy, HasPolicyCode, HasWordCode};
 ghost use Rattle.event_claims.specs.Verdicts.{IsVerdict};

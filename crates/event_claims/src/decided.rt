@@ -7,7 +7,7 @@ ghost use Rattle.base_types.specs.PlaceOrder.{AreLeastPlaces};
 ghost use Rattle.history_model.specs.Decisions.{IsDecidedAt};
 ghost use Rattle.history_model.specs.Events.{Event};
 ghost use Rattle.history_model.specs.Histories.{History, IsEvent};
-ghost use Rattle.base_types.specs.declared.placed.Places.{Places};
+ghost use Rattle.base_types.specs.declared.verdict.placed.Places.{Places};
 ghost use Rattle.history_model.specs.Windows.{decision_low, decision_high};
 ghost use Rattle.write_groups.specs.Modelled.{event_of};
 

@@ -10,7 +10,7 @@ use write_groups::LogEvent;
 pub trait Decisions {
     ghost use Rattle.std.specs.Prelude.{ℕ, Bool, IfSome, IfNone};
     ghost use Rattle.base_types.specs.PlaceOrder.{AreLeastPlaces};
-    ghost use Rattle.base_types.specs.declared.placed.Places.{Places};
+    ghost use Rattle.base_types.specs.declared.verdict.placed.Places.{Places};
     ghost use Rattle.event_claims.specs.Given.{AreNoneWithin, IsGivenAt};
 
     ghost decides: { Self → ℕ → Places → Bool };

@@ -1,7 +1,7 @@
 -- What stands first: the verdict, and what the code means.
 use Rattle.std.specs.Prelude.{ℕ, List, [], ◌∷◌, ◌++◌, codes, decimal, unwrap_or}
 use Rattle.base_types.specs.Reasons.{code_number}
-use Rattle.base_types.specs.declared.claim.Reason.{Reason}
+use Rattle.base_types.specs.declared.verdict.claim.Reason.{Reason}
 use Rattle.code_guide.specs.Guides.{text_of}
 use Rattle.markup.specs.Pieces.{fixed, number, told, shown}
 use Rattle.finding_picture.specs.declared.finding.Finding.{Finding}

@@ -2,10 +2,10 @@
 use Rattle.finding_picture.specs.Texts.{before_hiding, before_own, hiding_columns}
 use Rattle.std.specs.Prelude.{ℕ, Bool, true, false, List, [], ◌∷◌, ◌++◌, Option, Some, None, codes, filter, length, take}
 use Rattle.std.specs.List.{flat_map}
-use Rattle.base_types.specs.declared.key.Cover.{Cover}
-use Rattle.base_types.specs.declared.key.CoverName.{CoverName}
-use Rattle.base_types.specs.declared.key.CoverName.TheVariants.{Exact, Prefix, Any}
-use Rattle.base_types.specs.declared.key.ObjectKey.{ObjectKey}
+use Rattle.base_types.specs.declared.kubernetes.key.Cover.{Cover}
+use Rattle.base_types.specs.declared.kubernetes.key.CoverName.{CoverName}
+use Rattle.base_types.specs.declared.kubernetes.key.CoverName.TheVariants.{Exact, Prefix, Any}
+use Rattle.base_types.specs.declared.kubernetes.key.ObjectKey.{ObjectKey}
 use Rattle.history_model.specs.Histories.{History}
 use Rattle.history_model.specs.Windows.{low_end}
 use Rattle.markup.specs.Limits.{rest_text}

@@ -1,8 +1,8 @@
 -- The axis of a drawing of places, and the marks on it.
 use Rattle.std.specs.Prelude.{ℕ, ◌+◌, ◌-◌, ◌*◌, ◌%◌, ◌==◌, List, [], ◌∷◌, ◌++◌, Option, Some, None, codes, length, max, slice_get, if◌then◌else◌}
 use Rattle.audit_event.specs.declared.event.Event.{Event}
-use Rattle.base_types.specs.declared.placed.WriteLine.{WriteLine}
-use Rattle.base_types.specs.declared.placed.WriteLine.TheVariants.{Made, Removed}
+use Rattle.base_types.specs.declared.verdict.placed.WriteLine.{WriteLine}
+use Rattle.base_types.specs.declared.verdict.placed.WriteLine.TheVariants.{Made, Removed}
 use Rattle.markup.specs.Drawing.{position}
 use Rattle.markup.specs.Pieces.{fixed, number, told, shown}
 use Rattle.markup.specs.declared.drawing.Axis.{Axis}

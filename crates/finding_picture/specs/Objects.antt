@@ -3,7 +3,7 @@ use Rattle.finding_picture.specs.Texts.{before_object, behind_object, no_object}
 use Rattle.std.specs.Prelude.{ℕ, ◌==◌, List, [], ◌∷◌, ◌++◌, Option, Some, None, codes, filter, find, length, option_and_then, take}
 use Rattle.std.specs.List.{flat_map}
 use Rattle.base_types.specs.Keys.{key_spelling, same_key}
-use Rattle.base_types.specs.declared.key.ObjectKey.{ObjectKey}
+use Rattle.base_types.specs.declared.kubernetes.key.ObjectKey.{ObjectKey}
 use Rattle.markup.specs.Limits.{rest_text}
 use Rattle.markup.specs.Pieces.{fixed, number, told, shown}
 use Rattle.object_past.specs.declared.removal.Removal.{Removal}

@@ -2,8 +2,8 @@
 use Rattle.std.specs.Prelude.{ℕ, List, [], ◌∷◌, ◌++◌, Option, codes, length, take}
 use Rattle.std.specs.List.{flat_map}
 use Rattle.audit_event.specs.declared.event.Event.{Event}
-use Rattle.base_types.specs.declared.key.ObjectKey.{ObjectKey}
-use Rattle.base_types.specs.declared.placed.WriteLine.{WriteLine}
+use Rattle.base_types.specs.declared.kubernetes.key.ObjectKey.{ObjectKey}
+use Rattle.base_types.specs.declared.verdict.placed.WriteLine.{WriteLine}
 use Rattle.markup.specs.Limits.{rest_text}
 use Rattle.markup.specs.Pieces.{fixed, number, shown}
 use Rattle.markup.specs.declared.drawing.Axis.{Axis}

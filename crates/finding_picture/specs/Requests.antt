@@ -4,11 +4,11 @@ use Rattle.std.specs.Prelude.{ℕ, List, [], ◌∷◌, ◌++◌, Option, Some, 
 use Rattle.std.specs.List.{flat_map}
 use Rattle.audit_event.specs.declared.event.Event.{Event}
 use Rattle.audit_event.specs.declared.event.Status.{Status}
-use Rattle.base_types.specs.declared.request.Decision.{Decision}
-use Rattle.base_types.specs.declared.request.Decision.TheVariants.{Allow, Forbid}
-use Rattle.base_types.specs.declared.request.Pair.{Pair}
-use Rattle.base_types.specs.declared.request.User.{User}
-use Rattle.base_types.specs.declared.revision.Moment.{Moment}
+use Rattle.base_types.specs.declared.kubernetes.request.Decision.{Decision}
+use Rattle.base_types.specs.declared.kubernetes.request.Decision.TheVariants.{Allow, Forbid}
+use Rattle.base_types.specs.declared.kubernetes.request.Pair.{Pair}
+use Rattle.base_types.specs.declared.kubernetes.request.User.{User}
+use Rattle.base_types.specs.declared.kubernetes.revision.Moment.{Moment}
 use Rattle.markup.specs.Moments.{moment_text}
 use Rattle.markup.specs.Pieces.{fixed, number, told, shown}
 use Rattle.write_groups.specs.declared.event.LogEvent.{LogEvent}

@@ -2,8 +2,8 @@
 use Rattle.std.specs.Prelude.{ℕ, List, [], ◌∷◌, ◌++◌, Option, Some, None, codes, length, take}
 use Rattle.std.specs.List.{flat_map}
 use Rattle.audit_event.specs.declared.event.Event.{Event}
-use Rattle.base_types.specs.declared.placed.WriteLine.{WriteLine}
-use Rattle.base_types.specs.declared.placed.WriteLine.TheVariants.{Made, Removed}
+use Rattle.base_types.specs.declared.verdict.placed.WriteLine.{WriteLine}
+use Rattle.base_types.specs.declared.verdict.placed.WriteLine.TheVariants.{Made, Removed}
 use Rattle.markup.specs.Limits.{rest_text}
 use Rattle.markup.specs.Moments.{moment_text}
 use Rattle.markup.specs.Pieces.{fixed, number, told, shown}

@@ -2,9 +2,9 @@
 use Rattle.std.specs.Prelude.{ℕ, pos, ◌+◌, ◌*◌, ◌%◌, List, [], ◌∷◌, ◌++◌, Option, Some, None, codes, int_lt, length, max, min, take, unsigned_abs, if◌then◌else◌}
 use Rattle.std.specs.List.{flat_map, fold}
 use Rattle.audit_event.specs.declared.event.Event.{Event}
-use Rattle.base_types.specs.declared.placed.WriteLine.{WriteLine}
-use Rattle.base_types.specs.declared.placed.WriteLine.TheVariants.{Made, Removed}
-use Rattle.base_types.specs.declared.revision.Moment.{Moment}
+use Rattle.base_types.specs.declared.verdict.placed.WriteLine.{WriteLine}
+use Rattle.base_types.specs.declared.verdict.placed.WriteLine.TheVariants.{Made, Removed}
+use Rattle.base_types.specs.declared.kubernetes.revision.Moment.{Moment}
 use Rattle.markup.specs.Drawing.{position}
 use Rattle.markup.specs.Limits.{rest_text}
 use Rattle.markup.specs.Moments.{moment_at, moment_text}

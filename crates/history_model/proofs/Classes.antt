@@ -1,7 +1,7 @@
 -- Each class of answers turns on one place of its window.
 use Rattle.std.proofs.Common.{◌≡◌, ℕ, ◌≤◌, ◌⊎◌, ◌↔◌, Bool, List, Option, Some, None, IsSome, IsNone, IsSomeAnd, is_some, inl, inr, refl, sym, ap, ◌∙◌, subst, true≢false}
 use Rattle.base_types.specs.Choices.{IsChoice}
-use Rattle.base_types.specs.declared.key.ObjectKey.{ObjectKey}
+use Rattle.base_types.specs.declared.kubernetes.key.ObjectKey.{ObjectKey}
 use Rattle.history_model.proofs.LocalBounds.{absent_is, present_is, nothing_yet, none_or_latest}
 use Rattle.history_model.specs.Bounding.{SomewhereIn, IsAbsentAnyway, ComesIn}
 use Rattle.history_model.specs.Clouds.{IsClouded, IsCloudedWithin}

@@ -1,7 +1,7 @@
 -- Removals with the places that a choice gives them.
 use Rattle.std.proofs.Math.Bridge.{le_prop}
 use mathlib.Core.HLevel.{is_prop→PathP}
-use Rattle.base_types.specs.declared.claim.Range.{Range}
+use Rattle.base_types.specs.declared.verdict.claim.Range.{Range}
 use Rattle.std.proofs.Common.{◌≡◌, ℕ, zero, suc, ◌<◌, ◌≤◌, ◌⊎◌, true, false, nat_le, ◌==◌, List, [], ◌∷◌, map, Some, AllPairs, Contains, slice_get, slice_index, inl, inr, refl, sym, ap, ◌∙◌, subst, arith}
 use Rattle.std.proofs.lemmas.Bool.Decides.{leb_tells, eqb_tells}
 use Rattle.std.proofs.lemmas.Option.{same_Some}

@@ -1,8 +1,8 @@
 -- A log is explained exactly where one choice makes each event right.
 use Rattle.std.proofs.Common.{◌≡◌, ℕ, ◌-◌, ◌⊎◌, ◌↔◌, List, take, slice_get, Option, Some, None, Contains, inl, inr, refl, ap, ◌∙◌, subst}
 use Rattle.base_types.specs.Choices.{IsChoice}
-use Rattle.base_types.specs.declared.placed.Places.{Places}
-use Rattle.base_types.specs.declared.request.Decision.{Decision}
+use Rattle.base_types.specs.declared.verdict.placed.Places.{Places}
+use Rattle.base_types.specs.declared.kubernetes.request.Decision.{Decision}
 use Rattle.history_model.proofs.Chosen.{chosen_for}
 use Rattle.history_model.proofs.CutLemmas.{cut_of, removal_cut}
 use Rattle.history_model.proofs.Fits.{same_event}

@@ -1,8 +1,8 @@
 -- At a list's one place each key that it asks for has a range of its own.
 use Rattle.std.proofs.Common.{◌≡◌, ℕ, ◌⊎◌, ◌↔◌, List, Option, Some, None, Contains, slice_get, inl, inr, sym, ap, ◌∙◌, subst}
 use Rattle.base_types.specs.Choices.{IsChoice, Meets, MeetsAll}
-use Rattle.base_types.specs.declared.claim.Bound.{Bound}
-use Rattle.base_types.specs.declared.key.ObjectKey.{ObjectKey}
+use Rattle.base_types.specs.declared.verdict.claim.Bound.{Bound}
+use Rattle.base_types.specs.declared.kubernetes.key.ObjectKey.{ObjectKey}
 use Rattle.history_model.proofs.LocalBounds.{absence_is, presence_is, kept, nothing_yet, none_or_latest}
 use Rattle.history_model.proofs.Latest.{latest_is}
 use Rattle.history_model.proofs.Members.{apart, at_in, all_at, all_from}

@@ -1,7 +1,7 @@
 -- At which one place of a window an answer turns on the choice, and which bound that is.
 use Rattle.std.proofs.Common.{◌≡◌, ◌≢◌, ℕ, ◌<◌, ◌≤◌, ◌-◌, ◌⊎◌, ◌↔◌, List, Option, Some, None, IsSomeAnd, Contains, slice_get, slice_index, inl, inr, refl, sym, ap, ◌∙◌, subst, arith}
 use Rattle.base_types.specs.Choices.{IsChoice, Meets}
-use Rattle.base_types.specs.declared.key.ObjectKey.{ObjectKey}
+use Rattle.base_types.specs.declared.kubernetes.key.ObjectKey.{ObjectKey}
 use Rattle.history_model.proofs.CutLemmas.{cut_of, cut_removal, cut_chosen, removal_cut, cut_at}
 use Rattle.history_model.proofs.Fits.{CutEnds, CutsFit, cuts_fit}
 use Rattle.history_model.proofs.Latest.{latest_is, latest_same}

@@ -1,8 +1,8 @@
 -- A maker's least fault doesn't depend on the choice.
 use Rattle.std.proofs.Common.{◌≡◌, ◌≢◌, ℕ, ◌<◌, ◌≤◌, ◌-◌, ◌⊎◌, ◌↔◌, Bool, true, false, List, Option, Some, None, Contains, inl, inr, refl, sym, ap, ◌∙◌, subst, arith, true≢false}
 use Rattle.base_types.specs.Choices.{IsChoice}
-use Rattle.base_types.specs.declared.claim.Reason.{Reason}
-use Rattle.base_types.specs.declared.claim.Reason.TheVariants.{U6, U7, U8}
+use Rattle.base_types.specs.declared.verdict.claim.Reason.{Reason}
+use Rattle.base_types.specs.declared.verdict.claim.Reason.TheVariants.{U6, U7, U8}
 use Rattle.base_types.specs.Reasons.{code_number}
 use Rattle.history_model.proofs.CutLemmas.{cut_of, cut_removal, cut_chosen, removal_cut}
 use Rattle.history_model.proofs.Latest.{latest_is, latest_same}

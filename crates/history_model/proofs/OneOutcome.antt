@@ -4,13 +4,13 @@ use Rattle.std.specs.List.{AllZip}
 use Rattle.std.proofs.lemmas.Option.{same_Some, slice_get_within}
 use Rattle.base_types.specs.PlaceOrder.{IsUpTo}
 use Rattle.base_types.specs.Choices.{IsChoice}
-use Rattle.base_types.specs.declared.claim.Reason.{Reason}
-use Rattle.base_types.specs.declared.placed.PlacedAnswer.{PlacedAnswer}
-use Rattle.base_types.specs.declared.placed.PlacedAnswer.TheVariants as placed
-use Rattle.base_types.specs.declared.placed.PlacedDecision.{PlacedDecision}
-use Rattle.base_types.specs.declared.placed.PlacedLine.{PlacedLine}
-use Rattle.base_types.specs.declared.placed.Places.{Places}
-use Rattle.base_types.specs.declared.request.Decision.{Decision}
+use Rattle.base_types.specs.declared.verdict.claim.Reason.{Reason}
+use Rattle.base_types.specs.declared.verdict.placed.PlacedAnswer.{PlacedAnswer}
+use Rattle.base_types.specs.declared.verdict.placed.PlacedAnswer.TheVariants as placed
+use Rattle.base_types.specs.declared.verdict.placed.PlacedDecision.{PlacedDecision}
+use Rattle.base_types.specs.declared.verdict.placed.PlacedLine.{PlacedLine}
+use Rattle.base_types.specs.declared.verdict.placed.Places.{Places}
+use Rattle.base_types.specs.declared.kubernetes.request.Decision.{Decision}
 use Rattle.history_model.proofs.CodeLemmas.{same_code}
 use Rattle.history_model.proofs.CutLemmas.{cut_of, cuts_apart}
 use Rattle.history_model.proofs.Fits.{same_event}

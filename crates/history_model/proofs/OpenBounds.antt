@@ -2,8 +2,8 @@
 use Rattle.std.proofs.Common.{◌≡◌, ◌≢◌, ℕ, zero, suc, ◌<◌, ◌⊎◌, List, [], ◌∷◌, length, map, set, Some, AllPairs, Contains, slice_get, slice_index, inl, inr, refl, sym, ap, subst, arith, get_or-set_same, get_or-set_other}
 use Rattle.std.proofs.lemmas.Option.{same_Some, slice_get_within}
 use Rattle.base_types.specs.Choices.{IsChoice, IsPlaceOf, Meets, MeetsAll}
-use Rattle.base_types.specs.declared.claim.Bound.{Bound}
-use Rattle.base_types.specs.declared.claim.Range.{Range}
+use Rattle.base_types.specs.declared.verdict.claim.Bound.{Bound}
+use Rattle.base_types.specs.declared.verdict.claim.Range.{Range}
 use Rattle.history_model.proofs.Members.{here, there, in_cons, all_at, all_from, pairs_head, pairs_tail}
 use Rattle.history_model.specs.Bounding.{IsOpen}
 

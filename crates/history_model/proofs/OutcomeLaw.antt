@@ -4,8 +4,8 @@ use Rattle.std.proofs.lemmas.Option.{same_Some, MatchOption-at_some, slice_get_w
 use Rattle.base_types.specs.Choices.{IsChoice, MeetsAll}
 use Rattle.base_types.specs.Reasons.{code_number}
 use Rattle.base_types.specs.Settlement.{MeetsBounds, Explains, ExplainsAll, IsLeastChoice, LeavesNoChoice, HasCode as HasClaimCode, HasLeastCode, BreaksFirst}
-use Rattle.base_types.specs.declared.claim.Claim.{Claim}
-use Rattle.base_types.specs.declared.claim.Reason.{Reason}
+use Rattle.base_types.specs.declared.verdict.claim.Claim.{Claim}
+use Rattle.base_types.specs.declared.verdict.claim.Reason.{Reason}
 use Rattle.history_model.proofs.CodeLemmas.{right_no_code}
 use Rattle.history_model.proofs.Global.{run_is_right, right_has_run, global_is}
 use Rattle.history_model.proofs.Members.{not_in_none, here, there, in_cons, all_at, all_from, at_in}

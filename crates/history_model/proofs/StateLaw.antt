@@ -3,7 +3,7 @@ use Rattle.std.proofs.Common.{◌≡◌, ℕ, ◌<◌, ◌≤◌, ◌⊎◌, tru
 use mathlib.Core.Path.{fun_ext}
 use Rattle.std.proofs.lemmas.Bool.Decides.{leb_tells}
 use Rattle.base_types.specs.Choices.{IsChoice}
-use Rattle.base_types.specs.declared.key.ObjectKey.{ObjectKey}
+use Rattle.base_types.specs.declared.kubernetes.key.ObjectKey.{ObjectKey}
 use Rattle.history_model.proofs.CutLemmas.{gone_tells}
 use Rattle.history_model.proofs.Fits.{CutEnds, CutsFit, cuts_fit}
 use Rattle.history_model.proofs.Latest.{latest_is, latest_same}

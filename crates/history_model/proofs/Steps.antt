@@ -1,6 +1,6 @@
 -- What steps in order do to one key.
 use Rattle.std.proofs.Common.{◌≡◌, ℕ, ◌<◌, ◌≤◌, ◌⊎◌, Bool, true, false, List, [], ◌∷◌, filter, nat_le, Option, Some, None, Contains, inl, inr, refl, sym, ap, ◌∙◌, subst, arith, true≢false}
-use Rattle.base_types.specs.declared.key.ObjectKey.{ObjectKey}
+use Rattle.base_types.specs.declared.kubernetes.key.ObjectKey.{ObjectKey}
 use Rattle.history_model.proofs.KeyLemmas.{key_is, key_differs}
 use Rattle.history_model.proofs.Members.{not_in_none, here, there, in_cons, all_at, all_from}
 use Rattle.history_model.specs.Histories.{History, Version}

@@ -6,7 +6,7 @@ use Rattle.history_model.proofs.Fits.{same_event}
 use Rattle.history_model.proofs.Members.{not_in_none, here, there, in_cons, all_at, apart, at_apart, at_in}
 use Rattle.history_model.proofs.Sorting.{Ties, IsSortedOf, sorted_of}
 use Rattle.history_model.proofs.WordLemmas.{IsMadeBy, made_version, is_at}
-use Rattle.base_types.specs.declared.key.ObjectKey.{ObjectKey}
+use Rattle.base_types.specs.declared.kubernetes.key.ObjectKey.{ObjectKey}
 use Rattle.history_model.specs.Events.{Text, Event, Removed}
 use Rattle.history_model.specs.Groups.{Making}
 use Rattle.history_model.specs.Histories.{History, Version, Removal, Maker, Snapshot, ByEvent, Unknown, IsEvent}

@@ -1,8 +1,8 @@
 -- What an answer asks of the removals' places: at most one bound for each range.
 use Rattle.std.specs.Prelude.{◌≡◌, ◌≢◌, ◌≤◌, ◌+◌, ℕ, max, min, ◌⊎◌, true, false, List, Some, None, AllPairs, Contains, slice_get}
-use Rattle.base_types.specs.declared.claim.Bound.{Bound}
-use Rattle.base_types.specs.declared.claim.Range.{Range}
-use Rattle.base_types.specs.declared.key.ObjectKey.{ObjectKey}
+use Rattle.base_types.specs.declared.verdict.claim.Bound.{Bound}
+use Rattle.base_types.specs.declared.verdict.claim.Range.{Range}
+use Rattle.base_types.specs.declared.kubernetes.key.ObjectKey.{ObjectKey}
 use Rattle.history_model.specs.Clouds.{IsClouded}
 use Rattle.history_model.specs.Events.{Item, Listing}
 use Rattle.history_model.specs.Histories.{History, Version, Removal}

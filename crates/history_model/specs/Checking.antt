@@ -2,14 +2,14 @@
 use Rattle.std.specs.Prelude.{◌≡◌, ◌≢◌, ◌≤◌, ◌++◌, ◌∷◌, ℕ, ◌⊎◌, true, false, List, Option, Some, None, length, slice_get, Contains, Bool}
 use Rattle.base_types.specs.Choices.{IsPlaceOf}
 use Rattle.base_types.specs.Reasons.{code_number}
-use Rattle.base_types.specs.declared.claim.Reason.{Reason}
-use Rattle.base_types.specs.declared.claim.Reason.TheVariants.{U1, U2, U3, U7, U14}
-use Rattle.base_types.specs.declared.placed.PlacedAnswer.{PlacedAnswer}
-use Rattle.base_types.specs.declared.placed.PlacedAnswer.TheVariants as placed
-use Rattle.base_types.specs.declared.placed.PlacedDecision.{PlacedDecision}
-use Rattle.base_types.specs.declared.placed.PlacedLine.{PlacedLine}
-use Rattle.base_types.specs.declared.placed.Places.{Places}
-use Rattle.base_types.specs.declared.request.Decision.{Decision}
+use Rattle.base_types.specs.declared.verdict.claim.Reason.{Reason}
+use Rattle.base_types.specs.declared.verdict.claim.Reason.TheVariants.{U1, U2, U3, U7, U14}
+use Rattle.base_types.specs.declared.verdict.placed.PlacedAnswer.{PlacedAnswer}
+use Rattle.base_types.specs.declared.verdict.placed.PlacedAnswer.TheVariants as placed
+use Rattle.base_types.specs.declared.verdict.placed.PlacedDecision.{PlacedDecision}
+use Rattle.base_types.specs.declared.verdict.placed.PlacedLine.{PlacedLine}
+use Rattle.base_types.specs.declared.verdict.placed.Places.{Places}
+use Rattle.base_types.specs.declared.kubernetes.request.Decision.{Decision}
 use Rattle.history_model.specs.Clouds.{IsClouded}
 use Rattle.history_model.specs.Decisions.{AreCachePlaces}
 use Rattle.history_model.specs.Events.{Item, Event, Made}

@@ -1,7 +1,7 @@
 -- Where unrecorded writes may have changed an object.
 use Rattle.std.specs.Prelude.{◌<◌, ◌≤◌, ℕ}
 use Rattle.base_types.specs.Hidden.{IsHidden}
-use Rattle.base_types.specs.declared.key.ObjectKey.{ObjectKey}
+use Rattle.base_types.specs.declared.kubernetes.key.ObjectKey.{ObjectKey}
 use Rattle.history_model.specs.Events.{Event}
 use Rattle.history_model.specs.Groups.{Hides}
 use Rattle.history_model.specs.Histories.{History, Version, IsEvent}

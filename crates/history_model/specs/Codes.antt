@@ -2,10 +2,10 @@
 use Rattle.std.specs.Prelude.{◌≡◌, ◌≤◌, ℕ, ◌⊎◌, Bool, true, List, Option, Some}
 use Rattle.base_types.specs.Choices.{IsChoice}
 use Rattle.base_types.specs.Reasons.{code_number}
-use Rattle.base_types.specs.declared.claim.Reason.{Reason}
-use Rattle.base_types.specs.declared.claim.Reason.TheVariants.{U1, U2, U3, U7, U14}
-use Rattle.base_types.specs.declared.placed.Places.{Places}
-use Rattle.base_types.specs.declared.request.Decision.{Decision}
+use Rattle.base_types.specs.declared.verdict.claim.Reason.{Reason}
+use Rattle.base_types.specs.declared.verdict.claim.Reason.TheVariants.{U1, U2, U3, U7, U14}
+use Rattle.base_types.specs.declared.verdict.placed.Places.{Places}
+use Rattle.base_types.specs.declared.kubernetes.request.Decision.{Decision}
 use Rattle.history_model.specs.Clouds.{IsCloudedWithin}
 use Rattle.history_model.specs.Decisions.{IsDecidedAt}
 use Rattle.history_model.specs.Events.{Item, Event, Made}

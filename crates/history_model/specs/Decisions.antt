@@ -1,7 +1,7 @@
 -- An authorizer keeps roles, cluster roles, role bindings and cluster role bindings in four caches
 -- (Kubernetes "Using RBAC Authorization", API objects), and each may be behind by itself.
 use Rattle.std.specs.Prelude.{◌≡◌, ◌≤◌, ℕ, true}
-use Rattle.base_types.specs.declared.placed.Places.{Places}
+use Rattle.base_types.specs.declared.verdict.placed.Places.{Places}
 use Rattle.history_model.specs.Events.{Event}
 use Rattle.history_model.specs.Histories.{History}
 use Rattle.history_model.specs.Windows.{decision_low, decision_high}

@@ -1,8 +1,8 @@
 -- What the log records: the requests, what they asked, and how they were answered.
 use Rattle.std.specs.Prelude.{ℕ, ℤ, Bool, true, false, List, Option}
-use Rattle.base_types.specs.declared.key.Cover.{Cover}
-use Rattle.base_types.specs.declared.key.ObjectKey.{ObjectKey}
-use Rattle.base_types.specs.declared.request.Decision.{Decision}
+use Rattle.base_types.specs.declared.kubernetes.key.Cover.{Cover}
+use Rattle.base_types.specs.declared.kubernetes.key.ObjectKey.{ObjectKey}
+use Rattle.base_types.specs.declared.kubernetes.request.Decision.{Decision}
 
 -- a text, as its bytes
 abbrev pub Text : Type 0

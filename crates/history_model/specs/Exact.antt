@@ -2,9 +2,9 @@
 use Rattle.std.specs.Prelude.{◌≡◌, ◌≤◌, ℕ, ◌⊎◌, ◌↔◌, List, [], Option, Some, None, length, slice_get}
 use Rattle.base_types.specs.Choices.{IsChoice, MeetsAll}
 use Rattle.base_types.specs.Reasons.{code_number}
-use Rattle.base_types.specs.declared.claim.Bound.{Bound}
-use Rattle.base_types.specs.declared.claim.Claim.{Claim}
-use Rattle.base_types.specs.declared.claim.Reason.{Reason}
+use Rattle.base_types.specs.declared.verdict.claim.Bound.{Bound}
+use Rattle.base_types.specs.declared.verdict.claim.Claim.{Claim}
+use Rattle.base_types.specs.declared.verdict.claim.Reason.{Reason}
 use Rattle.history_model.specs.Codes.{HasCode, NeverHolds}
 use Rattle.history_model.specs.Events.{Event}
 use Rattle.history_model.specs.Histories.{History, IsEvent, ranges}

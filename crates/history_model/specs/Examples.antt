@@ -1,12 +1,12 @@
 -- Small histories, whose moments are seconds, with the outcomes that they must have.
 use Rattle.std.specs.Prelude.{ℕ, pos, true, false, List, [], ◌∷◌, Some, None, codes}
-use Rattle.base_types.specs.declared.claim.Reason.TheVariants.{U3, U7, U9, U10, U12}
-use Rattle.base_types.specs.declared.key.Cover.{Cover}
-use Rattle.base_types.specs.declared.key.CoverName.TheVariants.{Exact}
-use Rattle.base_types.specs.declared.key.ObjectKey.{ObjectKey}
-use Rattle.base_types.specs.declared.placed.PlacedAnswer.{PlacedAnswer}
-use Rattle.base_types.specs.declared.placed.PlacedAnswer.TheVariants as placed
-use Rattle.base_types.specs.declared.placed.PlacedLine.{PlacedLine}
+use Rattle.base_types.specs.declared.verdict.claim.Reason.TheVariants.{U3, U7, U9, U10, U12}
+use Rattle.base_types.specs.declared.kubernetes.key.Cover.{Cover}
+use Rattle.base_types.specs.declared.kubernetes.key.CoverName.TheVariants.{Exact}
+use Rattle.base_types.specs.declared.kubernetes.key.ObjectKey.{ObjectKey}
+use Rattle.base_types.specs.declared.verdict.placed.PlacedAnswer.{PlacedAnswer}
+use Rattle.base_types.specs.declared.verdict.placed.PlacedAnswer.TheVariants as placed
+use Rattle.base_types.specs.declared.verdict.placed.PlacedLine.{PlacedLine}
 use Rattle.std.proofs.Common.{lit≤}
 use Rattle.history_model.specs.Events.{Text, Item, Conditions, Answer, Made, Removed, Opaque, Saw, SawNone, SawOther, Free, MostRecent, Event}
 use Rattle.history_model.specs.Histories.{History, Span, Version, Maker, Snapshot, ByEvent, Removal}

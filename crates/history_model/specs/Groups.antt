@@ -1,7 +1,7 @@
 -- The writes that were answered with one revision, and when the revision was written.
 use Rattle.std.specs.Prelude.{◌≡◌, ◌≢◌, ◌<◌, ℕ, ℤ, ◌≤ℤ◌, ◌⊎◌, Bool, true, IsSomeAnd, AllPairs, Contains}
-use Rattle.base_types.specs.declared.key.Cover.{Cover}
-use Rattle.base_types.specs.declared.key.ObjectKey.{ObjectKey}
+use Rattle.base_types.specs.declared.kubernetes.key.Cover.{Cover}
+use Rattle.base_types.specs.declared.kubernetes.key.ObjectKey.{ObjectKey}
 use Rattle.base_types.specs.Covers.{Covers}
 use Rattle.history_model.specs.Events.{Item, Event, Made, Opaque}
 use Rattle.history_model.specs.Histories.{History, Span, IsEvent}

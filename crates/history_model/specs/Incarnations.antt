@@ -5,7 +5,7 @@ use Rattle.history_model.specs.Events.{Text, Event, Removed}
 use Rattle.history_model.specs.Histories.{History, Version, Removal}
 use Rattle.history_model.specs.Judging.{IsFirst}
 use Rattle.history_model.specs.Windows.{lowest, highest, last_place}
-use Rattle.base_types.specs.declared.key.ObjectKey.{ObjectKey}
+use Rattle.base_types.specs.declared.kubernetes.key.ObjectKey.{ObjectKey}
 
 -- v is the last version of its incarnation; the next one's first version has the revision `next`
 abbrev pub EndsBefore : List Version → Version → Option ℕ → Type 0

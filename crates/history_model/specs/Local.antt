@@ -1,7 +1,7 @@
 -- What is right by itself, event by event, under a choice of the removals' places.
 use Rattle.std.specs.Prelude.{◌≡◌, ◌-◌, ℕ, false, List, Option, Some, Contains}
-use Rattle.base_types.specs.declared.placed.Places.{Places}
-use Rattle.base_types.specs.declared.request.Decision.{Decision}
+use Rattle.base_types.specs.declared.verdict.placed.Places.{Places}
+use Rattle.base_types.specs.declared.kubernetes.request.Decision.{Decision}
 use Rattle.history_model.specs.Decisions.{IsDecidedAt}
 use Rattle.history_model.specs.Events.{Event}
 use Rattle.history_model.specs.Groups.{Making}

@@ -1,8 +1,8 @@
 -- The versions of all objects: those of the snapshot, and one for each revision above the start that a write
 -- was answered with.
 use Rattle.std.specs.Prelude.{◌≡◌, ◌<◌, ◌≤◌, ℕ, ◌⊎◌, Option, AllPairs, Contains}
-use Rattle.base_types.specs.declared.claim.Reason.{Reason}
-use Rattle.base_types.specs.declared.key.ObjectKey.{ObjectKey}
+use Rattle.base_types.specs.declared.verdict.claim.Reason.{Reason}
+use Rattle.base_types.specs.declared.kubernetes.key.ObjectKey.{ObjectKey}
 use Rattle.history_model.specs.Clouds.{MayBeUnrecorded}
 use Rattle.history_model.specs.Events.{Item}
 use Rattle.history_model.specs.Groups.{Making, IsMaking, IsFirstMaking, IsKeyOf, IsMember}

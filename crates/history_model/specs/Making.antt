@@ -1,7 +1,7 @@
 -- When a request could have made the revision that it was answered with, or have found it there.
 use Rattle.std.specs.Prelude.{◌≡◌, ◌≢◌, ◌<◌, ◌≤◌, ◌-◌, ℕ, ◌⊎◌, true, false, Option, Some, None, IfSome, IsSome, option_map, Contains}
-use Rattle.base_types.specs.declared.claim.Reason.{Reason}
-use Rattle.base_types.specs.declared.claim.Reason.TheVariants.{U3, U4, U5, U6, U7, U8}
+use Rattle.base_types.specs.declared.verdict.claim.Reason.{Reason}
+use Rattle.base_types.specs.declared.verdict.claim.Reason.TheVariants.{U3, U4, U5, U6, U7, U8}
 use Rattle.base_types.specs.Reasons.{code_number}
 use Rattle.history_model.specs.Clouds.{IsClouded}
 use Rattle.history_model.specs.Events.{Text, Conditions}

@@ -1,8 +1,8 @@
 -- When an answer is right at a place, `map` having the objects that are there.
 use Rattle.std.specs.Prelude.{◌≡◌, ◌≢◌, ℕ, ◌⊎◌, true, false, List, [], ◌∷◌, Option, Some, None, IsSome, IsNone, IsSomeAnd, AllPairs, Contains}
-use Rattle.base_types.specs.declared.claim.Reason.{Reason}
-use Rattle.base_types.specs.declared.claim.Reason.TheVariants.{U9, U10, U11, U12, U13}
-use Rattle.base_types.specs.declared.key.ObjectKey.{ObjectKey}
+use Rattle.base_types.specs.declared.verdict.claim.Reason.{Reason}
+use Rattle.base_types.specs.declared.verdict.claim.Reason.TheVariants.{U9, U10, U11, U12, U13}
+use Rattle.base_types.specs.declared.kubernetes.key.ObjectKey.{ObjectKey}
 use Rattle.history_model.specs.Clouds.{IsClouded}
 use Rattle.history_model.specs.Events.{Text, Item, Conditions, Event, Listing, Answer, Made, Removed, Opaque, Saw, SawNone, SawSome, SawOther, Listed, Free, Aside}
 use Rattle.history_model.specs.Histories.{History, Version}

@@ -1,7 +1,7 @@
 -- Placements of a log's events, and when the serial API machine runs through one.
 use Rattle.std.specs.Prelude.{◌≡◌, ◌≢◌, ◌<◌, ℕ, false, List, Some, length, Contains}
-use Rattle.base_types.specs.declared.placed.Places.{Places}
-use Rattle.base_types.specs.declared.request.Decision.{Decision}
+use Rattle.base_types.specs.declared.verdict.placed.Places.{Places}
+use Rattle.base_types.specs.declared.kubernetes.request.Decision.{Decision}
 use Rattle.base_types.specs.Choices.{IsChoice}
 use Rattle.history_model.specs.Decisions.{IsDecidedAt}
 use Rattle.history_model.specs.Events.{Event}

@@ -4,9 +4,9 @@
 ghost use Rattle.std.specs.Prelude.{◌≡◌, ◌<◌, ◌≤◌, ℕ, ◌⊎◌, ◌↔◌, Bool, List, Option, Some, None, IsSome, IsSomeAnd};
 ghost use Rattle.std.specs.Prelude.{AllPairs, Contains};
 ghost use Rattle.base_types.specs.Choices.{IsChoice, Meets, MeetsAll};
-ghost use Rattle.base_types.specs.declared.claim.Bound.{Bound};
-ghost use Rattle.base_types.specs.declared.claim.Range.{Range};
-ghost use Rattle.base_types.specs.declared.key.ObjectKey.{ObjectKey};
+ghost use Rattle.base_types.specs.declared.verdict.claim.Bound.{Bound};
+ghost use Rattle.base_types.specs.declared.verdict.claim.Range.{Range};
+ghost use Rattle.base_types.specs.declared.kubernetes.key.ObjectKey.{ObjectKey};
 ghost use Rattle.history_model.specs.Bounding.{SomewhereIn, IsAbsentAnyway, ComesIn, IsRemovalAt, absence_bound};
 ghost use Rattle.history_model.specs.Bounding.{presence_bound, Demand, demand_key, IsAsked, IsNever, IsBounded};
 ghost use Rattle.history_model.specs.Bounding.{AreListBounds, IsOpen};

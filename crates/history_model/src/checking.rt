@@ -2,7 +2,7 @@
 
 ghost use Rattle.std.specs.Prelude.{◌≡◌, ℕ, List, Some, slice_get};
 ghost use Rattle.base_types.specs.Placements.{RisesByLine};
-ghost use Rattle.base_types.specs.declared.placed.PlacedLine.{PlacedLine};
+ghost use Rattle.base_types.specs.declared.verdict.placed.PlacedLine.{PlacedLine};
 ghost use Rattle.history_model.specs.Checking.{CheckCode, DiffersAt, HasWords, IsFaultless, IsFirstFault};
 ghost use Rattle.history_model.specs.Checking.{IsVerified, NoLine};
 ghost use Rattle.history_model.specs.Events.{Event};

@@ -3,9 +3,9 @@
 ghost use Rattle.std.specs.Prelude.{◌≡◌, ℕ, ◌↔◌, List};
 ghost use Rattle.base_types.specs.Choices.{IsChoice};
 ghost use Rattle.base_types.specs.Settlement.{IsLeastChoice, BreaksFirst};
-ghost use Rattle.base_types.specs.declared.claim.Claim.{Claim};
-ghost use Rattle.base_types.specs.declared.claim.Reason.{Reason};
-ghost use Rattle.base_types.specs.declared.placed.PlacedLine.{PlacedLine};
+ghost use Rattle.base_types.specs.declared.verdict.claim.Claim.{Claim};
+ghost use Rattle.base_types.specs.declared.verdict.claim.Reason.{Reason};
+ghost use Rattle.base_types.specs.declared.verdict.placed.PlacedLine.{PlacedLine};
 ghost use Rattle.history_model.specs.Checking.{IsVerified};
 ghost use Rattle.history_model.specs.Events.{Event};
 ghost use Rattle.history_model.specs.Exact.{AreExact};

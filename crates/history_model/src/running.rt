@@ -2,7 +2,7 @@
 
 ghost use Rattle.std.specs.Prelude.{◌≡◌, ℕ, ◌≤◌, ◌-◌, ◌↔◌, List, Option, Contains, filter, nat_le};
 ghost use Rattle.base_types.specs.Choices.{IsChoice};
-ghost use Rattle.base_types.specs.declared.claim.Reason.{Reason};
+ghost use Rattle.base_types.specs.declared.verdict.claim.Reason.{Reason};
 ghost use Rattle.history_model.specs.Events.{Event};
 ghost use Rattle.history_model.specs.Groups.{Making};
 ghost use Rattle.history_model.specs.Histories.{History, Version, IsEvent, ranges};

@@ -1,10 +1,10 @@
 -- What is told of decisions.
 use Rattle.std.proofs.Common.{◌≡◌, ◌↔◌, ℕ, List, true, false, codes, sym, subst}
-use Rattle.base_types.specs.declared.placed.Places.{Places}
-use Rattle.base_types.specs.declared.request.Decision.TheVariants.{Allow, Forbid}
-use Rattle.base_types.specs.declared.request.Possible.{Possible}
-use Rattle.base_types.specs.declared.request.RequestAttrs.{RequestAttrs}
-use Rattle.base_types.specs.declared.request.User.{User}
+use Rattle.base_types.specs.declared.verdict.placed.Places.{Places}
+use Rattle.base_types.specs.declared.kubernetes.request.Decision.TheVariants.{Allow, Forbid}
+use Rattle.base_types.specs.declared.kubernetes.request.Possible.{Possible}
+use Rattle.base_types.specs.declared.kubernetes.request.RequestAttrs.{RequestAttrs}
+use Rattle.base_types.specs.declared.kubernetes.request.User.{User}
 use Rattle.rbac_timeline.specs.Decisions.{IsPossible}
 use Rattle.rbac_timeline.specs.Known as rbac
 use Rattle.verdict_text.specs.Words.{ended}

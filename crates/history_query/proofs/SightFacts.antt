@@ -2,7 +2,7 @@
 use Rattle.std.proofs.Common.{◌≡◌, ◌≢◌, ◌==◌, ◌<◌, ◌≤◌, ◌⊎◌, inl, inr, Bor, ℕ, Bool, true, List, [], ◌∷◌, map, Option, Some, None, option_map, slice_get, All, AllPairs, Contains, refl, sym, ap, ◌∙◌, subst, arith}
 use Rattle.std.specs.Prelude.{◌↔◌, IfNone, IfSome, IsSomeAnd, IsTrue}
 use Rattle.std.proofs.lemmas.Option.{same_Some}
-use Rattle.base_types.specs.declared.key.ObjectKey.{ObjectKey}
+use Rattle.base_types.specs.declared.kubernetes.key.ObjectKey.{ObjectKey}
 use Rattle.history_model.proofs.Members.{all_at, all_from, at_in, in_cons, not_in_none, pairs_head, pairs_tail}
 use Rattle.history_model.proofs.WordLemmas.{eq_test, find_is, found_in, not_found, test_eq}
 use Rattle.history_model.specs.Histories as past

@@ -1,7 +1,7 @@
 -- What `blame` prints: the value at a pointer in the object that may be there, and which write it goes back to.
 use Rattle.std.specs.Prelude.{◌≡◌, ◌≤◌, ℕ, List, [], ◌∷◌, ◌++◌, Option, Some, None, codes, decimal, option_and_then, option_map, slice_get, Contains}
 use Rattle.audit_event.specs.declared.event.Event.{Event}
-use Rattle.base_types.specs.declared.key.ObjectKey.{ObjectKey}
+use Rattle.base_types.specs.declared.kubernetes.key.ObjectKey.{ObjectKey}
 use Rattle.base_types.specs.Meaning.{Meaning}
 use Rattle.base_types.specs.Pointers.{pointed}
 use Rattle.object_past.specs.declared.version.Version.{Version}

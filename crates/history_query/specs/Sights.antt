@@ -1,6 +1,6 @@
 -- What can be told of an object at a place.
 use Rattle.std.specs.Prelude.{◌≡◌, ◌<◌, ◌≤◌, ◌↔◌, ℕ, true, Option, Some, None, option_map, Contains}
-use Rattle.base_types.specs.declared.key.ObjectKey.{ObjectKey}
+use Rattle.base_types.specs.declared.kubernetes.key.ObjectKey.{ObjectKey}
 use Rattle.history_model.specs.Clouds.{IsClouded}
 use Rattle.history_model.specs.Histories as past
 use Rattle.history_model.specs.Histories.{History}

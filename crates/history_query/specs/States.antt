@@ -2,7 +2,7 @@
 use Rattle.std.specs.Prelude.{◌≡◌, ℕ, Bool, true, false, List, [], ◌∷◌, Option, Some, None, codes, decimal, option_map}
 use Rattle.std.specs.List.{AllZip, flat_map}
 use Rattle.base_types.specs.Keys.{key_spelling}
-use Rattle.base_types.specs.declared.key.ObjectKey.{ObjectKey}
+use Rattle.base_types.specs.declared.kubernetes.key.ObjectKey.{ObjectKey}
 use Rattle.object_past.specs.declared.version.Version.{Version}
 use Rattle.verdict_text.specs.Words.{ended, spaced}
 use Rattle.log_context.specs.Keyed.{AreKeys}

@@ -2,7 +2,7 @@
 use Rattle.std.specs.Prelude.{◌≡◌, ◌<◌, ◌⊎◌, ℕ, List, [], Option, Some, None, Any, codes, decimal, slice_get}
 use Rattle.audit_event.specs.declared.event.Event.{Event}
 use Rattle.base_types.specs.Escapes.{escaped}
-use Rattle.base_types.specs.declared.key.ObjectKey.{ObjectKey}
+use Rattle.base_types.specs.declared.kubernetes.key.ObjectKey.{ObjectKey}
 use Rattle.base_types.specs.Meaning.{Meaning}
 use Rattle.base_types.specs.Values.{data_of}
 use Rattle.object_past.specs.declared.version.Maker.{Maker}

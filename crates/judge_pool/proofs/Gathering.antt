@@ -4,8 +4,8 @@ use Rattle.std.specs.List.{AllZip, range_with_len}
 use Rattle.std.proofs.lemmas.List.{same_lists}
 use Rattle.std.proofs.lemmas.Option.{get_or_from_slice_get, slice_get-get_or, slice_get_within}
 use Rattle.std.specs.declared.result.Result.{Result}
-use Rattle.base_types.specs.declared.claim.Claim.{Claim}
-use Rattle.base_types.specs.declared.placed.PlacedLine.{PlacedLine}
+use Rattle.base_types.specs.declared.verdict.claim.Claim.{Claim}
+use Rattle.base_types.specs.declared.verdict.placed.PlacedLine.{PlacedLine}
 use Rattle.judge_pool.specs.Claims.{AreClaims}
 use Rattle.judge_pool.specs.Lines.{AreLines}
 

@@ -1,5 +1,5 @@
 ghost use Rattle.std.specs.Prelude.{◌≡◌, ◌<◌, ℕ, Option, IfOk};
-ghost use Rattle.base_types.specs.declared.placed.PlacedLine.{PlacedLine};
+ghost use Rattle.base_types.specs.declared.verdict.placed.PlacedLine.{PlacedLine};
 ghost use Rattle.judge_pool.specs.Lines.{AreLines};
 
 use crate::source::EVENTS_FOR_A_THREAD;

@@ -1,5 +1,5 @@
 ghost use Rattle.std.specs.Prelude.{◌≡◌, ◌<◌, ℕ, List, IfOk};
-ghost use Rattle.base_types.specs.declared.claim.Claim.{Claim};
+ghost use Rattle.base_types.specs.declared.verdict.claim.Claim.{Claim};
 ghost use Rattle.judge_pool.specs.Claims.{AreClaims};
 
 use crate::gate::Gate;

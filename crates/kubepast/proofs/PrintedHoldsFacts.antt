@@ -1,7 +1,7 @@
 -- What `judge` printed of an explained log is verified.
 use Rattle.std.proofs.Common.{◌≡◌, ◌≤◌, List, length, refl, sym, ap, subst, arith}
-use Rattle.base_types.specs.declared.placed.Outcome.TheVariants.{Explained, Unexplained}
-use Rattle.base_types.specs.declared.placed.PlacedLine.{PlacedLine}
+use Rattle.base_types.specs.declared.verdict.placed.Outcome.TheVariants.{Explained, Unexplained}
+use Rattle.base_types.specs.declared.verdict.placed.PlacedLine.{PlacedLine}
 use Rattle.context_laws.specs.Placing.{ExplainedAreRight}
 use Rattle.history_model.specs.Outcomes as model
 use Rattle.log_verdict.specs.Judging.{IsPrinted}

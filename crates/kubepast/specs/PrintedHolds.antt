@@ -1,7 +1,7 @@
 -- The check of what `judge` printed of an explained log.
 use Rattle.std.specs.Prelude.{◌≡◌, ℕ, List, Some, codes}
-use Rattle.base_types.specs.declared.placed.Outcome.TheVariants.{Explained}
-use Rattle.base_types.specs.declared.placed.PlacedLine.{PlacedLine}
+use Rattle.base_types.specs.declared.verdict.placed.Outcome.TheVariants.{Explained}
+use Rattle.base_types.specs.declared.verdict.placed.PlacedLine.{PlacedLine}
 use Rattle.verdict_text.specs.Outcome.{outcome_text}
 use Rattle.verdict_text.specs.Words.{ended}
 use Rattle.command_words.specs.Command.{Verify}

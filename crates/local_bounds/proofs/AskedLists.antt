@@ -1,6 +1,6 @@
 -- What a list asks, from what is asked for its items and for the keys that it lacks.
 use Rattle.std.proofs.Common.{◌≡◌, ◌≢◌, ℕ, ◌≤◌, Bor, List, [], ◌∷◌, ◌++◌, map, AllPairs, Contains, refl, sym, ap, subst, arith}
-use Rattle.base_types.specs.declared.key.ObjectKey.{ObjectKey}
+use Rattle.base_types.specs.declared.kubernetes.key.ObjectKey.{ObjectKey}
 use Rattle.history_model.specs.Bounding.{SomewhereIn, Demand, Shows, Lacks}
 use Rattle.history_model.specs.Histories.{History}
 use Rattle.history_model.specs.Readable.{IsReadable}

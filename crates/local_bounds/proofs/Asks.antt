@@ -2,8 +2,8 @@
 use Rattle.std.proofs.Common.{◌≡◌, ℕ, ◌↔◌, Bool, true, false, List, Option, Some, None, inl, inr, refl, sym, subst, true≢false}
 use Rattle.std.specs.Prelude.{IsTrue}
 use Rattle.base_types.specs.Choices.{IsChoice, Meets}
-use Rattle.base_types.specs.declared.claim.Bound.{Bound}
-use Rattle.base_types.specs.declared.key.ObjectKey.{ObjectKey}
+use Rattle.base_types.specs.declared.verdict.claim.Bound.{Bound}
+use Rattle.base_types.specs.declared.kubernetes.key.ObjectKey.{ObjectKey}
 use Rattle.history_model.specs.Histories as model
 use Rattle.history_model.specs.Histories.{History, ranges}
 use Rattle.history_model.specs.States.{state}

@@ -1,7 +1,7 @@
 -- The versions that have their revisions in a window, from the latest one at its end.
 use Rattle.std.proofs.Common.{◌≡◌, ◌≢◌, ℕ, ◌<◌, ◌≤◌, ◌-◌, ◌↔◌, Bool, Option, Some, None, is_some, Contains, map, max, min, refl, sym, subst, arith, true≢false}
 use Rattle.std.specs.Prelude.{IsTrue, IsSome}
-use Rattle.base_types.specs.declared.key.ObjectKey.{ObjectKey}
+use Rattle.base_types.specs.declared.kubernetes.key.ObjectKey.{ObjectKey}
 use Rattle.history_model.proofs.Members.{apart}
 use Rattle.history_model.specs.Bounding.{ComesIn}
 use Rattle.history_model.specs.Events.{Item}

@@ -2,7 +2,7 @@
 use Rattle.std.proofs.Common.{◌≡◌, ◌≢◌, ℕ, ◌+◌, ◌<◌, List, [], ◌∷◌, ◌++◌, length, get_or, take, refl, sym, ap, ◌∙◌, subst}
 use Rattle.std.proofs.lemmas.List.{take_more}
 use Rattle.std.proofs.lemmas.List.Elements.{All-push}
-use Rattle.base_types.specs.declared.claim.Bound.{Bound}
+use Rattle.base_types.specs.declared.verdict.claim.Bound.{Bound}
 use Rattle.local_bounds.specs.declared.asking.KeyDemand.{KeyDemand}
 use Rattle.local_bounds.specs.declared.asking.KeyDemand.TheVariants.{Free, Under, Never}
 use Rattle.local_bounds.specs.Demands.{bounds_in, IsPossible}

@@ -1,6 +1,6 @@
 -- The keys of items, in order.
 use Rattle.std.proofs.Common.{◌≡◌, ◌≢◌, ◌↔◌, Bor, List, map, Option, Some, None, IfSome, IfNone, AllPairs, Contains, sym, subst}
-use Rattle.base_types.specs.declared.key.ObjectKey.{ObjectKey}
+use Rattle.base_types.specs.declared.kubernetes.key.ObjectKey.{ObjectKey}
 use Rattle.object_past.specs.Among.{keys_at}
 use Rattle.object_past.specs.Scopes.{AreInOrder}
 use Rattle.write_groups.proofs.Lists.{pairs_map, pairs_unmap}

@@ -1,6 +1,6 @@
 -- The keys that a whole list lacks are those of its scope without an item.
 use Rattle.std.proofs.Common.{◌≡◌, true, Bor, List, map, Contains, ◌↔◌, ap, ◌∙◌, subst}
-use Rattle.base_types.specs.declared.key.ObjectKey.{ObjectKey}
+use Rattle.base_types.specs.declared.kubernetes.key.ObjectKey.{ObjectKey}
 use Rattle.history_model.specs.Bounding.{IsAsked, Lacks}
 use Rattle.history_model.specs.Events as model
 use Rattle.history_model.specs.Histories as histories

@@ -1,7 +1,7 @@
 -- Where in a window the latest version is refused, by its uid or its revision.
 use Rattle.std.proofs.Common.{◌≡◌, ◌≢◌, ℕ, ◌≤◌, ◌⊎◌, ◌↔◌, List, Bool, Option, Some, None, IsSomeAnd, IfSome, map, inl, inr, refl, sym, subst, ◌∙◌}
 use Rattle.std.specs.Prelude.{IsTrue}
-use Rattle.base_types.specs.declared.key.ObjectKey.{ObjectKey}
+use Rattle.base_types.specs.declared.kubernetes.key.ObjectKey.{ObjectKey}
 use Rattle.history_model.specs.Bounding.{SomewhereIn}
 use Rattle.history_model.specs.Histories.{History, Version}
 use Rattle.history_model.specs.Right.{IsRefused}

@@ -1,7 +1,7 @@
 -- Where a shown object is first there.
 use Rattle.std.proofs.Common.{◌≡◌, ℕ, ◌<◌, ◌≤◌, ◌⊎◌, List, Option, Some, None, IsSomeAnd, max, inl, inr, refl, sym, ap, ◌∙◌, subst, arith}
 use Rattle.base_types.specs.Choices.{IsChoice}
-use Rattle.base_types.specs.declared.key.ObjectKey.{ObjectKey}
+use Rattle.base_types.specs.declared.kubernetes.key.ObjectKey.{ObjectKey}
 use Rattle.clouds.specs.FirstPlace.{HoldsNowhere, IsFirstPlace}
 use Rattle.history_model.proofs.Latest.{latest_is}
 use Rattle.history_model.proofs.LocalBounds.{nothing_yet, none_or_latest, own_place, present_is}

@@ -6,7 +6,7 @@ use Rattle.std.specs.Cmp.{nat_eq_equiv}
 use Rattle.std.proofs.lemmas.List.Sorted.{IsPermutation-map}
 use Rattle.std.proofs.lemmas.Map.Keys.{IsDistinct-IsPermutation}
 use Rattle.std.proofs.lemmas.Map.Made.{AllPairs-from_IsDistinct, IsDistinct-from_AllPairs}
-use Rattle.base_types.specs.declared.claim.Bound.{Bound}
+use Rattle.base_types.specs.declared.verdict.claim.Bound.{Bound}
 use Rattle.write_groups.proofs.Lists.{pairs_map, pairs_unmap}
 
 apart_moved : (given sorted : List Bound) → IsPermutation given sorted → AllPairs (λ a b. a.range ≢ b.range) given → AllPairs (λ a b. a.range ≢ b.range) sorted

@@ -1,6 +1,6 @@
 -- What the answer of a write is about.
 use Rattle.std.proofs.Common.{◌≡◌, ℕ, ◌⊎◌, ◌↔◌, Bool, Option, Some, None, inl, inr, sym, subst}
-use Rattle.base_types.specs.declared.claim.Reason.{Reason}
+use Rattle.base_types.specs.declared.verdict.claim.Reason.{Reason}
 use Rattle.history_model.specs.Clouds.{IsClouded}
 use Rattle.history_model.specs.Events as model
 use Rattle.history_model.specs.Histories.{History}

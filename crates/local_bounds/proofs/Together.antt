@@ -2,7 +2,7 @@
 use Rattle.std.proofs.Common.{◌≡◌, ◌≢◌, ℕ, suc, ◌⊎◌, List, [], ◌∷◌, AllPairs, Contains, slice_get, inl, inr, refl, sym, ap, ◌∙◌, subst, arith}
 use Rattle.std.proofs.lemmas.List.Sorted.{Contains-permutation, All-permutation, IsPermutation-sym}
 use Rattle.base_types.specs.Choices.{IsChoice, Meets, MeetsAll}
-use Rattle.base_types.specs.declared.claim.Bound.{Bound}
+use Rattle.base_types.specs.declared.verdict.claim.Bound.{Bound}
 use Rattle.history_model.proofs.Members.{not_in_none, here, there, in_cons, all_at, all_from, pairs_head, pairs_tail, pairs_cons}
 use Rattle.history_model.specs.Bounding.{Demand, demand_key}
 use Rattle.history_model.specs.Histories.{History, ranges}

@@ -2,7 +2,7 @@
 use Rattle.std.proofs.Common.{◌≡◌, ℕ, ◌<◌, ◌≤◌, ◌⊎◌, ◌↔◌, Bool, true, List, Option, Some, None, IsSome, IsNone, IsSomeAnd, Contains, inl, inr, refl, sym, subst, arith, true≢false}
 use Rattle.std.specs.Prelude.{IsTrue}
 use Rattle.base_types.specs.Choices.{IsChoice}
-use Rattle.base_types.specs.declared.key.ObjectKey.{ObjectKey}
+use Rattle.base_types.specs.declared.kubernetes.key.ObjectKey.{ObjectKey}
 use Rattle.history_model.proofs.Latest.{latest_is, latest_same}
 use Rattle.history_model.proofs.LocalBounds.{absent_is, present_is, none_or_latest, nothing_yet}
 use Rattle.history_model.specs.Bounding.{SomewhereIn, IsAbsentAnyway, ComesIn}

@@ -1,8 +1,8 @@
 -- What is asked of the choices of the removals' places.
 use Rattle.std.specs.Prelude.{◌≡◌, ◌<◌, ◌⊎◌, ◌↔◌, ℕ, Bool, List, [], ◌∷◌, Some, AllPairs, Contains, slice_get, if◌then◌else◌}
 use Rattle.base_types.specs.Choices.{IsChoice, Meets, MeetsAll}
-use Rattle.base_types.specs.declared.claim.Bound.{Bound}
-use Rattle.base_types.specs.declared.key.ObjectKey.{ObjectKey}
+use Rattle.base_types.specs.declared.verdict.claim.Bound.{Bound}
+use Rattle.base_types.specs.declared.kubernetes.key.ObjectKey.{ObjectKey}
 use Rattle.history_model.specs.Bounding.{IsOpen}
 use Rattle.history_model.specs.Events.{Event}
 use Rattle.history_model.specs.Histories.{History, Removal, ranges}

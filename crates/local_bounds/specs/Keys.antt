@@ -1,7 +1,7 @@
 -- The keys of a list's items.
 use Rattle.std.specs.Prelude.{◌↔◌, List, map, Contains}
 use Rattle.std.specs.Borrow.{Bor}
-use Rattle.base_types.specs.declared.key.ObjectKey.{ObjectKey}
+use Rattle.base_types.specs.declared.kubernetes.key.ObjectKey.{ObjectKey}
 use Rattle.object_past.specs.Among.{keys_at}
 use Rattle.object_past.specs.Scopes.{AreInOrder}
 use Rattle.write_groups.specs.declared.event.Item.{Item}

@@ -1,6 +1,6 @@
 -- The history of which the past, the clouds and the selectors are known.
 use Rattle.std.specs.Prelude.{◌≡◌, ◌↔◌, ℕ, Bool}
-use Rattle.base_types.specs.declared.key.ObjectKey.{ObjectKey}
+use Rattle.base_types.specs.declared.kubernetes.key.ObjectKey.{ObjectKey}
 use Rattle.clouds.specs.Clouds as cloud
 use Rattle.clouds.specs.Writes.{Writes}
 use Rattle.history_model.specs.Clouds.{IsClouded}

@@ -1,6 +1,6 @@
 -- The keys that a whole list lacks.
 use Rattle.std.specs.Prelude.{◌≡◌, ◌≢◌, List, AllPairs, Contains}
-use Rattle.base_types.specs.declared.key.ObjectKey.{ObjectKey}
+use Rattle.base_types.specs.declared.kubernetes.key.ObjectKey.{ObjectKey}
 use Rattle.history_model.specs.Bounding.{IsAsked, Lacks}
 use Rattle.history_model.specs.Events.{Listing}
 use Rattle.history_model.specs.Histories.{History, Version}

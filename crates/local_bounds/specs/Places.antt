@@ -1,6 +1,6 @@
 -- The least place at which an answer is right.
 use Rattle.std.specs.Prelude.{◌<◌, ◌≤◌, ℕ, List, Option, Some, None}
-use Rattle.base_types.specs.declared.key.ObjectKey.{ObjectKey}
+use Rattle.base_types.specs.declared.kubernetes.key.ObjectKey.{ObjectKey}
 use Rattle.history_model.specs.Events.{Event}
 use Rattle.history_model.specs.Histories.{History}
 use Rattle.history_model.specs.Placed.{IsLeastPlace}

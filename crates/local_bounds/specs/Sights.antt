@@ -1,6 +1,6 @@
 -- What an answer says of one object.
 use Rattle.std.specs.Prelude.{ℕ, List, Option, IsNone, IsSome}
-use Rattle.base_types.specs.declared.key.ObjectKey.{ObjectKey}
+use Rattle.base_types.specs.declared.kubernetes.key.ObjectKey.{ObjectKey}
 use Rattle.history_model.specs.Bounding.{SomewhereIn}
 use Rattle.history_model.specs.States.{state}
 use Rattle.history_model.specs.Histories as model

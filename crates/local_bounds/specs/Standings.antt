@@ -1,8 +1,8 @@
 -- What is known of an object at a place.
 use Rattle.std.specs.Prelude.{◌≡◌, ◌⊎◌, ℕ, Bool, List, Option, Some, None, if◌then◌else◌}
 use Rattle.base_types.specs.Choices.{IsChoice, Meets}
-use Rattle.base_types.specs.declared.claim.Bound.{Bound}
-use Rattle.base_types.specs.declared.key.ObjectKey.{ObjectKey}
+use Rattle.base_types.specs.declared.verdict.claim.Bound.{Bound}
+use Rattle.base_types.specs.declared.kubernetes.key.ObjectKey.{ObjectKey}
 use Rattle.history_model.specs.Histories.{History, ranges}
 use Rattle.history_model.specs.States.{state}
 use Rattle.object_past.specs.declared.version.Version.{Version}

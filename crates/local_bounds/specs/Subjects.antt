@@ -1,6 +1,6 @@
 -- What an answer is about.
 use Rattle.std.specs.Prelude.{◌≡◌, ◌⊎◌, ◌↔◌, ℕ, Bool, Option, Some, None}
-use Rattle.base_types.specs.declared.claim.Reason.{Reason}
+use Rattle.base_types.specs.declared.verdict.claim.Reason.{Reason}
 use Rattle.history_model.specs.Clouds.{IsClouded}
 use Rattle.history_model.specs.Events as model
 use Rattle.history_model.specs.Groups.{Making}

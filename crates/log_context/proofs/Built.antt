@@ -11,7 +11,7 @@ use Rattle.answer_class.specs.declared.answer.Answer.{Answer}
 use Rattle.answer_class.specs.declared.answer.Answer.TheVariants as class
 use Rattle.audit_event.specs.Events as audit
 use Rattle.audit_event.specs.declared.event.Event.{Event}
-use Rattle.base_types.specs.declared.key.ObjectKey.{ObjectKey}
+use Rattle.base_types.specs.declared.kubernetes.key.ObjectKey.{ObjectKey}
 use Rattle.history_model.proofs.Members.{all_at, all_from, apart, pairs_head, pairs_tail, pairs_cons, at_in}
 use Rattle.history_model.specs.Events as model
 use Rattle.history_model.specs.Groups.{Making, IsMaking}

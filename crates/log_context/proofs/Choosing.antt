@@ -5,12 +5,12 @@ use Rattle.std.proofs.lemmas.Bool.{cases_lt}
 use Rattle.std.proofs.lemmas.Option.{same_Some}
 use Rattle.audit_event.specs.declared.event.Event.{Event}
 use Rattle.base_types.specs.PlaceOrder.{AreLeastPlaces, IsUpTo, ComesFirst}
-use Rattle.base_types.specs.declared.placed.Places.{Places}
-use Rattle.base_types.specs.declared.request.Decision.{Decision}
-use Rattle.base_types.specs.declared.request.Decision.TheVariants.{Allow, Forbid}
-use Rattle.base_types.specs.declared.request.Possible.{Possible}
-use Rattle.base_types.specs.declared.request.RequestAttrs.{RequestAttrs}
-use Rattle.base_types.specs.declared.request.User.{User}
+use Rattle.base_types.specs.declared.verdict.placed.Places.{Places}
+use Rattle.base_types.specs.declared.kubernetes.request.Decision.{Decision}
+use Rattle.base_types.specs.declared.kubernetes.request.Decision.TheVariants.{Allow, Forbid}
+use Rattle.base_types.specs.declared.kubernetes.request.Possible.{Possible}
+use Rattle.base_types.specs.declared.kubernetes.request.RequestAttrs.{RequestAttrs}
+use Rattle.base_types.specs.declared.kubernetes.request.User.{User}
 use Rattle.rbac_timeline.proofs.Possible.{is_possible-Decides}
 use Rattle.rbac_timeline.specs.Deciding.{is_possible}
 use Rattle.rbac_timeline.specs.Decisions.{IsDecidedAt, IsPossible}

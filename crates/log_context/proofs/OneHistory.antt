@@ -9,7 +9,7 @@ use Rattle.answer_class.specs.Classes.{class_of}
 use Rattle.answer_class.specs.declared.answer.Answer.{Answer}
 use Rattle.answer_class.specs.declared.answer.Answer.TheVariants.{Made, Removed, Opaque, Saw, SawNone, SawSome, SawOther, Listed, Free, Aside}
 use Rattle.audit_event.specs.declared.event.Event.{Event}
-use Rattle.base_types.specs.declared.key.ObjectKey.{ObjectKey}
+use Rattle.base_types.specs.declared.kubernetes.key.ObjectKey.{ObjectKey}
 use Rattle.clouds.proofs.Adding.{key_order_total}
 use Rattle.history_model.proofs.OneList.{one_list_is}
 use Rattle.history_model.proofs.OutcomeLaw.{get_within}

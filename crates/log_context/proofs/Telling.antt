@@ -1,7 +1,7 @@
 -- A context holds what its setup and its events tell.
 use Rattle.std.specs.Prelude.{◌≡◌, List, Option}
 use Rattle.std.proofs.Common.{sym, subst}
-use Rattle.base_types.specs.declared.claim.Reason.{Reason}
+use Rattle.base_types.specs.declared.verdict.claim.Reason.{Reason}
 use Rattle.clouds.specs.Writes.{Writes}
 use Rattle.time_windows.specs.History as timed
 use Rattle.write_groups.specs.declared.event.Item.{Item}

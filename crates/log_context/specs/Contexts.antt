@@ -1,7 +1,7 @@
 -- What is true of a context.
 use Rattle.std.specs.Prelude.{◌≡◌, ◌<◌, ◌^◌, ◌≤ℤ◌, neg_ℤ, pos, ℕ, List, Option, All, length}
 use Rattle.audit_event.specs.Events as audit
-use Rattle.base_types.specs.declared.claim.Reason.{Reason}
+use Rattle.base_types.specs.declared.verdict.claim.Reason.{Reason}
 use Rattle.clouds.specs.Writes.{Writes}
 use Rattle.history_model.specs.Events as model
 use Rattle.history_model.specs.Histories.{IsEvent}

@@ -1,10 +1,10 @@
 -- At which places an authorizer's caches may have been when it gave a decision.
 use Rattle.std.specs.Prelude.{◌≡◌, ℕ, Bool, true, List, Option, slice_get, option_and_then, option_map}
 use Rattle.audit_event.specs.declared.event.Event.{Event}
-use Rattle.base_types.specs.declared.placed.Places.{Places}
-use Rattle.base_types.specs.declared.request.Decision.{Decision}
-use Rattle.base_types.specs.declared.request.Decision.TheVariants.{Allow, Forbid}
-use Rattle.base_types.specs.declared.request.Possible.{Possible}
+use Rattle.base_types.specs.declared.verdict.placed.Places.{Places}
+use Rattle.base_types.specs.declared.kubernetes.request.Decision.{Decision}
+use Rattle.base_types.specs.declared.kubernetes.request.Decision.TheVariants.{Allow, Forbid}
+use Rattle.base_types.specs.declared.kubernetes.request.Possible.{Possible}
 use Rattle.rbac_timeline.specs.Decisions.{AreWithin}
 use Rattle.write_groups.specs.declared.event.LogEvent.{LogEvent}
 

@@ -4,8 +4,8 @@ use Rattle.std.specs.Prelude.{ℕ, Bool, true, List, Option, Some, None, map, sl
 use Rattle.answer_class.specs.Classes.{class_of}
 use Rattle.answer_class.specs.Labels.{is_listable}
 use Rattle.audit_event.specs.declared.event.Event.{Event}
-use Rattle.base_types.specs.declared.placed.Places.{Places}
-use Rattle.base_types.specs.declared.request.Decision.{Decision}
+use Rattle.base_types.specs.declared.verdict.placed.Places.{Places}
+use Rattle.base_types.specs.declared.kubernetes.request.Decision.{Decision}
 use Rattle.history_model.specs.Histories as past
 use Rattle.base_types.specs.Meaning.{Meaning}
 use Rattle.object_past.specs.Modelled.{recorded, version_of}

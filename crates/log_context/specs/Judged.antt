@@ -3,8 +3,8 @@
 use Rattle.std.specs.Prelude.{ℤ, pos, ◌-ℤ◌, ◌&&◌, Bool, not, Option, Some, None, int_lt, if◌then◌else◌}
 use Rattle.std.specs.List.{list_any}
 use Rattle.base_types.specs.Matching.{has_text}
-use Rattle.base_types.specs.declared.request.Decision.{Decision}
-use Rattle.base_types.specs.declared.request.User.{User}
+use Rattle.base_types.specs.declared.kubernetes.request.Decision.{Decision}
+use Rattle.base_types.specs.declared.kubernetes.request.User.{User}
 use Rattle.audit_event.specs.declared.event.Event.{Event}
 use Rattle.setup_file.specs.declared.setup.Setup.{Setup}
 use Rattle.answer_class.specs.Requests.{is_completing}

@@ -1,8 +1,8 @@
 -- The keys that a log tells of.
 use Rattle.std.specs.Prelude.{◌≡◌, ◌⊎◌, ◌↔◌, List, Any, Contains}
 use Rattle.base_types.specs.Covers.{NamesExactly}
-use Rattle.base_types.specs.declared.key.Cover.{Cover}
-use Rattle.base_types.specs.declared.key.ObjectKey.{ObjectKey}
+use Rattle.base_types.specs.declared.kubernetes.key.Cover.{Cover}
+use Rattle.base_types.specs.declared.kubernetes.key.ObjectKey.{ObjectKey}
 use Rattle.object_past.specs.Indexed.{HasVersion}
 use Rattle.object_past.specs.Scopes.{AreInOrder}
 use Rattle.object_past.specs.declared.version.Version.{Version}

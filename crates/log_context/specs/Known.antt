@@ -3,7 +3,7 @@ use Rattle.std.specs.Prelude.{ℕ, List, filter}
 use Rattle.audit_event.specs.declared.event.Event.{Event}
 use Rattle.base_types.specs.Keys.{same_key}
 use Rattle.base_types.specs.Meaning.{Meaning}
-use Rattle.base_types.specs.declared.key.ObjectKey.{ObjectKey}
+use Rattle.base_types.specs.declared.kubernetes.key.ObjectKey.{ObjectKey}
 use Rattle.object_past.specs.declared.removal.Removal.{Removal}
 use Rattle.object_past.specs.declared.version.Version.{Version}
 use Rattle.rbac_timeline.specs.Known as rbac

@@ -1,13 +1,13 @@
 -- What the audit policy says of an event (Kubernetes "Auditing", "Audit policy"). The policy is for the user who
 -- authenticated, also where the request was made as someone else.
 use Rattle.std.specs.Prelude.{Bool, true, false, not}
-use Rattle.base_types.specs.declared.request.Level.{Level}
-use Rattle.base_types.specs.declared.request.Level.TheVariants.{Metadata, Request, RequestResponse}
-use Rattle.base_types.specs.declared.request.PolicyLevel.{PolicyLevel}
-use Rattle.base_types.specs.declared.request.PolicyLevel.TheVariants.{NoLevel, Set}
-use Rattle.base_types.specs.declared.request.Stage.{Stage}
-use Rattle.base_types.specs.declared.request.Stage.TheVariants.{Received, Started, Complete, Panic}
-use Rattle.base_types.specs.declared.request.StageSet.{StageSet}
+use Rattle.base_types.specs.declared.kubernetes.request.Level.{Level}
+use Rattle.base_types.specs.declared.kubernetes.request.Level.TheVariants.{Metadata, Request, RequestResponse}
+use Rattle.base_types.specs.declared.kubernetes.request.PolicyLevel.{PolicyLevel}
+use Rattle.base_types.specs.declared.kubernetes.request.PolicyLevel.TheVariants.{NoLevel, Set}
+use Rattle.base_types.specs.declared.kubernetes.request.Stage.{Stage}
+use Rattle.base_types.specs.declared.kubernetes.request.Stage.TheVariants.{Received, Started, Complete, Panic}
+use Rattle.base_types.specs.declared.kubernetes.request.StageSet.{StageSet}
 use Rattle.audit_event.specs.declared.event.Event.{Event}
 use Rattle.audit_policy.specs.Levels.{policy_level}
 use Rattle.setup_file.specs.declared.setup.Setup.{Setup}

@@ -1,7 +1,7 @@
 -- Where in the history a read lets its answer be (Kubernetes API concepts, "Resource versions", "Semantics for get and
 -- list").
 use Rattle.std.specs.Prelude.{ℕ, ◌&&◌, ◌||◌, Bool, not, List, Option, Some, None, bytes_eq, codes, if◌then◌else◌}
-use Rattle.base_types.specs.declared.request.RequestAttrs.{RequestAttrs}
+use Rattle.base_types.specs.declared.kubernetes.request.RequestAttrs.{RequestAttrs}
 use Rattle.base_types.specs.Revisions.{revision_of}
 use Rattle.answer_class.specs.Requests.{has_filled, first_value}
 use Rattle.audit_event.specs.Members.{is_text}

@@ -1,6 +1,6 @@
 ghost use Rattle.std.specs.Prelude.{◌≡◌, ◌↔◌, IfOk, IfSome, IfNone, OnOk, IsTrue, Any, Contains, ◌⊎◌};
 ghost use Rattle.std.specs.BTreeSet.{contains};
-ghost use Rattle.base_types.specs.declared.key.ObjectKey.{ObjectKey as Key};
+ghost use Rattle.base_types.specs.declared.kubernetes.key.ObjectKey.{ObjectKey as Key};
 ghost use Rattle.clouds.specs.Kept.{key_order};
 ghost use Rattle.object_past.specs.Scopes.{AreInOrder};
 ghost use Rattle.log_context.specs.Keyed.{AreKeys, IsNamedBy};

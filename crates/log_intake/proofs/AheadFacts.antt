@@ -5,7 +5,7 @@ use Rattle.std.proofs.lemmas.List.{append-nil, length-append, length-map}
 use Rattle.std.proofs.lemmas.Result.{IfOk-at_ok}
 use Rattle.edge_io.specs.Faults.{Rose}
 use Rattle.edge_io.proofs.TakenFacts.{taken_then}
-use Rattle.base_types.specs.declared.memory.OutOfMemory.{OutOfMemory}
+use Rattle.base_types.specs.declared.foundation.memory.OutOfMemory.{OutOfMemory}
 use Rattle.audit_event.specs.declared.event.Event.{Event}
 use Rattle.audit_event.specs.Keeping.{AreKept}
 use Rattle.batch_decode.specs.declared.decoded.Decoded.{Decoded}

@@ -1,7 +1,7 @@
 -- Batches of lines, which are kept one after another, and of a line its events.
 use Rattle.std.specs.Prelude.{◌≡◌, ℕ, ◌+◌, ◌-◌, ◌<◌, ◌≤◌, ◌⊎◌, List, length, Result, Ok, Err, IfOk, IfErr, OnOk, IsErr, IsErrOf}
 use Rattle.std.specs.List.{AllZip}
-use Rattle.base_types.specs.declared.memory.OutOfMemory.{OutOfMemory}
+use Rattle.base_types.specs.declared.foundation.memory.OutOfMemory.{OutOfMemory}
 use Rattle.line_reader.specs.declared.line.Line.{Line}
 use Rattle.line_reader.specs.Lines.{longest_line}
 use Rattle.line_reader.specs.Reading.{line_value}

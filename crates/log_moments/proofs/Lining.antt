@@ -1,6 +1,6 @@
 -- The lines of things with their moments, one after another.
 use Rattle.std.proofs.Common.{◌≡◌, ℕ, zero, suc, ◌<◌, min, List, [], ◌∷◌, ◌++◌, length, get_or, take, refl, ap, ap₂, arith}
-use Rattle.base_types.specs.declared.revision.Moment.{Moment}
+use Rattle.base_types.specs.declared.kubernetes.revision.Moment.{Moment}
 use Rattle.log_moments.specs.Answers.{line_moment, lines_of}
 use Rattle.strict_order.specs.declared.thing.Thing.{Thing}
 

@@ -2,7 +2,7 @@
 use Rattle.std.proofs.Common.{◌≡◌, ℕ, ◌<◌, ◌≤ℤ◌, ⊎_elim, List, [], ◌∷◌, AllPairs, Any, refl, sym, ap, ap₂, ◌∙◌, subst, arith}
 use Rattle.std.specs.List.{AllZip}
 use Rattle.std.proofs.lemmas.Int.{ints}
-use Rattle.base_types.specs.declared.revision.Moment.{Moment}
+use Rattle.base_types.specs.declared.kubernetes.revision.Moment.{Moment}
 use Rattle.history_model.proofs.Members.{all_at, apart}
 use Rattle.history_model.proofs.SameSorted.{same_sorted}
 use Rattle.history_model.specs.Histories.{History}

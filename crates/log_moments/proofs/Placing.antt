@@ -1,7 +1,7 @@
 -- What gives an event its place, by what the event is in a placement.
 use Rattle.std.proofs.Common.{◌≡◌, ℕ, ◌*◌, Bool, Option, Some, None, sym, subst}
 use Rattle.std.specs.Prelude.{◌↔◌}
-use Rattle.base_types.specs.declared.key.ObjectKey.{ObjectKey}
+use Rattle.base_types.specs.declared.kubernetes.key.ObjectKey.{ObjectKey}
 use Rattle.history_model.specs.Events.{Answer, Event, Item, Made, Removed, Text}
 use Rattle.history_model.specs.Groups.{Making}
 use Rattle.history_model.specs.Histories.{History, Removal}

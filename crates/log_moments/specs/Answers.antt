@@ -1,7 +1,7 @@
 -- Whether the things of a log can stand in one list along which neither moments nor revisions fall.
 use Rattle.std.specs.Prelude.{◌≡◌, List, map}
 use Rattle.std.specs.List.{AllZip, zip}
-use Rattle.base_types.specs.declared.revision.Moment.{Moment}
+use Rattle.base_types.specs.declared.kubernetes.revision.Moment.{Moment}
 use Rattle.history_model.specs.Histories.{History}
 use Rattle.log_moments.specs.Things.{AreThings}
 use Rattle.log_moments.specs.declared.answer.LineMoment.{LineMoment}

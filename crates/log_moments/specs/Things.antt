@@ -1,7 +1,7 @@
 -- The things of a log that have a moment. Each stands at a moment of its event, and at a number: the write of revision m
 -- is the number 2m, the gap between it and the next write 2m + 1.
 use Rattle.std.specs.Prelude.{◌≡◌, ◌<◌, ◌≤◌, ◌+◌, ◌-◌, ◌*◌, ◌^◌, ◌↔◌, ℕ, false, List, AllPairs, Any, Contains}
-use Rattle.base_types.specs.declared.key.ObjectKey.{ObjectKey}
+use Rattle.base_types.specs.declared.kubernetes.key.ObjectKey.{ObjectKey}
 use Rattle.history_model.specs.Clouds.{IsCloudedWithin}
 use Rattle.history_model.specs.Events.{Answer, Made, Removed, Opaque, Saw, SawNone, SawSome, SawOther, Listed, Free, Aside}
 use Rattle.history_model.specs.Events.{Event, Item, Listing, Reading, MostRecent, AnyVersion, NotOlderThan, Exactly, Checkpoint, is_checkpoint}

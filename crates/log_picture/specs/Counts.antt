@@ -1,7 +1,7 @@
 -- The table of how many events were judged how.
 use Rattle.std.specs.Prelude.{◌≡◌, ℕ, Bool, true, false, List, [], ◌∷◌, ◌++◌, Option, Some, None, length, codes, count_by, flat_map, sum_by}
-use Rattle.base_types.specs.declared.request.Decision.{Decision}
-use Rattle.base_types.specs.declared.request.Decision.TheVariants.{Allow, Forbid}
+use Rattle.base_types.specs.declared.kubernetes.request.Decision.{Decision}
+use Rattle.base_types.specs.declared.kubernetes.request.Decision.TheVariants.{Allow, Forbid}
 use Rattle.log_picture.specs.Kinds.{is_of, kind_words, kinds}
 use Rattle.log_picture.specs.Texts.{counts_head}
 use Rattle.log_picture.specs.declared.kind.AnswerKind.{AnswerKind}

@@ -1,9 +1,9 @@
 -- The table of removals: their ranges, and where the placement puts each.
 use Rattle.std.specs.Prelude.{ℕ, ◌==◌, List, [], ◌∷◌, ◌++◌, Option, Some, None, codes, flat_map, slice_get, option_and_then, if◌then◌else◌}
 use Rattle.base_types.specs.Keys.{key_spelling}
-use Rattle.base_types.specs.declared.placed.PlacedAnswer.{PlacedAnswer}
-use Rattle.base_types.specs.declared.placed.PlacedAnswer.TheVariants.{Made, Removed, At, Nowhere}
-use Rattle.base_types.specs.declared.placed.PlacedLine.{PlacedLine}
+use Rattle.base_types.specs.declared.verdict.placed.PlacedAnswer.{PlacedAnswer}
+use Rattle.base_types.specs.declared.verdict.placed.PlacedAnswer.TheVariants.{Made, Removed, At, Nowhere}
+use Rattle.base_types.specs.declared.verdict.placed.PlacedLine.{PlacedLine}
 use Rattle.log_picture.specs.Limits.{removal_limit, rest_of, spread}
 use Rattle.log_picture.specs.Texts.{removals_head}
 use Rattle.log_picture.specs.declared.gone.TheConstants.{TABLE_END}

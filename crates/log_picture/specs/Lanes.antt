@@ -1,8 +1,8 @@
 -- The drawing of the log over time.
 use Rattle.std.specs.Prelude.{ℕ, Bool, ◌||◌, ◌==◌, List, [], ◌∷◌, ◌++◌, Option, Some, None, is_some, length, filter, zip, codes, flat_map, if◌then◌else◌}
 use Rattle.audit_event.specs.declared.event.Event.{Event}
-use Rattle.base_types.specs.declared.request.Decision.{Decision}
-use Rattle.base_types.specs.declared.request.Decision.TheVariants.{Allow, Forbid}
+use Rattle.base_types.specs.declared.kubernetes.request.Decision.{Decision}
+use Rattle.base_types.specs.declared.kubernetes.request.Decision.TheVariants.{Allow, Forbid}
 use Rattle.log_picture.specs.Kinds.{kind_of, kind_words}
 use Rattle.log_picture.specs.Limits.{event_limit, rest_of, spread}
 use Rattle.log_picture.specs.Overview.{receipt}

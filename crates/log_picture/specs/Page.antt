@@ -1,6 +1,6 @@
 -- The page of an explained log.
 use Rattle.std.specs.Prelude.{◌≡◌, ℕ, List, ◌++◌, length, map, filter, codes}
-use Rattle.base_types.specs.declared.placed.PlacedLine.{PlacedLine}
+use Rattle.base_types.specs.declared.verdict.placed.PlacedLine.{PlacedLine}
 use Rattle.history_model.specs.Histories.{History}
 use Rattle.history_model.specs.Windows.{low_end}
 use Rattle.log_picture.specs.Changes.{AreChanges, changes_text}

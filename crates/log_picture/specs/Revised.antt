@@ -1,7 +1,7 @@
 -- The drawing of the history by revision.
 use Rattle.std.specs.Prelude.{ℕ, ◌+◌, ◌-◌, ◌*◌, ◌%◌, max, Bool, true, false, List, [], ◌∷◌, ◌++◌, codes, filter, flat_map}
 use Rattle.base_types.specs.Keys.{key_spelling}
-use Rattle.base_types.specs.declared.claim.Range.{Range}
+use Rattle.base_types.specs.declared.verdict.claim.Range.{Range}
 use Rattle.log_picture.specs.Limits.{unrecorded_limit, removal_limit, rest_of, spread, version_limit}
 use Rattle.log_picture.specs.Texts.{history_head, unrecorded_head, versions_head}
 use Rattle.log_picture.specs.declared.gone.TheConstants.{TABLE_END}

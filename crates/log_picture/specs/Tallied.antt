@@ -1,7 +1,7 @@
 -- What is counted of each object, under its key.
 use Rattle.std.specs.Prelude.{◌≡◌, ◌+◌, ◌<◌, ◌^◌, ℕ, List, [], ◌∷◌, ◌++◌, IfSome}
 use Rattle.std.specs.BTreeMap.{BTreeMap, get}
-use Rattle.base_types.specs.declared.key.ObjectKey.{ObjectKey}
+use Rattle.base_types.specs.declared.kubernetes.key.ObjectKey.{ObjectKey}
 use Rattle.clouds.specs.Kept.{key_order}
 use Rattle.log_picture.specs.Changes.{tally}
 use Rattle.log_picture.specs.declared.changed.Changed.{Changed}

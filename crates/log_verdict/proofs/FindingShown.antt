@@ -1,9 +1,9 @@
 -- What is shown of an event for its code.
 use Rattle.std.proofs.Common.{◌≡◌, ℕ, List, Some, slice_get, refl, subst}
-use Rattle.base_types.specs.declared.claim.Reason.{Reason}
-use Rattle.base_types.specs.declared.claim.Reason.TheVariants.{U1, U2, U3, U4, U5, U6, U7, U8, U9, U10, U11, U12, U13, U14}
-use Rattle.base_types.specs.declared.placed.Outcome.TheVariants as printed
-use Rattle.base_types.specs.declared.placed.WriteLine.{WriteLine}
+use Rattle.base_types.specs.declared.verdict.claim.Reason.{Reason}
+use Rattle.base_types.specs.declared.verdict.claim.Reason.TheVariants.{U1, U2, U3, U4, U5, U6, U7, U8, U9, U10, U11, U12, U13, U14}
+use Rattle.base_types.specs.declared.verdict.placed.Outcome.TheVariants as printed
+use Rattle.base_types.specs.declared.verdict.placed.WriteLine.{WriteLine}
 use Rattle.history_model.specs.Events.{Event}
 use Rattle.history_model.specs.Histories.{History, IsEvent}
 use Rattle.history_model.specs.Outcomes.{AreWrites, shown_high, shown_low}

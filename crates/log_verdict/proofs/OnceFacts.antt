@@ -1,9 +1,9 @@
 -- A setup and a log come to one thing.
 use Rattle.std.proofs.Common.{◌≡◌, ℕ, List, map, slice_get, refl, sym, ◌∙◌, ap, subst, arith}
 use Rattle.std.proofs.lemmas.Option.{same_Some}
-use Rattle.base_types.specs.declared.placed.Outcome.{Outcome}
-use Rattle.base_types.specs.declared.placed.PlacedLine.{PlacedLine}
-use Rattle.base_types.specs.declared.placed.Outcome.TheVariants as printed
+use Rattle.base_types.specs.declared.verdict.placed.Outcome.{Outcome}
+use Rattle.base_types.specs.declared.verdict.placed.PlacedLine.{PlacedLine}
+use Rattle.base_types.specs.declared.verdict.placed.Outcome.TheVariants as printed
 use Rattle.context_intake.proofs.OneContextFacts.{one_context, one_refusal, one_way}
 use Rattle.history_model.specs.Histories.{History}
 use Rattle.history_model.specs.Outcomes as model

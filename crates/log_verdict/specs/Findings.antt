@@ -1,8 +1,8 @@
 -- What is told of an event that no placement explains, and which choices explain each event.
 use Rattle.std.specs.Prelude.{ℕ, List}
 use Rattle.base_types.specs.Choices.{IsChoice}
-use Rattle.base_types.specs.declared.claim.Reason.{Reason}
-use Rattle.base_types.specs.declared.placed.Outcome.{Outcome}
+use Rattle.base_types.specs.declared.verdict.claim.Reason.{Reason}
+use Rattle.base_types.specs.declared.verdict.placed.Outcome.{Outcome}
 use Rattle.history_model.specs.Events.{Event}
 use Rattle.history_model.specs.Histories.{IsEvent, ranges}
 use Rattle.history_model.specs.Local.{IsRightUnder}

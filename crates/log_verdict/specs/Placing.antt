@@ -1,7 +1,7 @@
 -- What is found of an event for a placement.
 use Rattle.std.specs.Prelude.{ℕ, List, Option}
 use Rattle.base_types.specs.Choices.{IsChoice}
-use Rattle.base_types.specs.declared.placed.PlacedLine.{PlacedLine}
+use Rattle.base_types.specs.declared.verdict.placed.PlacedLine.{PlacedLine}
 use Rattle.event_claims.specs.Lines.{IsLined}
 use Rattle.history_model.specs.Events.{Event}
 use Rattle.history_model.specs.Histories.{IsEvent, ranges}

@@ -1,7 +1,7 @@
 -- What a setup and a log come to where moments are asked for, of their bytes alone.
 use Rattle.std.specs.Prelude.{◌≡◌, ℕ, List}
-use Rattle.base_types.specs.declared.placed.Outcome.{Outcome}
-use Rattle.base_types.specs.declared.placed.Outcome.TheVariants.{Explained, Unexplained}
+use Rattle.base_types.specs.declared.verdict.placed.Outcome.{Outcome}
+use Rattle.base_types.specs.declared.verdict.placed.Outcome.TheVariants.{Explained, Unexplained}
 use Rattle.context_intake.specs.Contexts.{IsContextOf}
 use Rattle.context_intake.specs.declared.told.Intake.{Intake}
 use Rattle.context_intake.specs.declared.told.Intake.TheVariants as told

@@ -1,7 +1,7 @@
 -- What a placement comes to by a setup and a log, of their bytes alone.
 use Rattle.std.specs.Prelude.{◌≡◌, ⊤, ◌<◌, ◌≤◌, ◌⊎◌, ℕ, List, Option, length}
 use Rattle.std.specs.Io.KnownBytes.{IsAtEnd}
-use Rattle.base_types.specs.declared.placed.PlacedLine.{PlacedLine}
+use Rattle.base_types.specs.declared.verdict.placed.PlacedLine.{PlacedLine}
 use Rattle.context_intake.specs.Contexts.{IsContextOf, IsRefused}
 use Rattle.context_intake.specs.declared.told.Intake.{Intake}
 use Rattle.context_intake.specs.declared.told.Intake.TheVariants as told

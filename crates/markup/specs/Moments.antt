@@ -1,6 +1,6 @@
 -- A moment in UTC, as RFC 3339 writes it.
 use Rattle.std.specs.Prelude.{ℕ, pos, ◌/◌, ◌%◌, List, ◌++◌, codes, decimal, int_lt, unsigned_abs, if◌then◌else◌}
-use Rattle.base_types.specs.declared.revision.Moment.{Moment}
+use Rattle.base_types.specs.declared.kubernetes.revision.Moment.{Moment}
 use Rattle.markup.specs.Calendar.{date_of}
 use Rattle.markup.specs.declared.calendar.Date.{Date}
 

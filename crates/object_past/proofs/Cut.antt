@@ -5,7 +5,7 @@ use Rattle.std.proofs.lemmas.Bool.{cases_lt}
 use Rattle.std.proofs.lemmas.List.Elements.{All-push, All-weaker, Contains-append_left, Contains-get_or, Contains-push, Contains-push_cases}
 use Rattle.std.proofs.lemmas.Option.{same_Some, slice_get_read}
 use Rattle.base_types.proofs.Quantifiers.{Any-contains}
-use Rattle.base_types.specs.declared.key.ObjectKey.{ObjectKey}
+use Rattle.base_types.specs.declared.kubernetes.key.ObjectKey.{ObjectKey}
 use Rattle.history_model.proofs.Members.{all_at, all_from, here, in_cons, pairs_cons, pairs_head, pairs_tail, there}
 use Rattle.object_past.specs.Incarnated.{AreIncarnations, IsExtended, IsIncarnation, IsNext, begun, continued, last_of}
 use Rattle.object_past.specs.Incarnated.IsExtended.{continues, begins}

@@ -9,7 +9,7 @@ use Rattle.std.proofs.lemmas.List.{get_or-take, get_or_default, length-take}
 use Rattle.std.proofs.lemmas.List.Elements.{Contains-append_left, Contains-get_or, Contains-push, Contains-push_cases}
 use Rattle.std.proofs.lemmas.List.Sorted.{IsNonDecreasingBy-push, IsNonDecreasingBy-short}
 use Rattle.base_types.proofs.Quantifiers.{Any-contains}
-use Rattle.base_types.specs.declared.key.ObjectKey.{ObjectKey}
+use Rattle.base_types.specs.declared.kubernetes.key.ObjectKey.{ObjectKey}
 use Rattle.clouds.proofs.Adding.{same_key_from}
 use Rattle.clouds.specs.Kept.{key_order}
 use Rattle.history_model.proofs.KeyLemmas.{key_tells}

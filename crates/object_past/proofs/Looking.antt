@@ -3,7 +3,7 @@ use Rattle.std.proofs.Common.{◌≡◌, ℕ, ◌<◌, ◌≤◌, Bor, option_ma
 use Rattle.std.specs.List.{All, AllPairs, Contains, find}
 use Rattle.std.proofs.lemmas.Bool.{eqb-true}
 use Rattle.std.proofs.lemmas.List.Elements.{All-map}
-use Rattle.base_types.specs.declared.key.ObjectKey.{ObjectKey}
+use Rattle.base_types.specs.declared.kubernetes.key.ObjectKey.{ObjectKey}
 use Rattle.history_model.proofs.Latest.{latest_is, latest_same}
 use Rattle.history_model.proofs.Members.{all_at, apart, at_in, here, in_cons, not_in_none, pairs_cons, pairs_head, pairs_tail, there}
 use Rattle.history_model.proofs.WordLemmas.{find_is, found_in, not_found}

@@ -1,6 +1,6 @@
 -- The incarnations of an object (Kubernetes "Object Names and IDs", UIDs).
 use Rattle.std.specs.Prelude.{◌≡◌, ◌≢◌, ◌<◌, ◌≤◌, ◌-◌, ◌++◌, ◌∷◌, ℕ, List, [], Option, Some, length, slice_get, slice_set, All, AllPairs, Any}
-use Rattle.base_types.specs.declared.key.ObjectKey.{ObjectKey}
+use Rattle.base_types.specs.declared.kubernetes.key.ObjectKey.{ObjectKey}
 use Rattle.object_past.specs.Past.{HasVersionAt, IsRemovalOf, Recorded}
 use Rattle.object_past.specs.declared.incarnation.Incarnation.{Incarnation}
 use Rattle.object_past.specs.declared.version.Version.{Version}

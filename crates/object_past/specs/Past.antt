@@ -1,6 +1,6 @@
 -- What is known of each object: its versions, and the removals that ended them.
 use Rattle.std.specs.Prelude.{◌≡◌, ◌≢◌, ◌<◌, ◌≤◌, ◌⊎◌, ℕ, List, Option, Some, None, map, slice_get, All, AllPairs, Any, Contains}
-use Rattle.base_types.specs.declared.key.ObjectKey.{ObjectKey}
+use Rattle.base_types.specs.declared.kubernetes.key.ObjectKey.{ObjectKey}
 use Rattle.history_model.specs.Histories as history
 use Rattle.history_model.specs.Histories.{History}
 use Rattle.history_model.specs.States.{latest}

@@ -1,6 +1,6 @@
 ghost use Rattle.std.specs.Prelude.{◌<◌, ◌^◌, ◌↔◌, List, length, Contains, IsSome, IfOk, OnOk};
 ghost use Rattle.std.specs.BTreeMap.{get};
-ghost use Rattle.base_types.specs.declared.key.ObjectKey.{ObjectKey};
+ghost use Rattle.base_types.specs.declared.kubernetes.key.ObjectKey.{ObjectKey};
 ghost use Rattle.clouds.specs.Kept.{key_order};
 ghost use Rattle.object_past.specs.Endings.{AreEndings, ByLast};
 ghost use Rattle.object_past.specs.Indexed.{AreFound, ChangesAt, IsGrown};

@@ -1,6 +1,6 @@
 ghost use Rattle.std.specs.Prelude.{◌≡◌, ◌≢◌, ◌≤◌, ◌↔◌, length, IfNone, IfOk, IfSome, IsTrue, AllPairs, Contains};
 ghost use Rattle.std.specs.Ordering.{is_lt};
-ghost use Rattle.base_types.specs.declared.key.ObjectKey.{ObjectKey as Key};
+ghost use Rattle.base_types.specs.declared.kubernetes.key.ObjectKey.{ObjectKey as Key};
 ghost use Rattle.clouds.specs.Kept.{key_order};
 ghost use Rattle.object_past.specs.Among.{keys_at, is_one_of, AreBelow, IsPlaceOf};
 ghost use Rattle.object_past.specs.Scopes.{AreInOrder};

@@ -3,7 +3,7 @@ ghost use Rattle.std.specs.Prelude.{option_and_then, slice_get, IfOk, IfSome, Is
 ghost use Rattle.std.specs.Prelude.{Contains, ◌≤◌};
 ghost use Rattle.std.specs.Option.{option_copied};
 ghost use Rattle.std.specs.List.Sorted.{IsNonDecreasing};
-ghost use Rattle.base_types.specs.declared.key.ObjectKey.{ObjectKey};
+ghost use Rattle.base_types.specs.declared.kubernetes.key.ObjectKey.{ObjectKey};
 ghost use Rattle.history_model.specs.Bounding.{IsAbsentAnyway, SomewhereIn};
 ghost use Rattle.history_model.specs.Histories.{History};
 ghost use Rattle.base_types.specs.Keys.{same_key};

@@ -3,7 +3,7 @@ use Rattle.std.proofs.Common.{◌≡◌, ◌≤◌, Bool, true, false, ◌||◌,
 use Rattle.std.specs.Prelude.{IsSome, ⊤, All, is_some, cond, filter}
 use Rattle.std.specs.List.{list_any}
 use Rattle.std.proofs.lemmas.Bool.{true≢false, false≢true, and_parts}
-use Rattle.base_types.specs.declared.request.Pair.{Pair}
+use Rattle.base_types.specs.declared.kubernetes.request.Pair.{Pair}
 use Rattle.audit_event.specs.declared.event.Event.{Event}
 use Rattle.setup_file.specs.Resources.{tracked_as}
 use Rattle.setup_file.specs.declared.setup.Checkpoint.{Checkpoint}

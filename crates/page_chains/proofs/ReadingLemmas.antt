@@ -1,7 +1,7 @@
 -- The tokens of a query, and what is made of the items of a list where something is.
 use Rattle.std.proofs.Common.{◌≡◌, ℕ, ◌+◌, ◌<◌, List, [], ◌∷◌, ◌++◌, length, get_or, drop, Option, Some, None, refl, sym, ap, ◌∙◌, append_assoc}
 use Rattle.std.specs.List.{filter_map, cons_option}
-use Rattle.base_types.specs.declared.request.Pair.{Pair}
+use Rattle.base_types.specs.declared.kubernetes.request.Pair.{Pair}
 use Rattle.setup_file.proofs.Seen.{cut}
 use Rattle.answer_class.specs.Lists.{one_at_most}
 use Rattle.page_chains.specs.declared.page.Asked.{Asked}

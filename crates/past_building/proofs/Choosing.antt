@@ -1,8 +1,8 @@
 -- Who made a revision, found among the writes of its group one after another.
 use Rattle.std.proofs.Common.{◌≡◌, ℕ, ◌<◌, ⊎_elim, Bool, true, false, ◌&&◌, List, [], ◌∷◌, Option, Some, None, option_and_then, option_map, refl, sym, ap, ◌∙◌, subst, true≢false}
 use Rattle.std.specs.Prelude.{◌↔◌, IsTrue, is_none, is_some, if◌then◌else◌, Contains, find}
-use Rattle.base_types.specs.declared.claim.Reason.{Reason}
-use Rattle.base_types.specs.declared.key.ObjectKey.{ObjectKey}
+use Rattle.base_types.specs.declared.verdict.claim.Reason.{Reason}
+use Rattle.base_types.specs.declared.kubernetes.key.ObjectKey.{ObjectKey}
 use Rattle.history_model.proofs.JudgingLemmas.{judged_once}
 use Rattle.history_model.proofs.Members.{here, there, in_cons, not_in_none, pairs_head, pairs_tail, all_at}
 use Rattle.history_model.specs.Clouds.{MayBeUnrecorded}

@@ -1,8 +1,8 @@
 -- What is found behind a version that may end its incarnation.
 use Rattle.std.proofs.Common.{◌≡◌, ◌≢◌, ℕ, Bool, true, false, not, List, Option, Some, None, option_map, Bor, refl, sym, ap, subst, true≢false}
 use Rattle.std.specs.Prelude.{IfNone, IfSome, is_some}
-use Rattle.base_types.specs.declared.claim.Range.{Range}
-use Rattle.base_types.specs.declared.key.ObjectKey.{ObjectKey}
+use Rattle.base_types.specs.declared.verdict.claim.Range.{Range}
+use Rattle.base_types.specs.declared.kubernetes.key.ObjectKey.{ObjectKey}
 use Rattle.object_past.specs.Modelled.{recorded}
 use Rattle.past_building.specs.Ended.{IsEnd, revision_of}
 use Rattle.past_building.specs.Modelled.{removal_of}

@@ -9,7 +9,7 @@ use Rattle.std.proofs.lemmas.List.{map-append, take-append-le, take_at}
 use Rattle.std.specs.Cmp.Lexicographic.{bytes_decides}
 use Rattle.std.specs.HashMap.{get, Updates}
 use Rattle.std.specs.HashSet as set
-use Rattle.base_types.specs.declared.key.ObjectKey.{ObjectKey}
+use Rattle.base_types.specs.declared.kubernetes.key.ObjectKey.{ObjectKey}
 use Rattle.hash_seed.specs.declared.seed.Seeded.{Seeded}
 use Rattle.history_model.proofs.KeyLemmas.{key_decides, key_tells}
 use Rattle.history_model.proofs.Members.{all_at, all_from, apart, at_in, in_cons, not_in_none, pairs_cons, pairs_head, pairs_tail}

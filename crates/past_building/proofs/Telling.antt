@@ -2,7 +2,7 @@
 use Rattle.std.proofs.Common.{◌≡◌, ◌≢◌, ℕ, Bool, true, false, not, Option, Some, None, refl, sym, ap, ◌∙◌, subst, Bor, true≢false}
 use Rattle.std.specs.Prelude.{◌↔◌, ◌&&◌, IsTrue, IsSome, if◌then◌else◌, is_none, is_some, option_map, bytes_eq}
 use Rattle.std.specs.Cmp.Lexicographic.{bytes_decides}
-use Rattle.base_types.specs.declared.claim.Reason.TheVariants.{U4}
+use Rattle.base_types.specs.declared.verdict.claim.Reason.TheVariants.{U4}
 use Rattle.history_model.specs.Groups as model
 use Rattle.history_model.specs.Histories as past
 use Rattle.history_model.specs.Making.{AreMet, MeetsConditions, IsClear, IsOtherObject, IsUsedUid, IsLeastFault, tree_of}

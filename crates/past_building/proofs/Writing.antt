@@ -6,7 +6,7 @@ use Rattle.std.proofs.lemmas.List.{take_more, map-append, append-nil}
 use Rattle.std.proofs.lemmas.List.Elements.{All-append, Contains-append_left, Contains-append_right, Contains-push_cases}
 use Rattle.std.proofs.lemmas.List.Sorted.{Contains-permutation, IsPermutation-sym}
 use Rattle.std.proofs.lemmas.Option.{same_Some}
-use Rattle.base_types.specs.declared.key.ObjectKey.{ObjectKey}
+use Rattle.base_types.specs.declared.kubernetes.key.ObjectKey.{ObjectKey}
 use Rattle.history_model.proofs.Members.{all_at, all_from, in_cons, not_in_none, pairs_head}
 use Rattle.history_model.specs.Events as event
 use Rattle.history_model.specs.Groups.{Making}
@@ -25,7 +25,7 @@ use Rattle.object_past.proofs.Looking.{from_map, in_map}
 use Rattle.past_building.proofs.Mapped.{any_in, in_any, before_in, found_in, in_more, joined, map_twice, pairs_behind, zip_left, zip_push}
 use Rattle.past_building.proofs.Numbered.{making_from, number_is}
 use Rattle.write_groups.specs.Grouped.{item_at}
-use Rattle.base_types.specs.declared.claim.Reason.{Reason}
+use Rattle.base_types.specs.declared.verdict.claim.Reason.{Reason}
 use Rattle.past_building.specs.Chosen.{first_able, first_maker, maker_among, must_have_made, or_maker, shown_by, unseen_maker}
 use Rattle.past_building.specs.Removals.{or_first}
 use Rattle.past_building.specs.Written.{making_at, snapshot_version, AreAllJudged, AreJudged, Extends, IsAnsweredAt, IsJudgedAt, IsJudgement, IsSnapshot}

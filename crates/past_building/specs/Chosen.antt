@@ -1,6 +1,6 @@
 -- Who made a revision, of the writes that were answered with it.
 use Rattle.std.specs.Prelude.{ℕ, ◌&&◌, Bool, List, Option, Some, None, if◌then◌else◌, is_none, is_some, option_and_then, option_map, slice_get, find}
-use Rattle.base_types.specs.declared.claim.Reason.{Reason}
+use Rattle.base_types.specs.declared.verdict.claim.Reason.{Reason}
 use Rattle.write_groups.specs.declared.event.LogEvent.{LogEvent}
 use Rattle.past_building.specs.Faults.{found_code}
 use Rattle.past_building.specs.Removals.{or_first}

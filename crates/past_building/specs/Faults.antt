@@ -1,7 +1,7 @@
 -- When a request could have made the revision that it was answered with, or have found it there.
 use Rattle.std.specs.Prelude.{◌&&◌, not, ℕ, Bool, true, Option, Some, None, if◌then◌else◌, bytes_eq, is_none, is_some, option_map}
-use Rattle.base_types.specs.declared.claim.Reason.{Reason}
-use Rattle.base_types.specs.declared.claim.Reason.TheVariants.{U4, U5, U6, U7, U8}
+use Rattle.base_types.specs.declared.verdict.claim.Reason.{Reason}
+use Rattle.base_types.specs.declared.verdict.claim.Reason.TheVariants.{U4, U5, U6, U7, U8}
 use Rattle.history_model.specs.Groups as model
 use Rattle.history_model.specs.Histories.{History}
 use Rattle.history_model.specs.Making.{IsOutOfReach}

@@ -2,7 +2,7 @@
 use Rattle.std.specs.Prelude.{◌≡◌, ◌≢◌, ◌<◌, ◌≤◌, ◌↔◌, ◌⊎◌, ℕ, Bool, List, Option, Some, None, IsTrue, bytes_eq, length, map, slice_get, take, All, AllPairs, Any, Contains}
 use Rattle.std.specs.HashMap.{get}
 use Rattle.std.specs.HashSet.{contains}
-use Rattle.base_types.specs.declared.key.ObjectKey.{ObjectKey}
+use Rattle.base_types.specs.declared.kubernetes.key.ObjectKey.{ObjectKey}
 use Rattle.history_model.specs.Incarnations.{IsFirstWithUid}
 use Rattle.object_past.specs.Modelled.{version_of}
 use Rattle.past_building.specs.Keyed.{OwnerSet, Positions, UidSet, key_eq}

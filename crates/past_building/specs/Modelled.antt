@@ -1,7 +1,7 @@
 -- Versions, makings and removals in the terms of the model of history.
 use Rattle.std.specs.Prelude.{◌↔◌, ℕ}
-use Rattle.base_types.specs.declared.claim.Range.{Range}
-use Rattle.base_types.specs.declared.key.ObjectKey.{ObjectKey}
+use Rattle.base_types.specs.declared.verdict.claim.Range.{Range}
+use Rattle.base_types.specs.declared.kubernetes.key.ObjectKey.{ObjectKey}
 use Rattle.clouds.specs.Clouds as cloud
 use Rattle.clouds.specs.Writes.{Writes}
 use Rattle.history_model.specs.Clouds.{IsClouded, MayBeUnrecorded}

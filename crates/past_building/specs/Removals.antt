@@ -2,7 +2,7 @@
 use Rattle.std.specs.Prelude.{◌≡◌, ◌&&◌, ℕ, Bool, false, List, Option, Some, None, if◌then◌else◌, bytes_eq, option_and_then, slice_get, find}
 use Rattle.std.specs.BTreeMap as tree
 use Rattle.std.specs.HashMap as table
-use Rattle.base_types.specs.declared.key.ObjectKey.{ObjectKey}
+use Rattle.base_types.specs.declared.kubernetes.key.ObjectKey.{ObjectKey}
 use Rattle.clouds.specs.Kept.{text_order}
 use Rattle.base_types.specs.Keys.{same_key}
 use Rattle.past_building.specs.Keyed.{RemovalNumbers, key_eq}

@@ -1,7 +1,7 @@
 -- How versions are found by revision rising: each is judged by the lower ones alone.
 use Rattle.std.specs.Prelude.{◌≡◌, ◌≢◌, ◌<◌, ◌≤◌, ℕ, Bool, List, ◌++◌, Option, Some, None, option_and_then, map, slice_get, ◌↔◌, All, AllPairs, Any, Contains}
 use Rattle.std.specs.List.{AllZip}
-use Rattle.base_types.specs.declared.key.ObjectKey.{ObjectKey}
+use Rattle.base_types.specs.declared.kubernetes.key.ObjectKey.{ObjectKey}
 use Rattle.clouds.specs.declared.span.KeyRevision.{KeyRevision}
 use Rattle.history_model.specs.Groups.{Making}
 use Rattle.history_model.specs.Histories as past

@@ -1,7 +1,7 @@
 ghost use Rattle.std.specs.Prelude.{◌≡◌, ◌≢◌, ◌<◌, ◌++◌, ◌∷◌, ◌↔◌, [], ℕ, List, IfOk, IsSome, IsTrue, All, AllPairs, Any, Some};
 ghost use Rattle.std.specs.Prelude.{length, map, option_map, true};
 ghost use Rattle.std.specs.List.Sorted.{IsPermutation};
-ghost use Rattle.base_types.specs.declared.key.ObjectKey.{ObjectKey};
+ghost use Rattle.base_types.specs.declared.kubernetes.key.ObjectKey.{ObjectKey};
 ghost use Rattle.history_model.specs.Histories.{History};
 ghost use Rattle.history_model.specs.Makers.{AreVersions, IsMadeVersion};
 ghost use Rattle.history_model.specs.Making.{IsEntryBefore};

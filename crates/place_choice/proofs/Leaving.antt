@@ -5,9 +5,9 @@ use Rattle.std.specs.List.Sorted.{IsPermutation}
 use Rattle.std.proofs.lemmas.List.{take_all}
 use Rattle.std.proofs.lemmas.List.Elements.{All-more}
 use Rattle.std.proofs.lemmas.Option.{slice_get-get_or}
-use Rattle.base_types.specs.declared.claim.Claim.{Claim}
-use Rattle.base_types.specs.declared.claim.Range.{Range}
-use Rattle.base_types.specs.declared.claim.Reason.{Reason}
+use Rattle.base_types.specs.declared.verdict.claim.Claim.{Claim}
+use Rattle.base_types.specs.declared.verdict.claim.Range.{Range}
+use Rattle.base_types.specs.declared.verdict.claim.Reason.{Reason}
 use Rattle.base_types.specs.Choices.{IsChoice, MeetsAll}
 use Rattle.base_types.specs.Settlement.{MeetsBounds, ExplainsAll, IsLeastChoice, LeavesNoChoice, HasLeastCode, BreaksFirst}
 use Rattle.place_choice.specs.Room.{Narrows}

@@ -2,8 +2,8 @@
 use Rattle.std.proofs.Common.{◌≡◌, ℕ, zero, suc, ◌+◌, ◌<◌, ◌≤◌, List, [], ◌∷◌, length, get_or, set, take, All, min, max, arith, subst, sym}
 use Rattle.std.proofs.lemmas.List.Elements.{All-more, All-take}
 use Rattle.base_types.proofs.Quantifiers.{All-fewer, All-last}
-use Rattle.base_types.specs.declared.claim.Bound.{Bound}
-use Rattle.base_types.specs.declared.claim.Range.{Range}
+use Rattle.base_types.specs.declared.verdict.claim.Bound.{Bound}
+use Rattle.base_types.specs.declared.verdict.claim.Range.{Range}
 use Rattle.base_types.specs.Choices.{IsChoice, Meets, MeetsAll}
 use Rattle.place_choice.specs.Room.{Narrows}
 

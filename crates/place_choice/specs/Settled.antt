@@ -1,7 +1,7 @@
 -- What settling comes to: the least choice, or the first event that breaks.
 use Rattle.std.specs.Prelude.{ℕ, List}
-use Rattle.base_types.specs.declared.claim.Claim.{Claim}
-use Rattle.base_types.specs.declared.claim.Range.{Range}
+use Rattle.base_types.specs.declared.verdict.claim.Claim.{Claim}
+use Rattle.base_types.specs.declared.verdict.claim.Range.{Range}
 use Rattle.base_types.specs.Settlement.{IsLeastChoice, BreaksFirst}
 use Rattle.place_choice.specs.declared.settled.Settled.{Settled}
 use Rattle.place_choice.specs.declared.settled.Settled.TheVariants.{Fits, Breaks}

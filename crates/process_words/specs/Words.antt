@@ -6,7 +6,7 @@ use Rattle.std.specs.Vec.Iter.{into_iter_items}
 use Rattle.std.specs.declared.io.Error.{Error}
 use Rattle.std.specs.declared.io.ErrorKind.TheVariants as kind
 use Rattle.std.specs.declared.vec.IntoIter.{IntoIter}
-use Rattle.base_types.specs.declared.memory.OutOfMemory.{OutOfMemory}
+use Rattle.base_types.specs.declared.foundation.memory.OutOfMemory.{OutOfMemory}
 
 -- the words behind the first argument, which is the program's name; none where the arguments can't be read, unless for want of memory
 abbrev pub ComesTo : Result (IntoIter (String Global) Global) Error → Result (Option (Vec (String Global) Global)) OutOfMemory → Type 0

@@ -5,7 +5,7 @@ use Rattle.std.proofs.lemmas.Bool.Decides.{Decides-eqb}
 use Rattle.std.proofs.lemmas.List.Folds.{Any-from_list_any, list_any-from_Any}
 use Rattle.std.proofs.lemmas.Slice.Eq.{bytes_eq-Decides, starts_is, ends_is}
 use Rattle.base_types.specs.Matching.{has_text, path_matches}
-use Rattle.base_types.specs.declared.request.RequestAttrs.{RequestAttrs}
+use Rattle.base_types.specs.declared.kubernetes.request.RequestAttrs.{RequestAttrs}
 use Rattle.base_types.proofs.MatchingLemmas.{front_matches, whole_matches}
 use Rattle.rbac_rules.specs.Granting.{IsPathTaken, IsResourceNamed, everything, resource, subresource, of_each_resource}
 

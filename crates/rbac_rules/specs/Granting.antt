@@ -1,7 +1,7 @@
 -- Which requests the rules of a role grant (Kubernetes "Using RBAC Authorization", "Referring to resources").
 use Rattle.std.specs.Prelude.{◌≡◌, ◌≢◌, ℕ, true, false, List, [], ◌++◌, ◌⊎◌, Any, Contains, codes}
 use Rattle.base_types.specs.Matching.{combined}
-use Rattle.base_types.specs.declared.request.RequestAttrs.{RequestAttrs}
+use Rattle.base_types.specs.declared.kubernetes.request.RequestAttrs.{RequestAttrs}
 use Rattle.rbac_rules.specs.declared.role.PolicyRule.{PolicyRule}
 
 -- an item of a list of verbs or of groups is the text, or `*`

@@ -1,6 +1,6 @@
 -- Whom a subject of a binding means (Kubernetes "Using RBAC Authorization", "Referring to subjects").
 use Rattle.std.specs.Prelude.{◌≡◌, ◌≢◌, ℕ, List, [], ◌++◌, Contains, codes}
-use Rattle.base_types.specs.declared.request.User.{User}
+use Rattle.base_types.specs.declared.kubernetes.request.User.{User}
 use Rattle.rbac_rules.specs.declared.binding.Subject.{Subject}
 use Rattle.rbac_rules.specs.declared.binding.Subject.TheVariants.{User as UserNamed, Group, ServiceAccount}
 

@@ -2,11 +2,11 @@
 use Rattle.std.proofs.Common.{◌≡◌, ℕ, ◌<◌, Bool, true, false, ltb, Option, Some, None, refl, sym, ◌∙◌, subst, ap}
 use Rattle.std.specs.List.{Any, slice_get}
 use Rattle.std.proofs.lemmas.Bool.{false≢true, lt-ltb, ltb-true}
-use Rattle.base_types.specs.declared.key.ObjectKey.{ObjectKey}
-use Rattle.base_types.specs.declared.placed.Places.{Places}
-use Rattle.base_types.specs.declared.request.Decision.TheVariants.{Allow, Forbid}
-use Rattle.base_types.specs.declared.request.RequestAttrs.{RequestAttrs}
-use Rattle.base_types.specs.declared.request.User.{User}
+use Rattle.base_types.specs.declared.kubernetes.key.ObjectKey.{ObjectKey}
+use Rattle.base_types.specs.declared.verdict.placed.Places.{Places}
+use Rattle.base_types.specs.declared.kubernetes.request.Decision.TheVariants.{Allow, Forbid}
+use Rattle.base_types.specs.declared.kubernetes.request.RequestAttrs.{RequestAttrs}
+use Rattle.base_types.specs.declared.kubernetes.request.User.{User}
 use Rattle.clouds.specs.declared.span.OpaqueSpan.{OpaqueSpan}
 use Rattle.rbac_rules.specs.declared.binding.Binding.{Binding}
 use Rattle.rbac_rules.specs.Granting.{Grants}

@@ -3,7 +3,7 @@ use Rattle.std.proofs.Common.{◌≡◌, ℕ, ◌<◌, ◌≤◌, ◌⊎◌, ⊎
 use Rattle.std.proofs.lemmas.Bool.{and_parts, cases_Bool, cases_lt, cond-false, cond-true, leb-false, leb-true, lt-ltb, ltb-true, or_cases, or_left, or_right}
 use Rattle.std.proofs.lemmas.Bool.Decides.{Decides-eqb}
 use Rattle.base_types.specs.PlaceOrder.{ComesFirst, IsUpTo}
-use Rattle.base_types.specs.declared.placed.Places.{Places}
+use Rattle.base_types.specs.declared.verdict.placed.Places.{Places}
 use Rattle.rbac_timeline.specs.Searched.{AreFirstOf, AreLeastOf, lesser_places, is_upto, lesser_number}
 
 pub first_by_test : (a b : ℕ) (rest : Bool) → lesser_number a b rest ≡ true → ComesFirst a b (rest ≡ true)

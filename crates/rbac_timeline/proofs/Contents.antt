@@ -1,9 +1,9 @@
 -- From what is stored of a version to what its object grants.
 use Rattle.std.proofs.Common.{◌≡◌, ℕ, ◌<◌, ⊎_elim, Bool, true, false, ◌&&◌, ◌↔◌, Option, Some, None, List, [], refl, sym, ◌∙◌, subst, ap, cond, arith}
 use Rattle.std.proofs.lemmas.Bool.{and_from, and_parts}
-use Rattle.base_types.specs.declared.key.ObjectKey.{ObjectKey}
-use Rattle.base_types.specs.declared.request.RequestAttrs.{RequestAttrs}
-use Rattle.base_types.specs.declared.request.User.{User}
+use Rattle.base_types.specs.declared.kubernetes.key.ObjectKey.{ObjectKey}
+use Rattle.base_types.specs.declared.kubernetes.request.RequestAttrs.{RequestAttrs}
+use Rattle.base_types.specs.declared.kubernetes.request.User.{User}
 use Rattle.rbac_rules.specs.declared.binding.Binding.{Binding}
 use Rattle.rbac_rules.specs.declared.role.PolicyRule.{PolicyRule}
 use Rattle.rbac_rules.specs.Granting.{Grants}

@@ -5,10 +5,10 @@ use Rattle.std.specs.Option.{MatchOption}
 use Rattle.std.proofs.lemmas.Bool.{cases_eq, cases_lt}
 use Rattle.base_types.proofs.Quantifiers.{Any-contains, Any-head, Any-tail}
 use Rattle.base_types.specs.Covers.{Covers, TakesName}
-use Rattle.base_types.specs.declared.key.Cover.{Cover}
-use Rattle.base_types.specs.declared.key.CoverName.{CoverName}
-use Rattle.base_types.specs.declared.key.CoverName.TheVariants.{Exact, Prefix, Any as AnyName}
-use Rattle.base_types.specs.declared.key.ObjectKey.{ObjectKey}
+use Rattle.base_types.specs.declared.kubernetes.key.Cover.{Cover}
+use Rattle.base_types.specs.declared.kubernetes.key.CoverName.{CoverName}
+use Rattle.base_types.specs.declared.kubernetes.key.CoverName.TheVariants.{Exact, Prefix, Any as AnyName}
+use Rattle.base_types.specs.declared.kubernetes.key.ObjectKey.{ObjectKey}
 use Rattle.base_types.proofs.KeyLemmas.{key_from_parts}
 use Rattle.clouds.proofs.Quantified.{Any-cons_cases}
 use Rattle.clouds.specs.Clouds.{IsClouded, IsHiddenBy}

@@ -5,10 +5,10 @@ use Rattle.std.specs.List.{list_all, starts_with}
 use Rattle.std.proofs.lemmas.Bool.Decides.{Decides-and, Decides-eqb, Decides-like, Decides-ltb}
 use Rattle.std.proofs.lemmas.Slice.Eq.{bytes_eq-Decides, starts_is}
 use Rattle.base_types.specs.Covers.{Covers, TakesName}
-use Rattle.base_types.specs.declared.key.Cover.{Cover}
-use Rattle.base_types.specs.declared.key.CoverName.{CoverName}
-use Rattle.base_types.specs.declared.key.CoverName.TheVariants.{Any as AnyName, Exact, Prefix}
-use Rattle.base_types.specs.declared.key.ObjectKey.{ObjectKey}
+use Rattle.base_types.specs.declared.kubernetes.key.Cover.{Cover}
+use Rattle.base_types.specs.declared.kubernetes.key.CoverName.{CoverName}
+use Rattle.base_types.specs.declared.kubernetes.key.CoverName.TheVariants.{Any as AnyName, Exact, Prefix}
+use Rattle.base_types.specs.declared.kubernetes.key.ObjectKey.{ObjectKey}
 use Rattle.clouds.specs.Clouds.{IsClouded, IsHiddenBy}
 use Rattle.clouds.specs.Writes.{Writes}
 use Rattle.clouds.specs.declared.span.KeyRevision.{KeyRevision}

@@ -6,7 +6,7 @@ use Rattle.std.specs.Option.{IfNone, IfSome, MatchOption}
 use denote.Ref.{Bor}
 use Rattle.std.proofs.lemmas.Bool.{cases_order}
 use Rattle.std.proofs.lemmas.List.{get_or_default}
-use Rattle.base_types.specs.declared.key.ObjectKey.{ObjectKey}
+use Rattle.base_types.specs.declared.kubernetes.key.ObjectKey.{ObjectKey}
 use Rattle.clouds.specs.Items.{items_at}
 use Rattle.clouds.specs.Kept.{key_order}
 use Rattle.rbac_timeline.specs.declared.history.Gap.{Gap}

@@ -4,8 +4,8 @@ use Rattle.std.specs.List.{Any, list_any}
 use Rattle.std.proofs.lemmas.Bool.Decides.{Decides-and, Decides-like, Decides-not, Decides-or}
 use Rattle.std.proofs.lemmas.Slice.Eq.{bytes_eq-Decides}
 use Rattle.base_types.specs.Matching.{combined, has_text, path_matches}
-use Rattle.base_types.specs.declared.request.RequestAttrs.{RequestAttrs}
-use Rattle.base_types.specs.declared.request.User.{User}
+use Rattle.base_types.specs.declared.kubernetes.request.RequestAttrs.{RequestAttrs}
+use Rattle.base_types.specs.declared.kubernetes.request.User.{User}
 use Rattle.rbac_rules.proofs.Texts.{has_text-Decides, path_matches-Decides}
 use Rattle.rbac_rules.specs.Granting.{Grants, GrantsPath, GrantsResource, IsNameTaken, IsPathTaken, IsResourceNamed, IsTextTaken, everything, of_each_resource, resource, subresource}
 use Rattle.rbac_rules.specs.Matching.{Matches}

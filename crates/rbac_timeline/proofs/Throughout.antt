@@ -5,7 +5,7 @@ use Rattle.std.specs.List.{AllPairs, Contains}
 use Rattle.std.specs.Option.{IfSome, MatchOption}
 use denote.Ref.{Bor}
 use Rattle.std.proofs.lemmas.Bool.{cases_lt}
-use Rattle.base_types.specs.declared.key.ObjectKey.{ObjectKey}
+use Rattle.base_types.specs.declared.kubernetes.key.ObjectKey.{ObjectKey}
 use Rattle.clouds.specs.FirstPlace.{IsLeastPlace}
 use Rattle.clouds.specs.Items.{items_at}
 use Rattle.clouds.specs.Kept.{key_order}

@@ -3,15 +3,15 @@
 use Rattle.std.specs.Prelude.{ℕ, Bool, true, false, not, ◌&&◌, ◌||◌, ◌==◌, List, ◌++◌, map, filter_map, Option, Some, None, nat_le, nat_lt}
 use Rattle.std.specs.List.{list_all, list_any}
 use Rattle.base_types.specs.Matching.{has_text}
-use Rattle.base_types.specs.declared.key.Cover.{Cover}
-use Rattle.base_types.specs.declared.key.CoverName.{CoverName}
-use Rattle.base_types.specs.declared.key.CoverName.TheVariants.{Any, Exact, Prefix}
-use Rattle.base_types.specs.declared.key.ObjectKey.{ObjectKey}
-use Rattle.base_types.specs.declared.placed.Places.{Places}
-use Rattle.base_types.specs.declared.request.Decision.{Decision}
-use Rattle.base_types.specs.declared.request.Decision.TheVariants.{Allow, Forbid}
-use Rattle.base_types.specs.declared.request.RequestAttrs.{RequestAttrs}
-use Rattle.base_types.specs.declared.request.User.{User}
+use Rattle.base_types.specs.declared.kubernetes.key.Cover.{Cover}
+use Rattle.base_types.specs.declared.kubernetes.key.CoverName.{CoverName}
+use Rattle.base_types.specs.declared.kubernetes.key.CoverName.TheVariants.{Any, Exact, Prefix}
+use Rattle.base_types.specs.declared.kubernetes.key.ObjectKey.{ObjectKey}
+use Rattle.base_types.specs.declared.verdict.placed.Places.{Places}
+use Rattle.base_types.specs.declared.kubernetes.request.Decision.{Decision}
+use Rattle.base_types.specs.declared.kubernetes.request.Decision.TheVariants.{Allow, Forbid}
+use Rattle.base_types.specs.declared.kubernetes.request.RequestAttrs.{RequestAttrs}
+use Rattle.base_types.specs.declared.kubernetes.request.User.{User}
 use Rattle.clouds.specs.declared.span.OpaqueSpan.{OpaqueSpan}
 use Rattle.rbac_rules.specs.declared.binding.Binding.{Binding}
 use Rattle.rbac_timeline.specs.declared.kind.Kind.{Kind}

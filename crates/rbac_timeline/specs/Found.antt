@@ -1,9 +1,9 @@
 -- What a search of some bindings finds of what all of them grant.
 use Rattle.std.specs.Prelude.{◌≡◌, ◌≤◌, ℕ, List, Option, Some, None, Any, max}
 use Rattle.std.specs.BTreeMap.{BTreeMap, get}
-use Rattle.base_types.specs.declared.key.ObjectKey.{ObjectKey}
-use Rattle.base_types.specs.declared.request.RequestAttrs.{RequestAttrs}
-use Rattle.base_types.specs.declared.request.User.{User}
+use Rattle.base_types.specs.declared.kubernetes.key.ObjectKey.{ObjectKey}
+use Rattle.base_types.specs.declared.kubernetes.request.RequestAttrs.{RequestAttrs}
+use Rattle.base_types.specs.declared.kubernetes.request.User.{User}
 use Rattle.clouds.specs.FirstPlace.{IsFirstPlace}
 use Rattle.clouds.specs.Kept.{key_order}
 use Rattle.rbac_rules.specs.declared.binding.Binding.{Binding}

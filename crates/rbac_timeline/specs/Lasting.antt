@@ -1,6 +1,6 @@
 -- Up to which places objects may only be in states that they may be in before, and what grants for certain still does.
 use Rattle.std.specs.Prelude.{◌+◌, ◌<◌, ◌≡◌, ◌≤◌, ◌⊎◌, ℕ, Bool, false, ◌&&◌, nat_le, nat_lt, List, Option, Some, None, Contains, if◌then◌else◌}
-use Rattle.base_types.specs.declared.key.ObjectKey.{ObjectKey}
+use Rattle.base_types.specs.declared.kubernetes.key.ObjectKey.{ObjectKey}
 use Rattle.clouds.specs.Clouds.{IsClouded}
 use Rattle.rbac_timeline.specs.declared.lasting.Until.{Until}
 use Rattle.rbac_timeline.specs.declared.version.RbacEnd.{RbacEnd}

@@ -1,7 +1,7 @@
 -- From where on there may be bindings whose names aren't known.
 use Rattle.std.specs.Prelude.{◌≡◌, ◌<◌, ◌↔◌, ℕ, Bool, true, false, ◌&&◌, ◌||◌, nat_lt, min, List, Option, Some, None, Any}
 use Rattle.std.specs.BTreeMap.{get}
-use Rattle.base_types.specs.declared.request.RequestAttrs.{RequestAttrs}
+use Rattle.base_types.specs.declared.kubernetes.request.RequestAttrs.{RequestAttrs}
 use Rattle.clouds.specs.Kept.{text_order}
 use Rattle.clouds.specs.declared.span.OpaqueSpan.{OpaqueSpan}
 use Rattle.rbac_timeline.specs.declared.kind.Kind.{Kind}

@@ -1,6 +1,6 @@
 -- In which states a role or a binding can be at a place.
 use Rattle.std.specs.Prelude.{◌≡◌, ◌<◌, ◌≤◌, ℕ, ◌⊎◌, List, Contains}
-use Rattle.base_types.specs.declared.key.ObjectKey.{ObjectKey}
+use Rattle.base_types.specs.declared.kubernetes.key.ObjectKey.{ObjectKey}
 use Rattle.clouds.specs.Clouds.{IsClouded}
 use Rattle.rbac_rules.specs.declared.binding.Binding.{Binding}
 use Rattle.rbac_rules.specs.declared.role.PolicyRule.{PolicyRule}

@@ -1,8 +1,8 @@
 -- Which bindings may be clouded or unreadable somewhere.
 use Rattle.std.specs.Prelude.{◌≡◌, ◌≤◌, ◌^◌, ◌-◌, ◌⊎◌, ℕ, true, false, List, Any, Contains}
 use Rattle.base_types.specs.Covers.{NamesExactly}
-use Rattle.base_types.specs.declared.key.ObjectKey.{ObjectKey}
-use Rattle.base_types.specs.declared.request.RequestAttrs.{RequestAttrs}
+use Rattle.base_types.specs.declared.kubernetes.key.ObjectKey.{ObjectKey}
+use Rattle.base_types.specs.declared.kubernetes.request.RequestAttrs.{RequestAttrs}
 use Rattle.clouds.specs.Clouds.{IsClouded}
 use Rattle.clouds.specs.Items.{items_at}
 use Rattle.clouds.specs.Kept.{text_order}

@@ -1,10 +1,10 @@
 //! The law of decisions.
 
 ghost use Rattle.std.specs.Prelude.{◌≡◌, ◌↔◌, true};
-ghost use Rattle.base_types.specs.declared.placed.Places.{Places};
-ghost use Rattle.base_types.specs.declared.request.Decision.{Decision};
-ghost use Rattle.base_types.specs.declared.request.RequestAttrs.{RequestAttrs};
-ghost use Rattle.base_types.specs.declared.request.User.{User};
+ghost use Rattle.base_types.specs.declared.verdict.placed.Places.{Places};
+ghost use Rattle.base_types.specs.declared.kubernetes.request.Decision.{Decision};
+ghost use Rattle.base_types.specs.declared.kubernetes.request.RequestAttrs.{RequestAttrs};
+ghost use Rattle.base_types.specs.declared.kubernetes.request.User.{User};
 ghost use Rattle.rbac_timeline.specs.Deciding.{is_possible};
 ghost use Rattle.rbac_timeline.specs.Decisions.{IsPossible};
 ghost use Rattle.rbac_timeline.specs.Known.{Known};

@@ -1,6 +1,6 @@
 ghost use Rattle.std.specs.Prelude.{◌≡◌, ℕ, ◌∷◌, ◌++◌, [], List, Some, None, IfOk, OnOk, map};
 ghost use Rattle.std.specs.BTreeMap.{Updates, get};
-ghost use Rattle.base_types.specs.declared.key.ObjectKey.{ObjectKey};
+ghost use Rattle.base_types.specs.declared.kubernetes.key.ObjectKey.{ObjectKey};
 ghost use Rattle.clouds.specs.Items.{AddsAt, items_at};
 ghost use Rattle.clouds.specs.Kept.{text_order};
 ghost use Rattle.rbac_timeline.specs.Index.{AreRising};
@@ -23,7 +23,7 @@ pub struct Keys {
 
 impl Model for Keys {
     ghost use Rattle.std.specs.Prelude.{List};
-    ghost use Rattle.base_types.specs.declared.key.ObjectKey.{ObjectKey};
+    ghost use Rattle.base_types.specs.declared.kubernetes.key.ObjectKey.{ObjectKey};
 
     ghost Value = { List ObjectKey };
 

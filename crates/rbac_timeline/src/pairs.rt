@@ -1,6 +1,6 @@
 ghost use Rattle.std.specs.Prelude.{◌≡◌, ◌≤◌, ◌⊎◌, ℕ, Option, Some, Any, Contains};
 ghost use Rattle.std.specs.BTreeMap.{get};
-ghost use Rattle.base_types.specs.declared.key.ObjectKey.{ObjectKey};
+ghost use Rattle.base_types.specs.declared.kubernetes.key.ObjectKey.{ObjectKey};
 ghost use Rattle.clouds.specs.Clouds.{IsClouded};
 ghost use Rattle.clouds.specs.FirstPlace.{IsFirstPlace};
 ghost use Rattle.rbac_timeline.specs.Extents.{MayGrantByRole, MayGrantInWay, MayGrantNameless};

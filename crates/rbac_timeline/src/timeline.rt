@@ -86,10 +86,10 @@ fn first_behind(place: u64, low: u64, high: u64) -> Option<u64>
 
 impl Timeline {
     ghost use Rattle.std.specs.Prelude.{ℕ};
-    ghost use Rattle.base_types.specs.declared.key.ObjectKey.{ObjectKey};
+    ghost use Rattle.base_types.specs.declared.kubernetes.key.ObjectKey.{ObjectKey};
     ghost use Rattle.clouds.specs.Clouds.{IsClouded};
     ghost use Rattle.rbac_timeline.specs.declared.way.Way.{Way};
-    ghost use Rattle.base_types.specs.declared.request.RequestAttrs.{RequestAttrs};
+    ghost use Rattle.base_types.specs.declared.kubernetes.request.RequestAttrs.{RequestAttrs};
     ghost use Rattle.rbac_timeline.specs.Kinds.{IsKeyOf, IsReached};
     ghost use Rattle.rbac_timeline.specs.Unsure.{last_place};
     ghost use Rattle.rbac_timeline.specs.Index.{AreBindingsOf};

@@ -1,6 +1,6 @@
 ghost use Rattle.std.specs.Prelude.{◌≡◌, ◌↔◌, ◌∷◌, ◌++◌, [], List, Some, None, IfOk, OnOk, IsTrue};
 ghost use Rattle.std.specs.List.Sorted.{IsPermutation};
-ghost use Rattle.base_types.specs.declared.key.ObjectKey.{ObjectKey};
+ghost use Rattle.base_types.specs.declared.kubernetes.key.ObjectKey.{ObjectKey};
 ghost use Rattle.rbac_timeline.specs.Kinds.{is_binding};
 ghost use Rattle.rbac_timeline.specs.Unsure.{AreFound, AreGathered, AreUnsure, GivesNamed, GivesUnsure};
 ghost use Rattle.rbac_timeline.specs.Unsure.{IsCloudedSomewhere, MayBeUnsure, unsure_keys};

@@ -1,7 +1,7 @@
 -- The attributes of a request (Kubernetes "Authorization", "Review your request attributes").
 use Rattle.std.specs.Prelude.{ℕ, Bool, true, false, ◌&&◌, ◌||◌, ◌==◌, List, [], length, Option, Some, None, option_map, bytes_eq, codes, if◌then◌else◌}
-use Rattle.base_types.specs.declared.request.Pair.{Pair}
-use Rattle.base_types.specs.declared.request.RequestAttrs.{RequestAttrs}
+use Rattle.base_types.specs.declared.kubernetes.request.Pair.{Pair}
+use Rattle.base_types.specs.declared.kubernetes.request.RequestAttrs.{RequestAttrs}
 use Rattle.request_attrs.specs.Paths.{path_of, raw_query, segments_of}
 use Rattle.request_attrs.specs.Queries.{pairs_of, selected_name}
 use Rattle.request_attrs.specs.Requests.{ResourceRequest, resource_request}

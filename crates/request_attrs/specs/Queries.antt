@@ -4,7 +4,7 @@ use Rattle.std.specs.Prelude.{ℕ, ◌==◌, Bool, List, [], ◌∷◌, map, dro
 use Rattle.std.specs.List.{slice_split, starts_with, filter_map}
 use Rattle.std.specs.Str.Lossy.{utf8_lossy}
 use Rattle.form_urlencoded.specs.Form.{raw_pairs, decode}
-use Rattle.base_types.specs.declared.request.Pair.{Pair}
+use Rattle.base_types.specs.declared.kubernetes.request.Pair.{Pair}
 
 -- bytes that are no UTF-8 become U+FFFD
 abbrev pub pair_of : List ℕ × List ℕ → Pair

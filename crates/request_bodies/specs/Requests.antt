@@ -2,7 +2,7 @@
 -- verbs").
 use Rattle.std.specs.Prelude.{ℕ, ◌==◌, Bool, false, not, ◌||◌, List, length, Option, Some, None, bytes_eq, codes, option_map, if◌then◌else◌}
 use Rattle.base_types.specs.Meaning.{Meaning}
-use Rattle.base_types.specs.declared.request.RequestAttrs.{RequestAttrs}
+use Rattle.base_types.specs.declared.kubernetes.request.RequestAttrs.{RequestAttrs}
 use Rattle.path_shape.specs.declared.shape.Shape.{Shape}
 use Rattle.base_types.specs.Texts.{text_at}
 use Rattle.setup_file.specs.Objects.{api_version_of}

@@ -2,8 +2,8 @@
 use Rattle.std.proofs.Common.{◌≡◌, ℕ, ◌≤◌, ◌⊎◌, Bool, Option, Some, None, Contains, inl, inr, refl, sym, ap, ◌∙◌, subst, arith}
 use Rattle.std.specs.Prelude.{◌↔◌, IsTrue}
 use Rattle.base_types.specs.Reasons.{code_number}
-use Rattle.base_types.specs.declared.claim.Reason.{Reason}
-use Rattle.base_types.specs.declared.claim.Reason.TheVariants.{U7}
+use Rattle.base_types.specs.declared.verdict.claim.Reason.{Reason}
+use Rattle.base_types.specs.declared.verdict.claim.Reason.TheVariants.{U7}
 use Rattle.history_model.proofs.Fits.{same_event}
 use Rattle.history_model.proofs.WordLemmas.{IsMadeBy, made_version}
 use Rattle.history_model.specs.Checking.{HasStepCode, at_put, at_remove, at_found, at_reply}

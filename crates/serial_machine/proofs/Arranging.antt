@@ -11,7 +11,7 @@ use Rattle.std.proofs.lemmas.List.Sorted.{Contains-permutation, IsPermutation-ma
 use Rattle.std.proofs.lemmas.Map.Keys.{IsDistinct-IsPermutation}
 use Rattle.std.proofs.lemmas.Map.Made.{AllPairs-from_IsDistinct, IsDistinct-from_AllPairs}
 use Rattle.base_types.specs.Placements.{RisesByLine}
-use Rattle.base_types.specs.declared.placed.PlacedLine.{PlacedLine}
+use Rattle.base_types.specs.declared.verdict.placed.PlacedLine.{PlacedLine}
 use Rattle.base_types.proofs.Orderings.{nat_equal, nat_less, then_less, then_next}
 use Rattle.history_model.proofs.Members.{not_in_none, in_cons, all_at, all_from, pairs_head, pairs_tail}
 use Rattle.history_model.proofs.StepsOf.{steps_of}

@@ -3,7 +3,7 @@ use Rattle.std.proofs.Common.{◌≡◌, ◌≢◌, ℕ, ◌<◌, ◌≤◌, ◌
 use Rattle.std.specs.Prelude.{min}
 use Rattle.std.proofs.lemmas.Option.{slice_get_within, slice_get_cases}
 use Rattle.base_types.specs.Placements.{RisesByLine}
-use Rattle.base_types.specs.declared.placed.PlacedLine.{PlacedLine}
+use Rattle.base_types.specs.declared.verdict.placed.PlacedLine.{PlacedLine}
 use Rattle.history_model.proofs.Members.{at_in, in_at, apart}
 use Rattle.history_model.proofs.OutcomeLaw.{get_within}
 use Rattle.history_model.specs.Checking.{DiffersAt, lacking, unknown, differing, HasWords, IsLeastLine, NoLine}

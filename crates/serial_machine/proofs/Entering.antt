@@ -3,8 +3,8 @@ use Rattle.std.proofs.Common.{◌≡◌, ◌≢◌, ℕ, zero, suc, ◌<◌, ◌
 use mathlib.Core.Path.{fun_ext}
 use Rattle.std.specs.Prelude.{option_map}
 use Rattle.std.proofs.lemmas.Option.{slice_get-map, same_Some}
-use Rattle.base_types.specs.declared.claim.Reason.{Reason}
-use Rattle.base_types.specs.declared.placed.PlacedLine.{PlacedLine}
+use Rattle.base_types.specs.declared.verdict.claim.Reason.{Reason}
+use Rattle.base_types.specs.declared.verdict.placed.PlacedLine.{PlacedLine}
 use Rattle.history_model.proofs.Fits.{same_event}
 use Rattle.history_model.proofs.Members.{apart, at_in, at_apart}
 use Rattle.history_model.proofs.WordLemmas.{IsMadeBy, found_in, not_found, eq_test, test_eq, word_makes, word_removes}

@@ -4,7 +4,7 @@ use Rattle.std.specs.Prelude.{option_and_then, Result, Ok, Err, IfOk}
 use Rattle.std.proofs.lemmas.List.{map-append}
 use Rattle.std.proofs.lemmas.Bool.Decides.{leb_tells}
 use Rattle.std.proofs.lemmas.List.Elements.{All-append}
-use Rattle.base_types.specs.declared.placed.PlacedLine.{PlacedLine}
+use Rattle.base_types.specs.declared.verdict.placed.PlacedLine.{PlacedLine}
 use Rattle.history_model.proofs.Members.{not_in_none, in_cons, all_from}
 use Rattle.history_model.specs.Histories.{History}
 use Rattle.history_model.specs.Machine.{Step, Put, Reply}

@@ -1,7 +1,7 @@
 -- A placement comes to one answer.
 use Rattle.std.proofs.Common.{◌≡◌, List, refl, ap, ap₂}
-use Rattle.base_types.specs.declared.claim.Reason.{Reason}
-use Rattle.base_types.specs.declared.placed.PlacedLine.{PlacedLine}
+use Rattle.base_types.specs.declared.verdict.claim.Reason.{Reason}
+use Rattle.base_types.specs.declared.verdict.placed.PlacedLine.{PlacedLine}
 use Rattle.history_model.proofs.CheckLaw.{fault_is, one_fault_is}
 use Rattle.history_model.specs.Checking as model
 use Rattle.history_model.specs.Histories.{History}

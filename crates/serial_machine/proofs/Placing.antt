@@ -4,9 +4,9 @@ use Rattle.std.specs.Prelude.{option_and_then}
 use Rattle.std.proofs.lemmas.List.Elements.{Contains-append_left, Contains-append_right, Contains-append_cases}
 use Rattle.std.proofs.lemmas.Option.{same_Some}
 use Rattle.base_types.specs.Placements.{RisesByLine}
-use Rattle.base_types.specs.declared.placed.PlacedAnswer.{PlacedAnswer}
-use Rattle.base_types.specs.declared.placed.PlacedAnswer.TheVariants as placed
-use Rattle.base_types.specs.declared.placed.PlacedLine.{PlacedLine}
+use Rattle.base_types.specs.declared.verdict.placed.PlacedAnswer.{PlacedAnswer}
+use Rattle.base_types.specs.declared.verdict.placed.PlacedAnswer.TheVariants as placed
+use Rattle.base_types.specs.declared.verdict.placed.PlacedLine.{PlacedLine}
 use Rattle.history_model.proofs.CheckLaw.{judged_all}
 use Rattle.history_model.proofs.Members.{not_in_none, here, there, in_cons, all_at, all_from, pairs_head, pairs_tail, pairs_cons}
 use Rattle.history_model.proofs.Spelling.{spelled_is}

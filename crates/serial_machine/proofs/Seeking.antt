@@ -1,7 +1,7 @@
 -- The latest version of a key that has no maker, sought from a place down.
 use Rattle.std.proofs.Common.{◌≡◌, ℕ, ◌-◌, ◌<◌, ◌≤◌, true, false, Option, Some, None, Contains, refl, sym, ap, ◌∙◌, subst, arith, true≢false}
 use Rattle.std.proofs.lemmas.List.Kept.{AllPairs-filter}
-use Rattle.base_types.specs.declared.key.ObjectKey.{ObjectKey}
+use Rattle.base_types.specs.declared.kubernetes.key.ObjectKey.{ObjectKey}
 use Rattle.history_model.proofs.Latest.{latest_is, latest_same}
 use Rattle.history_model.proofs.Members.{apart}
 use Rattle.history_model.proofs.Steps.{in_filter, filter_in}

@@ -1,7 +1,7 @@
 -- The keys that a list shows, and those that it doesn't.
 use Rattle.std.proofs.Common.{◌≡◌, ◌≢◌, ◌↔◌, Bor, List, map, Option, Some, None, IfSome, IfNone, AllPairs, Contains, sym, ap, ◌∙◌, subst}
 use Rattle.std.specs.Prelude.{Result, Ok, Err, IfOk}
-use Rattle.base_types.specs.declared.key.ObjectKey.{ObjectKey}
+use Rattle.base_types.specs.declared.kubernetes.key.ObjectKey.{ObjectKey}
 use Rattle.history_model.specs.Events as model
 use Rattle.history_model.specs.Right.{IsAmong}
 use Rattle.object_past.specs.Among.{keys_at}

@@ -5,7 +5,7 @@ use Rattle.std.specs.Prelude.{bytes_eq}
 use Rattle.std.specs.Cmp.Lexicographic.{bytes_decides}
 use Rattle.std.proofs.lemmas.List.{take_more, take_all}
 use Rattle.std.proofs.lemmas.List.Elements.{All-append}
-use Rattle.base_types.specs.declared.key.ObjectKey.{ObjectKey}
+use Rattle.base_types.specs.declared.kubernetes.key.ObjectKey.{ObjectKey}
 use Rattle.clouds.specs.Clouds as cloud
 use Rattle.clouds.specs.FirstPlace.{IsLeastPlace, HoldsNowhere}
 use Rattle.clouds.specs.Writes.{Writes}

@@ -1,6 +1,6 @@
 -- The answers of the check, in the terms of the model of history.
 use Rattle.std.specs.Prelude.{List}
-use Rattle.base_types.specs.declared.placed.PlacedLine.{PlacedLine}
+use Rattle.base_types.specs.declared.verdict.placed.PlacedLine.{PlacedLine}
 use Rattle.history_model.specs.Checking as model
 use Rattle.history_model.specs.Checking.{CheckCode, IsFirstFault, IsVerified}
 use Rattle.history_model.specs.Histories.{History}

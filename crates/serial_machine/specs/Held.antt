@@ -1,7 +1,7 @@
 -- What a machine holds, and the steps that it made.
 use Rattle.std.specs.Prelude.{◌≡◌, ℕ, ◌↔◌, ◌&&◌, ◌==◌, nat_lt, nat_le, Bool, true, false, List, [], ◌∷◌, Option, Some, None, IsSome, Contains, filter, find, map, option_and_then}
 use Rattle.std.specs.BTreeMap.{BTreeMap, get}
-use Rattle.base_types.specs.declared.key.ObjectKey.{ObjectKey}
+use Rattle.base_types.specs.declared.kubernetes.key.ObjectKey.{ObjectKey}
 use Rattle.clouds.specs.Kept.{key_order}
 use Rattle.history_model.specs.Histories.{History, Version, Maker, Snapshot, ByEvent, Unknown}
 use Rattle.history_model.specs.Machine.{Step, Put, after_all, snapshot_map, step_place}

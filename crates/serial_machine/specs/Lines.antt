@@ -1,6 +1,6 @@
 -- How the line of a placement with the number of an event differs from the event's.
 use Rattle.std.specs.Prelude.{◌≡◌, ◌≢◌, ℕ, List, Some, None, min, slice_get}
-use Rattle.base_types.specs.declared.placed.PlacedLine.{PlacedLine}
+use Rattle.base_types.specs.declared.verdict.placed.PlacedLine.{PlacedLine}
 use Rattle.history_model.specs.Checking.{HasWords}
 use Rattle.history_model.specs.Events.{Event}
 use Rattle.history_model.specs.Histories.{History}

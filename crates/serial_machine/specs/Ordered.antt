@@ -2,9 +2,9 @@
 use Rattle.std.specs.Prelude.{◌≡◌, ℕ, ◌+◌, Bool, true, false, nat_lt, List, [], ◌∷◌, Option, Some, None, filter, map, All, length, option_and_then, slice_get}
 use Rattle.std.specs.Ordering.{ordering_then, bool_cmp, nat_cmp}
 use Rattle.std.specs.declared.cmp.Ordering.{Ordering}
-use Rattle.base_types.specs.declared.placed.PlacedAnswer.{PlacedAnswer}
-use Rattle.base_types.specs.declared.placed.PlacedAnswer.TheVariants as placed
-use Rattle.base_types.specs.declared.placed.PlacedLine.{PlacedLine}
+use Rattle.base_types.specs.declared.verdict.placed.PlacedAnswer.{PlacedAnswer}
+use Rattle.base_types.specs.declared.verdict.placed.PlacedAnswer.TheVariants as placed
+use Rattle.base_types.specs.declared.verdict.placed.PlacedLine.{PlacedLine}
 use Rattle.history_model.specs.Events.{Event}
 use Rattle.history_model.specs.Histories.{History, Version, Removal}
 use Rattle.history_model.specs.Machine.{Step, Put, Remove, Reply, step_line, step_place}

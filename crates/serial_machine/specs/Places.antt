@@ -1,8 +1,8 @@
 -- What is wrong with the places of one event's line.
 use Rattle.std.specs.Prelude.{◌≡◌, ℕ, ◌⊎◌, false, List, Some, slice_get}
-use Rattle.base_types.specs.declared.placed.PlacedLine.{PlacedLine}
-use Rattle.base_types.specs.declared.placed.Places.{Places}
-use Rattle.base_types.specs.declared.request.Decision.{Decision}
+use Rattle.base_types.specs.declared.verdict.placed.PlacedLine.{PlacedLine}
+use Rattle.base_types.specs.declared.verdict.placed.Places.{Places}
+use Rattle.base_types.specs.declared.kubernetes.request.Decision.{Decision}
 use Rattle.history_model.specs.Checking.{IsOutside}
 use Rattle.history_model.specs.Decisions.{AreCachePlaces}
 use Rattle.history_model.specs.Events.{Event}

@@ -1,7 +1,7 @@
 -- The first step of a list that isn't allowed.
 use Rattle.std.specs.Prelude.{◌≡◌, ◌≤◌, ◌++◌, ◌∷◌, ℕ, List, map}
 use Rattle.base_types.specs.Reasons.{code_number}
-use Rattle.base_types.specs.declared.claim.Reason.{Reason}
+use Rattle.base_types.specs.declared.verdict.claim.Reason.{Reason}
 use Rattle.history_model.specs.Checking.{EachStep, HasStepCode}
 use Rattle.history_model.specs.Histories.{History}
 use Rattle.history_model.specs.Machine.{Runs, after_all, snapshot_map}

@@ -1,7 +1,7 @@
 -- Steps of the machine, in the terms of the model of history, and what is wrong with one.
 use Rattle.std.specs.Prelude.{◌≡◌, ◌≤◌, Option, Some, None, Contains}
 use Rattle.base_types.specs.Reasons.{code_number}
-use Rattle.base_types.specs.declared.claim.Reason.{Reason}
+use Rattle.base_types.specs.declared.verdict.claim.Reason.{Reason}
 use Rattle.history_model.specs.Checking.{HasStepCode}
 use Rattle.history_model.specs.Histories.{History, IsEvent}
 use Rattle.history_model.specs.Machine as model

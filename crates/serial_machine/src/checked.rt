@@ -1,5 +1,5 @@
 ghost use Rattle.std.specs.Prelude.{◌≡◌, ◌∷◌, [], List, codes, decimal, IfOk, string_bytes};
-ghost use Rattle.base_types.specs.declared.placed.PlacedLine.{PlacedLine};
+ghost use Rattle.base_types.specs.declared.verdict.placed.PlacedLine.{PlacedLine};
 ghost use Rattle.history_model.specs.Histories.{History};
 ghost use Rattle.history_model.specs.Readable.{IsReadable};
 ghost use Rattle.serial_machine.specs.Checks.{IsChecked};

@@ -1,6 +1,6 @@
 ghost use Rattle.std.specs.Prelude.{◌≡◌, ◌++◌, ◌∷◌, [], Some, IfOk, IsSome, List, option_map};
 ghost use Rattle.std.specs.BTreeMap.{Updates, get};
-ghost use Rattle.base_types.specs.declared.key.ObjectKey.{ObjectKey as Key};
+ghost use Rattle.base_types.specs.declared.kubernetes.key.ObjectKey.{ObjectKey as Key};
 ghost use Rattle.clouds.specs.Kept.{key_order};
 ghost use Rattle.history_model.specs.Histories.{History};
 ghost use Rattle.history_model.specs.Machine as model;

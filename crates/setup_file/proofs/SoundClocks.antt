@@ -1,7 +1,7 @@
 -- The clocks of a setup are sound.
 use Rattle.std.proofs.Common.{◌≡◌, ℕ, ℤ, pos, negsuc, ◌^◌, ◌≤◌, nat_le, int_lt, [], ◌∷◌, inl, inr, Option, Some, None, IfSome, Ok, subst, ap, arith, codes}
 use Rattle.std.proofs.lemmas.Bool.{leb-true}
-use Rattle.base_types.specs.declared.revision.Moment.{Moment}
+use Rattle.base_types.specs.declared.kubernetes.revision.Moment.{Moment}
 use Rattle.base_types.specs.Meaning.{Meaning}
 use Rattle.base_types.specs.Parts.{member_of, text_of, whole_of}
 use Rattle.setup_file.specs.declared.clocks.Clocks.{Clocks}

@@ -1,6 +1,6 @@
 -- Where and when a log begins and ends, and how its times may be off.
 use Rattle.std.specs.Prelude.{ℕ, ℤ, pos, negsuc, ◌^◌, [], ◌∷◌, Option, Some, None, nat_le, int_lt, codes, if◌then◌else◌}
-use Rattle.base_types.specs.declared.revision.Moment.{Moment}
+use Rattle.base_types.specs.declared.kubernetes.revision.Moment.{Moment}
 use Rattle.base_types.specs.Meaning.{Meaning}
 use Rattle.base_types.specs.Parts.{member_of, text_of, whole_of}
 use Rattle.base_types.specs.Texts.{◌>>=◌, revision_at}

@@ -2,7 +2,7 @@
 use Rattle.std.specs.Prelude.{ℕ, Bool, true, ◌&&◌, not, List, [], ◌∷◌, bytes_eq}
 use Rattle.std.specs.List.{list_any}
 use Rattle.base_types.specs.contracts.key.ObjectKeyPartialEq.TheImpl as by_parts
-use Rattle.base_types.specs.declared.key.ObjectKey.{ObjectKey}
+use Rattle.base_types.specs.declared.kubernetes.key.ObjectKey.{ObjectKey}
 
 -- no two items are equal
 abbrev pub are_distinct : {A : Type 0} → (A → A → Bool) → List A → Bool

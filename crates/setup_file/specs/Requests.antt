@@ -4,8 +4,8 @@ use Rattle.std.specs.List.{list_any}
 use Rattle.base_types.specs.Meaning.{Meaning}
 use Rattle.base_types.specs.Parts.{members_of}
 use Rattle.base_types.specs.Texts.{text_at}
-use Rattle.base_types.specs.declared.request.Pair.{Pair}
-use Rattle.base_types.specs.declared.request.RequestAttrs.{RequestAttrs}
+use Rattle.base_types.specs.declared.kubernetes.request.Pair.{Pair}
+use Rattle.base_types.specs.declared.kubernetes.request.RequestAttrs.{RequestAttrs}
 use Rattle.setup_file.specs.Resources.{tracked_as}
 use Rattle.setup_file.specs.declared.setup.Setup.{Setup}
 use Rattle.setup_file.specs.declared.setup.Subresource.{Subresource}

@@ -10,7 +10,7 @@ use Rattle.std.proofs.lemmas.List.Sorted.{All-permutation}
 use Rattle.std.proofs.lemmas.Slice.Zip.{AllZip-long}
 use Rattle.base_types.proofs.Integers.{lt_or_ge}
 use Rattle.base_types.proofs.Quantifiers.{Any-head, Any-permutation, Any-tail, Any-unmap, Any-contains}
-use Rattle.base_types.specs.declared.revision.Moment.{Moment}
+use Rattle.base_types.specs.declared.kubernetes.revision.Moment.{Moment}
 use Rattle.strict_order.specs.declared.thing.Thing.{Thing}
 use Rattle.strict_order.specs.Printed.{IsPrinted}
 use Rattle.strict_order.specs.Strict.{Standing, IsStrict, NeverFalls, StandsAt}

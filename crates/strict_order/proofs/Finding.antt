@@ -8,7 +8,7 @@ use Rattle.std.proofs.lemmas.List.{get_or-take, length-take}
 use Rattle.std.proofs.lemmas.List.Sorted.{All-permutation, IsPermutation-sym}
 use Rattle.base_types.proofs.Integers.{ge_from_test, lt_from_test}
 use Rattle.base_types.proofs.Quantifiers.{All-unmap, Any-permutation, Any-unmap}
-use Rattle.base_types.specs.declared.revision.Moment.{Moment}
+use Rattle.base_types.specs.declared.kubernetes.revision.Moment.{Moment}
 use Rattle.strict_order.specs.declared.latest.LatestMark.{LatestMark}
 use Rattle.strict_order.specs.declared.thing.Thing.{Thing}
 use Rattle.strict_order.specs.Latest.{IsLatest, IsLatestOf, mark_of}

@@ -4,7 +4,7 @@ use Rattle.std.proofs.lemmas.Int.{ints}
 use Rattle.std.proofs.lemmas.List.{get_or_default, get_or-take, length-take}
 use Rattle.std.proofs.lemmas.List.Elements.{All-more, All-weaker}
 use Rattle.base_types.proofs.Quantifiers.{Any-weaker, none_from_all}
-use Rattle.base_types.specs.declared.revision.Moment.{Moment}
+use Rattle.base_types.specs.declared.kubernetes.revision.Moment.{Moment}
 use Rattle.strict_order.specs.declared.thing.Thing.{Thing}
 use Rattle.strict_order.specs.Judged.{IsEarlier, IsFirstSuch}
 use Rattle.strict_order.specs.Printed.{IsPrinted}

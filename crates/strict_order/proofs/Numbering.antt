@@ -1,7 +1,7 @@
 -- Things in an order get the least numbers that don't fall.
 use Rattle.std.proofs.Common.{◌≡◌, ℕ, ◌≤◌, ◌≤ℤ◌, List, [], ◌∷◌, map, max, All, refl, ap, arith}
 use Rattle.std.proofs.lemmas.List.Elements.{All-cons, All-head, All-nil, All-tail, All-weaker}
-use Rattle.base_types.specs.declared.revision.Moment.{Moment}
+use Rattle.base_types.specs.declared.kubernetes.revision.Moment.{Moment}
 use Rattle.strict_order.specs.declared.thing.Thing.{Thing}
 use Rattle.strict_order.specs.Strict.{Standing, IsAllowed, NeverFalls}
 use Rattle.strict_order.proofs.Arranging.{Ascends}

@@ -5,7 +5,7 @@ use Rattle.std.proofs.lemmas.Int.{ints}
 use Rattle.std.proofs.lemmas.List.{get_or_default, get_or-set_other, get_or-set_same, get_or-take, length-set, length-take}
 use Rattle.std.proofs.lemmas.List.Elements.{All-more, All-weaker}
 use Rattle.base_types.proofs.Quantifiers.{Any-longer, Any-last}
-use Rattle.base_types.specs.declared.revision.Moment.{Moment}
+use Rattle.base_types.specs.declared.kubernetes.revision.Moment.{Moment}
 use Rattle.strict_order.specs.declared.latest.LatestMark.{LatestMark}
 use Rattle.strict_order.specs.Latest.{IsLatestOf, IsLatestSoFar}
 

@@ -1,7 +1,7 @@
 -- The latest first moment of all things up to a number, for each number.
 use Rattle.std.specs.Prelude.{◌≡◌, ℕ, ◌+◌, ◌<◌, ◌≤◌, ◌≤ℤ◌, List, length, map, take, slice_index_or, All, Any}
 use Rattle.std.specs.List.Sorted.{IsPermutation}
-use Rattle.base_types.specs.declared.revision.Moment.{Moment}
+use Rattle.base_types.specs.declared.kubernetes.revision.Moment.{Moment}
 use Rattle.strict_order.specs.declared.latest.LatestMark.{LatestMark}
 use Rattle.strict_order.specs.declared.thing.Thing.{Thing}
 

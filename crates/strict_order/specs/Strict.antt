@@ -2,7 +2,7 @@
 use Rattle.std.specs.Prelude.{◌≡◌, ℕ, ◌≤◌, ◌≤ℤ◌, List, length, map, All, AllPairs}
 use Rattle.std.specs.List.{zip}
 use Rattle.std.specs.List.Sorted.{IsPermutation}
-use Rattle.base_types.specs.declared.revision.Moment.{Moment}
+use Rattle.base_types.specs.declared.kubernetes.revision.Moment.{Moment}
 use Rattle.strict_order.specs.declared.thing.Thing.{Thing}
 
 -- a thing, with the moment and the number at which it stands

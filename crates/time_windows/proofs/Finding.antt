@@ -8,7 +8,7 @@ use Rattle.std.proofs.lemmas.List.{get_or_default, get_or-drop, get_or-take, len
 use Rattle.std.proofs.lemmas.List.Sorted.{IsPermutation-sym}
 use Rattle.base_types.proofs.Integers.{ge_from_test, gt_from_test, le_from_test, lt_from_test, test_from_le, test_from_lt}
 use Rattle.base_types.proofs.Quantifiers.{Any-map, Any-permutation, Any-unmap}
-use Rattle.base_types.specs.declared.revision.Moment.{Moment}
+use Rattle.base_types.specs.declared.kubernetes.revision.Moment.{Moment}
 use Rattle.time_windows.specs.declared.mark.SpanMark.{SpanMark}
 use Rattle.time_windows.specs.declared.span.Span.{Span}
 use Rattle.time_windows.specs.Marks.{IsByHi, IsByLo, IsGreatestOf, IsInOrder, IsLeastOf, end_of, start_of}

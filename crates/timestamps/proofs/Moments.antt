@@ -6,7 +6,7 @@ use Rattle.std.proofs.lemmas.Bool.{or_parts}
 use Rattle.std.proofs.lemmas.Int.{ints}
 use Rattle.base_types.specs.Moments.{IsMoment}
 use Rattle.base_types.proofs.Found.{either, same_some}
-use Rattle.base_types.specs.declared.revision.Moment.{Moment}
+use Rattle.base_types.specs.declared.kubernetes.revision.Moment.{Moment}
 use Rattle.jiff.specs.Words.{Error, nanos_of_seconds}
 use Rattle.jiff_fmt.specs.Reader.{◌>>=◌, or_err}
 use Rattle.jiff_fmt.specs.Offset.{to_offset}

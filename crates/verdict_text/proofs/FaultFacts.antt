@@ -1,7 +1,7 @@
 -- Why a text isn't that of a placement, at the line that the reader names.
 use Rattle.std.proofs.Common.{◌≡◌, ◌≢◌, ℕ, ◌+◌, inl, inr, List, [], ◌∷◌, ◌++◌, length, refl, sym, ap, ◌∙◌, arith}
 use Rattle.std.proofs.lemmas.List.{append-nil}
-use Rattle.base_types.specs.declared.placed.PlacedLine.{PlacedLine}
+use Rattle.base_types.specs.declared.verdict.placed.PlacedLine.{PlacedLine}
 use Rattle.verdict_text.specs.Words.{ended, IsNumber, Lacks}
 use Rattle.verdict_text.specs.Outcome.{count_text, placed_lines}
 use Rattle.verdict_text.specs.Reading.{IsExplained, BeginsBy, IsBegun, IsNext, BreaksAt, IsFaultLine}

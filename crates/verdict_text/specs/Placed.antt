@@ -1,12 +1,12 @@
 -- The text of a placed line: LINE ANSWER DECISION.
 use Rattle.std.specs.Prelude.{ℕ, List, [], ◌∷◌, Option, Some, None, IfSome, codes, decimal}
-use Rattle.base_types.specs.declared.request.Decision.{Decision}
-use Rattle.base_types.specs.declared.request.Decision.TheVariants.{Allow, Forbid}
-use Rattle.base_types.specs.declared.placed.Places.{Places}
-use Rattle.base_types.specs.declared.placed.PlacedAnswer.{PlacedAnswer}
-use Rattle.base_types.specs.declared.placed.PlacedAnswer.TheVariants.{Made, Removed, At, Nowhere}
-use Rattle.base_types.specs.declared.placed.PlacedDecision.{PlacedDecision}
-use Rattle.base_types.specs.declared.placed.PlacedLine.{PlacedLine}
+use Rattle.base_types.specs.declared.kubernetes.request.Decision.{Decision}
+use Rattle.base_types.specs.declared.kubernetes.request.Decision.TheVariants.{Allow, Forbid}
+use Rattle.base_types.specs.declared.verdict.placed.Places.{Places}
+use Rattle.base_types.specs.declared.verdict.placed.PlacedAnswer.{PlacedAnswer}
+use Rattle.base_types.specs.declared.verdict.placed.PlacedAnswer.TheVariants.{Made, Removed, At, Nowhere}
+use Rattle.base_types.specs.declared.verdict.placed.PlacedDecision.{PlacedDecision}
+use Rattle.base_types.specs.declared.verdict.placed.PlacedLine.{PlacedLine}
 use Rattle.verdict_text.specs.Words.{spaced, IsNumber}
 
 abbrev pub answer_text : PlacedAnswer → List ℕ

@@ -1,6 +1,6 @@
 -- Which texts are placements, and the first line at which one can't be continued.
 use Rattle.std.specs.Prelude.{◌≡◌, ℕ, ◌+◌, ◌<◌, ◌≤◌, ◌==◌, ◌⊎◌, List, [], ◌∷◌, ◌++◌, length, All, count_by}
-use Rattle.base_types.specs.declared.placed.PlacedLine.{PlacedLine}
+use Rattle.base_types.specs.declared.verdict.placed.PlacedLine.{PlacedLine}
 use Rattle.base_types.specs.Placements.{RisesByLine}
 use Rattle.verdict_text.specs.Words.{ended, IsNumber, Lacks}
 use Rattle.verdict_text.specs.Placed.{placed_text, FitsPlaced}

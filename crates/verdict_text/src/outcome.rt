@@ -1,6 +1,6 @@
 ghost use Rattle.std.specs.Prelude.{◌≡◌, ◌++◌, [], ◌∷◌, List, All, OnOk, IfOk, codes, decimal, length, string_bytes};
 ghost use Rattle.base_types.specs.Escapes.{escaped};
-ghost use Rattle.base_types.specs.declared.placed.PlacedLine.{PlacedLine};
+ghost use Rattle.base_types.specs.declared.verdict.placed.PlacedLine.{PlacedLine};
 ghost use Rattle.verdict_text.specs.Placed.{FitsPlaced};
 ghost use Rattle.verdict_text.specs.Reading.{IsPlacement};
 ghost use Rattle.verdict_text.specs.Words.{IsNumber, ended, spaced};

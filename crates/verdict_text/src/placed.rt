@@ -1,9 +1,9 @@
 ghost use Rattle.std.specs.Prelude.{◌≡◌, ◌≢◌, List, ℕ, [], ◌∷◌, ◌++◌, Option, OnOk, IfSome, IfNone, string_bytes};
-ghost use Rattle.base_types.specs.declared.request.Decision.{Decision};
-ghost use Rattle.base_types.specs.declared.placed.Places.{Places};
-ghost use Rattle.base_types.specs.declared.placed.PlacedAnswer.{PlacedAnswer};
-ghost use Rattle.base_types.specs.declared.placed.PlacedDecision.{PlacedDecision};
-ghost use Rattle.base_types.specs.declared.placed.PlacedLine.{PlacedLine};
+ghost use Rattle.base_types.specs.declared.kubernetes.request.Decision.{Decision};
+ghost use Rattle.base_types.specs.declared.verdict.placed.Places.{Places};
+ghost use Rattle.base_types.specs.declared.verdict.placed.PlacedAnswer.{PlacedAnswer};
+ghost use Rattle.base_types.specs.declared.verdict.placed.PlacedDecision.{PlacedDecision};
+ghost use Rattle.base_types.specs.declared.verdict.placed.PlacedLine.{PlacedLine};
 ghost use Rattle.verdict_text.specs.Words.{ended};
 ghost use Rattle.verdict_text.specs.Placed.{answer_text, decision_text, decision_word, placed_text, places_text};
 ghost use Rattle.verdict_text.specs.Placed.{FitsAnswer, FitsDecision, FitsPlaced, FitsPlaces};

@@ -10,7 +10,7 @@ use Rattle.std.proofs.lemmas.Cmp.{on_total, then_total}
 use Rattle.std.proofs.lemmas.List.Elements.{Contains-append_cases, Contains-append_left, Contains-append_right, Contains-get_or}
 use Rattle.std.proofs.lemmas.List.Sorted.{Contains-permutation, IsPermutation-sym, ranks_by, sorted_far}
 use Rattle.std.proofs.lemmas.Option.{same_Some, slice_get_within}
-use Rattle.base_types.specs.declared.key.ObjectKey.{ObjectKey}
+use Rattle.base_types.specs.declared.kubernetes.key.ObjectKey.{ObjectKey}
 use Rattle.base_types.proofs.Orderings.{nat_equal, nat_less, then_less, then_next}
 use Rattle.history_model.proofs.JudgingLemmas.{numbers}
 use Rattle.history_model.proofs.Members.{all_from, at_apart, at_in, in_at}

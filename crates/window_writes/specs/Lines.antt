@@ -1,8 +1,8 @@
 -- The lines that tell of the writes in a window.
 use Rattle.std.specs.Prelude.{◌≡◌, ℕ, List, map}
 use Rattle.base_types.specs.Keys.{key_spelling}
-use Rattle.base_types.specs.declared.placed.WriteLine.{WriteLine}
-use Rattle.base_types.specs.declared.placed.WriteLine.TheVariants as written
+use Rattle.base_types.specs.declared.verdict.placed.WriteLine.{WriteLine}
+use Rattle.base_types.specs.declared.verdict.placed.WriteLine.TheVariants as written
 use Rattle.history_model.specs.Outcomes.{AreWrites, Write, MadeAt, RemovedIn}
 use Rattle.log_context.specs.Histories.{history_of}
 use Rattle.log_context.specs.Known.{Known}

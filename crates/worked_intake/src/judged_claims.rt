@@ -21,7 +21,7 @@ struct Plain {
 impl ClaimSource for Plain {
     ghost use Rattle.std.specs.Prelude.{◌≡◌, [], None};
     ghost use Rattle.std.proofs.Common.{sym, ◌∙◌};
-    ghost use Rattle.base_types.specs.declared.claim.Reason.TheVariants.{U10};
+    ghost use Rattle.base_types.specs.declared.verdict.claim.Reason.TheVariants.{U10};
 
     ghost events = { λ s. s.count };
 
@@ -70,7 +70,7 @@ impl<'a> Watching<'a> {
 impl<'a> ClaimSource for Watching<'a> {
     ghost use Rattle.std.specs.Prelude.{◌≡◌, [], None};
     ghost use Rattle.std.proofs.Common.{sym, ◌∙◌};
-    ghost use Rattle.base_types.specs.declared.claim.Reason.TheVariants.{U10};
+    ghost use Rattle.base_types.specs.declared.verdict.claim.Reason.TheVariants.{U10};
 
     ghost events = { λ s. s.plain.count };
 

@@ -4,7 +4,7 @@ use Rattle.std.specs.Prelude.{int_lt}
 use Rattle.std.specs.List.{fold}
 use Rattle.std.proofs.lemmas.Int.{ints}
 use Rattle.std.proofs.lemmas.Option.{same_Some}
-use Rattle.base_types.specs.declared.revision.Moment.{Moment}
+use Rattle.base_types.specs.declared.kubernetes.revision.Moment.{Moment}
 use Rattle.history_model.proofs.Members.{not_in_none, here, there, in_cons}
 use Rattle.write_groups.proofs.Comparing.{int_tells}
 use Rattle.write_groups.specs.Spanned.{earlier_moment, least_by}

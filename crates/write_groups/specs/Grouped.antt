@@ -2,7 +2,7 @@
 use Rattle.std.specs.Prelude.{◌≡◌, ◌≢◌, ◌<◌, ◌==◌, ℕ, Bool, false, List, [], ◌∷◌, Option, Some, None, if◌then◌else◌, nat_lt, filter, option_and_then, slice_get, IsSome, All, AllPairs, Any, Contains}
 use Rattle.std.specs.BTreeMap.{BTreeMap, get}
 use Rattle.std.specs.Ordering.{nat_cmp}
-use Rattle.base_types.specs.declared.key.ObjectKey.{ObjectKey}
+use Rattle.base_types.specs.declared.kubernetes.key.ObjectKey.{ObjectKey}
 use Rattle.base_types.specs.Keys.{same_key}
 use Rattle.write_groups.specs.declared.event.Item.{Item}
 use Rattle.write_groups.specs.declared.event.LogEvent.{LogEvent}

@@ -1,8 +1,8 @@
 -- Unrecorded writes, and when they may have begun.
 use Rattle.std.specs.Prelude.{◌≡◌, ◌+◌, ◌≤ℤ◌, ℕ, List, [], ◌∷◌, Option, Some, None, length, filter_map, All, AllPairs, Any}
 use Rattle.base_types.specs.Covers.{Covers}
-use Rattle.base_types.specs.declared.key.ObjectKey.{ObjectKey}
-use Rattle.base_types.specs.declared.revision.Moment.{Moment}
+use Rattle.base_types.specs.declared.kubernetes.key.ObjectKey.{ObjectKey}
+use Rattle.base_types.specs.declared.kubernetes.revision.Moment.{Moment}
 use Rattle.clouds.specs.Writes.{Writes}
 use Rattle.clouds.specs.declared.span.OpaqueSpan.{OpaqueSpan}
 use Rattle.write_groups.specs.declared.event.LogEvent.{LogEvent}

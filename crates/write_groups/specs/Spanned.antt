@@ -1,7 +1,7 @@
 -- Between which moments a group's revision was written.
 use Rattle.std.specs.Prelude.{◌≡◌, ◌||◌, ◌==◌, not, ◌<◌, ◌⊎◌, ℕ, Bool, true, false, List, Option, Some, None, if◌then◌else◌, int_lt, slice_get, option_map, fold, AllPairs, Contains}
 use Rattle.std.specs.List.{list_any}
-use Rattle.base_types.specs.declared.revision.Moment.{Moment}
+use Rattle.base_types.specs.declared.kubernetes.revision.Moment.{Moment}
 use Rattle.time_windows.specs.declared.span.Span.{Span}
 use Rattle.write_groups.specs.declared.event.LogEvent.{LogEvent}
 use Rattle.write_groups.specs.declared.event.Shown.{Shown}

@@ -1,7 +1,7 @@
 ghost use Rattle.std.specs.Prelude.{◌≡◌, IfOk};
 
+use crate::foundation::OutOfMemory;
 use crate::json::tree::{Member, MemberList, Node, Tree, Trees};
-use crate::memory::OutOfMemory;
 use std::alloc::Global;
 
 /// The same tree once more.

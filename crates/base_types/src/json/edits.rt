@@ -5,9 +5,8 @@ ghost use Rattle.base_types.specs.Names.{AreSorted};
 ghost use Rattle.base_types.specs.Parts.{lookup};
 ghost use Rattle.base_types.specs.Stored.{fields_without};
 
+use crate::foundation::{OutOfMemory, Text};
 use crate::json::tree::{Member, MemberList, Tree};
-use crate::memory::OutOfMemory;
-use crate::text::Text;
 use std::mem;
 
 impl MemberList {

@@ -1,8 +1,8 @@
 ghost use Rattle.std.specs.Prelude.{◌≡◌, option_map};
 ghost use Rattle.base_types.specs.Parts.{member_of, is_null, flag_of, whole_of, text_of, items_of, members_of};
 
+use crate::foundation::Text;
 use crate::json::tree::{MemberList, Node, Tree, Trees};
-use crate::text::Text;
 
 impl Tree {
     /// The value of an object's member.

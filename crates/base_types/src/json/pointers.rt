@@ -7,10 +7,8 @@ ghost use Rattle.base_types.specs.Pointers.{is_slash, escape_of, unescaped, all_
 ghost use Rattle.base_types.specs.Pointers.{pointer_text, index_of, child_of, pointed, kid_at, is_index};
 ghost use Rattle.base_types.specs.Meaning.{kids_of};
 
+use crate::foundation::{Listed, OutOfMemory, Text};
 use crate::json::tree::{Node, Tree, Trees};
-use crate::listed::Listed;
-use crate::memory::OutOfMemory;
-use crate::text::Text;
 use std::alloc::{AllocError, AllocFailed, Global};
 use std::str::Chars;
 use thiserror::Error;

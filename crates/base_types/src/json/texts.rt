@@ -3,10 +3,9 @@ ghost use Rattle.base_types.specs.Parts.{member_of};
 ghost use Rattle.base_types.specs.Texts.{text_at, non_empty, filled_at, revision_at};
 ghost use Rattle.base_types.specs.Texts.{items_or_none, texts_in, texts_of, texts_at};
 
+use crate::foundation::{OutOfMemory, Text, Texts};
 use crate::json::tree::Tree;
-use crate::memory::OutOfMemory;
-use crate::revision::{Revision, revision_of};
-use crate::text::{Text, Texts};
+use crate::kubernetes::{Revision, revision_of};
 use std::alloc::Global;
 
 // The texts of these trees, where each is a text.

@@ -1,5 +1,4 @@
-use crate::memory::OutOfMemory;
-use crate::text::Text;
+use crate::foundation::{OutOfMemory, Text};
 use std::alloc::{AllocError, AllocFailed};
 use std::marker::Model;
 use thiserror::Error;

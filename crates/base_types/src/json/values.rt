@@ -5,9 +5,8 @@ ghost use Rattle.base_types.specs.Meaning.{whole, kids_of, fields_of};
 ghost use Rattle.base_types.specs.Values.{of_number, of_data, of_items, of_members, IsInteger, InRange};
 ghost use Rattle.base_types.specs.Values.{KidsInRange, FieldsInRange, data_of, data_items, data_members};
 
+use crate::foundation::{OutOfMemory, Text};
 use crate::json::tree::{Member, MemberList, Node, Tree, TreeFault, Trees};
-use crate::memory::OutOfMemory;
-use crate::text::Text;
 use serde_json::{Map, Number, Value};
 use std::alloc::Global;
 

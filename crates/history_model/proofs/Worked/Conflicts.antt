@@ -2,9 +2,9 @@ use Rattle.std.proofs.Common.{◌≡◌, ℕ, ◌<◌, ◌≤◌, ◌⊎◌, tru
 use Rattle.std.specs.List.{AllZip}
 use Rattle.std.proofs.lemmas.Int.{ints}
 use Rattle.base_types.specs.Choices.{IsChoice}
-use Rattle.base_types.specs.declared.claim.Reason.TheVariants.{U4, U12}
-use Rattle.base_types.specs.declared.key.ObjectKey.{ObjectKey}
-use Rattle.base_types.specs.declared.placed.PlacedAnswer.TheVariants as placed
+use Rattle.base_types.specs.declared.verdict.claim.Reason.TheVariants.{U4, U12}
+use Rattle.base_types.specs.declared.kubernetes.key.ObjectKey.{ObjectKey}
+use Rattle.base_types.specs.declared.verdict.placed.PlacedAnswer.TheVariants as placed
 use Rattle.history_model.proofs.Members.{not_in_none, all_from}
 use Rattle.history_model.proofs.Worked.Kit.{each_of, EachAt, each_making, rising_is, order_is, not_before, Follows, IsGroup, span_is, made_sole, no_fault, no_removals, no_checkpoints, explanation, EachLine, lines_are, earliest, reader_least, never_clouded, right_for, made_in, made_line, listed_at, state_in, judged_right}
 use Rattle.history_model.specs.Clouds.{IsClouded}

@@ -1,9 +1,9 @@
 use Rattle.std.proofs.Common.{◌≡◌, ℕ, ◌<◌, ◌≤◌, ◌⊎◌, true, [], Option, None, Contains, inl, inr, refl, sym, ap, arith, true≢false}
 use Rattle.std.proofs.lemmas.Int.{ints}
 use Rattle.base_types.specs.Reasons.{code_number}
-use Rattle.base_types.specs.declared.claim.Reason.{Reason}
-use Rattle.base_types.specs.declared.claim.Reason.TheVariants.{U3}
-use Rattle.base_types.specs.declared.key.ObjectKey.{ObjectKey}
+use Rattle.base_types.specs.declared.verdict.claim.Reason.{Reason}
+use Rattle.base_types.specs.declared.verdict.claim.Reason.TheVariants.{U3}
+use Rattle.base_types.specs.declared.kubernetes.key.ObjectKey.{ObjectKey}
 use Rattle.history_model.proofs.Members.{not_in_none, all_from}
 use Rattle.history_model.proofs.Worked.Kit.{each_of, each_event, each_making, rising_is, order_is, not_before, Follows, IsGroup, span_is, made_faulty, no_removals, no_checkpoints, earliest, never_clouded}
 use Rattle.history_model.specs.Clouds.{IsClouded, MayBeUnrecorded}

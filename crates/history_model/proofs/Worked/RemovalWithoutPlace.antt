@@ -1,7 +1,7 @@
 use Rattle.std.proofs.Common.{◌≡◌, ◌≢◌, ℕ, ◌<◌, ◌≤◌, ◌+◌, min, max, ◌⊎◌, true, [], ◌∷◌, List, Option, Some, None, IsSome, Contains, inl, inr, refl, sym, ap, ap₂, ◌∙◌, subst, arith}
 use Rattle.std.proofs.lemmas.Int.{ints}
-use Rattle.base_types.specs.declared.claim.Reason.TheVariants.{U4, U9}
-use Rattle.base_types.specs.declared.key.ObjectKey.{ObjectKey}
+use Rattle.base_types.specs.declared.verdict.claim.Reason.TheVariants.{U4, U9}
+use Rattle.base_types.specs.declared.kubernetes.key.ObjectKey.{ObjectKey}
 use Rattle.history_model.proofs.Members.{not_in_none, all_from}
 use Rattle.history_model.proofs.Worked.Kit.{each_of, each_event, each_making, rising_is, order_is, not_before, Follows, IsGroup, span_is, made_sole, made_faulty, no_fault, no_checkpoints, earliest, reader_least, never_clouded, right_for, made_in, made_line, listed_at, other_text, judged_right}
 use Rattle.history_model.specs.Clouds.{IsClouded, MayBeUnrecorded}

@@ -3,10 +3,10 @@ use Rattle.std.specs.List.{AllZip}
 use Rattle.std.proofs.lemmas.Int.{ints}
 use Rattle.base_types.specs.Choices.{IsChoice}
 use Rattle.base_types.specs.Reasons.{code_number}
-use Rattle.base_types.specs.declared.claim.Reason.{Reason}
-use Rattle.base_types.specs.declared.claim.Reason.TheVariants.{U7}
-use Rattle.base_types.specs.declared.key.ObjectKey.{ObjectKey}
-use Rattle.base_types.specs.declared.placed.PlacedAnswer.TheVariants as placed
+use Rattle.base_types.specs.declared.verdict.claim.Reason.{Reason}
+use Rattle.base_types.specs.declared.verdict.claim.Reason.TheVariants.{U7}
+use Rattle.base_types.specs.declared.kubernetes.key.ObjectKey.{ObjectKey}
+use Rattle.base_types.specs.declared.verdict.placed.PlacedAnswer.TheVariants as placed
 use Rattle.history_model.proofs.Members.{not_in_none, here, there, all_from}
 use Rattle.history_model.proofs.Worked.Kit.{each_of, EachAt, each_event, each_making, rising_is, order_is, not_before, Follows, IsGroup, span_is, made_sole, made_able, no_fault, no_removals, no_checkpoints, explanation, EachLine, lines_are, earliest, shown_above, never_clouded, right_for, made_in, made_line, listed_at, could_find}
 use Rattle.history_model.specs.Clouds.{IsClouded}

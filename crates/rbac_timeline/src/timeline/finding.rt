@@ -1,6 +1,6 @@
 ghost use Rattle.std.specs.Prelude.{◌≡◌, ◌↔◌, IsTrue, IfSome, IfNone, Any, Contains};
 ghost use Rattle.std.specs.Prelude.{false, ◌<◌, ◌≤◌, ◌||◌};
-ghost use Rattle.base_types.specs.declared.placed.Places.{Places};
+ghost use Rattle.base_types.specs.declared.verdict.placed.Places.{Places};
 
 use crate::search::Asked;
 use crate::timeline::Timeline;
@@ -27,8 +27,8 @@ fn any_of(a: bool, b: bool, c: bool) -> bool
 
 impl Timeline {
     ghost use Rattle.rbac_timeline.specs.declared.way.Way.{Way};
-    ghost use Rattle.base_types.specs.declared.request.RequestAttrs.{RequestAttrs};
-    ghost use Rattle.base_types.specs.declared.request.User.{User};
+    ghost use Rattle.base_types.specs.declared.kubernetes.request.RequestAttrs.{RequestAttrs};
+    ghost use Rattle.base_types.specs.declared.kubernetes.request.User.{User};
     ghost use Rattle.base_types.specs.PlaceOrder.{AreLeastPlaces};
     ghost use Rattle.rbac_timeline.specs.Decisions.{IsDecidedAt, IsPossible};
     ghost use Rattle.rbac_timeline.specs.Choices.{IsBypassed};

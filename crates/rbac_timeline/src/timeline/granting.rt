@@ -53,11 +53,11 @@ pub(crate) fn names(binding: &Binding, who: &User) -> bool
 
 impl Timeline {
     ghost use Rattle.std.specs.Prelude.{ℕ};
-    ghost use Rattle.base_types.specs.declared.key.ObjectKey.{ObjectKey};
+    ghost use Rattle.base_types.specs.declared.kubernetes.key.ObjectKey.{ObjectKey};
     ghost use Rattle.clouds.specs.Clouds.{IsClouded};
     ghost use Rattle.rbac_timeline.specs.declared.way.Way.{Way};
-    ghost use Rattle.base_types.specs.declared.request.RequestAttrs.{RequestAttrs};
-    ghost use Rattle.base_types.specs.declared.request.User.{User};
+    ghost use Rattle.base_types.specs.declared.kubernetes.request.RequestAttrs.{RequestAttrs};
+    ghost use Rattle.base_types.specs.declared.kubernetes.request.User.{User};
     ghost use Rattle.rbac_timeline.specs.declared.version.RbacVersion.{RbacVersion};
     ghost use Rattle.rbac_timeline.specs.Choices.{IsKnownKey};
     ghost use Rattle.rbac_timeline.specs.Extents.{IsCertain, IsNotGone, MayGrantByKey, MayGrantByRole};

@@ -25,7 +25,7 @@ fn gap_until(gap: Option<Gap>, place: u64, high: u64) -> u64
 }
 
 impl Timeline {
-    ghost use Rattle.base_types.specs.declared.key.ObjectKey.{ObjectKey};
+    ghost use Rattle.base_types.specs.declared.kubernetes.key.ObjectKey.{ObjectKey};
     ghost use Rattle.rbac_timeline.specs.Lasting.{IsStill, NoneBegins, NoneClouded, NoneRemoved};
 
     // The last place up to which no version of the key begins behind this one.

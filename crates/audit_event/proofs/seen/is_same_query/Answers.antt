@@ -2,7 +2,7 @@ use Rattle.std.proofs.Common.{◌≡◌, ap}
 use Rattle.std.specs.Bool.{Decides}
 use Rattle.std.proofs.lemmas.Bool.Decides.{Decides-and, Decides-like}
 use Rattle.std.proofs.lemmas.Slice.Eq.{bytes_eq-Decides, slice_eq-Decides}
-use Rattle.base_types.specs.declared.request.Pair.{Pair}
+use Rattle.base_types.specs.declared.kubernetes.request.Pair.{Pair}
 use Rattle.base_types.specs.contracts.request.PairPartialEq.TheImpl as same
 use Rattle.audit_event.proofs.seen.is_same_query.Goals as goal
 

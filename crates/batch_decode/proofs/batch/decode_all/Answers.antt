@@ -2,7 +2,7 @@ use Rattle.std.proofs.Common.{◌≡◌, ◌-◌, ◌<◌, ◌∙◌, Ok, sym, a
 use Rattle.std.specs.List.{AllZip, range_with_len}
 use Rattle.rayon.specs.Numbers.{nat_range}
 use Rattle.rayon.proofs.ToStd.{nat_range-All}
-use Rattle.base_types.specs.declared.memory.OutOfMemory.{OutOfMemory}
+use Rattle.base_types.specs.declared.foundation.memory.OutOfMemory.{OutOfMemory}
 use Rattle.judge_pool.proofs.Gathering.{answers_kept}
 use Rattle.batch_decode.specs.Batches.{IsDecodedLine}
 use Rattle.batch_decode.proofs.Gathering.{AnswersEntered, all_entered, answered, each_pair}

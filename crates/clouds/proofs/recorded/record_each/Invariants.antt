@@ -1,5 +1,5 @@
 use Rattle.std.proofs.Common.{◌≡◌, [], map, take}
-use Rattle.base_types.specs.declared.key.ObjectKey.{ObjectKey}
+use Rattle.base_types.specs.declared.kubernetes.key.ObjectKey.{ObjectKey}
 use Rattle.clouds.specs.Filed.{AreRecorded}
 use Rattle.clouds.specs.Recorded.{firsts_at, revisions_at}
 use Rattle.clouds.proofs.recorded.record_each.Given as goal

@@ -1,5 +1,5 @@
 use Rattle.std.proofs.Common.{sym, subst, Some, None, true≢false, ◌∙◌}
-use Rattle.base_types.specs.declared.claim.Reason.TheVariants.{U7}
+use Rattle.base_types.specs.declared.verdict.claim.Reason.TheVariants.{U7}
 use Rattle.history_model.specs.Local.{IsFixedBy}
 use Rattle.history_model.specs.Words.{Removes}
 use Rattle.object_past.specs.Modelled.{recorded}

@@ -1,6 +1,6 @@
 use Rattle.std.proofs.Common.{◌≡◌, rules, tests}
 use Rattle.std.proofs.lemmas.Iterator.{YieldsList-from_slice, cases_from_any}
-use Rattle.base_types.specs.declared.key.ObjectKey.{ObjectKey}
+use Rattle.base_types.specs.declared.kubernetes.key.ObjectKey.{ObjectKey}
 use Rattle.setup_file.specs.declared.setup.Tracked.{Tracked}
 use Rattle.history_query.proofs.TellingFacts.{any_tells}
 use Rattle.history_query.proofs.telling.is_tracked.Goals as goal

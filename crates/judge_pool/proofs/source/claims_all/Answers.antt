@@ -2,7 +2,7 @@ use Rattle.std.proofs.Common.{◌≡◌, ◌-◌, ◌<◌, ◌∙◌, Ok, ap, ma
 use Rattle.std.specs.List.{AllZip, range_with_len}
 use Rattle.rayon.specs.Numbers.{nat_range}
 use Rattle.rayon.proofs.ToStd.{nat_range-All}
-use Rattle.base_types.specs.declared.memory.OutOfMemory.{OutOfMemory}
+use Rattle.base_types.specs.declared.foundation.memory.OutOfMemory.{OutOfMemory}
 use Rattle.judge_pool.specs.Claims.{AreClaims}
 use Rattle.judge_pool.proofs.Gathering.{AnswersEntered, all_entered, answers_kept, claims_gathered}
 use Rattle.judge_pool.proofs.source.claims_all.Given.{Over}

@@ -1,5 +1,5 @@
 use Rattle.std.proofs.Common.{Bor}
-use Rattle.base_types.specs.declared.key.ObjectKey.{ObjectKey}
+use Rattle.base_types.specs.declared.kubernetes.key.ObjectKey.{ObjectKey}
 use Rattle.history_model.specs.Bounding.{Lacks}
 use Rattle.local_bounds.proofs.Askings.{asked_more, asked_all}
 use Rattle.local_bounds.proofs.listing.lacked_askings.Goals as goal

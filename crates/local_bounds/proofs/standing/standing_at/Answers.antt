@@ -1,5 +1,5 @@
 use Rattle.std.proofs.Common.{ap, arith, sym, ◌∙◌}
-use Rattle.base_types.specs.declared.claim.Range.{Range}
+use Rattle.base_types.specs.declared.verdict.claim.Range.{Range}
 use Rattle.history_model.proofs.LocalBounds.{kept, nothing_yet}
 use Rattle.object_past.specs.Modelled.{version_of, recorded}
 use Rattle.local_bounds.proofs.Pasts.{latest_found, removal_found, no_removal, range_is, position_within}

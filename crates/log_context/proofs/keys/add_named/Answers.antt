@@ -2,7 +2,7 @@ use Rattle.std.proofs.Common.{rules, subst, ◌⊎◌}
 use Rattle.std.proofs.lemmas.List.{take_all}
 use Rattle.std.specs.BTreeSet.{contains}
 use Rattle.std.specs.Prelude.{◌↔◌, IsTrue, IfNone, Any}
-use Rattle.base_types.specs.declared.key.ObjectKey.{ObjectKey}
+use Rattle.base_types.specs.declared.kubernetes.key.ObjectKey.{ObjectKey}
 use Rattle.clouds.specs.Kept.{key_order}
 use Rattle.log_context.proofs.Keying.{named_next, unnamed_next}
 use Rattle.log_context.specs.Keyed.{IsNamedBy}

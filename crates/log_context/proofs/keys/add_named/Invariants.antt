@@ -1,6 +1,6 @@
 use Rattle.std.specs.Prelude.{◌⊎◌, ◌↔◌, take, IsTrue, Any}
 use Rattle.std.specs.BTreeSet.{contains}
-use Rattle.base_types.specs.declared.key.ObjectKey.{ObjectKey}
+use Rattle.base_types.specs.declared.kubernetes.key.ObjectKey.{ObjectKey}
 use Rattle.clouds.specs.Kept.{key_order}
 use Rattle.log_context.specs.Keyed.{IsNamedBy}
 use Rattle.log_context.proofs.keys.add_named.Given as goal

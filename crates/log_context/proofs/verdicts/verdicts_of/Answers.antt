@@ -1,7 +1,7 @@
 use Rattle.std.proofs.Common.{◌∙◌, Vec}
 use Rattle.std.proofs.lemmas.Result.{IfOk-weaker}
 use Rattle.rayon.proofs.ToStd.{slice-AllZip}
-use Rattle.base_types.specs.declared.memory.OutOfMemory.{OutOfMemory}
+use Rattle.base_types.specs.declared.foundation.memory.OutOfMemory.{OutOfMemory}
 use Rattle.log_context.specs.Verdicts.{IsVerdict}
 use Rattle.log_context.specs.declared.verdicts.Case.{Case}
 use Rattle.log_context.specs.declared.verdicts.Verdict.{Verdict}

@@ -1,5 +1,5 @@
 use Rattle.std.proofs.Common.{◌≡◌, sym, ◌∙◌, rules}
-use Rattle.base_types.specs.declared.claim.Reason.TheVariants.{U14}
+use Rattle.base_types.specs.declared.verdict.claim.Reason.TheVariants.{U14}
 use Rattle.log_context.specs.Histories.{history_of}
 use Rattle.log_verdict.proofs.FindingShown.{own_window}
 use Rattle.log_verdict.proofs.finding.shown_window.Goals as goal

@@ -1,7 +1,7 @@
 use Rattle.std.proofs.Common.{◌≡◌, ◌<◌, length, All, IsPermutation, sym, ap, ◌∙◌, subst}
 use Rattle.std.specs.List.{range_with_len}
 use Rattle.std.proofs.lemmas.Result.{IfOk-weaker}
-use Rattle.base_types.specs.declared.claim.Claim.{Claim}
+use Rattle.base_types.specs.declared.verdict.claim.Claim.{Claim}
 use Rattle.history_model.specs.Placed.{ArePlacedLines}
 use Rattle.log_context.specs.Histories.{history_of}
 use Rattle.log_verdict.proofs.OutcomeClaims.{breaks_known, breaks_of, explained_is, explains, least_of, named, unexplained_is}

@@ -1,7 +1,7 @@
 use Rattle.std.proofs.Common.{Bor, rules}
 use Rattle.std.specs.Ordering.{is_lt}
 use Rattle.std.proofs.lemmas.List.Sorted.{answers_always}
-use Rattle.base_types.specs.declared.key.ObjectKey.{ObjectKey}
+use Rattle.base_types.specs.declared.kubernetes.key.ObjectKey.{ObjectKey}
 use Rattle.clouds.specs.Kept.{key_order}
 use Rattle.object_past.proofs.Repeated.{rising_is}
 use Rattle.object_past.proofs.lacking.are_rising.Goals as goal

@@ -1,6 +1,6 @@
 use Rattle.std.proofs.Common.{Bor, sym, ◌∙◌, true≢false}
 use Rattle.std.proofs.lemmas.List.Sorted.{Contains-permutation, IsPermutation-map, IsPermutation-sym}
-use Rattle.base_types.specs.declared.key.ObjectKey.{ObjectKey}
+use Rattle.base_types.specs.declared.kubernetes.key.ObjectKey.{ObjectKey}
 use Rattle.object_past.proofs.Repeated.{apart_moved, order_apart, sorted_order}
 use Rattle.object_past.specs.Among.{keys_at}
 use Rattle.object_past.proofs.lacking.keys_in_order.Goals as goal

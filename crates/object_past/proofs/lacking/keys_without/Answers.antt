@@ -1,6 +1,6 @@
 use Rattle.std.proofs.Common.{Bor, ◌+◌, sym, ap, subst, ◌∙◌}
 use Rattle.std.proofs.lemmas.List.{map-append}
-use Rattle.base_types.specs.declared.key.ObjectKey.{ObjectKey}
+use Rattle.base_types.specs.declared.kubernetes.key.ObjectKey.{ObjectKey}
 use Rattle.object_past.proofs.Walking.{IsWalked, walked_by, walked_exact, walked_order, walked_over}
 use Rattle.object_past.specs.Among.{keys_at}
 use Rattle.object_past.proofs.lacking.keys_without.Goals as goal

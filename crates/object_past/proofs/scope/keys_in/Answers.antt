@@ -1,7 +1,7 @@
 use Rattle.std.proofs.Common.{drop, rules}
 use Rattle.std.specs.Ordering.{is_le, is_lt}
 use Rattle.std.proofs.lemmas.List.Sorted.{IsPartitionPoint-from_clause}
-use Rattle.base_types.specs.declared.key.ObjectKey.{ObjectKey}
+use Rattle.base_types.specs.declared.kubernetes.key.ObjectKey.{ObjectKey}
 use Rattle.object_past.specs.Scopes.{scope_order}
 use Rattle.object_past.proofs.Scoping.{AreInOrder-drop, parted_before, parted_upto, scope_exact}
 use Rattle.object_past.proofs.scope.keys_in.Goals as goal

@@ -1,6 +1,6 @@
 use Rattle.std.proofs.Common.{◌≡◌, ℕ, map, take}
 use Rattle.std.specs.Prelude.{All}
-use Rattle.base_types.specs.declared.key.ObjectKey.{ObjectKey}
+use Rattle.base_types.specs.declared.kubernetes.key.ObjectKey.{ObjectKey}
 use Rattle.history_model.specs.Histories.{History}
 use Rattle.past_building.specs.Growing.{IsLatestIn}
 use Rattle.past_building.specs.Written.{AreJudged, Extends, IsAnsweredAt, IsOfLog}

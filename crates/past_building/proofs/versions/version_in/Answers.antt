@@ -1,6 +1,6 @@
 use Rattle.std.proofs.Common.{◌≡◌, ℕ, Some, Option, refl, sym, ap, ◌∙◌, subst}
 use Rattle.std.specs.Prelude.{IsSome}
-use Rattle.base_types.specs.declared.claim.Reason.{Reason}
+use Rattle.base_types.specs.declared.verdict.claim.Reason.{Reason}
 use Rattle.write_groups.specs.Grouped.{item_at}
 use Rattle.past_building.proofs.Choosing.{IsChosen, chosen, first_find, made_version}
 use Rattle.past_building.proofs.Writing.{shown_write}

@@ -1,6 +1,6 @@
 use Rattle.std.proofs.Common.{◌<◌, length, get_or, arith}
 use Rattle.std.proofs.lemmas.List.{get_or_default, take_all}
-use Rattle.base_types.specs.declared.claim.Bound.{Bound}
+use Rattle.base_types.specs.declared.verdict.claim.Bound.{Bound}
 use Rattle.place_choice.proofs.Narrowing.{Narrows-more, none_from_crossed}
 use Rattle.place_choice.proofs.room.narrow.Goals as goal
 

@@ -1,5 +1,5 @@
 use Rattle.std.proofs.Common.{◌≡◌, ◌<◌, length, get_or, arith, All, refl}
-use Rattle.base_types.specs.declared.claim.Bound.{Bound}
+use Rattle.base_types.specs.declared.verdict.claim.Bound.{Bound}
 use Rattle.base_types.proofs.Lending.{written}
 use Rattle.place_choice.proofs.Explaining.{below_all}
 use Rattle.place_choice.proofs.Leaving.{IsNext, BreaksFirst-here, IsLeastChoice-at_end, LeavesExactly-more, none_from_breaks}

@@ -1,6 +1,6 @@
 use Rattle.std.proofs.Common.{refl, subst}
 use Rattle.std.specs.Prelude.{IfNone, IfSome}
-use Rattle.base_types.specs.declared.claim.Reason.TheVariants.{U14}
+use Rattle.base_types.specs.declared.verdict.claim.Reason.TheVariants.{U14}
 use Rattle.history_model.proofs.CheckLaw.{faultless_is}
 use Rattle.history_model.specs.Checking.{AreAllowed, IsFirstFault, IsStepFault, IsVerified, Judged, V1, V2, of_decisions, of_lines, of_places, of_policy, of_steps}
 use Rattle.serial_machine.proofs.checking.check.Goals as goal

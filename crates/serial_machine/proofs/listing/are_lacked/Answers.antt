@@ -1,5 +1,5 @@
 use Rattle.std.proofs.Common.{Bor}
-use Rattle.base_types.specs.declared.key.ObjectKey.{ObjectKey}
+use Rattle.base_types.specs.declared.kubernetes.key.ObjectKey.{ObjectKey}
 use Rattle.history_model.specs.Right.{IsLacked}
 use Rattle.log_context.specs.Histories.{history_of}
 use Rattle.serial_machine.specs.Stepping.{scene_objects}

@@ -1,7 +1,7 @@
 use Rattle.std.proofs.Common.{◌<◌, ◌≤◌, length, arith, refl, subst, sym}
 use Rattle.std.proofs.lemmas.List.{length-map}
 use Rattle.base_types.specs.Reasons.{code_number}
-use Rattle.base_types.specs.declared.claim.Reason.{Reason}
+use Rattle.base_types.specs.declared.verdict.claim.Reason.{Reason}
 use Rattle.history_model.specs.Checking.{HasCodeAt, HasSomeCodeAt, IsLeastLine}
 use Rattle.serial_machine.proofs.Firsts.{Stands, code_at, first_standing_is, least_at, none_standing, one_more}
 use Rattle.serial_machine.proofs.Numbering.{some_event}

@@ -1,6 +1,6 @@
 use Rattle.std.proofs.Common.{◌≡◌, Bor, false}
 use Rattle.std.specs.Prelude.{map}
-use Rattle.base_types.specs.declared.key.ObjectKey.{ObjectKey}
+use Rattle.base_types.specs.declared.kubernetes.key.ObjectKey.{ObjectKey}
 use Rattle.setup_file.specs.Distinct.{key_eq}
 use Rattle.setup_file.proofs.Seen.{seen_in, distinct_new, new_step, unseen, put_key}
 use Rattle.setup_file.proofs.distinct.are_keys_distinct.Goals as goal

@@ -1,5 +1,5 @@
 use Rattle.std.proofs.Common.{List, Option, subst, sym}
-use Rattle.base_types.specs.declared.claim.Reason.{Reason}
+use Rattle.base_types.specs.declared.verdict.claim.Reason.{Reason}
 use Rattle.object_past.specs.Faulted.{AreFaults}
 use Rattle.log_context.specs.Histories.{history_of}
 use Rattle.log_context.specs.Known.{Known}

@@ -3,8 +3,8 @@ use Rattle.std.specs.Option.{IfNone, IfSome}
 use Rattle.std.specs.Prelude.{option_map}
 use Rattle.audit_event.specs.declared.event.Event.{Event}
 use Rattle.base_types.specs.PlaceOrder.{AreLeastPlaces}
-use Rattle.base_types.specs.declared.placed.Places.{Places}
-use Rattle.base_types.specs.declared.request.User.{User}
+use Rattle.base_types.specs.declared.verdict.placed.Places.{Places}
+use Rattle.base_types.specs.declared.kubernetes.request.User.{User}
 use Rattle.rbac_timeline.specs.Decisions.{IsDecidedAt}
 use Rattle.write_groups.specs.declared.event.LogEvent.{LogEvent}
 use Rattle.log_context.specs.Given.{AreNoneGiven, IsGivenWithin, judged_in}

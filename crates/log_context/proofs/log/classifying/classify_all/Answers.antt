@@ -1,7 +1,7 @@
 use Rattle.std.proofs.Common.{◌∙◌, Vec}
 use Rattle.std.proofs.Crossing as owned
 use Rattle.rayon.proofs.ToStd.{slice-AllZip}
-use Rattle.base_types.specs.declared.memory.OutOfMemory.{OutOfMemory}
+use Rattle.base_types.specs.declared.foundation.memory.OutOfMemory.{OutOfMemory}
 use Rattle.log_context.specs.declared.log.classifying.Classified.{Classified}
 use Rattle.log_context.specs.Classified.{IsClassified}
 use Rattle.log_context.proofs.Gathered.{AnswersItem, all_answered}

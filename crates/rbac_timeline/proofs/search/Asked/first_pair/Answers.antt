@@ -1,7 +1,7 @@
 use Rattle.std.proofs.Common.{ℕ, ◌≤◌, ◌⊎◌, ⊎_elim, inl, inr, arith, sym, ◌∙◌}
 use Rattle.std.specs.List.{Any}
 use Rattle.base_types.proofs.Quantifiers.{Any-contains}
-use Rattle.base_types.specs.declared.key.ObjectKey.{ObjectKey}
+use Rattle.base_types.specs.declared.kubernetes.key.ObjectKey.{ObjectKey}
 use Rattle.rbac_rules.specs.Matching.{Matches}
 use Rattle.rbac_timeline.specs.Extents.{MayGrantInWay, MayGrantNameless, by_create}
 use Rattle.rbac_timeline.specs.Found.{MayGrantNamed}

@@ -1,5 +1,5 @@
 use Rattle.std.proofs.Common.{ℕ, ◌+◌, sym, ◌∙◌}
-use Rattle.base_types.specs.declared.key.ObjectKey.{ObjectKey}
+use Rattle.base_types.specs.declared.kubernetes.key.ObjectKey.{ObjectKey}
 use Rattle.rbac_timeline.specs.Kept.{MayGrantByListed}
 use Rattle.rbac_timeline.proofs.Pairing.{IsFirstPair-all, IsFirstPair-enough, IsFirstPair-more, IsFirstPair-nothing}
 use Rattle.rbac_timeline.proofs.search.Asked.keys_pair.Goals as goal

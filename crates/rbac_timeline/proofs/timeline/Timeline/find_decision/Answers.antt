@@ -1,4 +1,4 @@
-use Rattle.base_types.specs.declared.request.Decision.TheVariants.{Allow, Forbid}
+use Rattle.base_types.specs.declared.kubernetes.request.Decision.TheVariants.{Allow, Forbid}
 use Rattle.rbac_timeline.proofs.Answering.{IfNone-least, IfSome-least, none_in_empty}
 use Rattle.rbac_timeline.proofs.timeline.Timeline.find_decision.Goals as goal
 

@@ -1,7 +1,7 @@
 use Rattle.std.proofs.Common.{◌≡◌, ℕ, ◌∙◌, ap, subst, sym}
-use Rattle.base_types.specs.declared.key.ObjectKey.{ObjectKey}
-use Rattle.base_types.specs.declared.request.RequestAttrs.{RequestAttrs}
-use Rattle.base_types.specs.declared.request.User.{User}
+use Rattle.base_types.specs.declared.kubernetes.key.ObjectKey.{ObjectKey}
+use Rattle.base_types.specs.declared.kubernetes.request.RequestAttrs.{RequestAttrs}
+use Rattle.base_types.specs.declared.kubernetes.request.User.{User}
 use Rattle.clouds.specs.Clouds.{IsClouded}
 use Rattle.rbac_timeline.specs.declared.history.Content.TheVariants.{Bound as BoundTo}
 use Rattle.rbac_timeline.specs.declared.history.Stored.{Stored}

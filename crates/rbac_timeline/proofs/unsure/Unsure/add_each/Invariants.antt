@@ -1,5 +1,5 @@
 use Rattle.std.proofs.Common.{List, ◌++◌, take}
-use Rattle.base_types.specs.declared.key.ObjectKey.{ObjectKey}
+use Rattle.base_types.specs.declared.kubernetes.key.ObjectKey.{ObjectKey}
 use Rattle.rbac_timeline.specs.Unsure.{AreFound}
 use Rattle.rbac_timeline.proofs.unsure.Unsure.add_each.Given as goal
 

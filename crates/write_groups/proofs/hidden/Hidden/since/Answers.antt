@@ -1,6 +1,6 @@
 use Rattle.std.proofs.Common.{◌≡◌, ◌-◌, ◌<◌, ◌≤◌, List, length, get_or, Some, None, subst, refl, arith}
 use Rattle.std.proofs.lemmas.Option.{slice_get_past, slice_get_read}
-use Rattle.base_types.specs.declared.revision.Moment.{Moment}
+use Rattle.base_types.specs.declared.kubernetes.revision.Moment.{Moment}
 use Rattle.write_groups.proofs.Covering.{none_since, never_past, some_since}
 use Rattle.write_groups.specs.declared.hidden.Hiding.{Hiding}
 use Rattle.write_groups.specs.Hiding.{IsFirstSince}
