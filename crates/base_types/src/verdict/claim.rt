@@ -1,4 +1,4 @@
-ghost use Rattle.std.specs.Prelude.{◌≡◌, ◌≤◌};
+ghost use Rattle.std.specs.Prelude.{◌≡◌};
 
 use crate::foundation::{Listed, Shared};
 
@@ -95,5 +95,4 @@ pub struct Range {
     pub event: u32,
     pub low: u64,
     pub high: u64,
-    ghost ordered: { low ≤ high },
 }
