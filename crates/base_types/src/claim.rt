@@ -1,4 +1,4 @@
-ghost use Rattle.std.specs.Prelude.{◌≡◌, ◌≤◌};
+ghost use Rattle.std.specs.Prelude.{◌≡◌};
 
 use crate::listed::Listed;
 use crate::shared::Shared;
@@ -96,5 +96,4 @@ pub struct Range {
     pub event: u32,
     pub low: u64,
     pub high: u64,
-    ghost ordered: { low ≤ high },
 }
