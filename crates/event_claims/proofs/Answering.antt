@@ -6,11 +6,12 @@ use Rattle.base_types.specs.Reasons.{code_number}
 use Rattle.base_types.specs.declared.verdict.claim.Bound.{Bound}
 use Rattle.base_types.specs.declared.verdict.claim.Reason.{Reason}
 use Rattle.history_model.proofs.Members.{all_from, not_in_none}
-use Rattle.history_model.proofs.OpenBounds.{open_is}
+use Rattle.history_model.proofs.OpenBounds.{have_places, open_is}
 use Rattle.history_model.specs.Codes.{NeverHolds}
 use Rattle.history_model.specs.Events.{Event}
 use Rattle.history_model.specs.Exact.{SometimesHolds, AreExactBounds}
 use Rattle.history_model.specs.Histories.{History, ranges}
+use Rattle.history_model.specs.Readable.{IsReadable}
 use Rattle.history_model.specs.Right.{answer_code}
 use Rattle.history_model.specs.Words.{Word, Makes, Removes, At, Strays, Nothing, word}
 use Rattle.local_bounds.specs.Asked.{AreDeciding, IsAskingOf, bounds_of}
@@ -20,15 +21,15 @@ use Rattle.event_claims.proofs.Faulting.{some_choice}
 use Rattle.event_claims.specs.Standing.{HasAnswerCode}
 use Rattle.event_claims.specs.Verdicts.{IsVerdict}
 
-module _ (h : History) (number : ℕ) (event : Event) where
+module _ (h : History) (r : IsReadable h) (number : ℕ) (event : Event) where
   some_place : (choice : List ℕ) × IsChoice (ranges h) choice
-  some_place = some_choice (ranges h)
+  some_place = some_choice h r
 
   pub free_holds : IsAskingOf h number event Free → SometimesHolds h number event
   free_holds a = (some_place.0, some_place.1, a some_place.0 some_place.1)
 
   pub bounds_hold : (bounds : List Bound) → IsAskingOf h number event (Under bounds) → SometimesHolds h number event
-  bounds_hold bounds a = go (open_is (ranges h) bounds a.0.rising (λ b c. (a.0.deciding b c).has_room))
+  bounds_hold bounds a = go (open_is (ranges h) bounds (have_places h r) a.0.rising (λ b c. (a.0.deciding b c).has_room))
     where
       go : (choice : List ℕ) × IsChoice (ranges h) choice × MeetsAll choice bounds → SometimesHolds h number event
       go (choice, chosen, met) = (choice, chosen, (a.1 choice chosen).1 met)

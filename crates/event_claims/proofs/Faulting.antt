@@ -2,11 +2,10 @@
 use Rattle.std.proofs.Common.{◌≡◌, ℕ, Bool, true, false, List, [], Option, Some, None, refl, sym, ◌∙◌, subst, arith, true≢false}
 use Rattle.std.specs.Prelude.{◌↔◌, IsTrue}
 use Rattle.base_types.specs.Choices.{IsChoice}
-use Rattle.base_types.specs.declared.verdict.claim.Range.{Range}
 use Rattle.base_types.specs.declared.verdict.claim.Reason.{Reason}
 use Rattle.history_model.proofs.MakingsLaw.{entry_exists}
 use Rattle.history_model.proofs.Members.{not_in_none}
-use Rattle.history_model.proofs.OpenBounds.{open_is}
+use Rattle.history_model.proofs.OpenBounds.{have_places, open_is}
 use Rattle.history_model.proofs.WordLemmas.{IsMadeBy, word_makes}
 use Rattle.history_model.specs.Clouds.{IsCloudedWithin}
 use Rattle.history_model.specs.Events.{Item, Event, Answer, Made, Removed, Opaque, Saw, SawNone, SawSome, SawOther, Listed, Free, Aside}
@@ -23,13 +22,13 @@ use Rattle.event_claims.specs.Standing.{HasWordCode, HasFindingCode, HasFoundCod
 use Rattle.event_claims.specs.Verdicts.{IsVerdict}
 
 -- there is a choice
-pub some_choice : (rs : List Range) → (choice : List ℕ) × IsChoice rs choice
-some_choice rs = let w = open_is rs [] (λ i j d l m. absurd (omega arith)) (λ b c. absurd (not_in_none c)) in (w.0, w.1)
+pub some_choice : (h : History) → IsReadable h → (choice : List ℕ) × IsChoice (ranges h) choice
+some_choice h r = let w = open_is (ranges h) [] (have_places h r) (λ i j d l m. absurd (omega arith)) (λ b c. absurd (not_in_none c)) in (w.0, w.1)
 
 -- a maker
 module _ (h : History) (number : ℕ) (event : Event) (m : Making) where
   making_entry : IsReadable h → IsEvent h number event → word h number event ≡ Makes m → (before : Option Version) × IsEntryBefore h m before
-  making_entry r known w = go (word_makes h number event m r known w) (some_choice (ranges h))
+  making_entry r known w = go (word_makes h number event m r known w) (some_choice h r)
     where
       go : (v : Version) × IsMadeBy h m v × (m.number ≡ number) × (m.event ≡ event) → (choice : List ℕ) × IsChoice (ranges h) choice → (before : Option Version) × IsEntryBefore h m before
       go (v, b, n, x) (choice, chosen) = entry_exists h choice m v r chosen b

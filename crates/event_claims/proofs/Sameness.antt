@@ -3,14 +3,14 @@ use Rattle.std.proofs.Common.{◌≡◌, ◌≢◌, ℕ, zero, suc, ◌<◌, ◌
 use Rattle.std.specs.Prelude.{option_map}
 use Rattle.std.proofs.lemmas.Bool.Decides.{eqb_tells}
 use Rattle.std.proofs.lemmas.Option.{slice_get-map, slice_get_within, same_Some}
-use Rattle.base_types.specs.Choices.{IsChoice, IsPlaceOf, Meets, MeetsAll}
+use Rattle.base_types.specs.Choices.{HavePlaces, IsChoice, IsPlaceOf, Meets, MeetsAll}
 use Rattle.base_types.specs.declared.verdict.claim.Bound.{Bound}
 use Rattle.base_types.specs.declared.verdict.claim.Claim.{Claim}
 use Rattle.base_types.specs.declared.verdict.claim.Range.{Range}
 use Rattle.base_types.specs.declared.verdict.claim.Reason.{Reason}
 use Rattle.history_model.proofs.CodeLemmas.{same_code}
 use Rattle.history_model.proofs.Members.{not_in_none, here, there, in_cons, all_at, all_from, apart}
-use Rattle.history_model.proofs.OpenBounds.{open_is}
+use Rattle.history_model.proofs.OpenBounds.{chosen_places, open_is}
 use Rattle.history_model.proofs.SameSorted.{same_sorted}
 use Rattle.history_model.specs.Clouds.{IsClouded}
 use Rattle.history_model.specs.Codes as codes
@@ -69,11 +69,12 @@ on_range (x ∷ xs) r = go (on_range xs r) (eqb_tells x.range r)
         at y (inr c) = none y c
 
 module _ (h : History) (a b : List Bound) (da : AreDeciding h a) (db : AreDeciding h b)
+    (places : HavePlaces (ranges h))
     (same : (choice : List ℕ) → IsChoice (ranges h) choice → MeetsAll choice a → MeetsAll choice b)
     (back : (choice : List ℕ) → IsChoice (ranges h) choice → MeetsAll choice b → MeetsAll choice a) where
   -- each bound of the one list has a bound of the other on its range that is met wherever it is
   counterpart : (x : Bound) → Contains a x → (y : Bound) × Contains b y × (y.range ≡ x.range) × (y.low ≤ x.low) × (x.high ≤ y.high)
-  counterpart x c = go (open_is (ranges h) a da.rising (λ z e. (da.deciding z e).has_room)) (on_range b x.range)
+  counterpart x c = go (open_is (ranges h) a places da.rising (λ z e. (da.deciding z e).has_room)) (on_range b x.range)
     where
       d : IsDeciding h x
       d = da.deciding x c
@@ -91,7 +92,7 @@ module _ (h : History) (a b : List Bound) (da : AreDeciding h a) (db : AreDecidi
       to = subst (λ (r : Range). x.high ≤ r.high) same_range d.has_room.to
 
       ordered : d.removal.range.low ≤ d.removal.range.high
-      ordered = d.removal.range.ordered
+      ordered = omega (arith, from, d.has_room.room, to)
 
       go : (choice : List ℕ) × IsChoice (ranges h) choice × MeetsAll choice a
           → ((y : Bound) × Contains b y × (y.range ≡ x.range)) ⊎ ((y : Bound) → Contains b y → y.range ≢ x.range)
@@ -125,14 +126,14 @@ same_bound : (x y : Bound) → x.range ≡ y.range → x.low ≡ y.low → x.hig
 same_bound x y r l m = λ i. record { range = r i; low = l i; high = m i }
 
 -- each bound of the one list is one of the other
-shared : (h : History) (a b : List Bound) → AreDeciding h a → AreDeciding h b
+shared : (h : History) (a b : List Bound) → AreDeciding h a → AreDeciding h b → HavePlaces (ranges h)
     → ((choice : List ℕ) → IsChoice (ranges h) choice → MeetsAll choice a → MeetsAll choice b)
     → ((choice : List ℕ) → IsChoice (ranges h) choice → MeetsAll choice b → MeetsAll choice a)
     → (x : Bound) → Contains a x → Contains b x
-shared h a b da db same back x c = go (counterpart h a b da db same back x c)
+shared h a b da db places same back x c = go (counterpart h a b da db places same back x c)
   where
     go : (y : Bound) × Contains b y × (y.range ≡ x.range) × (y.low ≤ x.low) × (x.high ≤ y.high) → Contains b x
-    go (y, e, q, l, m) = at (counterpart h b a db da back same y e)
+    go (y, e, q, l, m) = at (counterpart h b a db da places back same y e)
       where
         at : (z : Bound) × Contains a z × (z.range ≡ y.range) × (z.low ≤ y.low) × (y.high ≤ z.high) → Contains b x
         at (z, f, s, k, n) = subst (λ v. Contains b v) (same_bound y x q (omega (arith, l, k, ap (λ (v : Bound). v.low) one)) (omega (arith, m, n, ap (λ (v : Bound). v.high) one))) e
@@ -140,15 +141,15 @@ shared h a b da db same back x c = go (counterpart h a b da db same back x c)
             one : z ≡ x
             one = apart (λ (v : Bound). v.range) a z x da.rising f c (s ∙ q)
 
-same_bounds : (h : History) (a b : List Bound) → AreDeciding h a → AreDeciding h b
+same_bounds : (h : History) (a b : List Bound) → AreDeciding h a → AreDeciding h b → HavePlaces (ranges h)
     → ((choice : List ℕ) → IsChoice (ranges h) choice → MeetsAll choice a → MeetsAll choice b)
     → ((choice : List ℕ) → IsChoice (ranges h) choice → MeetsAll choice b → MeetsAll choice a) → a ≡ b
-same_bounds h a b da db same back = same_sorted (λ x y. x.range < y.range) a b (λ x y c d l m. omega (arith, l, m)) da.rising db.rising
-    (shared h a b da db same back) (shared h b a db da back same)
+same_bounds h a b da db places same back = same_sorted (λ x y. x.range < y.range) a b (λ x y c d l m. omega (arith, l, m)) da.rising db.rising
+    (shared h a b da db places same back) (shared h b a db da places back same)
 
 module _ (h : History) (number : ℕ) (event : Event) where
   exact_same : (a b : List Bound) → AreDeciding h a → AreDeciding h b → AreExactBounds h number event a → AreExactBounds h number event b → a ≡ b
-  exact_same a b da db (inl x) (inl y) = same_bounds h a b da db
+  exact_same a b da db (inl x) (inl y) = same_bounds h a b da db (chosen_places (ranges h) x.0.0 x.0.1)
       (λ choice chosen m. (y.1 choice chosen).0 ((x.1 choice chosen).1 m)) (λ choice chosen m. (x.1 choice chosen).0 ((y.1 choice chosen).1 m))
   exact_same a b da db (inl x) (inr y) = absurd (y.0 x.0.0 x.0.1 x.0.2)
   exact_same a b da db (inr x) (inl y) = absurd (x.0 y.0.0 y.0.1 y.0.2)

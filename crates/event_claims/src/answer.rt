@@ -7,6 +7,7 @@ ghost use Rattle.event_claims.specs.Words.{IsSaid};
 ghost use Rattle.history_model.specs.Events.{Event};
 ghost use Rattle.history_model.specs.Exact.{SometimesHolds};
 ghost use Rattle.history_model.specs.Histories.{History};
+ghost use Rattle.history_model.specs.Readable.{IsReadable};
 ghost use Rattle.history_model.specs.Words.{word as event_word};
 ghost use Rattle.local_bounds.specs.Asked.{IsAskingOf};
 ghost use Rattle.local_bounds.specs.Known.{IsWindowOf};
@@ -55,7 +56,8 @@ pub fn asking_in<L: Listable, D: Decisions>(
 
 /// The code of an answer that no choice makes right.
 pub fn answer_fault(asking: &BoundDemand, answer: &Shown) -> Option<Reason>
-    ensures { (h : History) (number : ℕ) (event : Event) → event.answer ≡ answer_of answer.now
+    ensures { (h : History) (number : ℕ) (event : Event) → IsReadable h
+        → event.answer ≡ answer_of answer.now
         → IsAskingOf h number event asking.now
         → IsVerdict (SometimesHolds h number event) (HasAnswerCode h number event) result }
 {

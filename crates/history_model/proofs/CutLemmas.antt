@@ -1,6 +1,4 @@
 -- Removals with the places that a choice gives them.
-use Rattle.std.proofs.Math.Bridge.{le_prop}
-use mathlib.Core.HLevel.{is_prop→PathP}
 use Rattle.base_types.specs.declared.verdict.claim.Range.{Range}
 use Rattle.std.proofs.Common.{◌≡◌, ℕ, zero, suc, ◌<◌, ◌≤◌, ◌⊎◌, true, false, nat_le, ◌==◌, List, [], ◌∷◌, map, Some, AllPairs, Contains, slice_get, slice_index, inl, inr, refl, sym, ap, ◌∙◌, subst, arith}
 use Rattle.std.proofs.lemmas.Bool.Decides.{leb_tells, eqb_tells}
@@ -107,4 +105,4 @@ pub same_removal : (x y : Removal) → x.key ≡ y.key → x.uid ≡ y.uid → x
 same_removal x y k u l e f g = λ i. record { key = k i; uid = u i; last = l i; range = ranges_same x.range y.range e f g i }
   where
     ranges_same : (a b : Range) → a.event ≡ b.event → a.low ≡ b.low → a.high ≡ b.high → a ≡ b
-    ranges_same a b e f g = λ i. record { event = e i; low = f i; high = g i; ordered = is_prop→PathP (λ j. f j ≤ g j) (λ j. le_prop) a.ordered b.ordered i }
+    ranges_same a b e f g = λ i. record { event = e i; low = f i; high = g i }

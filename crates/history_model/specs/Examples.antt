@@ -7,7 +7,6 @@ use Rattle.base_types.specs.declared.kubernetes.key.ObjectKey.{ObjectKey}
 use Rattle.base_types.specs.declared.verdict.placed.PlacedAnswer.{PlacedAnswer}
 use Rattle.base_types.specs.declared.verdict.placed.PlacedAnswer.TheVariants as placed
 use Rattle.base_types.specs.declared.verdict.placed.PlacedLine.{PlacedLine}
-use Rattle.std.proofs.Common.{lit≤}
 use Rattle.history_model.specs.Events.{Text, Item, Conditions, Answer, Made, Removed, Opaque, Saw, SawNone, SawOther, Free, MostRecent, Event}
 use Rattle.history_model.specs.Histories.{History, Span, Version, Maker, Snapshot, ByEvent, Removal}
 use Rattle.history_model.specs.Outcomes.{Outcome, Explained, Unexplained, MadeAt, RemovedIn}
@@ -124,7 +123,7 @@ second_update_outcome = Unexplained 1 U7 10 last_place (MadeAt 14 1 a ∷ [])
 
 -- the removal of the object a, anywhere behind revision 14
 abbrev pub removal_of_a : Removal
-removal_of_a = record { key = a; uid = A; last = 14; range = record { event = 1; low = 15; high = last_place; ordered = lit≤ tt } }
+removal_of_a = record { key = a; uid = A; last = 14; range = record { event = 1; low = 15; high = last_place } }
 
 -- A removal that a reader sees before it is answered.
 abbrev pub removal_seen_early : History

@@ -3,7 +3,7 @@
 
 ghost use Rattle.std.specs.Prelude.{◌≡◌, ◌<◌, ◌≤◌, ℕ, ◌⊎◌, ◌↔◌, Bool, List, Option, Some, None, IsSome, IsSomeAnd};
 ghost use Rattle.std.specs.Prelude.{AllPairs, Contains};
-ghost use Rattle.base_types.specs.Choices.{IsChoice, Meets, MeetsAll};
+ghost use Rattle.base_types.specs.Choices.{HavePlaces, IsChoice, Meets, MeetsAll};
 ghost use Rattle.base_types.specs.declared.verdict.claim.Bound.{Bound};
 ghost use Rattle.base_types.specs.declared.verdict.claim.Range.{Range};
 ghost use Rattle.base_types.specs.declared.kubernetes.key.ObjectKey.{ObjectKey};
@@ -119,9 +119,10 @@ pub fn listed_law()
         × IsListRight h number listing listing.revision (state h choice listing.revision)) }
 {}
 
-/// Bounds on different ranges, each with room, are met by one choice.
+/// Where no range is empty, bounds on different ranges, each with room, are met by one choice.
 pub fn choice_law()
-    ensures { (ranges : List Range) (bounds : List Bound) → AllPairs (λ a b. a.range < b.range) bounds
+    ensures { (ranges : List Range) (bounds : List Bound) → HavePlaces ranges
+        → AllPairs (λ a b. a.range < b.range) bounds
         → ((bound : Bound) → Contains bounds bound → IsOpen ranges bound)
         → (choice : List ℕ) × IsChoice ranges choice × MeetsAll choice bounds }
 {}

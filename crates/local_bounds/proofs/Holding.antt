@@ -6,12 +6,13 @@ use Rattle.base_types.specs.Choices.{IsChoice, Meets, MeetsAll}
 use Rattle.base_types.specs.declared.verdict.claim.Bound.{Bound}
 use Rattle.base_types.specs.declared.kubernetes.key.ObjectKey.{ObjectKey}
 use Rattle.history_model.proofs.Members.{not_in_none, here, in_cons, all_at, all_from}
-use Rattle.history_model.proofs.OpenBounds.{open_is}
+use Rattle.history_model.proofs.OpenBounds.{have_places, open_is}
 use Rattle.history_model.specs.Bounding.{SomewhereIn, IsOpen}
 use Rattle.history_model.specs.Events as model
 use Rattle.history_model.specs.Exact.{AreExactBounds}
 use Rattle.history_model.specs.Histories.{History, ranges}
 use Rattle.history_model.specs.Local.{AnswerHolds}
+use Rattle.history_model.specs.Readable.{IsReadable}
 use Rattle.history_model.specs.Right.{IsRight, IsRightAnswer, IsListRight}
 use Rattle.history_model.specs.States.{state}
 use Rattle.history_model.specs.Windows.{InWindow}
@@ -63,22 +64,23 @@ key_whole h key P (Under bound) a = (
 key_whole h key P Never a = a
 
 -- bounds that are exact
-pub exact_from : (h : History) (number : ℕ) (event : model.Event) (asking : BoundDemand) → IsAskingOf h number event asking → AreExactBounds h number event (bounds_of asking)
-exact_from h number event whole.Free a = go (open_is (ranges h) [] (λ i j d l m. absurd (omega arith)) (λ b c. absurd (not_in_none c)))
+pub exact_from : (h : History) (number : ℕ) (event : model.Event) (asking : BoundDemand) → IsReadable h → IsAskingOf h number event asking → AreExactBounds h number event (bounds_of asking)
+exact_from h number event whole.Free r a = go (open_is (ranges h) [] (have_places h r) (λ i j d l m. absurd (omega arith)) (λ b c. absurd (not_in_none c)))
   where
     go : (choice : List ℕ) × IsChoice (ranges h) choice × MeetsAll choice [] → AreExactBounds h number event []
     go (choice, chosen, met) = inl ((choice, chosen, a choice chosen), λ other is. ((λ p. λ k d l. absurd (omega arith)), λ m. a other is))
-exact_from h number event (whole.Under bounds) a = go (open_is (ranges h) bounds a.0.rising (λ b c. room b (a.0.deciding b c)))
+exact_from h number event (whole.Under bounds) r a = go (open_is (ranges h) bounds (have_places h r) a.0.rising (λ b c. room b (a.0.deciding b c)))
   where
     room : (b : Bound) → IsDeciding h b → IsOpen (ranges h) b
     room b d = d.has_room
 
     go : (choice : List ℕ) × IsChoice (ranges h) choice × MeetsAll choice bounds → AreExactBounds h number event bounds
     go (choice, chosen, met) = inl ((choice, chosen, (a.1 choice chosen).1 met), a.1)
-exact_from h number event whole.Never a = inr (a, refl)
+exact_from h number event whole.Never r a = inr (a, refl)
 
-pub exact_as : (h : History) (number : ℕ) (event : model.Event) (asking : BoundDemand) (bounds : List Bound) → bounds ≡ bounds_of asking → IsAskingOf h number event asking → AreExactBounds h number event bounds
-exact_as h number event asking bounds e a = subst (AreExactBounds h number event) (sym e) (exact_from h number event asking a)
+pub exact_as : (h : History) (number : ℕ) (event : model.Event) (asking : BoundDemand) (bounds : List Bound) → bounds ≡ bounds_of asking → IsReadable h
+    → IsAskingOf h number event asking → AreExactBounds h number event bounds
+exact_as h number event asking bounds e r a = subst (AreExactBounds h number event) (sym e) (exact_from h number event asking r a)
 
 -- an answer holds where it is right somewhere in its window
 module _ (h : History) (number : ℕ) (event : model.Event) (window : Window) (w : IsWindowOf h event window) (at : word h number event ≡ At) where

@@ -75,6 +75,7 @@ impl BoundDemand {
     ghost use Rattle.history_model.specs.Events.{Event};
     ghost use Rattle.history_model.specs.Exact.{AreExactBounds};
     ghost use Rattle.history_model.specs.Histories.{History};
+    ghost use Rattle.history_model.specs.Readable.{IsReadable};
     ghost use Rattle.local_bounds.specs.Asked.{HoldsAll, IsAskingOf};
 
     /// Whether it is so under the choice.
@@ -91,7 +92,8 @@ impl BoundDemand {
     /// The bounds, of which there are none where nothing is asked, and where it is wrong whatever is chosen.
     pub fn into_bounds(self, alloc: Global) -> Bounds
         ensures value { result ≡ bounds_of self }
-        ensures exact { (h : History) (number : ℕ) (event : Event) → IsAskingOf h number event self
+        ensures exact { (h : History) (number : ℕ) (event : Event) → IsReadable h
+            → IsAskingOf h number event self
             → AreExactBounds h number event result }
     {
         bounds_of(alloc, self)

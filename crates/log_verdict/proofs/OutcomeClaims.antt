@@ -2,7 +2,7 @@
 use Rattle.std.proofs.Common.{◌≡◌, ℕ, ◌<◌, ◌⊎◌, ◌↔◌, inl, inr, List, [], ◌∷◌, length, Some, None, slice_get, map, All, refl, sym, ap, ◌∙◌, subst, arith}
 use Rattle.std.proofs.lemmas.List.{length-map}
 use Rattle.std.proofs.lemmas.Option.{slice_get_within}
-use Rattle.base_types.specs.Choices.{IsChoice, MeetsAll}
+use Rattle.base_types.specs.Choices.{HavePlaces, IsChoice, MeetsAll}
 use Rattle.base_types.specs.Settlement.{BreaksFirst, IsLeastChoice}
 use Rattle.base_types.specs.declared.verdict.claim.Bound.{Bound}
 use Rattle.base_types.specs.declared.verdict.claim.Claim.{Claim}
@@ -14,6 +14,7 @@ use Rattle.base_types.specs.declared.verdict.placed.PlacedLine.{PlacedLine}
 use Rattle.context_claims.proofs.OneClaim.{claim_within}
 use Rattle.context_claims.specs.Claims.{IsClaimOf}
 use Rattle.history_model.proofs.Members.{all_at, all_from, at_in, in_at}
+use Rattle.history_model.proofs.OpenBounds.{have_places}
 use Rattle.history_model.proofs.OutcomeLaw.{breaks_is, fits_is, get_within}
 use Rattle.history_model.specs.Codes.{NeverHolds}
 use Rattle.history_model.specs.Events.{Event}
@@ -41,6 +42,9 @@ ranges_are (removal ∷ removals) = ap (λ l. removal.range ∷ l) (ranges_are r
 
 pub model_ranges : (known : Known) (given : List Range) → given ≡ map (λ removal. removal.range) known.removals → given ≡ ranges (history_of known)
 model_ranges known given is = is ∙ sym (ranges_are known.removals)
+
+pub given_places : (known : Known) (given : List Range) → IsReadable (history_of known) → given ≡ map (λ removal. removal.range) known.removals → HavePlaces given
+given_places known given r is = subst HavePlaces (sym (model_ranges known given is)) (have_places (history_of known) r)
 
 -- an event that breaks first is one of the log
 pub breaks_known : (known : Known) (given : List Range) (claims : List Claim) (number : ℕ) (reason : Reason) → IsReadable (history_of known) → BreaksFirst given claims known.order number reason

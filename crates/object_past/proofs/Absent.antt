@@ -63,7 +63,7 @@ behind_range : (past : Recorded) (key : ObjectKey) (removal : Removal) → AreRi
 behind_range past key removal rising ends among of_key any =
     let v : Version = any.1 in
     let at : v.revision ≡ removal.last = any.4.1 in
-    let up : removal.last < removal.range.high = high_behind past.removals removal ends.behind among in
+    let up : removal.last < removal.range.high = high_behind past.versions past.removals removal ends among in
     inr (
       version_of v,
       removal,
@@ -112,7 +112,7 @@ absent_to past key gone low high rising ends are (place, from, upto, inr (v, rem
     let of_key : removal.key ≡ key = ended_key past.versions past.removals v0.0 removal rising ends v0.1 among (last ∙ sym at) ∙ key_of in
     ⊎_elim
     (λ (before : removal.range.high < low).
-    let up : removal.last < removal.range.high = high_behind past.removals removal ends.behind among in
+    let up : removal.last < removal.range.high = high_behind past.versions past.removals removal ends among in
     inl (inr (
       v,
       removal,

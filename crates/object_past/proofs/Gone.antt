@@ -6,6 +6,7 @@ use Rattle.std.proofs.lemmas.List.{append-nil, get_or_default}
 use Rattle.std.proofs.lemmas.List.Elements.{Contains-append_left, Contains-get_or, Contains-push, Contains-push_cases}
 use Rattle.std.proofs.lemmas.List.Sorted.{IsNonDecreasingBy-push, IsNonDecreasingBy-short}
 use Rattle.base_types.proofs.Quantifiers.{Any-contains}
+use Rattle.base_types.specs.Choices.{HasPlace}
 use Rattle.base_types.specs.declared.kubernetes.key.ObjectKey.{ObjectKey}
 use Rattle.std.specs.Prelude.{IfNone, IfSome}
 use Rattle.std.proofs.lemmas.Option.{same_Some}
@@ -42,10 +43,10 @@ pub record IsEnded (removals : List Removal) (v : Version) (ending : Option Endi
   pub before : (removal : Removal) → Contains removals removal → removal.key ≡ v.key → removal.last < v.revision → removal.range.high < v.revision
   pub behind : (removal : Removal) → Contains removals removal → removal.last ≡ v.revision → v.revision < removal.range.high
 
-pub high_behind : (removals : List Removal) (removal : Removal) → All (λ r. r.last < r.range.low) removals → Contains removals removal → removal.last < removal.range.high
-high_behind removals removal behind among =
-    let low : removal.last < removal.range.low = all_at (λ r. r.last < r.range.low) removals removal behind among in
-    let order : removal.range.low ≤ removal.range.high = removal.range.ordered in
+pub high_behind : (versions : List Version) (removals : List Removal) (removal : Removal) → AreEnds versions removals → Contains removals removal → removal.last < removal.range.high
+high_behind versions removals removal ends among =
+    let low : removal.last < removal.range.low = all_at (λ r. r.last < r.range.low) removals removal ends.behind among in
+    let order : removal.range.low ≤ removal.range.high = all_at (λ r. HasPlace r.range) removals removal ends.some_place among in
     omega arith
 
 pub ended_key : (versions : List Version) (removals : List Removal) (v : Version) (removal : Removal) → AreRising versions → AreEnds versions removals → Contains versions v → Contains removals removal
@@ -77,7 +78,7 @@ IsEnded-from versions removals endings v ending rising ends are among some last 
   before = λ removal there of_key less.
       all_at (λ w. w.key ≡ removal.key → removal.last < w.revision → removal.range.high < w.revision) versions v
       (all_at (λ r. All (λ w. w.key ≡ r.key → r.last < w.revision → r.range.high < w.revision) versions) removals removal ends.before_next there) among (sym of_key) less;
-  behind = λ removal there at. let high = high_behind removals removal ends.behind there in omega arith;
+  behind = λ removal there at. let high = high_behind versions removals removal ends there in omega arith;
 }
 
 pub AreGone-none : (removals : List Removal) (key : ObjectKey) → AreGone [] removals key []

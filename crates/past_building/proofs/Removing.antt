@@ -210,8 +210,8 @@ first_is h events key uid n all order is =
 -- the places behind a version that may be those of its removal
 pub behind_is : (h : past.History) (events : List LogEvent) (v : Version) (next : Option ℕ) (n : ℕ) (e : LogEvent) (range : Range) → IsFirstWithUid h.versions (version_of v)
     → IsFirst h (IsRemovalOf v.key v.uid) n (event_of e) → range.event ≡ n → range.low ≡ max (lowest h e.lo.0) v.revision + 1 → range.high ≡ min (highest h e.hi.0) (place_before next)
-    → IsRemovalBehind h (version_of v) next (removal_of v range)
-behind_is h events v next n e range only first number low high = record {
+    → range.low ≤ range.high → IsRemovalBehind h (version_of v) next (removal_of v range)
+behind_is h events v next n e range only first number low high some_place = record {
   only = only;
   event = event_of e;
   first = subst (λ k. IsFirst h (IsRemovalOf v.key v.uid) k (event_of e)) (sym number) first;
@@ -220,7 +220,7 @@ behind_is h events v next n e range only first number low high = record {
   of_last = refl;
   low = low;
   high = high;
-  some_place = range.ordered;
+  some_place = some_place;
 }
 
 -- without a place there is no removal

@@ -3,12 +3,12 @@ use Rattle.std.proofs.Common.{◌≡◌, ℕ, ◌+◌, ◌<◌, ◌≤◌, ⊎_e
 use Rattle.std.specs.List.{AllZip, range_with_len}
 use Rattle.std.specs.List.Sorted.{IsPermutation}
 use Rattle.std.proofs.lemmas.List.{take_all}
-use Rattle.std.proofs.lemmas.List.Elements.{All-more}
+use Rattle.std.proofs.lemmas.List.Elements.{All-head, All-more, All-tail}
 use Rattle.std.proofs.lemmas.Option.{slice_get-get_or}
 use Rattle.base_types.specs.declared.verdict.claim.Claim.{Claim}
 use Rattle.base_types.specs.declared.verdict.claim.Range.{Range}
 use Rattle.base_types.specs.declared.verdict.claim.Reason.{Reason}
-use Rattle.base_types.specs.Choices.{IsChoice, MeetsAll}
+use Rattle.base_types.specs.Choices.{HasPlace, HavePlaces, IsChoice, MeetsAll}
 use Rattle.base_types.specs.Settlement.{MeetsBounds, ExplainsAll, IsLeastChoice, LeavesNoChoice, HasLeastCode, BreaksFirst}
 use Rattle.place_choice.specs.Room.{Narrows}
 use Rattle.place_choice.proofs.Explaining.{IfSome-at, at-IfSome, ExplainsAll-from_order, Explains-from_all}
@@ -17,21 +17,24 @@ use Rattle.base_types.proofs.Quantifiers.{All-fewer, All-last}
 -- none of these events fails, and the choices of what is left are those that meet their bounds
 pub record LeavesExactly (ranges left : List Range) (claims : List Claim) (events : List ℕ) : Type 0 where
   pub long : length left ≡ length ranges
+  pub places : HavePlaces left
   pub sound : All (λ event. IfSome (slice_get claims event) (λ claim. claim.fails ≡ None)) events
   pub exact : (choice : List ℕ) → IsChoice left choice ↔ MeetsBounds ranges claims events choice
 
 -- at the start all is left
-pub LeavesExactly-none : (ranges : List Range) (claims : List Claim) → LeavesExactly ranges ranges claims []
-LeavesExactly-none ranges claims = record {
+pub LeavesExactly-none : (ranges : List Range) (claims : List Claim) → HavePlaces ranges → LeavesExactly ranges ranges claims []
+LeavesExactly-none ranges claims places = record {
   long = refl;
+  places = places;
   sound = λ k d below. absurd (omega arith);
   exact = λ choice. (λ chosen. record { chosen = chosen; met = λ k d below. absurd (omega arith) }, λ meets. meets.chosen);
 }
 
 -- the least places are a choice, and no choice is below them
-pub lows-IsChoice : (left : List Range) → IsChoice left (map (λ range. range.low) left)
-lows-IsChoice [] = tt
-lows-IsChoice (r ∷ rs) = let kept : r.low ≤ r.high = r.ordered in ((omega arith, omega arith), lows-IsChoice rs)
+pub lows-IsChoice : (left : List Range) → HavePlaces left → IsChoice left (map (λ range. range.low) left)
+lows-IsChoice [] places = tt
+lows-IsChoice (r ∷ rs) places =
+    let kept : r.low ≤ r.high = All-head HasPlace r rs places in ((omega arith, omega arith), lows-IsChoice rs (All-tail HasPlace r rs places))
 
 pub lows-least : (left : List Range) (choice : List ℕ) → IsChoice left choice → AllZip ◌≤◌ (map (λ range. range.low) left) choice
 lows-least [] [] chosen = tt
@@ -75,9 +78,10 @@ MeetsBounds-parts ranges left claims order i claim choice next meets =
 
 -- one event more
 pub LeavesExactly-more : (ranges left new : List Range) (claims : List Claim) (order : List ℕ) (i : ℕ) (claim : Claim) → IsNext ranges left claims order i claim
-    → length new ≡ length left → claim.fails ≡ None → Narrows left new claim.bounds → LeavesExactly ranges new claims (take (i + 1) order)
-LeavesExactly-more ranges left new claims order i claim next long sound narrows = record {
+    → length new ≡ length left → HavePlaces new → claim.fails ≡ None → Narrows left new claim.bounds → LeavesExactly ranges new claims (take (i + 1) order)
+LeavesExactly-more ranges left new claims order i claim next long places sound narrows = record {
   long = (let before = next.leaves.long in omega arith);
+  places = places;
   sound = All-more (λ event. IfSome (slice_get claims event) (λ c. c.fails ≡ None)) order i 0 next.within next.leaves.sound (holds_of_event ranges left claims order i claim (λ c. c.fails ≡ None) next sound);
   exact = λ choice. (
     λ chosen. let parts = (narrows choice).0 chosen in MeetsBounds-more ranges left claims order i claim choice next parts.0 parts.1,
@@ -95,6 +99,7 @@ HasLeastCode-along claim A B code to from least = record {
 -- whether the event's bounds left a place in each range
 pub record IsClaimTold (left new : List Range) (claim : Claim) (fits : Bool) : Type 0 where
   pub narrowed : fits ≡ true → Narrows left new claim.bounds
+  pub places : fits ≡ true → HavePlaces new
   pub emptied : fits ≡ false → (choice : List ℕ) → IsChoice left choice → MeetsAll choice claim.bounds → ⊥
 
 pub fits_from_choice : (ranges left new : List Range) (claims : List Claim) (order : List ℕ) (i : ℕ) (claim : Claim) (fits : Bool) → IsNext ranges left claims order i claim
@@ -102,7 +107,7 @@ pub fits_from_choice : (ranges left new : List Range) (claims : List Claim) (ord
 fits_from_choice ranges left new claims order i claim false next told none = refl
 fits_from_choice ranges left new claims order i claim true next told none =
     let lows = map (λ (range : Range). range.low) new in
-    let parts = ((told.narrowed refl) lows).0 (lows-IsChoice new) in
+    let parts = ((told.narrowed refl) lows).0 (lows-IsChoice new (told.places refl)) in
     absurd (none lows (MeetsBounds-more ranges left claims order i claim lows next parts.0 parts.1))
 
 -- an event that has a code is the first that breaks
@@ -115,7 +120,7 @@ BreaksFirst-here ranges left new claims order i claim fits reason next told leas
     record {
       before = i;
       found = slice_get-get_or order i 0 next.within;
-      earlier = (lows, record { sound = next.leaves.sound; meets = (next.leaves.exact lows).0 (lows-IsChoice left) });
+      earlier = (lows, record { sound = next.leaves.sound; meets = (next.leaves.exact lows).0 (lows-IsChoice left next.leaves.places) });
       breaks = λ choice explains. ⊎_elim
           (λ own.
           let sound = All-last (λ event. IfSome (slice_get claims event) (λ c. c.fails ≡ None)) order i 0 next.within explains.sound in
@@ -134,7 +139,7 @@ IsLeastChoice-at_end ranges left claims order i same ended leaves =
     let lows = map (λ (range : Range). range.low) left in
     let all = rw (take_all i order ended) at leaves in
     record {
-      explains = ExplainsAll-from_order ranges claims order lows same (record { sound = all.sound; meets = (all.exact lows).0 (lows-IsChoice left) });
+      explains = ExplainsAll-from_order ranges claims order lows same (record { sound = all.sound; meets = (all.exact lows).0 (lows-IsChoice left all.places) });
       least = λ other explains. lows-least left other ((all.exact other).1 (Explains-from_all ranges claims order other explains).meets);
     }
 

@@ -1,5 +1,5 @@
 ghost use Rattle.std.specs.Prelude.{◌≡◌, ◌<◌, ◌≤◌, List, ℕ, length, map, All, IfOk, IsTrue, false};
-ghost use Rattle.base_types.specs.Choices.{IsChoice, MeetsAll};
+ghost use Rattle.base_types.specs.Choices.{HavePlaces, IsChoice, MeetsAll};
 ghost use Rattle.place_choice.specs.Room.{Narrows};
 
 use base_types::{Bound, Listed, OutOfMemory, Range};
@@ -12,6 +12,7 @@ pub fn narrow(ranges: &mut [Range], bounds: &[Bound]) -> bool
     ensures narrowed { IsTrue result → Narrows ranges.old ranges.new bounds.now }
     ensures emptied { result ≡ false → (choice : List ℕ) → IsChoice ranges.old choice
         → MeetsAll choice bounds.now → ⊥ }
+    ensures places { IsTrue result → HavePlaces ranges.old → HavePlaces ranges.new }
 {
     for bound in bounds {
         let range = &mut ranges[bound.range as usize];

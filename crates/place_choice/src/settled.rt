@@ -1,6 +1,7 @@
 ghost use Rattle.std.specs.Prelude.{◌≡◌, ◌<◌, ◌↔◌, List, ℕ, length, All, IsNone, IfSome, IfOk, false, true};
 ghost use Rattle.std.specs.List.{range_with_len};
 ghost use Rattle.std.specs.List.Sorted.{IsPermutation};
+ghost use Rattle.base_types.specs.Choices.{HavePlaces};
 ghost use Rattle.base_types.specs.Settlement.{ExplainsAll, HasLeastCode};
 
 use crate::room;
@@ -44,6 +45,7 @@ pub fn settle(
     requires order { IsPermutation (range_with_len 0 (length claims.now)) order.now }
     requires bounds { All (λ claim. All (λ bound. bound.range < length ranges.now) claim.bounds)
         claims.now }
+    requires places { HavePlaces ranges.now }
     ensures settled { IfOk result (IsSettled ranges.now order.now claims.now) }
 
     // A choice that explains all is never missed.

@@ -473,8 +473,8 @@ pub one_removal_is : (h : History) (r0 : Removal) (v : Version) (event : Event) 
     → IsEvent h r0.range.event event → event.answer ≡ Removed v.key v.uid
     → EachAt (λ n e. (key : ObjectKey) (uid : Text) → e.answer ≡ Removed key uid → (n ≡ r0.range.event) × (key ≡ v.key) × (uid ≡ v.uid)) h.events
     → r0.key ≡ v.key → r0.uid ≡ v.uid → r0.last ≡ v.revision
-    → r0.range.low ≡ max (lowest h event.lo) v.revision + 1 → r0.range.high ≡ min (highest h event.hi) last_place → AreRemovals h
-one_removal_is h r0 v event listed known alone is holds others k u l low high = record {
+    → r0.range.low ≡ max (lowest h event.lo) v.revision + 1 → r0.range.high ≡ min (highest h event.hi) last_place → r0.range.low ≤ r0.range.high → AreRemovals h
+one_removal_is h r0 v event listed known alone is holds others k u l low high some_place = record {
   rising = subst (λ xs. AllPairs (λ x y. x.range.event < y.range.event) xs) (sym listed) (λ i j d a b. absurd (omega (arith, a, b)));
   sound = λ r c. subst (λ z. IsRemoval h z) (at r (in_cons r0 [] r (subst (λ xs. Contains xs r) listed c))) sound;
   full = λ r i. subst (λ xs. Contains xs r) (sym listed) (subst (λ z. Contains (r0 ∷ []) z) (same r i) (here r0 []));
@@ -502,7 +502,7 @@ one_removal_is h r0 v event listed known alone is holds others k u l low high = 
         of_last = l;
         low = low;
         high = high;
-        some_place = r0.range.ordered;
+        some_place = some_place;
       };
     }
       where

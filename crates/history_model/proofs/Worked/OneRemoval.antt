@@ -1,4 +1,4 @@
-use Rattle.std.proofs.Common.{◌≡◌, ℕ, ◌<◌, ◌≤◌, ◌⊎◌, true, [], ◌∷◌, List, Some, None, IsNone, Contains, slice_get, slice_index, inl, inr, refl, sym, ap, ◌∙◌, subst, arith, true≢false}
+use Rattle.std.proofs.Common.{◌≡◌, ℕ, ◌<◌, ◌≤◌, ◌⊎◌, true, [], ◌∷◌, List, Some, None, IsNone, Contains, slice_get, slice_index, inl, inr, refl, sym, ap, ◌∙◌, subst, arith, true≢false, lit≤}
 use Rattle.std.proofs.lemmas.Int.{ints}
 use Rattle.base_types.specs.Choices.{IsChoice}
 use Rattle.base_types.specs.declared.verdict.claim.Reason.TheVariants.{U4, U10}
@@ -92,7 +92,7 @@ readable_one_removal = record {
     full_snapshot = each_of (λ i. (v : Version) × Contains one_removal.versions v × (item_of v ≡ i)) one_removal.snapshot tt;
     full_log = each_making one_removal (λ m. 10 < m.item.revision → (v : Version) × Contains one_removal.versions v × (v.revision ≡ m.item.revision)) ((λ l. (v14, (0, omega arith, refl), refl)), (tt, (tt, ((λ l. (v16, (1, omega arith, refl), refl)), (tt, tt)))));
   };
-  removals = one_removal_is one_removal removal_of_a v14 e1 refl (0, omega arith, refl) ((λ e. refl), ((λ e. absurd (other_key b a refl e)), tt)) refl refl ((λ k u e. cc e), ((λ k u e. (refl, cc e, cc e)), ((λ k u e. cc e), ((λ k u e. cc e), ((λ k u e. cc e), tt))))) refl refl refl refl refl;
+  removals = one_removal_is one_removal removal_of_a v14 e1 refl (0, omega arith, refl) ((λ e. refl), ((λ e. absurd (other_key b a refl e)), tt)) refl refl ((λ k u e. cc e), ((λ k u e. (refl, cc e, cc e)), ((λ k u e. cc e), ((λ k u e. cc e), ((λ k u e. cc e), tt))))) refl refl refl refl refl (lit≤ tt);
 }
 
 right0_one_removal : (choice : List ℕ) → IsRightUnder one_removal choice 0 e0

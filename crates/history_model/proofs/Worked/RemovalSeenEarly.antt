@@ -1,4 +1,4 @@
-use Rattle.std.proofs.Common.{◌≡◌, ℕ, ◌<◌, ◌≤◌, ◌⊎◌, true, [], ◌∷◌, List, None, IsNone, Contains, inl, inr, refl, sym, subst, arith, true≢false}
+use Rattle.std.proofs.Common.{◌≡◌, ℕ, ◌<◌, ◌≤◌, ◌⊎◌, true, [], ◌∷◌, List, None, IsNone, Contains, inl, inr, refl, sym, subst, arith, true≢false, lit≤}
 use Rattle.std.specs.List.{AllZip}
 use Rattle.std.proofs.lemmas.Int.{ints}
 use Rattle.base_types.specs.Choices.{IsChoice}
@@ -70,7 +70,7 @@ readable_removal_seen_early = record {
     full_snapshot = each_of (λ i. (v : Version) × Contains removal_seen_early.versions v × (item_of v ≡ i)) removal_seen_early.snapshot tt;
     full_log = each_making removal_seen_early (λ m. 10 < m.item.revision → (v : Version) × Contains removal_seen_early.versions v × (v.revision ≡ m.item.revision)) ((λ l. (v14, (0, omega arith, refl), refl)), (tt, (tt, (tt, tt))));
   };
-  removals = one_removal_is removal_seen_early removal_of_a v14 e1 refl (0, omega arith, refl) ((λ e. refl), tt) refl refl ((λ k u e. cc e), ((λ k u e. (refl, cc e, cc e)), ((λ k u e. cc e), ((λ k u e. cc e), tt)))) refl refl refl refl refl;
+  removals = one_removal_is removal_seen_early removal_of_a v14 e1 refl (0, omega arith, refl) ((λ e. refl), tt) refl refl ((λ k u e. cc e), ((λ k u e. (refl, cc e, cc e)), ((λ k u e. cc e), ((λ k u e. cc e), tt)))) refl refl refl refl refl (lit≤ tt);
 }
 
 right0_removal_seen_early : (choice : List ℕ) → IsRightUnder removal_seen_early choice 0 e0

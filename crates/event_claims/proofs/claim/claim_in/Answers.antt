@@ -14,7 +14,7 @@ returns-clause-exact g c = λ h v known.
     let a = c.in_ok-asking.ensures h v known said window in
     record {
       failure = c.failure_of-fails.ensures h v known said window a;
-      exact = subst (λ bounds. AreExactBounds h c.args.case.number e bounds) (sym c.into_bounds.ensures.value) (bounds_exact h c.args.case.number e c.in_ok-asking.asking a);
+      exact = subst (λ bounds. AreExactBounds h c.args.case.number e bounds) (sym c.into_bounds.ensures.value) (bounds_exact h v.readable c.args.case.number e c.in_ok-asking.asking a);
       of_answer = c.reason_of-reason.ensures;
     }
 
@@ -24,4 +24,4 @@ returns-clause-deciding g c = λ h v known.
     let window : IsWindowOf h e c.window_of-window.result = record { from = c.window_of-window.ensures.low h v.times; to = c.window_of-window.ensures.high h v.times } in
     let said = c.word_of-word.ensures h v.start v.past in
     let a = c.in_ok-asking.ensures h v known said window in
-    subst (AreDeciding h) (sym c.into_bounds.ensures.value) (bounds_decide h c.args.case.number e c.in_ok-asking.asking a)
+    subst (AreDeciding h) (sym c.into_bounds.ensures.value) (bounds_decide h v.readable c.args.case.number e c.in_ok-asking.asking a)

@@ -11,5 +11,5 @@ returns g c = λ h v known said w a.
     c.lesser-standing.ensures c.lesser-answered.ensures c.lesser.ensures
     (c.fixed_fault-fixed.ensures h v known said)
     (c.finding_fault-finding.ensures h c.args.case.number v.clouds w known.fault said)
-    (c.answer_fault-answer.ensures h c.args.case.number e refl a)
+    (c.answer_fault-answer.ensures h c.args.case.number e v.readable refl a)
     (c.decision_fault-decision.ensures h c.args.case.number e (c.decided_of.ensures h v known.here))

@@ -4,7 +4,7 @@ use Rattle.std.proofs.lemmas.Result.{IfOk-weaker}
 use Rattle.base_types.specs.declared.verdict.claim.Claim.{Claim}
 use Rattle.history_model.specs.Placed.{ArePlacedLines}
 use Rattle.log_context.specs.Histories.{history_of}
-use Rattle.log_verdict.proofs.OutcomeClaims.{breaks_known, breaks_of, explained_is, explains, least_of, named, unexplained_is}
+use Rattle.log_verdict.proofs.OutcomeClaims.{breaks_known, breaks_of, explained_is, explains, given_places, least_of, named, unexplained_is}
 use Rattle.log_verdict.proofs.OutcomeOrder.{ordered}
 use Rattle.log_verdict.proofs.OutcomeSharing.{context_shared}
 use Rattle.log_verdict.specs.Findings.{ExplainsEach}
@@ -24,6 +24,9 @@ pub settle-requires-clause-bounds : goal.settle-requires-clause-bounds
 settle-requires-clause-bounds g c =
     subst (All (λ (claim : Claim). All (λ bound. bound.range < length c.ranges-2.result.now) claim.bounds)) (sym c.as_slice.ensures)
     (named c.args.context.now c.in_ok-claims.claims c.in_ok-claims.ensures.claims c.ranges-2.result.now c.ranges-2.ensures)
+
+pub settle-requires-clause-places : goal.settle-requires-clause-places
+settle-requires-clause-places g c = given_places c.args.context.now c.ranges-2.result.now c.order.ensures.readable c.ranges-2.ensures
 
 pub placed-requires-clause-explains : goal.placed-requires-clause-explains
 placed-requires-clause-explains g c κs within =

@@ -26,3 +26,4 @@ returns-clause-some c = λ h log first.
     behind_is h c.args.events.now c.args.version.now c.args.next c.in_ok-number.number c.in_ok-event.event.now _ (first.0 c.if-not-is_first.false) known.0 refl
     (ap (λ n. n + 1) (c.max-before.ensures ∙ ap₂ max (c.lowest.ensures h log.times) c.get.ensures.value))
     (c.min-high.ensures ∙ ap₂ min (c.highest.ensures h log.times) c.place_before.ensures)
+    (omega (arith, c.if-high-before.false))

@@ -22,7 +22,7 @@ returns-in-Some c =
     let next : IsNext c.args.ranges.now c.loop-event.left.items c.args.claims.now c.args.order.now c.loop-event.event-index c.index-claims-event.result =
     record { within = omega arith; known = known; is = c.index-claims-event.is; leaves = c.loop-event.invariant } in
     let told = rw (c.as_slice.ensures, c.deref_mut.ensures.value) at c.narrow-fits.ensures in
-    let breaks = BreaksFirst-here _ _ c.narrow-fits.new.ranges _ _ _ _ c.narrow-fits.result _ next (record { narrowed = told.narrowed; emptied = told.emptied }) c.in-Some.ensures.least in
+    let breaks = BreaksFirst-here _ _ c.narrow-fits.new.ranges _ _ _ _ c.narrow-fits.result _ next (record { narrowed = told.narrowed; places = λ fits. told.places fits next.leaves.places; emptied = told.emptied }) c.in-Some.ensures.least in
     record { settled = breaks; fits = (λ none. absurd none, λ some. none_from_breaks _ _ _ _ _ some.0 breaks some.1) }
 
 pub loop-event-preserved : goal.loop-event-preserved
@@ -35,7 +35,7 @@ loop-event-preserved c =
     let sound = c.in_default.ensures.none.0 refl in
     let long : length c.narrow-fits.new.ranges ≡ length left.items = omega (arith, c.deref_mut.ensures.len, left.ok.0, c.narrow-fits.auto.ranges) in
     rw (written left.len c.narrow-fits.new.ranges left.items (omega (arith, left.ok.0)) (omega (arith, left.ok.0)))
-    (LeavesExactly-more _ _ _ _ _ _ _ next long sound.0 (told.narrowed sound.1))
+    (LeavesExactly-more _ _ _ _ _ _ _ next long (told.places sound.1 next.leaves.places) sound.0 (told.narrowed sound.1))
 
 -- no event is left
 pub returns : goal.returns
