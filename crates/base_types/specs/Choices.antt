@@ -11,13 +11,6 @@ HasPlace range = range.low ≤ range.high
 abbrev pub HavePlaces : List Range → Type 0
 HavePlaces ranges = All HasPlace ranges
 
--- a range isn't empty
-abbrev pub HasPlace : Range → Type 0
-HasPlace range = range.low ≤ range.high
-
-abbrev pub HavePlaces : List Range → Type 0
-HavePlaces ranges = All HasPlace ranges
-
 -- a place that a removal may have
 abbrev pub IsPlaceOf : Range → ℕ → Type 0
 IsPlaceOf range place = (range.low ≤ place) × (place ≤ range.high)
