@@ -3,7 +3,7 @@ use Rattle.std.specs.Prelude.{ℕ, List}
 use Rattle.std.specs.Cmp.Lexicographic.{slice_cmp}
 use Rattle.std.specs.Ordering.{nat_cmp}
 use Rattle.std.specs.declared.cmp.Ordering.{Ordering}
-use Rattle.base_types.specs.contracts.key.ObjectKeyOrd.TheImpl as key_ord
+use Rattle.base_types.specs.contracts.kubernetes.key.ObjectKeyOrd.TheImpl as key_ord
 use Rattle.base_types.specs.declared.kubernetes.key.ObjectKey.{ObjectKey}
 
 -- keys by their four parts

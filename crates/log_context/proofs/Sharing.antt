@@ -3,7 +3,7 @@ use Rattle.std.proofs.Crossing as owned
 use Rattle.std.proofs.MapsCrossing as mapped
 use Rattle.answer_class.specs.contracts.answer.Answer as answer
 use Rattle.audit_event.specs.contracts.event.Event as event
-use Rattle.base_types.specs.contracts.text.Text as text
+use Rattle.base_types.specs.contracts.foundation.text.Text as text
 use Rattle.label_select.specs.contracts.selector.Requirement as requirement
 use Rattle.node_pool.specs.contracts.pool.Pool as pool
 use Rattle.packed_tree.proofs.packed.Packed.TheSendSync as packed

@@ -19,13 +19,13 @@ use Rattle.audit_event.specs.declared.event.Event.{Event}
 use Rattle.audit_event.specs.declared.event.Status.{Status}
 use Rattle.audit_event.specs.declared.event.Body.{Body}
 use Rattle.audit_event.specs.declared.event.Body.TheVariants.{Absent, Kept, Unread}
-use Rattle.base_types.specs.contracts.request.PairPartialEq.TheImpl as same_pair
-use Rattle.base_types.specs.contracts.request.LevelPartialEq.TheImpl as same_level
-use Rattle.base_types.specs.contracts.request.StagePartialEq.TheImpl as same_stage
-use Rattle.base_types.specs.contracts.request.DecisionPartialEq.TheImpl as same_decision
-use Rattle.base_types.specs.contracts.revision.MomentPartialEq.TheImpl as same_moment
-use Rattle.base_types.specs.contracts.request.UserPartialEq.TheImpl as same_user
-use Rattle.base_types.specs.contracts.request.RequestAttrsPartialEq.TheImpl as same_attrs
+use Rattle.base_types.specs.contracts.kubernetes.request.PairPartialEq.TheImpl as same_pair
+use Rattle.base_types.specs.contracts.kubernetes.request.LevelPartialEq.TheImpl as same_level
+use Rattle.base_types.specs.contracts.kubernetes.request.StagePartialEq.TheImpl as same_stage
+use Rattle.base_types.specs.contracts.kubernetes.request.DecisionPartialEq.TheImpl as same_decision
+use Rattle.base_types.specs.contracts.kubernetes.revision.MomentPartialEq.TheImpl as same_moment
+use Rattle.base_types.specs.contracts.kubernetes.request.UserPartialEq.TheImpl as same_user
+use Rattle.base_types.specs.contracts.kubernetes.request.RequestAttrsPartialEq.TheImpl as same_attrs
 use Rattle.audit_event.specs.contracts.event.StatusPartialEq.TheImpl as same_status
 use Rattle.audit_event.specs.contracts.event.BodyPartialEq.TheImpl as same_body
 use Rattle.audit_event.specs.contracts.event.EventPartialEq.TheImpl as same_event

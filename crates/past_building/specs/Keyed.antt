@@ -3,7 +3,7 @@ use Rattle.std.specs.Prelude.{ℕ, Bool, List}
 use Rattle.std.specs.BTreeMap.{BTreeMap}
 use Rattle.std.specs.HashMap.{HashMap}
 use Rattle.std.specs.HashSet.{HashSet}
-use Rattle.base_types.specs.contracts.key.ObjectKeyPartialEq.TheImpl as by_parts
+use Rattle.base_types.specs.contracts.kubernetes.key.ObjectKeyPartialEq.TheImpl as by_parts
 use Rattle.base_types.specs.declared.kubernetes.key.ObjectKey.{ObjectKey}
 use Rattle.hash_seed.specs.declared.seed.Seeded.{Seeded}
 use Rattle.past_building.specs.declared.owner.Owner.{Owner}

@@ -1,7 +1,7 @@
 -- Lists without repeats.
 use Rattle.std.specs.Prelude.{ℕ, Bool, true, ◌&&◌, not, List, [], ◌∷◌, bytes_eq}
 use Rattle.std.specs.List.{list_any}
-use Rattle.base_types.specs.contracts.key.ObjectKeyPartialEq.TheImpl as by_parts
+use Rattle.base_types.specs.contracts.kubernetes.key.ObjectKeyPartialEq.TheImpl as by_parts
 use Rattle.base_types.specs.declared.kubernetes.key.ObjectKey.{ObjectKey}
 
 -- no two items are equal

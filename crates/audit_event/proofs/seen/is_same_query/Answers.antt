@@ -3,7 +3,7 @@ use Rattle.std.specs.Bool.{Decides}
 use Rattle.std.proofs.lemmas.Bool.Decides.{Decides-and, Decides-like}
 use Rattle.std.proofs.lemmas.Slice.Eq.{bytes_eq-Decides, slice_eq-Decides}
 use Rattle.base_types.specs.declared.kubernetes.request.Pair.{Pair}
-use Rattle.base_types.specs.contracts.request.PairPartialEq.TheImpl as same
+use Rattle.base_types.specs.contracts.kubernetes.request.PairPartialEq.TheImpl as same
 use Rattle.audit_event.proofs.seen.is_same_query.Goals as goal
 
 pair_decides : (a b : Pair) → Decides (same.eq-value.it a b) (a ≡ b)
