@@ -22,7 +22,8 @@ bounds-ranges-position c =
 pub returns-then-place-range : goal.returns-then-place-range
 returns-then-place-range c =
     let w = c.in-Some-removal_of.ensures in
-    let is = range_is c.args.past.now.removals c.ranges-2.result.now c.in-Some-removal_of.position w.0 c.index-ranges-position.result c.ranges-2.ensures w.1 c.index-ranges-position.is in
+    let nowhere : Range = record { event = 0; low = 0; high = 0 } in
+    let is = range_is c.args.past.now.removals c.ranges-2.result.now c.in-Some-removal_of.position w.0 nowhere c.ranges-2.ensures w.1 in
     λ h p. always_there h p.readable c.args.key.now c.args.place c.in-Some-removal_of.position c.in-Some.version.now (recorded w.0)
     (latest_found c.args.past.now h p c.args.key.now c.args.place _ c.in-Some.ensures.latest)
     (removal_found c.args.past.now h p c.in-Some-removal_of.position w.0 w.1, w.2 ∙ c.get.ensures.value) (omega (arith, ap (λ (z : Range). z.low) is))
@@ -30,7 +31,8 @@ returns-then-place-range c =
 pub returns-then-range-place : goal.returns-then-range-place
 returns-then-range-place c =
     let w = c.in-Some-removal_of.ensures in
-    let is = range_is c.args.past.now.removals c.ranges-2.result.now c.in-Some-removal_of.position w.0 c.index-ranges-position.result c.ranges-2.ensures w.1 c.index-ranges-position.is in
+    let nowhere : Range = record { event = 0; low = 0; high = 0 } in
+    let is = range_is c.args.past.now.removals c.ranges-2.result.now c.in-Some-removal_of.position w.0 nowhere c.ranges-2.ensures w.1 in
     λ h p. always_gone h p.readable c.args.key.now c.args.place c.in-Some-removal_of.position c.in-Some.version.now (recorded w.0)
     (latest_found c.args.past.now h p c.args.key.now c.args.place _ c.in-Some.ensures.latest)
     (removal_found c.args.past.now h p c.in-Some-removal_of.position w.0 w.1, w.2 ∙ c.get.ensures.value) (omega (arith, ap (λ (z : Range). z.high) is))
@@ -38,7 +40,8 @@ returns-then-range-place c =
 pub returns : goal.returns
 returns c =
     let w = c.in-Some-removal_of.ensures in
-    let is = range_is c.args.past.now.removals c.ranges-2.result.now c.in-Some-removal_of.position w.0 c.index-ranges-position.result c.ranges-2.ensures w.1 c.index-ranges-position.is in
+    let nowhere : Range = record { event = 0; low = 0; high = 0 } in
+    let is = range_is c.args.past.now.removals c.ranges-2.result.now c.in-Some-removal_of.position w.0 nowhere c.ranges-2.ensures w.1 in
     λ h p. rw is (is_leaving h p.readable c.args.key.now c.args.place c.in-Some-removal_of.position c.in-Some.version.now (recorded w.0)
     (latest_found c.args.past.now h p c.args.key.now c.args.place _ c.in-Some.ensures.latest)
     (removal_found c.args.past.now h p c.in-Some-removal_of.position w.0 w.1, w.2 ∙ c.get.ensures.value) (omega (arith, ap (λ (z : Range). z.low) is)) (omega (arith, ap (λ (z : Range). z.high) is)))
