@@ -11,7 +11,6 @@ use Rattle.answer_class.specs.declared.answer.Answer.{Answer}
 use Rattle.answer_class.specs.declared.answer.Answer.TheVariants as class
 use Rattle.audit_event.specs.Events as audit
 use Rattle.audit_event.specs.declared.event.Event.{Event}
-use Rattle.base_types.specs.Choices.{HasPlace}
 use Rattle.base_types.specs.declared.key.ObjectKey.{ObjectKey}
 use Rattle.history_model.proofs.Members.{all_at, all_from, apart, pairs_head, pairs_tail, pairs_cons, at_in}
 use Rattle.history_model.specs.Events as model
@@ -184,7 +183,7 @@ module _ (h : History) (versions : List Version) (removals : List Removal) (risi
     apart = λ i j d l m. once (get_or removals i d) (get_or removals j d) (Contains-get_or removals i d (omega arith)) (Contains-get_or removals j d m) (in_turn i j d l m);
     ends = all_from (λ (removal : Removal). Any (λ (v : Version). (v.key ≡ removal.key) × (v.uid ≡ removal.uid) × (v.revision ≡ removal.last)) versions) removals version_at;
     behind = all_from (λ (removal : Removal). removal.last < removal.range.low) removals later;
-    some_place = all_from (λ (removal : Removal). HasPlace removal.range) removals (λ removal c. (is_removal removal c).behind.some_place);
+    some_place = all_from (λ (removal : Removal). removal.range.low ≤ removal.range.high) removals (λ removal c. (is_removal removal c).behind.some_place);
     before_next = all_from (λ (removal : Removal). All (λ (w : Version). w.key ≡ removal.key → removal.last < w.revision → removal.range.high < w.revision) versions) removals
         (λ removal c. all_from (λ (w : Version). w.key ≡ removal.key → removal.last < w.revision → removal.range.high < w.revision) versions (before_next removal c));
   }

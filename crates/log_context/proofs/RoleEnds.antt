@@ -1,10 +1,9 @@
 -- The removals of roles and bindings end their versions.
-use Rattle.std.proofs.Common.{◌≡◌, ◌<◌, true, List, length, filter, Option, Some, None, slice_get, is_some, All, AllPairs, Any, Contains, refl, sym, ap, ◌∙◌, subst}
+use Rattle.std.proofs.Common.{◌≡◌, ◌<◌, ◌≤◌, true, List, length, filter, Option, Some, None, slice_get, is_some, All, AllPairs, Any, Contains, refl, sym, ap, ◌∙◌, subst}
 use Rattle.std.proofs.lemmas.List.Kept.{AllPairs-filter}
 use Rattle.std.proofs.lemmas.Option.{same_Some, slice_get-get_or}
 use Rattle.base_types.proofs.Quantifiers.{Any-contains}
 use Rattle.history_model.proofs.Members.{all_at, all_from}
-use Rattle.base_types.specs.Choices.{HasPlace}
 use Rattle.base_types.specs.Meaning.{Meaning, null}
 use Rattle.object_past.specs.Past.{AreEnds}
 use Rattle.object_past.specs.declared.removal.Removal.{Removal}
@@ -45,7 +44,7 @@ module _ (trees : List Meaning) (versions : List Version) (removals : List Remov
     of_version = by (any_in (λ (v : Version). (v.key ≡ removal.key) × (v.uid ≡ removal.uid) × (v.revision ≡ removal.last)) versions
         (all_at (λ (x : Removal). Any (λ (v : Version). (v.key ≡ x.key) × (v.uid ≡ x.uid) × (v.revision ≡ x.last)) versions) removals removal ends.ends c));
     behind = all_at (λ (x : Removal). x.last < x.range.low) removals removal ends.behind c;
-    ordered = all_at (λ (x : Removal). HasPlace x.range) removals removal ends.some_place c;
+    ordered = all_at (λ (x : Removal). x.range.low ≤ x.range.high) removals removal ends.some_place c;
     before_next = λ next d same later. at next d same later (are.sound next d);
   }
     where

@@ -6,7 +6,6 @@ use Rattle.std.proofs.lemmas.List.{append-nil, get_or_default}
 use Rattle.std.proofs.lemmas.List.Elements.{Contains-append_left, Contains-get_or, Contains-push, Contains-push_cases}
 use Rattle.std.proofs.lemmas.List.Sorted.{IsNonDecreasingBy-push, IsNonDecreasingBy-short}
 use Rattle.base_types.proofs.Quantifiers.{Any-contains}
-use Rattle.base_types.specs.Choices.{HasPlace}
 use Rattle.base_types.specs.declared.key.ObjectKey.{ObjectKey}
 use Rattle.std.specs.Prelude.{IfNone, IfSome}
 use Rattle.std.proofs.lemmas.Option.{same_Some}
@@ -46,7 +45,7 @@ pub record IsEnded (removals : List Removal) (v : Version) (ending : Option Endi
 pub high_behind : (versions : List Version) (removals : List Removal) (removal : Removal) → AreEnds versions removals → Contains removals removal → removal.last < removal.range.high
 high_behind versions removals removal ends among =
     let low : removal.last < removal.range.low = all_at (λ r. r.last < r.range.low) removals removal ends.behind among in
-    let order : removal.range.low ≤ removal.range.high = all_at (λ r. HasPlace r.range) removals removal ends.some_place among in
+    let order : removal.range.low ≤ removal.range.high = all_at (λ r. r.range.low ≤ r.range.high) removals removal ends.some_place among in
     omega arith
 
 pub ended_key : (versions : List Version) (removals : List Removal) (v : Version) (removal : Removal) → AreRising versions → AreEnds versions removals → Contains versions v → Contains removals removal

@@ -1,6 +1,5 @@
 -- What is known of each object: its versions, and the removals that ended them.
 use Rattle.std.specs.Prelude.{◌≡◌, ◌≢◌, ◌<◌, ◌≤◌, ◌⊎◌, ℕ, List, Option, Some, None, map, slice_get, All, AllPairs, Any, Contains}
-use Rattle.base_types.specs.Choices.{HasPlace}
 use Rattle.base_types.specs.declared.key.ObjectKey.{ObjectKey}
 use Rattle.history_model.specs.Histories as history
 use Rattle.history_model.specs.Histories.{History}
@@ -29,7 +28,7 @@ pub record AreEnds (versions : List Version) (removals : List Removal) : Type 0 
   pub apart : AllPairs (λ a b. a.last ≢ b.last) removals
   pub ends : All (λ removal. Any (λ v. (v.key ≡ removal.key) × (v.uid ≡ removal.uid) × (v.revision ≡ removal.last)) versions) removals
   pub behind : All (λ removal. removal.last < removal.range.low) removals
-  pub some_place : All (λ removal. HasPlace removal.range) removals
+  pub some_place : All (λ removal. removal.range.low ≤ removal.range.high) removals
   pub before_next : All (λ removal. All (λ w. w.key ≡ removal.key → removal.last < w.revision → removal.range.high < w.revision) versions) removals
 
 -- the version of the key and this revision
