@@ -61,17 +61,18 @@ pub fn keep_and_decode<R: Threads + Sync, G: Gate>(
     ensures { KeepsAndDecodes front.old.lines.items next.now place seen.old seen.new result.0
         result.1 }
 {
-    let mut decode = move || -> Result<DecodedList, OutOfMemory>
-        requires { length next.now < 2 ^ 32 }
-        ensures { IfOk result (AllZip IsDecodedLine next.entry.now) }
-    { decode_all(rt, alloc, next, gate) };
     let mut keep = || -> Result<Place, LogStop>
         requires { AllZip IsDecodedLine front.now.lines.items front.now.decoded
             × AreNext front.now.lines.items place seen.now }
         ensures { KeepsLines front.entry.now.lines.items place seen.entry.now seen.exit.now
             result }
     { keep_decoded(alloc, place, front, seen) };
-    let (decoded, kept) = join_mut(rt, &mut decode, &mut keep);
+    let mut decode = move || -> Result<DecodedList, OutOfMemory>
+        requires { length next.now < 2 ^ 32 }
+        ensures { IfOk result (AllZip IsDecodedLine next.entry.now) }
+    { decode_all(rt, alloc, next, gate) };
+    // The longer work is begun by this thread, since a new one may have to wait for a processor.
+    let (kept, decoded) = join_mut(rt, &mut keep, &mut decode);
     (kept, decoded)
 }
 
