@@ -31,11 +31,11 @@ module _ (past : Recorded) (h : History) (p : IsPastOf past h) where
       all_at (λ (z : model.Removal). z.last ≢ last) (map recorded past.removals) removal (All-map (λ (z : model.Removal). z.last ≢ last) recorded past.removals none) (subst (λ rs. Contains rs removal) p.recorded.removals c) e
 
 -- the range at the position of a removal
-pub range_is : (removals : List Removal) (ranges : List Range) (position : ℕ) (removal : Removal) (range : Range) → ranges ≡ map (λ (r : Removal). r.range) removals
-    → slice_get removals position ≡ Some removal → range ≡ get_or ranges position range → range ≡ removal.range
-range_is removals ranges position removal range same at is =
-    is ∙ ap (λ rs. get_or rs position range) same
-    ∙ get_or_from_slice_get (map (λ (r : Removal). r.range) removals) position removal.range range (slice_get-map (λ (r : Removal). r.range) removals position ∙ ap (λ o. option_map (λ (r : Removal). r.range) o) at)
+pub range_is : (removals : List Removal) (ranges : List Range) (position : ℕ) (removal : Removal) (other : Range) → ranges ≡ map (λ (r : Removal). r.range) removals
+    → slice_get removals position ≡ Some removal → get_or ranges position other ≡ removal.range
+range_is removals ranges position removal other same at =
+    ap (λ rs. get_or rs position other) same
+    ∙ get_or_from_slice_get (map (λ (r : Removal). r.range) removals) position removal.range other (slice_get-map (λ (r : Removal). r.range) removals position ∙ ap (λ o. option_map (λ (r : Removal). r.range) o) at)
 
 pub position_within : (removals : List Removal) (ranges : List Range) (position : ℕ) (removal : Removal) → ranges ≡ map (λ (r : Removal). r.range) removals
     → slice_get removals position ≡ Some removal → position < length ranges

@@ -6,6 +6,10 @@ use Rattle.local_bounds.proofs.Pasts.{latest_found, removal_found, no_removal, r
 use Rattle.local_bounds.proofs.Standings.{always_gone, always_there, is_leaving}
 use Rattle.local_bounds.proofs.standing.standing_at.Goals as goal
 
+-- what an index reads behind the end
+nowhere : Range
+nowhere = record { event = 0; low = 0; high = 0 }
+
 pub returns-in_default : goal.returns-in_default
 returns-in_default c = λ h p choice chosen. nothing_yet h choice p.readable chosen c.args.key.now c.args.place (latest_found c.args.past.now h p c.args.key.now c.args.place _ c.in_default.ensures.latest)
 
@@ -22,7 +26,7 @@ bounds-ranges-position c =
 pub returns-then-place-range : goal.returns-then-place-range
 returns-then-place-range c =
     let w = c.in-Some-removal_of.ensures in
-    let is = range_is c.args.past.now.removals c.ranges-2.result.now c.in-Some-removal_of.position w.0 c.index-ranges-position.result c.ranges-2.ensures w.1 c.index-ranges-position.is in
+    let is = range_is c.args.past.now.removals c.ranges-2.result.now c.in-Some-removal_of.position w.0 nowhere c.ranges-2.ensures w.1 in
     λ h p. always_there h p.readable c.args.key.now c.args.place c.in-Some-removal_of.position c.in-Some.version.now (recorded w.0)
     (latest_found c.args.past.now h p c.args.key.now c.args.place _ c.in-Some.ensures.latest)
     (removal_found c.args.past.now h p c.in-Some-removal_of.position w.0 w.1, w.2 ∙ c.get.ensures.value) (omega (arith, ap (λ (z : Range). z.low) is))
@@ -30,7 +34,7 @@ returns-then-place-range c =
 pub returns-then-range-place : goal.returns-then-range-place
 returns-then-range-place c =
     let w = c.in-Some-removal_of.ensures in
-    let is = range_is c.args.past.now.removals c.ranges-2.result.now c.in-Some-removal_of.position w.0 c.index-ranges-position.result c.ranges-2.ensures w.1 c.index-ranges-position.is in
+    let is = range_is c.args.past.now.removals c.ranges-2.result.now c.in-Some-removal_of.position w.0 nowhere c.ranges-2.ensures w.1 in
     λ h p. always_gone h p.readable c.args.key.now c.args.place c.in-Some-removal_of.position c.in-Some.version.now (recorded w.0)
     (latest_found c.args.past.now h p c.args.key.now c.args.place _ c.in-Some.ensures.latest)
     (removal_found c.args.past.now h p c.in-Some-removal_of.position w.0 w.1, w.2 ∙ c.get.ensures.value) (omega (arith, ap (λ (z : Range). z.high) is))
@@ -38,7 +42,7 @@ returns-then-range-place c =
 pub returns : goal.returns
 returns c =
     let w = c.in-Some-removal_of.ensures in
-    let is = range_is c.args.past.now.removals c.ranges-2.result.now c.in-Some-removal_of.position w.0 c.index-ranges-position.result c.ranges-2.ensures w.1 c.index-ranges-position.is in
+    let is = range_is c.args.past.now.removals c.ranges-2.result.now c.in-Some-removal_of.position w.0 nowhere c.ranges-2.ensures w.1 in
     λ h p. rw is (is_leaving h p.readable c.args.key.now c.args.place c.in-Some-removal_of.position c.in-Some.version.now (recorded w.0)
     (latest_found c.args.past.now h p c.args.key.now c.args.place _ c.in-Some.ensures.latest)
     (removal_found c.args.past.now h p c.in-Some-removal_of.position w.0 w.1, w.2 ∙ c.get.ensures.value) (omega (arith, ap (λ (z : Range). z.low) is)) (omega (arith, ap (λ (z : Range). z.high) is)))
