@@ -7,7 +7,7 @@ use Rattle.local_bounds.proofs.Standings.{always_gone, always_there, is_leaving}
 use Rattle.local_bounds.proofs.standing.standing_at.Goals as goal
 
 -- what an index reads behind the end
-nowhere : Range
+abbrev nowhere : Range
 nowhere = record { event = 0; low = 0; high = 0 }
 
 pub returns-in_default : goal.returns-in_default
