@@ -12,4 +12,5 @@ pub mod ReadingLemmas
 pub mod SoundLemmas
 pub mod StartLemmas
 pub mod StepLemmas
+pub mod Verbs
 pub mod WalkLemmas

@@ -1,5 +1,5 @@
 ghost use Rattle.std.specs.Prelude.{◌≡◌, ◌≢◌, ◌≤◌, length, IfOk, OnErr, IsSome};
-ghost use Rattle.std.specs.Prelude.{filter, codes, option_map, option_and_then};
+ghost use Rattle.std.specs.Prelude.{filter, codes, bytes_eq, option_map, option_and_then};
 ghost use Rattle.page_chains.specs.Joints.{joint_of};
 ghost use Rattle.page_chains.specs.Pages.{token_of, asked_by, asked_of, is_first, is_selective, page_in};
 ghost use Rattle.page_chains.specs.Parts.{part_of, parts_of};
@@ -107,10 +107,21 @@ fn page_in(event: &Event, joint: Joint, answer: Answer) -> Option<Page>
     }
 }
 
-// Lists that aren't read in pages are told apart before their objects are looked at.
+// Only a list has pages.
+fn is_list(attrs: &RequestAttrs) -> bool
+    ensures { result ≡ bytes_eq attrs.now.verb (codes "list") }
+{
+    attrs.verb.as_str() == "list"
+}
+
+// Other verbs, and lists that aren't read in pages, are told apart before their bodies and objects are looked at.
+#[tactic(auto, using(crate::proofs::Verbs::unlisted_part))]
 fn part_of(alloc: Global, setup: &Setup, event: &Event) -> Result<Option<Page>, OutOfMemory>
     ensures { IfOk result (λ page. page ≡ part_of setup.now event.now) }
 {
+    if !is_list(&event.attrs) {
+        return Ok(None);
+    }
     let asked = asked_of(&event.attrs)?;
     if token_of(event).is_none() && is_first(&asked) {
         return Ok(None);
