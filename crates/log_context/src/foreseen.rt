@@ -59,7 +59,7 @@ pub fn past_foreseen<R: Threads + Sync, B: Bodies + Sync>(
         (B.body bodies.now) past h → IsPastOf events.now past h) }
     ensures few_found { IfOk result (AreFew snapshot.now events.now) }
 {
-    let cases = cases_of(alloc, snapshot, events)?;
+    let cases = cases_of(alloc, snapshot, events, seed)?;
     let verdicts = verdicts_of(rt, alloc, bodies, &cases)?;
     drop(cases);
     let foreseen = Foreseen {

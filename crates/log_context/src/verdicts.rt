@@ -2,11 +2,12 @@ ghost use Rattle.std.specs.Prelude.{◌≡◌, ℕ, Bool, Option, All, IfOk, IfS
 ghost use Rattle.log_context.specs.Verdicts.{IsVerdict};
 
 use base_types::{ObjectKey, OutOfMemory};
+use hash_seed::{Seed, Seeded};
 use node_number::NodeId;
 use past_building::Bodies;
 use rayon::prelude::*;
 use std::alloc::Global;
-use std::collections::BTreeMap;
+use std::collections::HashMap;
 use std::marker::Sync;
 use std::thread::Threads;
 use write_groups::{Item, LogEvent, Shown};
@@ -29,8 +30,8 @@ pub struct Verdict {
     pub is_right: bool,
 }
 
-// The tree that each key had last.
-type Latest<'a> = BTreeMap<&'a ObjectKey, NodeId>;
+// The tree that each key had last. The hashes begin with a seed, since whoever creates objects chooses their names.
+type Latest<'a> = HashMap<&'a ObjectKey, NodeId, Seeded>;
 
 // A create finds no object. Another write made its answer of the one that its key had last, where there was one.
 fn add_case<'a>(
@@ -57,13 +58,15 @@ fn add_case<'a>(
 }
 
 /// The writes of a log, each with what may have been there before it, by rising numbers and each at most once. Where
-/// something else was there nothing is lost but time, so no contract speaks of them.
+/// something else was there nothing is lost but time, so no contract speaks of them. The hashes of keys begin with the
+/// seed.
 pub fn cases_of(
     alloc: Global,
     snapshot: &[Item],
     log: &[LogEvent],
+    seed: Seed,
 ) -> Result<Vec<Case>, OutOfMemory> {
-    let mut latest = Latest::new(alloc);
+    let mut latest: Latest<'_> = HashMap::with_hasher(alloc, Seeded::new(seed));
     for item in snapshot {
         let _none = latest.insert(&item.key, item.node)?;
     }

@@ -1,5 +1,5 @@
 -- The clouds of a log's unrecorded writes are those of its history.
-use Rattle.std.proofs.Common.{◌≡◌, ℕ, ◌<◌, ◌≤◌, List, Option, Some, None, map, slice_get, Contains, refl, sym, ap, ◌∙◌, subst}
+use Rattle.std.proofs.Common.{◌≡◌, ℕ, ◌<◌, ◌≤◌, List, [], Option, Some, None, map, slice_get, Contains, refl, sym, ap, ◌∙◌, subst, arith}
 use Rattle.std.specs.Prelude.{option_map, Any}
 use Rattle.std.proofs.lemmas.Option.{same_Some, slice_get-map}
 use Rattle.base_types.specs.declared.kubernetes.key.Cover.{Cover}
@@ -152,3 +152,30 @@ are_clouds h events slots writes all has spans revisions = record {
         (opaque_in e.0.answer hides.0 hides.1) (hides.2, low, high))),
   );
 }
+
+-- where no write is unrecorded nothing is hidden, whatever the versions are
+pub are_no_clouds : (h : History) (events : List LogEvent) (writes : Writes) → HasEvents events h
+    → writes.spans ≡ unrecorded_in h events → unrecorded_in h events ≡ [] → AreCloudsOf writes h
+are_no_clouds h events writes all spans none = record {
+  clouded = λ key place. (
+    (λ any. absurd (unfound (cloud.IsHiddenBy writes.revisions key place) any)),
+    (λ hiding. absurd (unhidden key hiding.0 hiding.1 hiding.2 hiding.3.hides)),
+  );
+  unrecorded = λ key revision. (
+    (λ any. absurd (unfound (λ span. Covers span.cover key × (span.low < revision) × (revision ≤ span.high)) any)),
+    (λ hiding. absurd (unhidden key hiding.0 hiding.1 hiding.2 hiding.3)),
+  );
+}
+  where
+    unfound : (P : OpaqueSpan → Type 0) → Any P writes.spans → ⊥
+    unfound P any =
+        let found = any_in P [] (subst (Any P) (spans ∙ none) any) in
+        let within : found.1.0 < 0 = found.1.1 in
+        absurd (omega (arith, within))
+
+    unhidden : (key : ObjectKey) (number : ℕ) (found : event.Event) → IsEvent h number found → Hides key found → ⊥
+    unhidden key number found is found_hides =
+        let e = logged h events number found all is in
+        let hides : Hides key (event_of e.0) = subst (Hides key) (sym e.2) found_hides in
+        let some = unrecorded_some h events (λ span. span ≡ span) number e.0 hides.0 e.1 (opaque_in e.0.answer hides.0 hides.1) refl in
+        unfound (λ span. span ≡ span) (subst (Any (λ span. span ≡ span)) (sym spans) some)

@@ -28,8 +28,8 @@ fn group_slot(group: &Group) -> Result<KeyRevision, OutOfMemory>
     })
 }
 
-/// The keys and revisions of all versions: those of the snapshot and of the groups.
-pub fn slots_of(
+// The keys and revisions of all versions: those of the snapshot and of the groups.
+fn slots_of(
     alloc: Global,
     snapshot: &[Item],
     groups: &[Group],
@@ -89,19 +89,26 @@ pub fn unrecorded_of(
     Ok(spans)
 }
 
-/// What the unrecorded writes of a log hide, its versions having these keys and revisions.
+/// What the unrecorded writes of a log hide of the versions that the snapshot and the groups have. The versions' keys are
+/// copied only where something is hidden.
 pub fn clouds_of(
     alloc: Global,
     windows: &Windows,
     start: Revision,
+    snapshot: &[Item],
     events: &[LogEvent],
-    slots: &[KeyRevision],
+    groups: &[Group],
 ) -> Result<Clouds, OutOfMemory>
     requires { start ≡ windows.now.start }
     ensures { IfOk result (λ clouds. (h : History) → HasTimes windows.now h → HasEvents events.now h
-        → HasSlots slots.now h → AreCloudsOf clouds h) }
+        → HasSlots (slots_of snapshot.now groups.now) h → AreCloudsOf clouds h) }
 {
     let spans = unrecorded_of(alloc, windows, start, events)?;
-    let clouds = Clouds::build(alloc, &spans, slots)?;
+    if spans.is_empty() {
+        let clouds = Clouds::build(alloc, &spans, &[])?;
+        return Ok(clouds);
+    }
+    let slots = slots_of(alloc, snapshot, groups)?;
+    let clouds = Clouds::build(alloc, &spans, &slots)?;
     Ok(clouds)
 }

@@ -16,7 +16,7 @@ ghost use Rattle.past_building.specs.Surrounded.{IsJudgedBy};
 ghost use Rattle.past_building.specs.Written.{AreAllJudged, AreSlots, IsSnapshot};
 
 use crate::bodies::Bodies;
-use crate::hiding::{clouds_of, slots_of};
+use crate::hiding::clouds_of;
 use crate::maker::JudgedWrite;
 use crate::removals::removals_of;
 use crate::removed::first_removals;
@@ -121,8 +121,8 @@ fn hidden_of(
         (λ clouds. (h : History) → HasTimes timed.now.windows h → HasEvents events.now h
         → HasSlots (slots_of snapshot.now timed.now.groups) h → AreCloudsOf clouds h) }
 {
-    let slots = slots_of(alloc, snapshot, timed.groups.as_slice())?;
-    clouds_of(alloc, &timed.windows, start, events, &slots)
+    let groups = timed.groups.as_slice();
+    clouds_of(alloc, &timed.windows, start, snapshot, events, groups)
 }
 
 fn ended_of<B: Bodies>(
