@@ -27,4 +27,5 @@ pub mod OneHistory
 pub mod PartsSharing
 pub mod Telling
 pub mod TimelineLemmas
+pub mod TimesSharing
 pub mod Using

@@ -9,10 +9,10 @@ use crate::verdicts::{Verdict, cases_of, right_among, verdicts_of};
 use base_types::{OutOfMemory, Revision};
 use hash_seed::Seed;
 use node_number::NodeId;
-use past_building::{Bodies, LogPast, past_of};
+use past_building::{Bodies, LogPast, Timed, past_behind, timed_of};
 use std::alloc::Global;
 use std::marker::Sync;
-use std::thread::Threads;
+use std::thread::{Threads, join};
 use write_groups::{Item, LogEvent};
 
 /// Bodies, of which most are judged already.
@@ -39,9 +39,25 @@ impl<'a, B: Bodies> Bodies for Foreseen<'a, B> {
     }
 }
 
+// The verdicts of the writes' bodies by what seems to have been there before each.
+fn find_verdicts<R: Threads + Sync, B: Bodies + Sync>(
+    rt: &R,
+    alloc: Global,
+    bodies: &B,
+    snapshot: &[Item],
+    events: &[LogEvent],
+    seed: Seed,
+) -> Result<Vec<Verdict>, OutOfMemory>
+    ensures { IfOk result (λ verdicts. All (IsVerdict (B.body bodies.now)) verdicts.items) }
+{
+    let cases = cases_of(alloc, snapshot, events, seed)?;
+    verdicts_of(rt, alloc, bodies, &cases)
+}
+
 /// The past that a log shows, its lines rising, behind a snapshot of the start. Several threads judge the bodies of
 /// writes by what seems to have been there before each; those few where something else was there are judged once more.
-/// The hashes of what is looked up begin with the seed.
+/// Beside them one thread finds the windows and the clouds, which ask for no body. The hashes of what is looked up begin
+/// with the seed.
 pub fn past_foreseen<R: Threads + Sync, B: Bodies + Sync>(
     rt: &R,
     alloc: Global,
@@ -59,12 +75,21 @@ pub fn past_foreseen<R: Threads + Sync, B: Bodies + Sync>(
         (B.body bodies.now) past h → IsPastOf events.now past h) }
     ensures few_found { IfOk result (AreFew snapshot.now events.now) }
 {
-    let cases = cases_of(alloc, snapshot, events, seed)?;
-    let verdicts = verdicts_of(rt, alloc, bodies, &cases)?;
-    drop(cases);
+    // By reference, since the borrow checker doesn't cover a closure that owns a revision.
+    let begin = &start;
+    let find_times = move || -> Result<Timed, OutOfMemory>
+        requires few { length events.now < 2 ^ 32 }
+        requires lines { AllPairs (λ a b. a.line < b.line) events.now }
+    { timed_of(alloc, *begin, snapshot, events) };
+    let judge_bodies = move || -> Result<Vec<Verdict>, OutOfMemory> {
+        find_verdicts(rt, alloc, bodies, snapshot, events, seed)
+    };
+    let (timed, verdicts) = join(rt, find_times, judge_bodies);
+    let timed = timed?;
+    let verdicts = verdicts?;
     let foreseen = Foreseen {
         bodies,
         verdicts: &verdicts,
     };
-    past_of(alloc, &foreseen, start, snapshot, events, seed)
+    past_behind(alloc, &foreseen, start, snapshot, events, timed, seed)
 }

@@ -12,5 +12,6 @@ pub mod Modelled
 pub mod Owners
 pub mod Removals
 pub mod Surrounded
+pub mod Timed
 pub mod Traced
 pub mod Written

@@ -12,10 +12,12 @@ mod owner;
 mod removal;
 mod removals;
 mod removed;
+mod timed;
 mod versions;
 
 pub use bodies::Bodies;
 pub use hiding::unrecorded_of;
-pub use log_past::{LogPast, past_of};
+pub use log_past::{LogPast, past_behind, past_of};
 pub use maker::JudgedWrite;
 pub use making::{Making, finding_fault, making_at, making_fault};
+pub use timed::{Timed, timed_of};

@@ -1,7 +1,7 @@
 use Rattle.std.proofs.Common.{map, ap, ◌∙◌}
 use Rattle.std.proofs.lemmas.Result.{IfOk-weaker}
 use Rattle.write_groups.specs.Modelled.{span_of}
-use Rattle.past_building.proofs.log_past.windows_of.Goals as goal
+use Rattle.past_building.proofs.timed.windows_of.Goals as goal
 
 pub returns-clause-spans : goal.returns-clause-spans
 returns-clause-spans c = IfOk-weaker c.build.result _ _
