@@ -6,7 +6,7 @@ ghost use Rattle.batch_decode.specs.Lists.{list_items};
 ghost use Rattle.batch_decode.specs.Batches.{DecodesValues, DecodesValue, IsDecodedLine, not_json};
 
 use crate::decoded::{Decoded, ItemFault};
-use audit_event::{EventFault, Events, Malformed, is_of_kind, read_item, read_value};
+use audit_event::{Event, EventFault, Events, Malformed, is_of_kind, read_item, read_value};
 use base_types::OutOfMemory;
 use borrowed_json::{JsonValue, ReadFault, Scratch};
 use line_reader::Line;
@@ -50,23 +50,31 @@ fn decode_items(alloc: Global, list: &Vec<JsonValue<'_>>) -> Result<Decoded, Out
     })
 }
 
+// A list of one event, without the room for several with which a list begins that grows.
+fn list_of(alloc: Global, event: Event) -> Result<Events, OutOfMemory>
+    ensures { IfOk result (λ events. events ≡ event ∷ []) }
+{
+    let Ok(mut events) = Vec::with_capacity(alloc, 1) else {
+        drop(event);
+        return Err(OutOfMemory);
+    };
+    events.push(event)?;
+    Ok(Events::from_vec(events))
+}
+
 // The one event of a line that is no list.
 fn decode_one(alloc: Global, value: &JsonValue<'_>) -> Result<Decoded, OutOfMemory>
     ensures decodes { IfOk result (DecodesValues is_event (view value.now ∷ [])) }
     ensures sound { IfOk result (λ decoded. All IsSound decoded.events) }
 {
-    let mut events = Events::new(alloc);
     match read_value(alloc, value, 0) {
-        Ok(event) => {
-            events.push(event)?;
-            Ok(Decoded {
-                events,
-                taken: 1,
-                fault: None,
-            })
-        }
+        Ok(event) => Ok(Decoded {
+            events: list_of(alloc, event)?,
+            taken: 1,
+            fault: None,
+        }),
         Err(EventFault::Malformed(code)) => Ok(Decoded {
-            events,
+            events: Events::new(alloc),
             taken: 1,
             fault: Some(ItemFault { index: 0, code }),
         }),
