@@ -17,7 +17,8 @@ where a proof names what the edit takes away, or where the prover comes to a lim
 
 With --together the edits of different functions' bodies share a check of the crate, since a body is held to its own
 contract and to those of what it calls, whatever their bodies are. What the prover then says of a function's own lines
-is said of its edit; each edit of which it says nothing there, or that changes more than one body, is tried alone.
+is said of its edit; each edit of which it says nothing there, or that changes more than one body, has a check of its
+own, and only what that doesn't refuse is tried by `rt must-fail`.
 
 --jobs N tries N crates at a time (by default 1), each in a copy of its own. One rt uses all processors, unless RT_JOBS
 says how many. What lies below a crate is taken from other checkouts on the machine that have proved it, and else proved
@@ -40,6 +41,11 @@ CONTROL = "as_it_stands"
 CONTROL_LINES = ["old: #![tactic(auto)]", "new: #![tactic(auto)] // as it stands"]
 # So many edits share a check at most: the prover searches for a proof of each in vain.
 TOGETHER = 12
+# What the prover says: a file, a row and words.
+SAID = re.compile(r"^(?:note: )?(?:\./)?((?:src|proofs|specs)/\S+?):(\d+):\d+: (.*)", re.M)
+UNREAD = re.compile(r"^(?:\./)?(?:src|specs)/\S+?:\d+:\d+: error: (?!`)", re.M)
+# What a proof file says that names what an edit takes away, which tells little of the contract.
+THIN = re.compile(r"has no field|is not in scope|has no `|was not admitted")
 KINDS = {"refused, as it must be": "refused", "NOT REFUSED": "proved", "BAD EDIT": "bad", "NOT TRIED": "bad"}
 
 
@@ -98,17 +104,17 @@ def write(path, text):
 
 
 def bodies(text):
-    """The functions of a file that `rt fmt` wrote: for each its first row, and those of its `{` and `}`."""
+    """The functions of a file that `rt fmt` wrote: for each its name, its first row, and those of its `{` and `}`."""
     found, rows = [], text.split("\n")
     for at, row in enumerate(rows):
-        head = re.match(r"( *)(?:pub(?:\([a-z]+\))? )?(?:const )?fn \w", row)
+        head = re.match(r"( *)(?:pub(?:\([a-z]+\))? )?(?:const )?fn (\w+)", row)
         if not head:
             continue
         opens, closes = re.compile(head[1] + r"(?:\S.*)?\{$"), head[1] + "}"
         begin = next((it for it in range(at, len(rows)) if opens.match(rows[it])), len(rows))
         end = next((it for it in range(begin + 1, len(rows)) if rows[it] == closes), None)
         if end is not None:
-            found.append((at + 1, begin + 1, end + 1))
+            found.append((head[2], at + 1, begin + 1, end + 1))
     return found
 
 
@@ -123,7 +129,7 @@ def in_one_body(folder, lines):
         elif line.startswith("new:"):
             text = text_of(os.path.join(folder, path)) if path.startswith("src/") else ""
             row = text[:text.find(old)].count("\n") + 1
-            found = [at for at, (_, begin, end) in enumerate(bodies(text)) if begin < row < end]
+            found = [at for at, (_, _, begin, end) in enumerate(bodies(text)) if begin < row < end]
             places.add((path, found[0]) if text.count(old) == 1 and found else None)
             pairs.append((old, line[4:].removeprefix(" ")))
     return (places.pop(), pairs) if len(places) == 1 and None not in places else None
@@ -144,7 +150,7 @@ def groups(folder, edits):
 
 
 def said_of(folder, texts):
-    """What the prover says of a crate with these texts in place of its own: files, rows and words."""
+    """What the prover says of a crate with these texts in place of its own, where it refuses it: files, rows, words."""
     own = {path: text_of(path) for path in texts}
     try:
         for path, text in texts.items():
@@ -154,9 +160,36 @@ def said_of(folder, texts):
     finally:
         for path, text in own.items():
             write(path, text)
-    if not re.search(r"^logic=not-proved", ran.stdout, re.M):
+    # An error of src or specs that names no obligation says that the text can't be read.
+    if not re.search(r"^logic=not-proved", ran.stdout, re.M) or UNREAD.search(ran.stdout):
         return []
-    return re.findall(r"^(?:note: )?(?:\./)?(src/\S+?):(\d+):\d+: (.*)", ran.stdout, re.M)
+    return [it for it in SAID.findall(ran.stdout) if not (it[0].startswith("proofs/") and THIN.search(it[2]))]
+
+
+def is_said_of(said, path, functions, number):
+    """Whether what the prover says is of a function: in its rows, or in a proof of an obligation of its own."""
+    name, first, _, last = functions[number]
+    place, row, _ = said
+    own = "proofs/" + ("" if path in ("src/lib.rt", "src/main.rt") else path[4:-3] + "/")
+    is_alone = sum(it[0] == name for it in functions) == 1
+    return (place == path and first <= int(row) <= last
+            or is_alone and place.startswith(own) and os.path.basename(os.path.dirname(place)) == name)
+
+
+def changed(folder, lines):
+    """The texts of the files that an edit changes, or none where it can't be applied."""
+    path, old, texts = None, None, {}
+    for line in lines:
+        if line.startswith("file: "):
+            path = os.path.join(folder, line[6:].strip())
+        elif line.startswith("old: "):
+            old = line[5:]
+        elif line.startswith("new:"):
+            text = texts.get(path) or text_of(path)
+            if text.count(old) != 1:
+                return {}
+            texts[path] = text.replace(old, line[4:].removeprefix(" "))
+    return texts
 
 
 def refused_together(room, crate, edits):
@@ -170,10 +203,20 @@ def refused_together(room, crate, edits):
                 texts[path] = texts.get(path, text_of(path)).replace(old, new)
         said = said_of(folder, texts)
         for name, (file, number), _ in group:
-            first, _, last = bodies(texts[os.path.join(folder, file)])[number]
-            words = next((words for path, row, words in said if path == file and first <= int(row) <= last), None)
+            functions = bodies(texts[os.path.join(folder, file)])
+            words = next((it[2] for it in said if is_said_of(it, file, functions, number)), None)
             if words:
                 told[name] = "refused", words
+    return told
+
+
+def refused_alone(room, crate, edits):
+    """The edits that the prover refuses in a check of their own, with what it says first."""
+    folder, told = os.path.join(room, "crates", crate), {}
+    for name, lines in edits.items():
+        said = said_of(folder, changed(folder, lines)) if name != CONTROL else []
+        if said:
+            told[name] = "refused", said[0][2]
     return told
 
 
@@ -204,8 +247,10 @@ def work(crates, lists, counts, printing, together):
                 crate = crates.get_nowait()
             except queue.Empty:
                 return
-            results = refused_together(room, crate, lists[crate]) if together else {}
-            left = {name: it for name, it in lists[crate].items() if name not in results}
+            results, left = {}, lists[crate]
+            for refusing in (refused_together, refused_alone) if together else ():
+                results |= refusing(room, crate, left)
+                left = {name: it for name, it in left.items() if name not in results}
             results |= tried(room, crate, left) if len(left) > 1 else {}
             with printing:
                 for name, (kind, words) in results.items():
